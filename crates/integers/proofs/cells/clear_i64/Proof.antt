@@ -1,0 +1,43 @@
+use Prim.Native.Nat.{_≤_, _-_}
+use mathlib.Core.Path.{_≡_}
+use native.Mathlib.Omega.{arith}
+use borrow.Author.Needs.{needs}
+use lib.ListN.{length}
+use lib.IntN.{pos}
+use Rattle.integers.proofs.Lists.{Cutting, cutting-start, cutting-more, cutting-end}
+use Rattle.integers.proofs.cells.clear_i64.Statement.{statement}
+use Rattle.integers.proofs.cells.clear_i64.Tie as tie
+
+abbrev Inv-loop : tie.InvT-loop
+Inv-loop cells₀ from i₀ i-end cells i = (i ≤ i-end) × ((i-end ≡ length cells₀) × Cutting (pos 0) from i cells₀ cells)
+
+abbrev μ-loop : tie.MeasureT-loop
+μ-loop cells₀ from i₀ i-end cells i = i-end - i
+
+loop-holds : tie.Need-loop-holds Inv-loop μ-loop
+loop-holds c = (omega arith, (omega arith, cutting-start _ _ _))
+
+mul-cells : tie.Need-mul-cells Inv-loop μ-loop
+mul-cells c = let e = c .before .loop .inv .1 .1 .long in omega arith
+
+slice-set-of-cells : tie.Need-slice-set-of-cells Inv-loop μ-loop
+slice-set-of-cells c = let e = c .before .loop .inv .1 .1 .long in omega arith
+
+add-i : tie.Need-add-i Inv-loop μ-loop
+add-i c = search needs
+
+loop-less : tie.Need-loop-less Inv-loop μ-loop
+loop-less c = search needs
+
+loop-again : tie.Need-loop-again Inv-loop μ-loop
+loop-again c = (omega arith, (omega arith, cutting-more _ _ _ _ _ (omega arith) (c .before .loop .inv .1 .1)))
+
+same-length : tie.Need-same-length Inv-loop μ-loop
+same-length c = c .before .loop .inv .1 .1 .long
+
+returns : tie.Need-returns Inv-loop μ-loop
+returns c = cutting-end _ _ _ _ _ (omega arith) (c .before .loop .inv .1 .1)
+
+pub clear-i64-spec : {M : Type 1} → statement M
+clear-i64-spec =
+    tie.close (tie.spec Inv-loop μ-loop loop-holds mul-cells slice-set-of-cells add-i loop-less loop-again same-length returns)

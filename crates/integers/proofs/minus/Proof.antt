@@ -1,0 +1,21 @@
+use native.Mathlib.Omega.{arith}
+use lib.IntN.{_-ℤ_}
+use mir.Syntax.{w64}
+use mir.Val.{SFits}
+use mir.Facts.{toZ-ofZ}
+use Rattle.integers.proofs.Sizes.{abs-sub}
+use Rattle.integers.proofs.Words.{fits}
+use Rattle.integers.proofs.minus.Statement.{statement}
+use Rattle.integers.proofs.minus.Tie as tie
+
+result-fits : (c : tie.Start) → SFits w64 (c .args .a -ℤ c .args .b)
+result-fits c = fits (c .args .a -ℤ c .args .b) (omega (arith, abs-sub (c .args .a) (c .args .b)))
+
+sub-result : tie.Need-sub-result
+sub-result c = rw (toZ-ofZ (c .fits .a), toZ-ofZ (c .fits .b)) (result-fits c)
+
+returns : tie.Need-returns
+returns c = rw (toZ-ofZ (c .fits .a), toZ-ofZ (c .fits .b)) (toZ-ofZ (result-fits c))
+
+pub minus-spec : {M : Type 1} → statement M
+minus-spec = tie.close (tie.spec sub-result returns)

@@ -1,0 +1,21 @@
+use native.Mathlib.Omega.{arith}
+use lib.IntN.{ℤ, _+ℤ_}
+use mir.Syntax.{w64}
+use mir.Val.{SFits}
+use mir.Facts.{toZ-ofZ}
+use Rattle.integers.proofs.Sizes.{abs-add}
+use Rattle.integers.proofs.Words.{fits}
+use Rattle.integers.proofs.plus.Statement.{statement}
+use Rattle.integers.proofs.plus.Tie as tie
+
+result-fits : (c : tie.Start) → SFits w64 (c .args .a +ℤ c .args .b)
+result-fits c = fits (c .args .a +ℤ c .args .b) (omega (arith, abs-add (c .args .a) (c .args .b)))
+
+add-result : tie.Need-add-result
+add-result c = rw (toZ-ofZ (c .fits .a), toZ-ofZ (c .fits .b)) (result-fits c)
+
+returns : tie.Need-returns
+returns c = rw (toZ-ofZ (c .fits .a), toZ-ofZ (c .fits .b)) (toZ-ofZ (result-fits c))
+
+pub plus-spec : {M : Type 1} → statement M
+plus-spec = tie.close (tie.spec add-result returns)

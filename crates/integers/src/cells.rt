@@ -1,0 +1,42 @@
+// Arrays of which the first cells count: what lies past them is set to 0.
+ghost use mathlib.Core.Path.{_≡_};
+ghost use Prim.Native.Nat.{_≤_};
+ghost use lib.ListN.{length};
+ghost use lib.IntN.{pos};
+ghost use Rattle.integers.specs.Cells.{cut};
+
+pub fn clear_u16(cells: &mut [u16], from: usize)
+    requires { ⌜ from ≤ length (now cells) ⌝ }
+    ensures { λ r. ⌜ now (cells .exit) ≡ cut 0 from (now (cells .entry)) ⌝ }
+{
+    for i in from..cells.len() {
+        cells[i] = 0;
+    }
+}
+
+pub fn clear_i64(cells: &mut [i64], from: usize)
+    requires { ⌜ from ≤ length (now cells) ⌝ }
+    ensures { λ r. ⌜ now (cells .exit) ≡ cut (pos 0) from (now (cells .entry)) ⌝ }
+{
+    for i in from..cells.len() {
+        cells[i] = 0;
+    }
+}
+
+pub fn clear_u8(cells: &mut [u8], from: usize)
+    requires { ⌜ from ≤ length (now cells) ⌝ }
+    ensures { λ r. ⌜ now (cells .exit) ≡ cut 0 from (now (cells .entry)) ⌝ }
+{
+    for i in from..cells.len() {
+        cells[i] = 0;
+    }
+}
+
+pub fn clear_u32(cells: &mut [u32], from: usize)
+    requires { ⌜ from ≤ length (now cells) ⌝ }
+    ensures { λ r. ⌜ now (cells .exit) ≡ cut 0 from (now (cells .entry)) ⌝ }
+{
+    for i in from..cells.len() {
+        cells[i] = 0;
+    }
+}

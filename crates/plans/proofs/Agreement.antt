@@ -1,0 +1,141 @@
+-- Only the parts below the counts are read: levels that agree there meet the same inequalities, have the same limits, ceilings and totals, and weights
+-- that agree there have the same ceilings and backups. Assumes nothing.
+use mathlib.Core.Path.{_≡_, refl, _∙_, ap}
+use Prim.Native.Nat.{ℕ, zero, suc, _<_}
+use native.Mathlib.Omega.{arith}
+use lib.IntN.{ℤ, pos, negsuc, _+ℤ_, _-ℤ_}
+use Rattle.integers.specs.Whole.{_·_, sumTo, largestTo}
+use Rattle.integers.proofs.Sums.{sum-cong, total-cong, largestTo-cong}
+use Rattle.integers.proofs.Searches.{largest-cong}
+use Rattle.tables.specs.Limits.{K}
+use Rattle.tables.specs.Model.{Model, successor, expectedReward, backup}
+use Rattle.plans.specs.Level.{Level, product, smallest, orNone, drop, gain, ceiling, backupAt, follows, Meets, Shaped, Agree}
+use Rattle.plans.specs.Totals.{best, lower, advice, upper}
+use Rattle.plans.proofs.Bracket.{best-exists}
+
+-- ---- products, drops and ceilings
+pub product-cong : (n : ℕ) (q q' : ℕ → ℕ) (e e' : ℕ → ℤ) → ((s : ℕ) → s < n → q s ≡ q' s) → ((s : ℕ) → s < n → e s ≡ e' s)
+    → product n q e ≡ product n q' e'
+unfolding product
+product-cong n q q' e e' h k = sum-cong n _ _ (λ s l. rw (h s l, k s l))
+
+pub smallest-cong : (n : ℕ) (p p' q q' : ℕ → ℕ) (G : ℕ) → ((s : ℕ) → s < n → p s ≡ p' s) → ((s : ℕ) → s < n → q s ≡ q' s)
+    → smallest n p q G ≡ smallest n p' q' G
+unfolding smallest
+smallest-cong zero p p' q q' G h k = refl
+smallest-cong (suc n) p p' q q' G h k =
+    rw (smallest-cong n p p' q q' G (λ s l. h s (omega arith)) (λ s l. k s (omega arith)), h n (omega arith), k n (omega arith))
+
+pub drop-cong : (n : ℕ) (p p' q q' : ℕ → ℕ) (z : ℤ) → ((s : ℕ) → s < n → p s ≡ p' s) → ((s : ℕ) → s < n → q s ≡ q' s)
+    → drop n p q z ≡ drop n p' q' z
+unfolding drop
+drop-cong n p p' q q' (pos zero) h k = refl
+drop-cong n p p' q q' (pos (suc G)) h k = ap orNone (smallest-cong n p p' q q' (suc G) h k)
+drop-cong n p p' q q' (negsuc G) h k = refl
+
+module _ (n : ℕ) (L L' : Level) (corners : (s : ℕ) → s < n → L .corner s ≡ L' .corner s) (points : L .points ≡ L' .points)
+    (weights : (i : ℕ) → i < L .points → (s : ℕ) → s < n → L .weight i s ≡ L' .weight i s)
+    (values : (i : ℕ) → i < L .points → L .value i ≡ L' .value i) where
+  gain-cong : (i : ℕ) → i < L .points → gain n L i ≡ gain n L' i
+  unfolding gain
+  gain-cong i l = rw (product-cong n (L .weight i) (L' .weight i) (L .corner) (L' .corner) (weights i l) corners, values i l)
+
+  ceiling-cong : (q q' : ℕ → ℕ) → ((s : ℕ) → s < n → q s ≡ q' s) → ceiling n L q ≡ ceiling n L' q'
+  unfolding ceiling
+  ceiling-cong q q' h =
+      rw (product-cong n q q' (L .corner) (L' .corner) h corners) (ap (λ (d : ℕ). product n q' (L' .corner) -ℤ pos d) drops)
+    where
+      drops : largestTo (L .points) (λ i. drop n (L .weight i) q (gain n L i)) ≡ largestTo (L' .points) (λ i. drop n (L' .weight i) q' (gain n L' i))
+      drops =
+          largestTo-cong (L .points) _ (λ i. drop n (L' .weight i) q' (gain n L' i))
+          (λ i l. rw (gain-cong i l) (drop-cong n (L .weight i) (L' .weight i) q q' (gain n L' i) (weights i l) h))
+          ∙ ap (λ (k : ℕ). largestTo k (λ i. drop n (L' .weight i) q' (gain n L' i))) points
+
+-- ---- weights
+-- Ceilings and backups read weights below the number of states only: every sum, ratio and product in them runs over the states. Qed.
+pub ceiling-weights : (n : ℕ) (L : Level) (q q' : ℕ → ℕ) → ((s : ℕ) → s < n → q s ≡ q' s) → ceiling n L q ≡ ceiling n L q'
+ceiling-weights n L q q' h = ceiling-cong n L L (λ s l. refl) refl (λ i l s b. refl) (λ i l. refl) q q' h
+
+pub successor-weights : (M : Model) (p p' : ℕ → ℕ) (a o s' : ℕ) → ((s : ℕ) → s < M .states → p s ≡ p' s) → successor M p a o s' ≡ successor M p' a o s'
+unfolding successor
+successor-weights M p p' a o s' h = total-cong (M .states) _ _ (λ s l. rw (h s l))
+
+pub backupAt-weights : (M : Model) (L : Level) (p p' : ℕ → ℕ) (a : ℕ) → ((s : ℕ) → s < M .states → p s ≡ p' s) → backupAt M L p a ≡ backupAt M L p' a
+unfolding backupAt expectedReward
+backupAt-weights M L p p' a h =
+    rw (sum-cong (M .states) (λ s. p s · M .reward s a) (λ s. p' s · M .reward s a) (λ s l. rw (h s l)))
+    (ap (λ (x : ℤ). K · sumTo (M .states) (λ s. p' s · M .reward s a) +ℤ M .discount · x)
+    (sum-cong (M .observations) _ _ (λ o l. ceiling-weights (M .states) L _ _ (λ s' l'. successor-weights M p p' a o s' h))))
+
+-- ---- levels
+pub backup-cong : (M : Model) (a : ℕ) (next next' : ℕ → ℕ → ℤ) (s : ℕ)
+    → ((o : ℕ) → o < M .observations → (s' : ℕ) → s' < M .states → next o s' ≡ next' o s') → backup M a next s ≡ backup M a next' s
+unfolding backup
+backup-cong M a next next' s h =
+    ap (λ (x : ℤ). K · M .reward s a +ℤ M .discount · x)
+    (sum-cong (M .states) _ _ (λ s' l. sum-cong (M .observations) _ _ (λ o l'. rw (h o l' s' l))))
+
+module _ (M : Model) (W W' : Level) (e : Agree M W W') where
+  vector-in : {v : ℕ} → v < W' .vectors → v < W .vectors
+  vector-in l = omega (arith, e .vectors-same)
+
+  point-in : {i : ℕ} → i < W' .points → i < W .points
+  point-in l = omega (arith, e .points-same)
+
+  -- Each limit is of a part that agrees. Qed.
+  pub shaped-agree : (t : ℕ) → Shaped M t W → Shaped M t W'
+  shaped-agree t S = record {
+    some-vectors = rw (e .vectors-same) (S .some-vectors);
+    few-vectors = rw (e .vectors-same) (S .few-vectors);
+    few-points = rw (e .points-same) (S .few-points);
+    action-in = λ v l. rw (e .action-same v (vector-in l)) (S .action-in v (vector-in l));
+    entry-in = λ v l s b. rw (e .entry-same v (vector-in l) s b) (S .entry-in v (vector-in l) s b);
+    corner-in = λ s l. rw (e .corner-same s l) (S .corner-in s l);
+    value-in = λ i l. rw (e .value-same i (point-in l)) (S .value-in i (point-in l));
+    total = λ i l. total-cong (M .states) _ _ (λ s b. e .weight-same i (point-in l) s b) ∙ S .total i (point-in l);
+  }
+
+  pub ceiling-agree : (q : ℕ → ℕ) → ceiling (M .states) W' q ≡ ceiling (M .states) W q
+  ceiling-agree q =
+      ceiling-cong (M .states) W' W (e .corner-same) (e .points-same) (λ i l. e .weight-same i (point-in l)) (λ i l. e .value-same i (point-in l)) q q
+      (λ s l. refl)
+
+  pub upper-agree : (b : ℕ → ℕ) → upper M W' b ≡ upper M W b
+  unfolding upper
+  upper-agree = ceiling-agree
+
+  module _ (some : 0 < W .vectors) (b : ℕ → ℕ) where
+    best-agree : best M W' b ≡ best M W b
+    unfolding best
+    best-agree =
+        rw (e .vectors-same) (largest-cong (W .vectors) _ _ some
+        (λ v l. product-cong (M .states) b b (W' .entry v) (W .entry v) (λ s k. refl) (e .entry-same v l)))
+
+    pub lower-agree : lower M W' b ≡ lower M W b
+    unfolding lower
+    lower-agree =
+        rw best-agree (product-cong (M .states) b b _ _ (λ s k. refl) (e .entry-same (best M W b) (best-exists M W b some)))
+
+    pub advice-agree : advice M W' b ≡ advice M W b
+    unfolding advice
+    advice-agree = ap (W' .action) best-agree ∙ e .action-same (best M W b) (best-exists M W b some)
+
+-- A level that agrees with one that meets its inequalities over L meets them too.
+-- Both sides of each inequality are made of parts of the level below its counts, and of L: the backup of a vector reads its action and its choices by
+-- observation, that of a point its weights by state (`backupAt-weights`); entries, corners and values agree. Qed.
+pub meets-agree : (M : Model) (L W W' : Level) → Agree M W W' → Meets M L W → Meets M L W'
+unfolding follows
+meets-agree M L W W' e m = record {
+  vector = λ v l'. let l = vector-in M W W' e l' in record {
+    action-exists = rw (e .action-same v l) (m .vector v l .action-exists);
+    choice-exists = λ o b. rw (e .choice-same v l o b) (m .vector v l .choice-exists o b);
+    entry-holds = λ s b. rw (
+      e .action-same v l,
+      e .entry-same v l s b,
+      backup-cong M (W .action v) (follows L (W' .choice v)) (follows L (W .choice v)) s (λ o k s' k'. ap (λ (x : ℕ). L .entry x s') (e .choice-same v l o k)),
+    ) (m .vector v l .entry-holds s b);
+  };
+  corner = λ s l a b. rw (e .corner-same s l) (m .corner s l a b);
+  point = λ i l' a b. let l = point-in M W W' e l' in
+      rw (e .value-same i l, backupAt-weights M L (W' .weight i) (W .weight i) a (e .weight-same i l)) (m .point i l a b);
+}

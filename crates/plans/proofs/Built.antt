@@ -1,0 +1,192 @@
+-- The builder's level lies within the limits of its level and meets its inequalities. The laws of how large successor weights, backups and ceilings grow,
+-- of which that is made, also rule out overflow in code. Assumes nothing.
+use mathlib.Core.Path.{_≡_, _∙_, ap}
+use Prim.Native.Nat.{ℕ, suc, _+_, _*_, _≤_, _<_}
+use native.Mathlib.Nat as NatL
+use native.Mathlib.Omega.{arith}
+use lib.IntN.{ℤ, pos, negℤ, natAbs, _+ℤ_}
+use lib.Signed.{_≤ℤ_}
+use Rattle.integers.specs.Whole.{_·_, sumTo, totalTo, largestTo}
+use Rattle.integers.proofs.Order.{≤-trans, sub-≤, one-·, ·-mono}
+use Rattle.integers.proofs.Sums.{sum-mono, total-cong, total-mul, total-mul-right, total-swap}
+use Rattle.integers.proofs.Sizes.{abs-add, abs-times, times-bound, sum-weighed, abs-below, abs-above, multiple-above, multiple-between}
+use Rattle.integers.proofs.Rounding.{floor-≤, floor-range, ceil-≥, ceil-range}
+use Rattle.integers.proofs.Searches.{largest-in, largest-max}
+use Rattle.tables.specs.Limits.{one, maxReward, K}
+use Rattle.tables.specs.Model.{Model, Valid, successor, expectedReward, backup, backedUp}
+use Rattle.plans.specs.Limits.{maxBuilt, pointTotal, range}
+use Rattle.plans.specs.Level.{Level, product, drop, gain, ceiling, backupAt, corner-weight, follows, Meets, Shaped}
+use Rattle.plans.specs.Build.{chosen, entryFor, bestAction, leastFor, leastValue, built}
+use Rattle.plans.proofs.Ceiling.{sawtooth, product-const, corner-total}
+
+-- ---- totals of tables
+-- The chances of all that can follow a state and an action total one × one.
+-- Sum over the observations first: T(s,a,s') is a common factor, and the row of observations totals one; then the row of transitions totals one. Qed.
+pub chances : (M : Model) → Valid M → (a : ℕ) → a < M .actions → (s : ℕ) → s < M .states
+    → totalTo (M .states) (λ s'. totalTo (M .observations) (λ o. M .transition s a s' * M .observation a s' o)) ≡ one * one
+chances M T a la s ls =
+    total-cong (M .states) _ (λ s'. M .transition s a s' * one)
+    (λ s' l. total-mul (M .observations) (M .transition s a s') (M .observation a s') ∙ ap (λ (x : ℕ). M .transition s a s' * x) (T .observation-row a la s' l))
+    ∙ total-mul-right (M .states) one (M .transition s a) ∙ ap (λ (x : ℕ). x * one) (T .transition-row a la s ls)
+
+-- The successor weights of all observations total one × one times the weights.
+-- Swap the sums so that the observations come first, then the states reached: the row of observations totals one at each state reached, and the row of
+-- transitions totals one from each state. Qed.
+pub successor-total : (M : Model) → Valid M → (p : ℕ → ℕ) (a : ℕ) → a < M .actions
+    → totalTo (M .observations) (λ o. totalTo (M .states) (successor M p a o)) ≡ one * one * totalTo (M .states) p
+unfolding successor
+successor-total M T p a la =
+    total-swap (M .observations) (M .states) (λ o s'. totalTo (M .states) (λ s. p s * M .transition s a s' * M .observation a s' o))
+    ∙ total-cong (M .states) _ (λ s'. reached s' * one) seen
+    ∙ total-mul-right (M .states) one reached
+    ∙ ap (λ (x : ℕ). x * one) (total-swap (M .states) (M .states) (λ s' s. p s * M .transition s a s')
+    ∙ total-cong (M .states) _ (λ s. p s * one) moved ∙ total-mul-right (M .states) one p)
+    ∙ omega arith
+  where
+    reached : ℕ → ℕ
+    reached s' = totalTo (M .states) (λ s. p s * M .transition s a s')
+
+    seen : (s' : ℕ) → s' < M .states
+        → totalTo (M .observations) (λ o. totalTo (M .states) (λ s. p s * M .transition s a s' * M .observation a s' o)) ≡ reached s' * one
+    seen s' l =
+        total-cong (M .observations) _ (λ o. reached s' * M .observation a s' o)
+        (λ o b. total-mul-right (M .states) (M .observation a s' o) (λ s. p s * M .transition s a s'))
+        ∙ total-mul (M .observations) (reached s') (M .observation a s') ∙ ap (λ (x : ℕ). reached s' * x) (T .observation-row a la s' l)
+
+    moved : (s : ℕ) → s < M .states → totalTo (M .states) (λ s'. p s * M .transition s a s') ≡ p s * one
+    moved s l = total-mul (M .states) (p s) (M .transition s a) ∙ ap (λ (x : ℕ). p s * x) (T .transition-row a la s l)
+
+-- ---- the next level's range
+pub K-positive : 0 < K
+unfolding K
+K-positive = omega arith
+
+-- a backup of what lies within level t lies within level t + 1, where the weights total P
+next-range : (g P t : ℕ) (x y : ℤ) → g ≤ one → natAbs x ≤ P * maxReward → natAbs y ≤ one * one * P * range t
+    → natAbs (K · x +ℤ g · y) ≤ K * (P * range (suc t))
+unfolding K range
+next-range g P t x y h hx hy =
+    omega (arith, abs-add (K · x) (g · y), abs-times K x, times-bound g y (NatL.le-refl g) hy, NatL.mul-le-mul-right (P * t) h)
+
+sums-weighed : (m n r : ℕ) (w : ℕ → ℕ → ℕ) (e : ℕ → ℕ → ℤ) → ((i : ℕ) → i < m → (j : ℕ) → j < n → natAbs (e i j) ≤ r)
+    → natAbs (sumTo m (λ i. sumTo n (λ j. w i j · e i j))) ≤ totalTo m (λ i. totalTo n (λ j. w i j)) * r
+sums-weighed m n r w e h =
+    sum-weighed m r _ _ (λ i l. sum-weighed n r _ _ (λ j b. times-bound (w i j) (e i j) (NatL.le-refl (w i j)) (h i l j b)))
+
+-- Backups of a level t that is within its limits are within K times the range of level t + 1.
+-- The reward is at most maxReward. What follows is a weighted sum of entries within range t, whose weights total one × one (`chances`); times the
+-- discount, at most one, and with K = one × one × one, it is within K × range t. And maxReward + range t = range (t + 1). Qed.
+pub backup-range : (M : Model) (L : Level) (t : ℕ) → Valid M → Shaped M t L → (a : ℕ) → a < M .actions → (choice : ℕ → ℕ)
+    → ((o : ℕ) → o < M .observations → choice o < L .vectors) → (s : ℕ) → s < M .states
+    → natAbs (backup M a (follows L choice) s) ≤ K * range (suc t)
+unfolding backup follows
+backup-range M L t T S a la choice hc s ls = omega (arith, next)
+  where
+    ahead : natAbs (sumTo (M .states) (λ s'. sumTo (M .observations) (λ o. (M .transition s a s' * M .observation a s' o) · L .entry (choice o) s')))
+        ≤ totalTo (M .states) (λ s'. totalTo (M .observations) (λ o. M .transition s a s' * M .observation a s' o)) * range t
+    ahead = sums-weighed (M .states) (M .observations) (range t) _ _ (λ s' l o b. S .entry-in (choice o) (hc o b) s' l)
+
+    next : natAbs (backup M a (follows L choice) s) ≤ K * (1 * range (suc t))
+    next =
+        next-range (M .discount) 1 t (M .reward s a) _ (T .discount-limit) (omega (arith, T .reward-limit a la s ls))
+        (rw (chances M T a la s ls) at ahead)
+
+pub ceiling-below : (n : ℕ) (L : Level) (q : ℕ → ℕ) → ceiling n L q ≤ℤ product n q (L .corner)
+unfolding ceiling
+ceiling-below n L q = sub-≤ (product n q (L .corner)) (largestTo (L .points) (λ i. drop n (L .weight i) q (gain n L i)))
+
+-- The ceiling at weights q lies within the total of q times the range.
+-- Above: it is at most corners · q, and each corner is at most the range. Below: minus the range is at most every corner, and at every point minus
+-- pointTotal × range is at most its value, since the point's weights total that; so `sawtooth` puts minus the range, at q, below the ceiling. Qed.
+pub ceiling-range : (M : Model) (L : Level) (t : ℕ) → Shaped M t L → (q : ℕ → ℕ) → natAbs (ceiling (M .states) L q) ≤ totalTo (M .states) q * range t
+unfolding product
+ceiling-range M L t S q = multiple-between (totalTo (M .states) q) (range t) (ceiling (M .states) L q) high low
+  where
+    high : ceiling (M .states) L q ≤ℤ totalTo (M .states) q · pos (range t)
+    high =
+        rw (← product-const) (≤-trans (ceiling-below (M .states) L q)
+        (sum-mono (M .states) _ _ (λ s l. ·-mono (q s) (abs-below (range t) (L .corner s) (S .corner-in s l)))))
+
+    point-low : (i : ℕ) → i < L .points → product (M .states) (L .weight i) (λ s. negℤ (pos (range t))) ≤ℤ L .value i
+    point-low i l =
+        rw (product-const (M .states) (L .weight i) (negℤ (pos (range t))), S .total i l)
+        (multiple-above pointTotal (range t) (L .value i) (S .value-in i l))
+
+    low : totalTo (M .states) q · negℤ (pos (range t)) ≤ℤ ceiling (M .states) L q
+    low =
+        rw (← product-const) (rw one-· at (sawtooth (M .states) 1 L (λ s. negℤ (pos (range t)))
+        (λ s l. rw one-· (abs-above (range t) (L .corner s) (S .corner-in s l))) (λ i l. rw one-· (point-low i l)) q))
+
+-- Backups at weights p lie within K times the range of level t + 1 times the total of p.
+-- As for `backup-range`: the expected reward is within the total of p times maxReward, the ceilings at the successor weights are within their totals
+-- times range t (`ceiling-range`), and those totals are one × one times the total of p (`successor-total`). Qed.
+pub backupAt-range : (M : Model) (L : Level) (t : ℕ) → Valid M → Shaped M t L → (p : ℕ → ℕ) (a : ℕ) → a < M .actions
+    → natAbs (backupAt M L p a) ≤ K * (totalTo (M .states) p * range (suc t))
+unfolding backupAt expectedReward
+backupAt-range M L t T S p a la =
+    next-range (M .discount) (totalTo (M .states) p) t _ _ (T .discount-limit)
+    (sum-weighed (M .states) maxReward p _ (λ s l. times-bound (p s) (M .reward s a) (NatL.le-refl (p s)) (T .reward-limit a la s l)))
+    (rw (successor-total M T p a la) at ahead)
+  where
+    ahead : natAbs (sumTo (M .observations) (λ o. ceiling (M .states) L (successor M p a o)))
+        ≤ totalTo (M .observations) (λ o. totalTo (M .states) (successor M p a o)) * range t
+    ahead = sum-weighed (M .observations) (range t) _ _ (λ o b. ceiling-range M L t S (successor M p a o))
+
+-- ---- what the builder makes
+pub action-exists : (M : Model) (L : Level) (p : ℕ → ℕ) → 0 < M .actions → bestAction M L p < M .actions
+unfolding bestAction
+action-exists M L p h = largest-in _ _ h
+
+pub chosen-exists : (M : Model) (L : Level) (p : ℕ → ℕ) (a o : ℕ) → 0 < L .vectors → chosen M L p a o < L .vectors
+unfolding chosen
+chosen-exists M L p a o h = largest-in _ _ h
+
+pub value-meets : (M : Model) (L : Level) (p : ℕ → ℕ) (a : ℕ) → a < M .actions → backupAt M L p a ≤ℤ K · leastValue M L p
+unfolding leastValue leastFor
+value-meets M L p a la = ≤-trans (ceil-≥ K K-positive (backupAt M L p a)) (·-mono K (largest-max (M .actions) (leastFor M L p) a la))
+
+module _ (M : Model) (L : Level) (t : ℕ) (T : Valid M) (S : Shaped M t L) where
+  pub entry-range : (p : ℕ → ℕ) (a : ℕ) → a < M .actions → (s : ℕ) → s < M .states → natAbs (entryFor M L p a s) ≤ range (suc t)
+  unfolding entryFor backedUp
+  entry-range p a la s ls =
+      floor-range K K-positive (range (suc t)) _
+      (backup-range M L t T S a la (chosen M L p a) (λ o b. chosen-exists M L p a o (S .some-vectors)) s ls)
+
+  pub value-range : (p : ℕ → ℕ) → natAbs (leastValue M L p) ≤ totalTo (M .states) p * range (suc t)
+  unfolding leastValue leastFor
+  value-range p =
+      ceil-range K K-positive (totalTo (M .states) p * range (suc t)) _ (backupAt-range M L t T S p _ (largest-in _ _ (T .some-actions)))
+
+  module _ (points : ℕ) (weight : ℕ → ℕ → ℕ) (few : points ≤ maxBuilt)
+      (total : (i : ℕ) → i < points → totalTo (M .states) (weight i) ≡ pointTotal) where
+    -- The built level has the shape of level t + 1.
+    -- It has a vector for each state and each point, at most maxStates + maxBuilt = maxVectors. An entry is a backup over K, rounded down; a corner or
+    -- value is the largest of the backups over K, rounded up. Backups lie within K × range (t + 1) times the total of the weights, which is 1 at a
+    -- corner and pointTotal at a point; rounding keeps a range with whole ends. Qed.
+    pub built-shaped : Shaped M (suc t) (built M L points weight)
+    unfolding built
+    built-shaped = record {
+      some-vectors = omega (arith, T .some-states);
+      few-vectors = omega (arith, T .few-states);
+      few-points = omega arith;
+      action-in = λ v l. action-exists M L _ (T .some-actions);
+      entry-in = λ v l s b. entry-range _ _ (action-exists M L _ (T .some-actions)) s b;
+      corner-in = λ s l. omega (arith, rw (corner-total (M .states) s l) at (value-range (corner-weight s)));
+      value-in = λ i l. rw (total i l) at (value-range (weight i));
+      total = total;
+    }
+
+    -- The built level meets its inequalities over level t.
+    -- A vector's action and choices are indices of a largest, so they exist; K times a backup over K, rounded down, is at most the backup; and K times
+    -- the largest of the backups over K, rounded up, is at least each of them. Qed.
+    pub built-meets : Meets M L (built M L points weight)
+    unfolding built entryFor backedUp
+    built-meets = record {
+      vector = λ v l. record {
+        action-exists = action-exists M L _ (T .some-actions);
+        choice-exists = λ o b. chosen-exists M L _ _ o (S .some-vectors);
+        entry-holds = λ s b. floor-≤ K K-positive _;
+      };
+      corner = λ s l a la. value-meets M L (corner-weight s) a la;
+      point = λ i l a la. value-meets M L (weight i) a la;
+    }

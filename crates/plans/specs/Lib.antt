@@ -1,0 +1,6 @@
+-- Plans and what they earn; levels, their ceilings and backups; totals; the builder.
+pub mod Limits
+pub mod Plan
+pub mod Level
+pub mod Totals
+pub mod Build

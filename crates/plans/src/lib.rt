@@ -1,0 +1,1 @@
+// What plans earn and why floors and ceilings bracket it: definitions and laws only, no code.

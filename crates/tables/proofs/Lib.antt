@@ -1,0 +1,5 @@
+-- Laws for this crate's proofs and those above it.
+pub mod Refusals
+pub mod Accepted
+pub mod Fitting
+pub mod Regroup

@@ -1,0 +1,109 @@
+-- The partial sums of storage: how they join to the model's sums, and how large they are. Assumes nothing.
+use mathlib.Core.Path.{_≡_, refl, sym, _∙_, ap}
+use mathlib.Core.List.{List}
+use Prim.Native.Nat.{ℕ, _+_, _*_, _^_, _≤_, _<_}
+use native.Mathlib.Nat.{mul-le-mul}
+use native.Mathlib.Omega.{arith}
+use lib.ListN.{getD}
+use lib.IntN.{ℤ, pos, natAbs, _+ℤ_}
+use Rattle.integers.specs.Whole.{_·_, sumTo, totalTo, Below, Within}
+use Rattle.integers.proofs.Order.{·-·}
+use Rattle.integers.proofs.Sums.{sum-cong, sum-·, total-bound, total-mul-right}
+use Rattle.integers.proofs.Terms.{Terms, terms-limit}
+use Rattle.integers.proofs.Sizes.{abs-times}
+use Rattle.tables.specs.declared.Tables.{Tables}
+use Rattle.tables.specs.Limits.{maxStates, maxObservations, one, maxWeight, maxEntry, K}
+use Rattle.tables.specs.Model.{Valid, successor, expectedReward, backup}
+use Rattle.tables.specs.Storage.{transitionIn, observationIn, rewardIn, weightIn, chosenIn, modelOf, movedIn, expectedIn, foreseenIn, onwardIn, backupIn, TransitionsFit, ObservationsFit, RewardsFit, ChosenFit, movedLimit, foreseenLimit}
+
+-- ---- to the model's sums
+
+module _ (m : Tables) where
+  -- what moved to a state, times the observation there, is the successor's weight
+  pub moved-successor : (p : List ℕ) (a o s' : ℕ)
+      → movedIn (m .states) (m .transition) p a s' * observationIn (m .states) (m .observations) (m .observation) a s' o
+      ≡ successor (modelOf m) (weightIn p) a o s'
+  unfolding movedIn successor
+  moved-successor p a o s' = sym (total-mul-right (m .states) _ _)
+
+  -- the expected reward is the model's
+  pub expected-is : (p : List ℕ) (a : ℕ) → expectedIn (m .states) (m .reward) p a ≡ expectedReward (modelOf m) (weightIn p) a
+  unfolding expectedIn expectedReward
+  expected-is p a = refl
+
+  -- a transition times what is foreseen, with the transition inside the sum
+  spread : (t : ℕ) (entries : List ℤ) (chosen : List ℕ) (a s' : ℕ)
+      → t · foreseenIn (m .states) (m .observations) (m .observation) entries chosen a s'
+      ≡ sumTo (m .observations) (λ o. (t * observationIn (m .states) (m .observations) (m .observation) a s' o) · chosenIn (m .states) entries chosen o s')
+  unfolding foreseenIn
+  spread t entries chosen a s' = sym (sum-· t (m .observations) _) ∙ sum-cong (m .observations) _ _ (λ o l. sym (·-· t _ _))
+
+  -- with what is foreseen at each state, the backup is the model's
+  pub backup-regrouped : (entries : List ℤ) (chosen : List ℕ) (f : List ℤ) (a s : ℕ)
+      → ((s' : ℕ) → s' < m .states → getD f s' (pos 0) ≡ foreseenIn (m .states) (m .observations) (m .observation) entries chosen a s')
+      → backupIn (m .states) (m .discount) (m .transition) (m .reward) f a s ≡ backup (modelOf m) a (chosenIn (m .states) entries chosen) s
+  unfolding backupIn onwardIn backup
+  backup-regrouped entries chosen f a s h =
+      ap (λ (z : ℤ). K · rewardIn (m .states) (m .reward) s a +ℤ m .discount · z)
+      (sum-cong (m .states) _ _ (λ s' l. ap (λ (z : ℤ). transitionIn (m .states) (m .transition) s a s' · z) (h s' l) ∙ spread _ entries chosen a s'))
+
+-- ---- how large they are
+
+-- the largest sum onward
+abbrev pub onwardLimit : ℕ
+onwardLimit = maxStates * (one * foreseenLimit)
+
+module _ {n a s' : ℕ} {cells p : List ℕ} (fit : TransitionsFit n cells a) (light : Below maxWeight n p) (reached : s' < n) (few : n ≤ maxStates) where
+  -- what moved to a state from the first ones is within its limit
+  pub moved-part : (i : ℕ) → i ≤ n → totalTo i (λ s. weightIn p s * transitionIn n cells s a s') ≤ movedLimit
+  moved-part i l =
+      omega (
+        arith,
+        total-bound i (maxWeight * one) (λ s. weightIn p s * transitionIn n cells s a s')
+            (λ s h. mul-le-mul (light .below s (omega arith)) (fit .transition s (omega arith) s' reached)),
+      )
+
+  -- and what moved to it from all
+  pub moved-limit : movedIn n cells p a s' ≤ movedLimit
+  unfolding movedIn
+  moved-limit = moved-part n (omega arith)
+
+module _ {n k a : ℕ} {cells chosen : List ℕ} {entries : List ℤ} (fit : ObservationsFit n k cells a) (follow : ChosenFit n k entries chosen) where
+  -- what is foreseen at a state is made of terms within the limits
+  pub foreseen-terms : {s' : ℕ} → s' < n → Terms k one maxEntry (observationIn n k cells a s') (λ o. chosenIn n entries chosen o s')
+  foreseen-terms {s'} l = record { weights = fit .observation s' l; values = λ o h. follow .entry o h s' l }
+
+  -- so it is within its limit
+  pub foreseen-limit : k ≤ maxObservations → {s' : ℕ} → s' < n → natAbs (foreseenIn n k cells entries chosen a s') ≤ foreseenLimit
+  unfolding foreseenIn
+  foreseen-limit few l = omega (arith, terms-limit (foreseen-terms l) k (omega arith))
+
+module _ {n a s : ℕ} {cells : List ℕ} {f : List ℤ} (fit : TransitionsFit n cells a) (within : Within foreseenLimit n f) (start : s < n) where
+  -- the sum onward from a state is made of terms within the limits
+  pub onward-terms : Terms n one foreseenLimit (transitionIn n cells s a) (λ s'. getD f s' (pos 0))
+  onward-terms = record { weights = fit .transition s start; values = within .within }
+
+  -- so it is within its limit
+  pub onward-limit : n ≤ maxStates → natAbs (onwardIn n cells f s a) ≤ onwardLimit
+  unfolding onwardIn
+  onward-limit few = omega (arith, terms-limit onward-terms n (omega arith))
+
+  -- the two parts of a backup fit 64 bits together
+  pub backup-fits : {g : ℕ} {rewards : List ℤ} → RewardsFit n rewards a → n ≤ maxStates → g ≤ one
+      → natAbs (K · rewardIn n rewards s a) + g * natAbs (onwardIn n cells f s a) < 2 ^ 63
+  unfolding K
+  backup-fits {rewards} small few less =
+      omega (arith, abs-times K (rewardIn n rewards s a), small .reward s start, mul-le-mul less (onward-limit few))
+
+module _ (m : Tables) (v : Valid (modelOf m)) (a : ℕ) (l : a < m .actions) where
+  -- of valid tables, an action's transitions are within the limits
+  pub transitions-fit : TransitionsFit (m .states) (m .transition) a
+  transitions-fit = record { transition = v .transition-limit a l }
+
+  -- and its observations
+  pub observations-fit : ObservationsFit (m .states) (m .observations) (m .observation) a
+  observations-fit = record { observation = v .observation-limit a l }
+
+  -- and its rewards
+  pub rewards-fit : RewardsFit (m .states) (m .reward) a
+  rewards-fit = record { reward = v .reward-limit a l }

@@ -1,0 +1,97 @@
+use Prim.Native.Nat.{ℕ, _+_, _*_, _≤_, _<_, _-_}
+use mathlib.Core.Path.{_≡_, sym, ap, _∙_}
+use native.Mathlib.Omega.{arith}
+use mathlib.Core.Bool.{Bool, true}
+use lib.Dec.{leb}
+use mathlib.Core.List.{List}
+use lib.ListN.{length, getD}
+use borrow.Author.Tests.{not-true, not-false}
+use Rattle.integers.specs.Search.{every}
+use Rattle.integers.proofs.Searches.{every-none, every-more, every-not}
+use Rattle.integers.proofs.Lists.{cell-below, row-below}
+use Rattle.tables.proofs.judge.cells_within.Statement.{statement}
+use Rattle.tables.proofs.judge.cells_within.Tie as tie
+
+-- row r is within its limit
+abbrev rowOk : List ℕ → ℕ → ℕ → Bool
+rowOk cells w r = every w (λ x. leb (getD cells (r * w + x) 0) 1000)
+
+abbrev Inv-loop2 : tie.InvT-loop2
+Inv-loop2 cells m n w a s₀ s = (s ≤ n) × (every s (λ t. rowOk cells w (a * n + t)) ≡ true)
+
+abbrev μ-loop2 : tie.MeasureT-loop2
+μ-loop2 cells m n w a s₀ s = n - s
+
+abbrev Inv-loop : tie.InvT-loop
+Inv-loop cells m n w a₀ a = (a ≤ m) × (every a (λ b. every n (λ t. rowOk cells w (b * n + t))) ≡ true)
+
+abbrev μ-loop : tie.MeasureT-loop
+μ-loop cells m n w a₀ a = m - a
+
+-- the row lies in the table
+row-here : (c : tie.After-row Inv-loop2 μ-loop2 Inv-loop μ-loop) → c .row .result * c .before .before .before .before .before .before .args .w + c .before .before .before .before .before .before .args .w ≤ length (c .before .before .before .before .before .before .args .cells .now)
+row-here c =
+    let r : c .before .before .before .before .loop .a * c .before .before .before .before .before .before .args .n + c .before .before .loop2 .s < c .before .before .before .before .before .before .args .m * c .before .before .before .before .before .before .args .n =
+    cell-below (c .before .before .before .before .loop .a) (c .before .before .before .before .before .before .args .m) (c .before .before .loop2 .s) (c .before .before .before .before .before .before .args .n) (omega arith) (omega arith) in
+    rw (c .row .ensures .0) (omega (arith, row-below _ _ (c .before .before .before .before .before .before .args .w) r, c .before .before .before .before .before .before .pre .1))
+
+loop-holds : tie.Need-loop-holds Inv-loop2 μ-loop2 Inv-loop μ-loop
+loop-holds c = (omega arith, every-none _)
+
+loop2-holds : tie.Need-loop2-holds Inv-loop2 μ-loop2 Inv-loop μ-loop
+loop2-holds c = (omega arith, every-none _)
+
+row-requires : tie.Need-row-requires Inv-loop2 μ-loop2 Inv-loop μ-loop
+row-requires c κs = omega arith
+
+mul-at : tie.Need-mul-at Inv-loop2 μ-loop2 Inv-loop μ-loop
+mul-at c = omega (arith, row-here c)
+
+row-within-requires : tie.Need-row-within-requires Inv-loop2 μ-loop2 Inv-loop μ-loop
+row-within-requires c κs = omega (arith, row-here c)
+
+returns : tie.Need-returns Inv-loop2 μ-loop2 Inv-loop μ-loop
+returns c = sym (every-not _ _ (c .before .before .before .before .before .before .loop .a) (omega arith) (every-not _ _ (c .before .before .before .before .loop2 .s) (omega arith) (sym (c .before .row-within .ensures ∙ ap (rowOk (c .before .before .before .before .before .before .before .before .args .cells .now) (c .before .before .before .before .before .before .before .before .args .w)) (c .before .before .row .ensures .0)) ∙ not-true _ (c .if1 .taken))))
+
+add-s : tie.Need-add-s Inv-loop2 μ-loop2 Inv-loop μ-loop
+add-s c = omega arith
+
+loop2-less : tie.Need-loop2-less Inv-loop2 μ-loop2 Inv-loop μ-loop
+loop2-less c = omega arith
+
+loop2-again : tie.Need-loop2-again Inv-loop2 μ-loop2 Inv-loop μ-loop
+loop2-again c = (omega arith, every-more _ _ (c .before .before .before .before .loop2 .inv .1) (sym (c .before .row-within .ensures ∙ ap (rowOk (c .before .before .before .before .before .before .before .before .args .cells .now) (c .before .before .before .before .before .before .before .before .args .w)) (c .before .before .row .ensures .0)) ∙ not-false _ (c .if1 .left)))
+
+add-a : tie.Need-add-a Inv-loop2 μ-loop2 Inv-loop μ-loop
+add-a c = omega arith
+
+loop-less : tie.Need-loop-less Inv-loop2 μ-loop2 Inv-loop μ-loop
+loop-less c = omega arith
+
+loop-again : tie.Need-loop-again Inv-loop2 μ-loop2 Inv-loop μ-loop
+loop-again c = let e : c .before .loop2 .s ≡ c .before .before .before .before .before .args .n = omega arith in (omega arith, every-more _ _ (c .before .before .before .loop .inv .1) (rw e at (c .before .loop2 .inv .1)))
+
+returns-2 : tie.Need-returns-2 Inv-loop2 μ-loop2 Inv-loop μ-loop
+returns-2 c = let e : c .before .loop .a ≡ c .before .before .before .args .m = omega arith in sym (rw e at (c .before .loop .inv .1))
+
+pub cells-within-spec : {M : Type 1} → statement M
+cells-within-spec =
+    tie.close
+    (tie.spec
+    Inv-loop2
+    μ-loop2
+    Inv-loop
+    μ-loop
+    loop-holds
+    loop2-holds
+    row-requires
+    mul-at
+    row-within-requires
+    returns
+    add-s
+    loop2-less
+    loop2-again
+    add-a
+    loop-less
+    loop-again
+    returns-2)

@@ -1,0 +1,58 @@
+use native.Mathlib.Omega.{arith}
+use Rattle.tables.specs.Storage.{kept}
+use Rattle.tables.proofs.Fitting.{Long, Sizes, sizes}
+use borrow.Author.Needs.{needs}
+use Rattle.tables.proofs.judge.keep.Statement.{statement}
+use Rattle.tables.proofs.judge.keep.Tie as tie
+
+here : (c : tie.Start) → Sizes (c .args .m .actions) (c .args .m .states) (c .args .m .observations)
+here c = sizes (record { actions = c .pre .0; states = c .pre .1 .0; observations = c .pre .1 .1 })
+
+long : (c : tie.Start) → Long (c .args .m)
+long c = record { transition = search (needs, c .good .0); observation = search (needs, c .good .0); reward = search (needs, c .good .0) }
+
+mul-rows : tie.Need-mul-rows
+mul-rows c = omega (arith, here (c .before .before .before), long (c .before .before .before))
+
+slice-aggregate-clear-u16 : tie.Need-slice-aggregate-clear-u16
+slice-aggregate-clear-u16 c = search needs
+
+mul-clear-u16 : tie.Need-mul-clear-u16
+mul-clear-u16 c = omega (arith, here (c .before .before .before .before), long (c .before .before .before .before))
+
+clear-u16-requires : tie.Need-clear-u16-requires
+clear-u16-requires c κs = omega (arith, here (c .before .before .before .before), long (c .before .before .before .before))
+
+slice-aggregate-clear-u16-2 : tie.Need-slice-aggregate-clear-u16-2
+slice-aggregate-clear-u16-2 c = search needs
+
+mul-clear-u16-2 : tie.Need-mul-clear-u16-2
+mul-clear-u16-2 c = omega (arith, here (c .before .before .before .before .before .before .before), long (c .before .before .before .before .before .before .before))
+
+clear-u16-requires-2 : tie.Need-clear-u16-requires-2
+clear-u16-requires-2 c κs = omega (arith, here (c .before .before .before .before .before .before .before), long (c .before .before .before .before .before .before .before))
+
+slice-aggregate-clear-i64 : tie.Need-slice-aggregate-clear-i64
+slice-aggregate-clear-i64 c = search needs
+
+clear-i64-requires : tie.Need-clear-i64-requires
+clear-i64-requires c κs = omega (arith, here (c .before .before .before .before .before .before .before .before .before .before), long (c .before .before .before .before .before .before .before .before .before .before))
+
+returns : tie.Need-returns
+unfolding kept
+returns c = rw (c .before .before .before .before .before .before .before .clear-u16 .ensures, c .before .before .before .before .clear-u162 .ensures, c .before .clear-i64 .ensures)
+
+pub keep-spec : {M : Type 1} → statement M
+keep-spec =
+    tie.close
+    (tie.spec
+    mul-rows
+    slice-aggregate-clear-u16
+    mul-clear-u16
+    clear-u16-requires
+    slice-aggregate-clear-u16-2
+    mul-clear-u16-2
+    clear-u16-requires-2
+    slice-aggregate-clear-i64
+    clear-i64-requires
+    returns)

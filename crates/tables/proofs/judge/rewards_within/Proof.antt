@@ -1,0 +1,85 @@
+use Prim.Native.Nat.{_≤_, _-_}
+use mathlib.Core.Path.{_≡_, sym, ap, _∙_}
+use native.Mathlib.Omega.{arith}
+use mathlib.Core.Bool.{true}
+use lib.Dec.{leb}
+use lib.IntN.{ℤ, natAbs}
+use borrow.Author.Tests.{not-true, not-false}
+use Rattle.integers.specs.Search.{every}
+use Rattle.integers.proofs.Searches.{every-none, every-more, every-not}
+use Rattle.integers.proofs.Words.{back}
+use Rattle.tables.specs.Storage.{rewardIn}
+use Rattle.tables.proofs.judge.rewards_within.Statement.{statement}
+use Rattle.tables.proofs.judge.rewards_within.Tie as tie
+
+abbrev Inv-loop2 : tie.InvT-loop2
+Inv-loop2 cells m n a s₀ s = (s ≤ n) × (every s (λ t. leb (natAbs (rewardIn n cells t a)) 100000) ≡ true)
+
+abbrev μ-loop2 : tie.MeasureT-loop2
+μ-loop2 cells m n a s₀ s = n - s
+
+abbrev Inv-loop : tie.InvT-loop
+Inv-loop cells m n a₀ a = (a ≤ m) × (every a (λ b. every n (λ t. leb (natAbs (rewardIn n cells t b)) 100000)) ≡ true)
+
+abbrev μ-loop : tie.MeasureT-loop
+μ-loop cells m n a₀ a = m - a
+
+said : (c : tie.After-within Inv-loop2 μ-loop2 Inv-loop μ-loop) → c .within .result ≡ leb (natAbs (rewardIn (c .before .before .before .before .before .before .args .n) (c .before .before .before .before .before .before .args .cells .now) (c .before .before .before .loop2 .s) (c .before .before .before .before .before .loop .a))) 100000
+said c = c .within .ensures ∙ ap (λ (z : ℤ). leb (natAbs z) 100000) (back _ (c .before .reward-at .ok) ∙ c .before .reward-at .ensures)
+
+loop-holds : tie.Need-loop-holds Inv-loop2 μ-loop2 Inv-loop μ-loop
+loop-holds c = (omega arith, every-none _)
+
+loop2-holds : tie.Need-loop2-holds Inv-loop2 μ-loop2 Inv-loop μ-loop
+loop2-holds c = (omega arith, every-none _)
+
+reward-at-requires : tie.Need-reward-at-requires Inv-loop2 μ-loop2 Inv-loop μ-loop
+reward-at-requires c κs = ((omega arith, omega arith), omega arith)
+
+within-requires : tie.Need-within-requires Inv-loop2 μ-loop2 Inv-loop μ-loop
+within-requires c κs = omega arith
+
+returns : tie.Need-returns Inv-loop2 μ-loop2 Inv-loop μ-loop
+returns c = sym (every-not _ _ (c .before .before .before .before .before .before .loop .a) (omega arith) (every-not _ _ (c .before .before .before .before .loop2 .s) (omega arith) (sym (said (c .before)) ∙ not-true _ (c .if1 .taken))))
+
+add-s : tie.Need-add-s Inv-loop2 μ-loop2 Inv-loop μ-loop
+add-s c = omega arith
+
+loop2-less : tie.Need-loop2-less Inv-loop2 μ-loop2 Inv-loop μ-loop
+loop2-less c = omega arith
+
+loop2-again : tie.Need-loop2-again Inv-loop2 μ-loop2 Inv-loop μ-loop
+loop2-again c = (omega arith, every-more _ _ (c .before .before .before .before .loop2 .inv .1) (sym (said (c .before)) ∙ not-false _ (c .if1 .left)))
+
+add-a : tie.Need-add-a Inv-loop2 μ-loop2 Inv-loop μ-loop
+add-a c = omega arith
+
+loop-less : tie.Need-loop-less Inv-loop2 μ-loop2 Inv-loop μ-loop
+loop-less c = omega arith
+
+loop-again : tie.Need-loop-again Inv-loop2 μ-loop2 Inv-loop μ-loop
+loop-again c = let e : c .before .loop2 .s ≡ c .before .before .before .before .args .n = omega arith in (omega arith, every-more _ _ (c .before .before .before .loop .inv .1) (rw e at (c .before .loop2 .inv .1)))
+
+returns-2 : tie.Need-returns-2 Inv-loop2 μ-loop2 Inv-loop μ-loop
+returns-2 c = let e : c .before .loop .a ≡ c .before .before .args .m = omega arith in sym (rw e at (c .before .loop .inv .1))
+
+pub rewards-within-spec : {M : Type 1} → statement M
+rewards-within-spec =
+    tie.close
+    (tie.spec
+    Inv-loop2
+    μ-loop2
+    Inv-loop
+    μ-loop
+    loop-holds
+    loop2-holds
+    reward-at-requires
+    within-requires
+    returns
+    add-s
+    loop2-less
+    loop2-again
+    add-a
+    loop-less
+    loop-again
+    returns-2)

@@ -1,0 +1,118 @@
+use Prim.Native.Nat.{ℕ, _+_, _*_, _≤_, _<_, _-_}
+use mathlib.Core.Path.{_≡_, refl, sym, ap, _∙_}
+use native.Mathlib.Omega.{arith}
+use mathlib.Core.Bool.{Bool}
+use lib.Dec.{eqb}
+use mathlib.Core.List.{List}
+use lib.ListN.{length, getD}
+use borrow.Author.Tests.{eq-eqb, ne-eqb}
+use Rattle.integers.specs.Whole.{totalTo}
+use Rattle.integers.proofs.Lists.{cell-below, row-below}
+use Rattle.tables.specs.declared.Verdict.{Verdict}
+use Rattle.tables.specs.declared.Verdict.the-variants.{Fine, Refused}
+use Rattle.tables.specs.Verdicts.{unless, firstOf}
+use Rattle.tables.specs.Judged.{rowsTotal}
+use Rattle.tables.proofs.Refusals.{first-none, first-more, first-here}
+use Rattle.tables.proofs.judge.rows_total.Statement.{statement}
+use Rattle.tables.proofs.judge.rows_total.Tie as tie
+
+-- the verdict on row r
+abbrev rowVerdict : List ℕ → ℕ → ℕ → ℕ → Verdict
+rowVerdict cells w number r = unless (eqb (totalTo w (λ x. getD cells (r * w + x) 0)) 1000) number r
+
+abbrev Inv-loop : tie.InvT-loop
+Inv-loop cells m n w number found₀ a s₀ found s = (s ≤ n) × ((found ≡ Fine) × (firstOf s (λ t. rowVerdict cells w number (a * n + t)) ≡ Fine))
+
+abbrev μ-loop : tie.MeasureT-loop
+μ-loop cells m n w number found₀ a s₀ found s = n - s
+
+abbrev Inv-rows : tie.InvT-rows
+Inv-rows cells m n w number found₀ a₀ found a = (a ≤ m) × ((found ≡ Fine) × (firstOf a (λ b. firstOf n (λ t. rowVerdict cells w number (b * n + t))) ≡ Fine))
+
+abbrev μ-rows : tie.MeasureT-rows
+μ-rows cells m n w number found₀ a₀ found a = m - a
+
+-- the row lies in the table
+row-here : (c : tie.After-row Inv-loop μ-loop Inv-rows μ-rows) → c .row .result * c .before .before .before .before .before .before .args .w + c .before .before .before .before .before .before .args .w ≤ length (c .before .before .before .before .before .before .args .cells .now)
+row-here c =
+    let r : c .before .before .before .before .rows .a * c .before .before .before .before .before .before .args .n + c .before .before .loop .s < c .before .before .before .before .before .before .args .m * c .before .before .before .before .before .before .args .n =
+    cell-below (c .before .before .before .before .rows .a) (c .before .before .before .before .before .before .args .m) (c .before .before .loop .s) (c .before .before .before .before .before .before .args .n) (omega arith) (omega arith) in
+    rw (c .row .ensures .0) (omega (arith, row-below _ _ (c .before .before .before .before .before .before .args .w) r, c .before .before .before .before .before .before .pre .1))
+
+-- the total, by the row's own number
+said :
+    (c : tie.After-row-total Inv-loop μ-loop Inv-rows μ-rows) →
+    c .row-total .result ≡ totalTo (c .before .before .before .before .before .before .before .args .w) (λ x. getD (c .before .before .before .before .before .before .before .args .cells .now) ((c .before .before .before .before .before .rows .a * c .before .before .before .before .before .before .before .args .n + c .before .before .before .loop .s) * c .before .before .before .before .before .before .before .args .w + x) 0)
+said c =
+    c .row-total .ensures
+    ∙ ap (λ (r : ℕ). totalTo (c .before .before .before .before .before .before .before .args .w) (λ x. getD (c .before .before .before .before .before .before .before .args .cells .now) (r * c .before .before .before .before .before .before .before .args .w + x) 0)) (c .before .row .ensures .0)
+
+rows-holds : tie.Need-rows-holds Inv-loop μ-loop Inv-rows μ-rows
+rows-holds c = (omega arith, (refl, first-none _))
+
+loop-holds : tie.Need-loop-holds Inv-loop μ-loop Inv-rows μ-rows
+loop-holds c = (omega arith, (c .before .rows .inv .1 .0, first-none _))
+
+row-requires : tie.Need-row-requires Inv-loop μ-loop Inv-rows μ-rows
+row-requires c κs = omega arith
+
+mul-row-total : tie.Need-mul-row-total Inv-loop μ-loop Inv-rows μ-rows
+mul-row-total c = omega (arith, row-here c)
+
+row-total-requires : tie.Need-row-total-requires Inv-loop μ-loop Inv-rows μ-rows
+row-total-requires c κs = omega (arith, row-here c)
+
+add-s : tie.Need-add-s Inv-loop μ-loop Inv-rows μ-rows
+add-s c = omega arith
+
+loop-less : tie.Need-loop-less Inv-loop μ-loop Inv-rows μ-rows
+loop-less c = omega arith
+
+loop-again : tie.Need-loop-again Inv-loop μ-loop Inv-rows μ-rows
+loop-again c = (omega arith, (c .before .before .before .before .loop .inv .1 .0, first-more _ _ (c .before .before .before .before .loop .inv .1 .1) (ap (λ (b : Bool). unless b (c .before .before .before .before .before .before .before .before .args .number) (c .before .before .before .before .before .before .rows .a * c .before .before .before .before .before .before .before .before .args .n + c .before .before .before .before .loop .s)) (eq-eqb _ 1000 (sym (said (c .before)) ∙ c .if1 .left)))))
+
+add-a : tie.Need-add-a Inv-loop μ-loop Inv-rows μ-rows
+add-a c = omega arith
+
+rows-less : tie.Need-rows-less Inv-loop μ-loop Inv-rows μ-rows
+rows-less c = omega arith
+
+rows-again : tie.Need-rows-again Inv-loop μ-loop Inv-rows μ-rows
+rows-again c = let e : c .before .loop .s ≡ c .before .before .before .before .before .args .n = omega arith in (omega arith, (c .before .loop .inv .1 .0, first-more _ _ (c .before .before .before .rows .inv .1 .1) (rw e at (c .before .loop .inv .1 .1))))
+
+returns : tie.Need-returns Inv-loop μ-loop Inv-rows μ-rows
+unfolding rowsTotal
+returns c =
+    let e : c .before .rows .a ≡ c .before .before .before .args .m = omega arith in
+    c .before .rows .inv .1 .0 ∙ sym (rw e at (c .before .rows .inv .1 .1))
+
+returns-2 : tie.Need-returns-2 Inv-loop μ-loop Inv-rows μ-rows
+unfolding rowsTotal
+returns-2 c =
+    ap (Refused (c .before .before .before .before .before .before .before .before .args .number)) (c .before .before .row .ensures .0)
+    ∙ sym
+    (first-here _ _ (c .before .before .before .before .before .before .rows .a) (omega arith) (c .before .before .before .before .before .before .rows .inv .1 .1)
+    (first-here _ _ (c .before .before .before .before .loop .s) (omega arith) (c .before .before .before .before .loop .inv .1 .1)
+    (ap (λ (b : Bool). unless b (c .before .before .before .before .before .before .before .before .args .number) (c .before .before .before .before .before .before .rows .a * c .before .before .before .before .before .before .before .before .args .n + c .before .before .before .before .loop .s)) (ne-eqb _ 1000 (λ e. c .if1 .taken (said (c .before) ∙ e))))))
+
+pub rows-total-spec : {M : Type 1} → statement M
+rows-total-spec =
+    tie.close
+    (tie.spec
+    Inv-loop
+    μ-loop
+    Inv-rows
+    μ-rows
+    rows-holds
+    loop-holds
+    row-requires
+    mul-row-total
+    row-total-requires
+    add-s
+    loop-less
+    loop-again
+    add-a
+    rows-less
+    rows-again
+    returns
+    returns-2)

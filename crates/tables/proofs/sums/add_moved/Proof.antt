@@ -1,0 +1,22 @@
+use Prim.Native.Nat.{_*_, _≤_}
+use mathlib.Core.Path.{refl}
+use native.Mathlib.Nat.{mul-le-mul}
+use native.Mathlib.Omega.{arith}
+use Rattle.tables.specs.Limits.{maxWeight, one}
+use Rattle.tables.proofs.sums.add_moved.Statement.{statement}
+use Rattle.tables.proofs.sums.add_moved.Tie as tie
+
+product : (c : tie.Start) → c .args .p * c .args .t ≤ maxWeight * one
+product c = mul-le-mul (c .pre .1 .0) (c .pre .1 .1)
+
+mul-result : tie.Need-mul-result
+mul-result c = omega (arith, product c)
+
+add-result : tie.Need-add-result
+add-result c = omega (arith, product c)
+
+returns : tie.Need-returns
+returns c = refl
+
+pub add-moved-spec : {M : Type 1} → statement M
+add-moved-spec = tie.close (tie.spec mul-result add-result returns)

@@ -1,0 +1,82 @@
+use Prim.Native.Nat.{_≤_, _-_}
+use mathlib.Core.Path.{_≡_, sym}
+use native.Mathlib.Omega.{arith}
+use borrow.Author.Needs.{needs}
+use lib.Dec.{lit<}
+use mir.Syntax.{w64}
+use mir.Val.{toZ}
+use Rattle.integers.specs.Whole.{_·_, sumTo}
+use Rattle.integers.proofs.Sums.{sum-none}
+use Rattle.tables.specs.Limits.{maxWeight, maxReward}
+use Rattle.tables.specs.Storage.{weightIn, rewardIn, expectedIn}
+use Rattle.integers.proofs.Terms.{Terms, term-fits, term-added}
+use Rattle.integers.proofs.Words.{answer}
+use Rattle.tables.proofs.sums.expected_reward.Statement.{statement}
+use Rattle.tables.proofs.sums.expected_reward.Tie as tie
+
+abbrev Inv-loop : tie.InvT-loop
+Inv-loop cells n p a sum₀ s₀ sum s = (s ≤ n) × (toZ w64 sum ≡ sumTo s (λ i. weightIn p i · rewardIn n cells i (a .0)))
+
+abbrev μ-loop : tie.MeasureT-loop
+μ-loop cells n p a sum₀ s₀ sum s = n - s
+
+terms : (c : tie.Start Inv-loop μ-loop)
+    → Terms (c .args .n) maxWeight maxReward (weightIn (c .args .p .now)) (λ s. rewardIn (c .args .n) (c .args .cells .now) s (c .args .a .0))
+terms c = record { weights = c .pre .1 .0 .below; values = c .pre .1 .1 .reward }
+
+loop-holds : tie.Need-loop-holds Inv-loop μ-loop
+loop-holds c = (search needs, sym (sum-none _))
+
+reward-at-requires : tie.Need-reward-at-requires Inv-loop μ-loop
+reward-at-requires c κs = search needs
+
+mul-weight : tie.Need-mul-weight Inv-loop μ-loop
+mul-weight c = search needs
+
+element-copy-out-weight : tie.Need-element-copy-out-weight Inv-loop μ-loop
+element-copy-out-weight c = search needs
+
+weight-requires : tie.Need-weight-requires Inv-loop μ-loop
+weight-requires c κs = search needs
+
+add-scaled-requires : tie.Need-add-scaled-requires Inv-loop μ-loop
+add-scaled-requires c κs =
+    term-fits (terms (c .before .before .before .before .before)) _ (c .before .before .before .before .loop .inv .1)
+    (c .weight .ensures) (answer (c .before .before .reward-at .ok) (c .before .before .reward-at .ensures)) (omega arith) (lit< tt) (omega arith)
+
+add-s : tie.Need-add-s Inv-loop μ-loop
+add-s c = search needs
+
+loop-less : tie.Need-loop-less Inv-loop μ-loop
+loop-less c = search needs
+
+loop-again : tie.Need-loop-again Inv-loop μ-loop
+loop-again c = (
+  search needs,
+  term-added (terms (c .before .before .before .before .before .before)) _ (c .before .before .before .before .before .loop .inv .1)
+      (c .before .weight .ensures) (answer (c .before .before .before .reward-at .ok) (c .before .before .before .reward-at .ensures))
+      (answer (c .add-scaled .ok) (c .add-scaled .ensures)),
+)
+
+returns : tie.Need-returns Inv-loop μ-loop
+unfolding expectedIn
+returns c =
+    let e : c .before .loop .s ≡ c .before .before .args .n = omega arith in
+    rw e at (c .before .loop .inv .1)
+
+pub expected-reward-spec : {M : Type 1} → statement M
+expected-reward-spec =
+    tie.close
+    (tie.spec
+    Inv-loop
+    μ-loop
+    loop-holds
+    reward-at-requires
+    mul-weight
+    element-copy-out-weight
+    weight-requires
+    add-scaled-requires
+    add-s
+    loop-less
+    loop-again
+    returns)

@@ -1,0 +1,79 @@
+use Prim.Native.Nat.{_*_, _≤_, _-_}
+use mathlib.Core.Path.{_≡_, sym, _∙_}
+use native.Mathlib.Omega.{arith}
+use borrow.Author.Needs.{needs}
+use Rattle.integers.specs.Whole.{totalTo}
+use Rattle.integers.proofs.Sums.{total-none, total-step}
+use Rattle.tables.specs.Storage.{weightIn, transitionIn, movedIn}
+use Rattle.tables.proofs.Regroup.{moved-part}
+use Rattle.tables.proofs.sums.moved_to.Statement.{statement}
+use Rattle.tables.proofs.sums.moved_to.Tie as tie
+
+abbrev Inv-loop : tie.InvT-loop
+Inv-loop cells n p a to sum₀ s₀ sum s = (s ≤ n) × (sum ≡ totalTo s (λ i. weightIn p i * transitionIn n cells i (a .0) (to .0)))
+
+abbrev μ-loop : tie.MeasureT-loop
+μ-loop cells n p a to sum₀ s₀ sum s = n - s
+
+loop-holds : tie.Need-loop-holds Inv-loop μ-loop
+loop-holds c = (search needs, sym (total-none _))
+
+transition-at-requires : tie.Need-transition-at-requires Inv-loop μ-loop
+transition-at-requires c κs = search needs
+
+mul-weight : tie.Need-mul-weight Inv-loop μ-loop
+mul-weight c = search needs
+
+element-copy-out-weight : tie.Need-element-copy-out-weight Inv-loop μ-loop
+element-copy-out-weight c = search needs
+
+weight-requires : tie.Need-weight-requires Inv-loop μ-loop
+weight-requires c κs = search needs
+
+add-moved-requires : tie.Need-add-moved-requires Inv-loop μ-loop
+add-moved-requires c κs =
+    let a = c .before .before .before .before .before in
+    let s = c .before .before .before .before .loop .s in (
+      rw (c .before .before .before .before .loop .inv .1) (moved-part (a .pre .1 .1) (a .pre .1 .0) (a .pre .0 .1 .1) (a .pre .0 .0) s (omega arith)),
+      (
+        rw (c .weight .ensures) (a .pre .1 .0 .below s (omega arith)),
+        rw (c .before .before .transition-at .ensures) (a .pre .1 .1 .transition s (omega arith) (a .args .to .0) (a .pre .0 .1 .1)),
+      ),
+    )
+
+add-s : tie.Need-add-s Inv-loop μ-loop
+add-s c = search needs
+
+loop-less : tie.Need-loop-less Inv-loop μ-loop
+loop-less c = search needs
+
+loop-again : tie.Need-loop-again Inv-loop μ-loop
+loop-again c = (
+  search needs,
+  c .add-moved .ensures
+      ∙ rw (c .before .weight .ensures, c .before .before .before .transition-at .ensures)
+      (total-step _ _ (c .before .before .before .before .before .loop .inv .1)),
+)
+
+returns : tie.Need-returns Inv-loop μ-loop
+unfolding movedIn
+returns c =
+    let e : c .before .loop .s ≡ c .before .before .args .n = omega arith in
+    rw e at (c .before .loop .inv .1)
+
+pub moved-to-spec : {M : Type 1} → statement M
+moved-to-spec =
+    tie.close
+    (tie.spec
+    Inv-loop
+    μ-loop
+    loop-holds
+    transition-at-requires
+    mul-weight
+    element-copy-out-weight
+    weight-requires
+    add-moved-requires
+    add-s
+    loop-less
+    loop-again
+    returns)

@@ -1,0 +1,6 @@
+-- The model of document 01, its storage, and what its tables are refused for.
+pub mod Limits
+pub mod Model
+pub mod Storage
+pub mod Verdicts
+pub mod Judged

@@ -1,0 +1,34 @@
+-- The numbers of document 01's first part, each in its one place.
+use Prim.Native.Nat.{ℕ}
+
+abbrev pub maxStates : ℕ
+maxStates = 16
+
+abbrev pub maxActions : ℕ
+maxActions = 8
+
+abbrev pub maxObservations : ℕ
+maxObservations = 8
+
+abbrev pub maxVectors : ℕ
+maxVectors = 32
+
+-- the total of a row, and the largest probability and discount: 1, in thousandths
+abbrev pub one : ℕ
+one = 1_000
+
+-- the largest reward, either way, in ticks
+abbrev pub maxReward : ℕ
+maxReward = 100_000
+
+-- the largest weight of a mixture
+abbrev pub maxWeight : ℕ
+maxWeight = 1_000_000
+
+-- the largest entry of a vector, either way: that of the hundredth level, in ticks
+abbrev pub maxEntry : ℕ
+maxEntry = 10_000_000
+
+-- a backup is worked out in units of 1 / K tick: discount, transition and observation are thousandths each
+unfoldable pub K : ℕ
+K = 1_000_000_000

@@ -1,0 +1,222 @@
+// Refusals 3, 5 and 6, and what is kept of tables of any content.
+ghost use mathlib.Core.Path.{_≡_};
+ghost use Prim.Native.Nat.{_+_, _*_, _≤_};
+ghost use lib.Dec.{leb};
+ghost use lib.ListN.{length, getD};
+ghost use lib.IntN.{natAbs};
+ghost use Rattle.integers.specs.Whole.{totalTo};
+ghost use Rattle.integers.specs.Search.{every};
+ghost use Rattle.tables.specs.Limits.{maxStates, maxActions, maxObservations, one, maxReward};
+ghost use Rattle.tables.specs.Storage.{cellIn, rewardIn, modelOf, kept};
+ghost use Rattle.tables.specs.Judged.{countWithin, countsWithin, cellsWithin, rewardsWithin, limitsHold, rowsTotal, modelVerdict, noTables, openedFrom};
+use super::Action;
+use super::Opened;
+use super::Rewards;
+use super::State;
+use super::Tables;
+use super::Verdict;
+use super::read;
+use integers::cells;
+
+fn count_within(limit: usize, n: usize) -> bool
+    ensures { λ r. ⌜ r ≡ countWithin limit n ⌝ }
+{
+    if n < 1 {
+        return false;
+    }
+    n <= limit
+}
+
+pub fn counts_within(n: usize, m: usize, k: usize) -> bool
+    ensures { λ r. ⌜ r ≡ countsWithin n m k ⌝ }
+{
+    if !count_within(Tables::STATES, n) {
+        return false;
+    }
+    if !count_within(Tables::ACTIONS, m) {
+        return false;
+    }
+    count_within(Tables::OBSERVATIONS, k)
+}
+
+// Whether each of the w cells from `at` on is at most 1.
+fn row_within(cells: &[u16], at: usize, w: usize) -> bool
+    requires { ⌜ at + w ≤ length (now cells) ⌝ }
+    ensures { λ r. ⌜ r ≡ every w (λ x. leb (getD (now (cells .entry)) (at + x) 0) one) ⌝ }
+{
+    for x in 0..w {
+        if Tables::ONE < read::wide(cells[at + x]) {
+            return false;
+        }
+    }
+    true
+}
+
+// Whether each cell of m blocks of n rows of width w is at most 1.
+fn cells_within(cells: &[u16], m: usize, n: usize, w: usize) -> bool
+    requires { ⌜ (m ≤ maxActions) × ((n ≤ maxStates) × (w ≤ maxStates)) ⌝ }
+    requires { ⌜ m * n * w ≤ length (now cells) ⌝ }
+    ensures { λ r. ⌜ r ≡ cellsWithin m n w (cellIn n w (now (cells .entry))) ⌝ }
+{
+    for a in 0..m {
+        for s in 0..n {
+            let at = read::row(a, n, s) * w;
+            if !row_within(cells, at, w) {
+                return false;
+            }
+        }
+    }
+    true
+}
+
+fn rewards_within(cells: &Rewards, m: usize, n: usize) -> bool
+    requires { ⌜ (m ≤ maxActions) × (n ≤ maxStates) ⌝ }
+    ensures { λ r. ⌜ r ≡ rewardsWithin m n (rewardIn n (now (cells .entry))) ⌝ }
+{
+    for a in 0..m {
+        for s in 0..n {
+            if !integers::within(
+                Tables::REWARD,
+                read::reward_at(cells, n, State(s), Action(a)),
+            ) {
+                return false;
+            }
+        }
+    }
+    true
+}
+
+// 3
+fn limits_hold(m: Tables) -> bool
+    ensures { λ r. ⌜ r ≡ limitsHold (modelOf m) ⌝ }
+{
+    let n = m.states;
+    let actions = m.actions;
+    let k = m.observations;
+    if !counts_within(n, actions, k) {
+        return false;
+    }
+    if Tables::ONE < m.discount {
+        return false;
+    }
+    if !cells_within(&m.transition, actions, n, n) {
+        return false;
+    }
+    if !cells_within(&m.observation, actions, n, k) {
+        return false;
+    }
+    rewards_within(&m.reward, actions, n)
+}
+
+// The total of the w cells from `at` on.
+fn row_total(cells: &[u16], at: usize, w: usize) -> u64
+    requires { ⌜ (at + w ≤ length (now cells)) × (w ≤ maxStates) ⌝ }
+    ensures { λ r. ⌜ r ≡ totalTo w (λ x. getD (now (cells .entry)) (at + x) 0) ⌝ }
+{
+    let mut sum: u64 = 0;
+    for x in 0..w {
+        sum += read::wide(cells[at + x]);
+    }
+    sum
+}
+
+// 5 and 6: the first row, by action and then by state, that does not total 1.
+fn rows_total(cells: &[u16], m: usize, n: usize, w: usize, number: u8) -> Verdict
+    requires { ⌜ (m ≤ maxActions) × ((n ≤ maxStates) × (w ≤ maxStates)) ⌝ }
+    requires { ⌜ m * n * w ≤ length (now cells) ⌝ }
+    ensures { λ r. ⌜ r ≡ rowsTotal number m n w (cellIn n w (now (cells .entry))) ⌝ }
+{
+    let mut found = Verdict::Fine;
+    'rows: for a in 0..m {
+        for s in 0..n {
+            let row = read::row(a, n, s);
+            if row_total(cells, row * w, w) != Tables::ONE {
+                found = Verdict::Refused(number, row);
+                break 'rows;
+            }
+        }
+    }
+    found
+}
+
+// 3, then 5, then 6.
+pub fn judge_tables(m: Tables) -> Verdict
+    ensures { λ r. ⌜ r ≡ modelVerdict (modelOf m) ⌝ }
+{
+    if !limits_hold(m) {
+        return Verdict::Refused(3, 0);
+    }
+    let n = m.states;
+    let actions = m.actions;
+    let k = m.observations;
+    let transitions = rows_total(&m.transition, actions, n, n, 5);
+    let Verdict::Fine = transitions else {
+        return transitions;
+    };
+    rows_total(&m.observation, actions, n, k, 6)
+}
+
+// The tables with 0 past their counts.
+fn keep(m: Tables) -> Tables
+    requires { ⌜ (m .actions ≤ maxActions) × ((m .states ≤ maxStates) × (m .observations ≤ maxObservations)) ⌝ }
+    ensures { λ r. ⌜ r ≡ kept m ⌝ }
+{
+    let n = m.states;
+    let actions = m.actions;
+    let k = m.observations;
+    let mut transition = m.transition;
+    let mut observation = m.observation;
+    let mut reward = m.reward;
+    let rows = actions * n;
+    cells::clear_u16(&mut transition, rows * n);
+    cells::clear_u16(&mut observation, rows * k);
+    cells::clear_i64(&mut reward, rows);
+    Tables {
+        states: n,
+        actions: actions,
+        observations: k,
+        discount: m.discount,
+        transition: transition,
+        observation: observation,
+        reward: reward,
+    }
+}
+
+impl Tables {
+    // Tables of which every part is 0.
+    pub fn none() -> Tables
+        ensures { λ r. ⌜ r ≡ noTables ⌝ }
+    {
+        Tables {
+            states: 0,
+            actions: 0,
+            observations: 0,
+            discount: 0,
+            transition: [0u16; Tables::ACTIONS * Tables::STATES * Tables::STATES],
+            observation: [0u16; Tables::ACTIONS * Tables::STATES * Tables::OBSERVATIONS],
+            reward: [0i64; Tables::ACTIONS * Tables::STATES],
+        }
+    }
+}
+
+// What is kept of tables of any content, or the refusal with every other part 0.
+pub fn open_tables(m: Tables) -> Opened
+    ensures { λ r. ⌜ r ≡ openedFrom m ⌝ }
+{
+    match judge_tables(m) {
+        Verdict::Fine => {
+            let tables = keep(m);
+            Opened {
+                verdict: Verdict::Fine,
+                tables: tables,
+            }
+        }
+        Verdict::Refused(number, place) => {
+            let tables = Tables::none();
+            Opened {
+                verdict: Verdict::Refused(number, place),
+                tables: tables,
+            }
+        }
+    }
+}

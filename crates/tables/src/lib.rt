@@ -1,0 +1,67 @@
+// The model: its tables, what they are refused for, and the sums that backups are made of.
+pub mod judge; // refusals 3, 5 and 6, and what is kept of tables
+pub mod read; // one cell of a table
+pub mod sums; // successor weights, expected rewards and vector backups
+
+// Numbers of four kinds, all from 0, side by side: none passes for another.
+pub struct State(pub usize);
+
+pub struct Action(pub usize);
+
+pub struct Observation(pub usize);
+
+pub struct Vector(pub usize);
+
+// Storage, packed by the counts with the last index fastest.
+pub type Transitions = [u16; Tables::ACTIONS * Tables::STATES * Tables::STATES];
+
+pub type Observations = [u16; Tables::ACTIONS * Tables::STATES * Tables::OBSERVATIONS];
+
+pub type Rewards = [i64; Tables::ACTIONS * Tables::STATES];
+
+pub type Weights = [u32; Tables::STATES];
+
+pub type Reached = [u64; Tables::STATES];
+
+pub type Foreseen = [i64; Tables::STATES];
+
+pub type Entries = [i64; Tables::VECTORS * Tables::STATES];
+
+// A model by value: T(s,a,s') by a, s, s'; O(a,s',o) by a, s', o; R(s,a) by a, s.
+pub struct Tables {
+    pub states: usize,
+    pub actions: usize,
+    pub observations: usize,
+    pub discount: u64,
+    pub transition: Transitions,
+    pub observation: Observations,
+    pub reward: Rewards,
+}
+
+// What a test answers: nothing to refuse, or document 01's number and place.
+pub enum Verdict {
+    Fine,
+    Refused(u8, usize),
+}
+
+// The verdict on tables, with what is kept of them.
+pub struct Opened {
+    pub verdict: Verdict,
+    pub tables: Tables,
+}
+
+impl Tables {
+    pub const STATES: usize = 16;
+
+    pub const ACTIONS: usize = 8;
+
+    pub const OBSERVATIONS: usize = 8;
+
+    pub const VECTORS: usize = 32;
+
+    pub const ONE: u64 = 1_000; // in thousandths
+
+    pub const REWARD: u64 = 100_000; // in ticks
+
+    pub const K: u64 = 1_000_000_000; // a backup's units in a tick
+}
