@@ -1,14 +1,15 @@
 -- Laws of arrays of which the first cells count. Assumes nothing.
 use mathlib.Core.Path.{_≡_, refl, sym, _∙_, ap}
 use mathlib.Core.List.{List, [], _∷_, _++_, append-assoc}
-use Prim.Native.Nat.{ℕ, zero, suc, _+_, _*_, _-_, _≤_, _<_}
+use Prim.Native.Nat.{ℕ, zero, suc, _+_, _*_, _-_, _/_, _%_, _≤_, _<_}
 use native.Mathlib.Nat as NatL
 use native.Mathlib.Omega.{arith}
 use native.Mathlib.Numerals.{add-one}
 use native.Mathlib.Decide.{decLt}
 use lib.ListN.{length, getD, take, set, replicate, length-append, length-replicate, length-set, List·getD-append}
 use lib.Seq.{set-at, getD-append-seam, take-suc-set, take-all, getD-take, length-take-le}
-use Rattle.integers.specs.Cells.{listed, padded, cut}
+use lib.Arith.{digits-div, digits-mod}
+use Rattle.integers.specs.Cells.{listed, padded, grid, cut}
 
 -- an index into rows of width w
 pub cell-below : (r rows x w : ℕ) → r < rows → x < w → r * w + x < rows * w
@@ -63,6 +64,17 @@ module _ {A : Type 0} where
   unfolding padded
   padded-length z size n f h =
       length-append (listed n f) (replicate (size - n) z) ∙ omega (arith, length-listed n f, length-replicate (size - n) z)
+
+  -- a cell of a grid
+  pub grid-at : (z : A) (size rows w : ℕ) (f : ℕ → ℕ → A) (r x : ℕ) (d : A) → r < rows → x < w → getD (grid z size rows w f) (r * w + x) d ≡ f r x
+  unfolding grid
+  grid-at z size rows w f r x d h l =
+      padded-at z size (rows * w) (λ i. f (i / w) (i % w)) (r * w + x) d (cell-below r rows x w h l)
+      ∙ rw (digits-div r l, digits-mod r l)
+
+  pub grid-length : (z : A) (size rows w : ℕ) (f : ℕ → ℕ → A) → rows * w ≤ size → length (grid z size rows w f) ≡ size
+  unfolding grid
+  grid-length z size rows w f h = padded-length z size (rows * w) (λ i. f (i / w) (i % w)) h
 
   -- as a loop cuts it: the cells from n up to i are z
   pub record Cutting (z : A) (n i : ℕ) (xs ys : List A) : Type 0 where

@@ -1,8 +1,9 @@
 -- Arrays of which the first cells count.
 --
 --   padded z size n f   f 0, .., f (n - 1), then z up to the size
+--   grid z size r w f   r rows of w cells each, f row place, then z up to the size
 --   cut z n xs          the first n cells of xs, then z up to its length
-use Prim.Native.Nat.{ℕ, zero, suc, _-_}
+use Prim.Native.Nat.{ℕ, zero, suc, _*_, _-_, _/_, _%_}
 use mathlib.Core.List.{List, [], _∷_, _++_}
 use lib.ListN.{length, take, replicate}
 
@@ -14,6 +15,9 @@ module _ {A : Type 0} where
 
   unfoldable pub padded : A → ℕ → ℕ → (ℕ → A) → List A
   padded z size n f = listed n f ++ replicate (size - n) z
+
+  unfoldable pub grid : A → ℕ → ℕ → ℕ → (ℕ → ℕ → A) → List A
+  grid z size rows w f = padded z size (rows * w) (λ i. f (i / w) (i % w))
 
   unfoldable pub cut : A → ℕ → List A → List A
   cut z n xs = take n xs ++ replicate (length xs - n) z

@@ -19,9 +19,7 @@ pub type Observations = [u16; Tables::ACTIONS * Tables::STATES * Tables::OBSERVA
 
 pub type Rewards = [i64; Tables::ACTIONS * Tables::STATES];
 
-pub type Weights = [u32; Tables::STATES];
-
-pub type Reached = [u64; Tables::STATES];
+pub type Weights = [u64; Tables::STATES]; // of a mixture, a point or the states reached
 
 pub type Foreseen = [i64; Tables::STATES];
 

@@ -13,7 +13,6 @@ use super::Entries;
 use super::Foreseen;
 use super::Observation;
 use super::Observations;
-use super::Reached;
 use super::Rewards;
 use super::State;
 use super::Tables;
@@ -21,12 +20,6 @@ use super::Transitions;
 use super::Vector;
 use super::Weights;
 use super::read;
-
-fn weight(x: u32) -> u64
-    ensures { λ r. ⌜ r ≡ x ⌝ }
-{
-    x as u64
-}
 
 // sum + p × t, of a weight and a transition
 fn add_moved(sum: u64, p: u64, t: u64) -> u64
@@ -46,13 +39,13 @@ fn moved_to(cells: &Transitions, n: usize, p: &Weights, a: Action, to: State) ->
     let mut sum: u64 = 0;
     for s in 0..n {
         let t = read::transition_at(cells, n, State(s), a, to);
-        sum = add_moved(sum, weight(p[s]), t);
+        sum = add_moved(sum, p[s], t);
     }
     sum
 }
 
 // The same at each state reached.
-pub fn moved(cells: &Transitions, n: usize, p: &Weights, a: Action) -> Reached
+pub fn moved(cells: &Transitions, n: usize, p: &Weights, a: Action) -> Weights
     requires { ⌜ (n ≤ maxStates) × (a .0 < maxActions) ⌝ }
     requires { ⌜ Below maxWeight n (now p) ⌝ }
     requires { ⌜ TransitionsFit n (now cells) (a .0) ⌝ }
@@ -77,10 +70,10 @@ pub fn successors(
     cells: &Observations,
     n: usize,
     k: usize,
-    u: &Reached,
+    u: &Weights,
     a: Action,
     o: Observation,
-) -> Reached
+) -> Weights
     requires { ⌜ (n ≤ maxStates) × ((k ≤ maxObservations) × ((a .0 < maxActions) × (o .0 < k))) ⌝ }
     requires { ⌜ Below movedLimit n (now u) ⌝ }
     requires { ⌜ ObservationsFit n k (now cells) (a .0) ⌝ }
@@ -103,7 +96,7 @@ pub fn expected_reward(cells: &Rewards, n: usize, p: &Weights, a: Action) -> i64
     let mut sum: i64 = 0;
     for s in 0..n {
         let r = read::reward_at(cells, n, State(s), a);
-        sum = integers::add_scaled(sum, weight(p[s]), r);
+        sum = integers::add_scaled(sum, p[s], r);
     }
     sum
 }

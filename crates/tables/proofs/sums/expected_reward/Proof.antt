@@ -1,5 +1,5 @@
 use Prim.Native.Nat.{_≤_, _-_}
-use mathlib.Core.Path.{_≡_, sym}
+use mathlib.Core.Path.{_≡_, refl, sym}
 use native.Mathlib.Omega.{arith}
 use borrow.Author.Needs.{needs}
 use lib.Dec.{lit<}
@@ -30,19 +30,15 @@ loop-holds c = (search needs, sym (sum-none _))
 reward-at-requires : tie.Need-reward-at-requires Inv-loop μ-loop
 reward-at-requires c κs = search needs
 
-mul-weight : tie.Need-mul-weight Inv-loop μ-loop
-mul-weight c = search needs
+mul-add-scaled : tie.Need-mul-add-scaled Inv-loop μ-loop
+mul-add-scaled c = search needs
 
-element-copy-out-weight : tie.Need-element-copy-out-weight Inv-loop μ-loop
-element-copy-out-weight c = search needs
-
-weight-requires : tie.Need-weight-requires Inv-loop μ-loop
-weight-requires c κs = search needs
+element-copy-out-add-scaled : tie.Need-element-copy-out-add-scaled Inv-loop μ-loop
+element-copy-out-add-scaled c = search needs
 
 add-scaled-requires : tie.Need-add-scaled-requires Inv-loop μ-loop
 add-scaled-requires c κs =
-    term-fits (terms (c .before .before .before .before .before)) _ (c .before .before .before .before .loop .inv .1)
-    (c .weight .ensures) (answer (c .before .before .reward-at .ok) (c .before .before .reward-at .ensures)) (omega arith) (lit< tt) (omega arith)
+    term-fits (terms (c .before .before .before .before)) _ (c .before .before .before .loop .inv .1) refl (answer (c .before .reward-at .ok) (c .before .reward-at .ensures)) (omega arith) (lit< tt) (omega arith)
 
 add-s : tie.Need-add-s Inv-loop μ-loop
 add-s c = search needs
@@ -53,9 +49,7 @@ loop-less c = search needs
 loop-again : tie.Need-loop-again Inv-loop μ-loop
 loop-again c = (
   search needs,
-  term-added (terms (c .before .before .before .before .before .before)) _ (c .before .before .before .before .before .loop .inv .1)
-      (c .before .weight .ensures) (answer (c .before .before .before .reward-at .ok) (c .before .before .before .reward-at .ensures))
-      (answer (c .add-scaled .ok) (c .add-scaled .ensures)),
+  term-added (terms (c .before .before .before .before .before)) _ (c .before .before .before .before .loop .inv .1) refl (answer (c .before .before .reward-at .ok) (c .before .before .reward-at .ensures)) (answer (c .add-scaled .ok) (c .add-scaled .ensures)),
 )
 
 returns : tie.Need-returns Inv-loop μ-loop
@@ -72,9 +66,8 @@ expected-reward-spec =
     μ-loop
     loop-holds
     reward-at-requires
-    mul-weight
-    element-copy-out-weight
-    weight-requires
+    mul-add-scaled
+    element-copy-out-add-scaled
     add-scaled-requires
     add-s
     loop-less

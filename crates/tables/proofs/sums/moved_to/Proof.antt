@@ -21,23 +21,20 @@ loop-holds c = (search needs, sym (total-none _))
 transition-at-requires : tie.Need-transition-at-requires Inv-loop μ-loop
 transition-at-requires c κs = search needs
 
-mul-weight : tie.Need-mul-weight Inv-loop μ-loop
-mul-weight c = search needs
+mul-add-moved : tie.Need-mul-add-moved Inv-loop μ-loop
+mul-add-moved c = search needs
 
-element-copy-out-weight : tie.Need-element-copy-out-weight Inv-loop μ-loop
-element-copy-out-weight c = search needs
-
-weight-requires : tie.Need-weight-requires Inv-loop μ-loop
-weight-requires c κs = search needs
+element-copy-out-add-moved : tie.Need-element-copy-out-add-moved Inv-loop μ-loop
+element-copy-out-add-moved c = search needs
 
 add-moved-requires : tie.Need-add-moved-requires Inv-loop μ-loop
 add-moved-requires c κs =
-    let a = c .before .before .before .before .before in
-    let s = c .before .before .before .before .loop .s in (
-      rw (c .before .before .before .before .loop .inv .1) (moved-part (a .pre .1 .1) (a .pre .1 .0) (a .pre .0 .1 .1) (a .pre .0 .0) s (omega arith)),
+    let a = c .before .before .before .before in
+    let s = c .before .before .before .loop .s in (
+      rw (c .before .before .before .loop .inv .1) (moved-part (a .pre .1 .1) (a .pre .1 .0) (a .pre .0 .1 .1) (a .pre .0 .0) s (omega arith)),
       (
-        rw (c .weight .ensures) (a .pre .1 .0 .below s (omega arith)),
-        rw (c .before .before .transition-at .ensures) (a .pre .1 .1 .transition s (omega arith) (a .args .to .0) (a .pre .0 .1 .1)),
+        a .pre .1 .0 .below s (omega arith),
+        rw (c .before .transition-at .ensures) (a .pre .1 .1 .transition s (omega arith) (a .args .to .0) (a .pre .0 .1 .1)),
       ),
     )
 
@@ -50,9 +47,7 @@ loop-less c = search needs
 loop-again : tie.Need-loop-again Inv-loop μ-loop
 loop-again c = (
   search needs,
-  c .add-moved .ensures
-      ∙ rw (c .before .weight .ensures, c .before .before .before .transition-at .ensures)
-      (total-step _ _ (c .before .before .before .before .before .loop .inv .1)),
+  c .add-moved .ensures ∙ rw (c .before .before .transition-at .ensures) (total-step _ _ (c .before .before .before .before .loop .inv .1)),
 )
 
 returns : tie.Need-returns Inv-loop μ-loop
@@ -69,9 +64,8 @@ moved-to-spec =
     μ-loop
     loop-holds
     transition-at-requires
-    mul-weight
-    element-copy-out-weight
-    weight-requires
+    mul-add-moved
+    element-copy-out-add-moved
     add-moved-requires
     add-s
     loop-less

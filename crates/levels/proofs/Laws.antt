@@ -1,0 +1,45 @@
+-- Laws of a level's tests as a loop makes them, and of rows packed in an array. Assumes nothing.
+use Prim.Native.Nat.{ℕ, _+_, _*_, _≤_, _<_}
+use mathlib.Core.Path.{_≡_}
+use mathlib.Core.Bool.{Bool, true, false}
+use native.Mathlib.Nat.{mul-le-mul}
+use native.Mathlib.Omega.{arith}
+use lib.ListN.{length}
+use Rattle.integers.proofs.Lists.{row-below}
+use Rattle.tables.specs.declared.Verdict.{Verdict}
+use Rattle.tables.specs.declared.Verdict.the-variants.{Fine, Refused}
+use Rattle.tables.specs.Verdicts.{_before_, unless}
+use Rattle.levels.specs.declared.Level.{Level}
+
+-- ---- one test
+pub passed : {b : Bool} (k i : ℕ) → b ≡ true → unless b k i ≡ Fine
+passed k i e = rw e
+
+pub failed : {b : Bool} (k i : ℕ) → b ≡ false → unless b k i ≡ Refused k i
+failed k i e = rw e
+
+pub fine-before : {v w u : Verdict} → v ≡ Fine → w ≡ u → (v before w) ≡ u
+fine-before e f = rw (e, f)
+
+-- ---- row r of width w lies in an array that has room for R rows of width X
+pub row-fits : {R X : ℕ} (r rows w : ℕ) → r < rows → rows ≤ R → w ≤ X → r * w + w ≤ R * X
+row-fits r rows w l h k = omega (arith, row-below r rows w l, mul-le-mul h k)
+
+-- ---- a level in its arrays
+
+-- what the type says of a level of any content
+pub record Long (l : Level) : Type 0 where
+  pub actions : length (l .actions) ≡ 32
+  pub choices : length (l .choices) ≡ 256
+  pub entries : length (l .entries) ≡ 512
+  pub corners : length (l .corners) ≡ 16
+  pub weights : length (l .weights) ≡ 512
+  pub values : length (l .values) ≡ 32
+
+pub record Sizes (n k : ℕ) (l : Level) : Type 0 where
+  pub choices : l .vectors * k ≤ 256
+  pub entries : l .vectors * n ≤ 512
+  pub weights : l .points * n ≤ 512
+
+pub sizes : {n k : ℕ} (l : Level) → n ≤ 16 → k ≤ 8 → l .vectors ≤ 32 → l .points ≤ 32 → Sizes n k l
+sizes l n k vectors points = record { choices = mul-le-mul vectors k; entries = mul-le-mul vectors n; weights = mul-le-mul points n }

@@ -1,0 +1,158 @@
+use Prim.Native.Nat.{ℕ, _+_, _*_, _≤_, _-_}
+use mathlib.Core.Path.{_≡_, refl, sym, _∙_}
+use native.Mathlib.Omega.{arith}
+use borrow.Author.Tests.{lt-ltb, le-ltb}
+use mathlib.Core.Bool.{true}
+use mathlib.Core.List.{List}
+use lib.Dec.{ltb}
+use lib.ListN.{getD}
+use Rattle.tables.specs.declared.Verdict.{Verdict}
+use Rattle.tables.specs.declared.Verdict.the-variants.{Fine}
+use Rattle.tables.specs.Verdicts.{_before_, unless, firstOf}
+use Rattle.tables.proofs.Refusals.{first-none, first-more, first-here, refused-before}
+use Rattle.levels.specs.Storage.{choiceIn}
+use Rattle.levels.specs.Judged.{numbersIn}
+use Rattle.levels.proofs.Laws.{passed, failed, fine-before, row-fits}
+use Rattle.levels.proofs.shape.numbers_exist.Statement.{statement}
+use Rattle.levels.proofs.shape.numbers_exist.Tie as tie
+
+-- the verdict on what vector v chooses for o, and on the vector
+abbrev chosen : List ℕ → ℕ → ℕ → ℕ → ℕ → Verdict
+chosen choices k standing v o = unless (ltb (choiceIn k choices v o) standing) 10 v
+
+abbrev verdict : List ℕ → List ℕ → ℕ → ℕ → ℕ → ℕ → Verdict
+verdict actions choices m k standing v = unless (ltb (getD actions v 0) m) 10 v before firstOf k (chosen choices k standing v)
+
+abbrev Inv-loop : tie.InvT-loop
+Inv-loop actions choices vectors m k standing found₀ v at o₀ found o =
+    (o ≤ k) × ((found ≡ Fine) × (firstOf o (chosen choices k standing v) ≡ Fine))
+
+abbrev μ-loop : tie.MeasureT-loop
+μ-loop actions choices vectors m k standing found₀ v at o₀ found o = k - o
+
+abbrev Inv-vectors : tie.InvT-vectors
+Inv-vectors actions choices vectors m k standing found₀ v₀ found v =
+    (v ≤ vectors) × ((found ≡ Fine) × (firstOf v (verdict actions choices m k standing) ≡ Fine))
+
+abbrev μ-vectors : tie.MeasureT-vectors
+μ-vectors actions choices vectors m k standing found₀ v₀ found v = vectors - v
+
+vectors-holds : tie.Need-vectors-holds Inv-loop μ-loop Inv-vectors μ-vectors
+vectors-holds c = (omega arith, (refl, first-none _))
+
+element-copy-out-action : tie.Need-element-copy-out-action Inv-loop μ-loop Inv-vectors μ-vectors
+element-copy-out-action c = omega arith
+
+action-requires : tie.Need-action-requires Inv-loop μ-loop Inv-vectors μ-vectors
+action-requires c κs = tt
+
+-- the vector's choices lie in the array
+row-here : (c : tie.Else1 Inv-loop μ-loop Inv-vectors μ-vectors) →
+    let k = c .before .before .before .before .before .args .k in c .before .before .before .before .vectors .v * k + k ≤ 256
+row-here c = row-fits {R = 32} {X = 8} _ (c .before .before .before .before .before .args .vectors) _ (omega arith) (omega arith) (omega arith)
+
+-- the vector's action exists
+acts : (c : tie.Else1 Inv-loop μ-loop Inv-vectors μ-vectors) →
+    let a = c .before .before .before .before .before .args in
+    ltb (getD (a .actions .now) (c .before .before .before .before .vectors .v) 0) (a .m) ≡ true
+acts c = lt-ltb _ _ (rw (c .before .action .ensures) at (c .if1 .left))
+
+mul-at : tie.Need-mul-at Inv-loop μ-loop Inv-vectors μ-vectors
+mul-at c = omega (arith, row-here c)
+
+loop-holds : tie.Need-loop-holds Inv-loop μ-loop Inv-vectors μ-vectors
+loop-holds c = (omega arith, (c .before .before .before .before .vectors .inv .1 .0, first-none _))
+
+add-choice : tie.Need-add-choice Inv-loop μ-loop Inv-vectors μ-vectors
+add-choice c = omega (arith, row-here (c .before .before))
+
+mul-choice : tie.Need-mul-choice Inv-loop μ-loop Inv-vectors μ-vectors
+mul-choice c = omega (arith, row-here (c .before .before))
+
+element-copy-out-choice : tie.Need-element-copy-out-choice Inv-loop μ-loop Inv-vectors μ-vectors
+element-copy-out-choice c = omega (arith, row-here (c .before .before))
+
+choice-requires : tie.Need-choice-requires Inv-loop μ-loop Inv-vectors μ-vectors
+choice-requires c κs = tt
+
+add-o : tie.Need-add-o Inv-loop μ-loop Inv-vectors μ-vectors
+add-o c = omega arith
+
+loop-less : tie.Need-loop-less Inv-loop μ-loop Inv-vectors μ-vectors
+loop-less c = omega arith
+
+loop-again : tie.Need-loop-again Inv-loop μ-loop Inv-vectors μ-vectors
+loop-again c = (
+  omega arith,
+  (
+    c .before .before .before .before .loop .inv .1 .0,
+    first-more _ _ (c .before .before .before .before .loop .inv .1 .1) (passed _ _ (lt-ltb _ _ (rw (c .before .choice .ensures) at (c .if2 .left)))),
+  ),
+)
+
+add-v : tie.Need-add-v Inv-loop μ-loop Inv-vectors μ-vectors
+add-v c = omega arith
+
+vectors-less : tie.Need-vectors-less Inv-loop μ-loop Inv-vectors μ-vectors
+vectors-less c = omega arith
+
+vectors-again : tie.Need-vectors-again Inv-loop μ-loop Inv-vectors μ-vectors
+vectors-again c =
+    let e : c .before .loop .o ≡ c .before .before .before .before .before .before .before .args .k = omega arith in (
+      omega arith,
+      (
+        c .before .loop .inv .1 .0,
+        first-more _ _ (c .before .before .before .before .before .before .vectors .inv .1 .1)
+            (fine-before (passed _ _ (acts (c .before .before))) (rw e at (c .before .loop .inv .1 .1))),
+      ),
+    )
+
+returns : tie.Need-returns Inv-loop μ-loop Inv-vectors μ-vectors
+unfolding numbersIn
+returns c =
+    let e : c .before .vectors .v ≡ c .before .before .args .vectors = omega arith in
+    c .before .vectors .inv .1 .0 ∙ sym (rw e at (c .before .vectors .inv .1 .1))
+
+returns-2 : tie.Need-returns-2 Inv-loop μ-loop Inv-vectors μ-vectors
+unfolding numbersIn
+returns-2 c =
+    sym
+    (first-here _ _ (c .before .before .before .before .vectors .v) (omega arith) (c .before .before .before .before .vectors .inv .1 .1)
+    (refused-before _ (failed _ _ (le-ltb _ _ (rw (c .before .action .ensures) at (c .if1 .taken))))))
+
+returns-3 : tie.Need-returns-3 Inv-loop μ-loop Inv-vectors μ-vectors
+unfolding numbersIn
+returns-3 c =
+    let t = c .before .before .before .before .before in
+    sym
+    (first-here _ _ (t .before .before .before .before .vectors .v) (omega arith) (t .before .before .before .before .vectors .inv .1 .1)
+    (fine-before (passed _ _ (acts t))
+    (first-here _ _ (c .before .before .before .before .loop .o) (omega arith) (c .before .before .before .before .loop .inv .1 .1)
+    (failed _ _ (le-ltb _ _ (rw (c .before .choice .ensures) at (c .if2 .taken)))))))
+
+pub numbers-exist-spec : {M : Type 1} → statement M
+numbers-exist-spec =
+    tie.close
+    (tie.spec
+    Inv-loop
+    μ-loop
+    Inv-vectors
+    μ-vectors
+    vectors-holds
+    element-copy-out-action
+    action-requires
+    mul-at
+    loop-holds
+    add-choice
+    mul-choice
+    element-copy-out-choice
+    choice-requires
+    add-o
+    loop-less
+    loop-again
+    add-v
+    vectors-less
+    vectors-again
+    returns
+    returns-2
+    returns-3)

@@ -1,0 +1,134 @@
+use Prim.Native.Nat.{ℕ, _+_, _*_, _≤_, _-_}
+use mathlib.Core.Path.{_≡_, refl, sym, _∙_}
+use native.Mathlib.Omega.{arith}
+use borrow.Author.Tests.{not-true, not-false}
+use mathlib.Core.List.{List}
+use lib.Dec.{leb}
+use lib.ListN.{length, getD}
+use lib.IntN.{ℤ, pos, natAbs}
+use Rattle.integers.proofs.Lists.{row-below}
+use Rattle.integers.proofs.Words.{back}
+use Rattle.tables.specs.declared.Verdict.{Verdict}
+use Rattle.tables.specs.declared.Verdict.the-variants.{Fine}
+use Rattle.tables.specs.Verdicts.{unless, firstOf}
+use Rattle.tables.proofs.Refusals.{first-none, first-more, first-here}
+use Rattle.levels.specs.Judged.{rowsWithin}
+use Rattle.levels.proofs.Laws.{passed, failed}
+use Rattle.levels.proofs.shape.rows_within.Statement.{statement}
+use Rattle.levels.proofs.shape.rows_within.Tie as tie
+
+-- the verdict on the number at x of row i
+abbrev verdict : List ℤ → ℕ → ℕ → ℕ → ℕ → ℕ → Verdict
+verdict cells w limit number i x = unless (leb (natAbs (getD cells (i * w + x) (pos 0))) limit) number i
+
+abbrev Inv-loop : tie.InvT-loop
+Inv-loop cells rows w limit number found₀ i at x₀ found x = (x ≤ w) × ((found ≡ Fine) × (firstOf x (verdict cells w limit number i) ≡ Fine))
+
+abbrev μ-loop : tie.MeasureT-loop
+μ-loop cells rows w limit number found₀ i at x₀ found x = w - x
+
+abbrev Inv-rows : tie.InvT-rows
+Inv-rows cells rows w limit number found₀ i₀ found i =
+    (i ≤ rows) × ((found ≡ Fine) × (firstOf i (λ j. firstOf w (verdict cells w limit number j)) ≡ Fine))
+
+abbrev μ-rows : tie.MeasureT-rows
+μ-rows cells rows w limit number found₀ i₀ found i = rows - i
+
+-- the row lies in the cells
+row-here : (c : tie.In-rows Inv-loop μ-loop Inv-rows μ-rows) →
+    let a = c .before .before .args in c .before .rows .i * a .w + a .w ≤ length (a .cells .now)
+row-here c = omega (arith, row-below (c .before .rows .i) (c .before .before .args .rows) (c .before .before .args .w) (omega arith))
+
+rows-holds : tie.Need-rows-holds Inv-loop μ-loop Inv-rows μ-rows
+rows-holds c = (omega arith, (refl, first-none _))
+
+mul-at : tie.Need-mul-at Inv-loop μ-loop Inv-rows μ-rows
+mul-at c = omega (arith, row-here c)
+
+loop-holds : tie.Need-loop-holds Inv-loop μ-loop Inv-rows μ-rows
+loop-holds c = (omega arith, (c .before .rows .inv .1 .0, first-none _))
+
+add-within : tie.Need-add-within Inv-loop μ-loop Inv-rows μ-rows
+add-within c = omega (arith, row-here (c .before .before))
+
+mul-within : tie.Need-mul-within Inv-loop μ-loop Inv-rows μ-rows
+mul-within c = omega (arith, row-here (c .before .before))
+
+shared-slice-copy-out-within :
+    tie.Need-shared-slice-copy-out-within Inv-loop μ-loop Inv-rows μ-rows
+shared-slice-copy-out-within c = omega (arith, row-here (c .before .before))
+
+within-requires : tie.Need-within-requires Inv-loop μ-loop Inv-rows μ-rows
+within-requires c κs = c .before .before .before .before .before .pre .0 .1 .1
+
+-- the test, by the number's own place
+said : (c : tie.After-within Inv-loop μ-loop Inv-rows μ-rows) →
+    let a = c .before .before .before .before .before .before .args in
+    let i = c .before .before .before .before .before .rows .i in
+    c .within .result ≡ leb (natAbs (getD (a .cells .now) (i * a .w + c .before .before .before .loop .x) (pos 0))) (a .limit)
+said c = c .within .ensures ∙ rw (back _ (c .before .within-arg .given))
+
+add-x : tie.Need-add-x Inv-loop μ-loop Inv-rows μ-rows
+add-x c = omega arith
+
+loop-less : tie.Need-loop-less Inv-loop μ-loop Inv-rows μ-rows
+loop-less c = omega arith
+
+loop-again : tie.Need-loop-again Inv-loop μ-loop Inv-rows μ-rows
+loop-again c = (
+  omega arith,
+  (
+    c .before .before .before .before .loop .inv .1 .0,
+    first-more _ _ (c .before .before .before .before .loop .inv .1 .1) (passed _ _ (sym (said (c .before)) ∙ not-false _ (c .if1 .left))),
+  ),
+)
+
+add-i : tie.Need-add-i Inv-loop μ-loop Inv-rows μ-rows
+add-i c = omega arith
+
+rows-less : tie.Need-rows-less Inv-loop μ-loop Inv-rows μ-rows
+rows-less c = omega arith
+
+rows-again : tie.Need-rows-again Inv-loop μ-loop Inv-rows μ-rows
+rows-again c =
+    let e : c .before .loop .x ≡ c .before .before .before .before .args .w = omega arith in
+    (omega arith, (c .before .loop .inv .1 .0, first-more _ _ (c .before .before .before .rows .inv .1 .1) (rw e at (c .before .loop .inv .1 .1))))
+
+returns : tie.Need-returns Inv-loop μ-loop Inv-rows μ-rows
+unfolding rowsWithin
+returns c =
+    let e : c .before .rows .i ≡ c .before .before .args .rows = omega arith in
+    c .before .rows .inv .1 .0 ∙ sym (rw e at (c .before .rows .inv .1 .1))
+
+returns-2 : tie.Need-returns-2 Inv-loop μ-loop Inv-rows μ-rows
+unfolding rowsWithin
+returns-2 c =
+    let t = c .before .before .before .before in
+    sym
+    (first-here _ _ (t .before .before .rows .i) (omega arith) (t .before .before .rows .inv .1 .1)
+    (first-here _ _ (t .loop .x) (omega arith) (t .loop .inv .1 .1)
+    (failed _ _ (sym (said (c .before)) ∙ not-true _ (c .if1 .taken)))))
+
+pub rows-within-spec : {M : Type 1} → statement M
+rows-within-spec =
+    tie.close
+    (tie.spec
+    Inv-loop
+    μ-loop
+    Inv-rows
+    μ-rows
+    rows-holds
+    mul-at
+    loop-holds
+    add-within
+    mul-within
+    shared-slice-copy-out-within
+    within-requires
+    add-x
+    loop-less
+    loop-again
+    add-i
+    rows-less
+    rows-again
+    returns
+    returns-2)

@@ -1,0 +1,95 @@
+-- What an offer is refused for, 7 to 15, in checking order; each number is tested throughout before the next.
+use Prim.Native.Nat.{ℕ, suc, _+_, _*_}
+use mathlib.Core.Bool.{Bool, true, false, _&&_}
+use lib.Dec.{leb, ltb, eqb}
+use lib.IntN.{ℤ, natAbs}
+use lib.Signed.{leZ}
+use Rattle.integers.specs.Whole.{_·_, totalTo}
+use Rattle.integers.specs.Search.{every}
+use Rattle.tables.specs.declared.Verdict.{Verdict}
+use Rattle.tables.specs.declared.Verdict.the-variants.{Fine, Refused}
+use Rattle.tables.specs.Limits.{maxVectors, K}
+use Rattle.tables.specs.Model.{Model, backup}
+use Rattle.tables.specs.Verdicts.{_before_, unless, firstOf}
+use Rattle.tables.specs.Judged.{countWithin, modelVerdict}
+use Rattle.plans.specs.Limits.{maxLevels, maxPoints, pointTotal, range}
+use Rattle.plans.specs.Level.{Level, backupAt, corner-weight, follows}
+
+-- ---- a level by itself
+
+-- 9: no vector, over 32 vectors, or over 32 points
+abbrev pub countsHold : ℕ → ℕ → Bool
+countsHold vectors points = countWithin maxVectors vectors && leb points maxPoints
+
+-- the first row, of width w, with a number outside ± limit
+unfoldable pub rowsWithin : ℕ → ℕ → ℕ → ℕ → (ℕ → ℕ → ℤ) → Verdict
+rowsWithin number rows w limit cell = firstOf rows (λ r. firstOf w (λ x. unless (leb (natAbs (cell r x)) limit) number r))
+
+-- 11: entries, then corners, then point values, each within its range at level t
+unfoldable pub rangesVerdict : Model → ℕ → Level → Verdict
+rangesVerdict M t W =
+    rowsWithin 11 (W .vectors) (M .states) (range t) (W .entry)
+    before rowsWithin 11 (M .states) 1 (range t) (λ s x. W .corner s)
+    before rowsWithin 11 (W .points) 1 (pointTotal * range t) (λ i x. W .value i)
+
+-- 12: a point's weights do not total 100
+unfoldable pub weightsVerdict : ℕ → ℕ → (ℕ → ℕ → ℕ) → Verdict
+weightsVerdict n points weight = firstOf points (λ i. unless (eqb (totalTo n (weight i)) pointTotal) 12 i)
+
+abbrev pub actionsExist : ℕ → ℕ → (ℕ → ℕ) → Bool
+actionsExist m vectors action = every vectors (λ v. ltb (action v) m)
+
+abbrev pub isFine : Verdict → Bool
+isFine Fine = true
+isFine (Refused number place) = false
+
+-- 7: the tables or the standing level break a limit of 3, 5, 6, 9, 11 or 12 or name an action that does not exist, or the level is over 100
+unfoldable pub standingHolds : Model → ℕ → Level → Bool
+standingHolds M t L =
+    isFine (modelVerdict M)
+    && (leb t maxLevels
+    && (countsHold (L .vectors) (L .points)
+    && (actionsExist (M .actions) (L .vectors) (L .action)
+    && (isFine (rangesVerdict M t L)
+    && isFine (weightsVerdict (M .states) (L .points) (L .weight))))))
+
+-- ---- a level W that is offered over the standing level L
+
+-- 10: an action or a chosen vector does not exist
+unfoldable pub numbersIn : ℕ → ℕ → ℕ → ℕ → (ℕ → ℕ) → (ℕ → ℕ → ℕ) → Verdict
+numbersIn vectors m k standing action choice =
+    firstOf vectors (λ v. unless (ltb (action v) m) 10 v before firstOf k (λ o. unless (ltb (choice v o) standing) 10 v))
+
+abbrev pub numbersVerdict : Model → Level → Level → Verdict
+numbersVerdict M L W = numbersIn (W .vectors) (M .actions) (M .observations) (L .vectors) (W .action) (W .choice)
+
+-- 13: a vector entry exceeds its backup
+unfoldable pub floorsVerdict : Model → Level → Level → Verdict
+floorsVerdict M L W =
+    firstOf (W .vectors)
+    (λ v. firstOf (M .states) (λ s. unless (leZ (K · W .entry v s) (backup M (W .action v) (follows L (W .choice v)) s)) 13 v))
+
+-- whether a value at weights p is at least every action's backup
+abbrev pub coversBackups : Model → Level → (ℕ → ℕ) → ℤ → Bool
+coversBackups M L p w = every (M .actions) (λ a. leZ (backupAt M L p a) (K · w))
+
+-- 14: a corner is below its backup
+unfoldable pub cornersVerdict : Model → Level → Level → Verdict
+cornersVerdict M L W = firstOf (M .states) (λ s. unless (coversBackups M L (corner-weight s) (W .corner s)) 14 s)
+
+-- 15: a point is below its backup
+unfoldable pub pointsVerdict : Model → Level → Level → Verdict
+pointsVerdict M L W = firstOf (W .points) (λ i. unless (coversBackups M L (W .weight i) (W .value i)) 15 i)
+
+-- 8 and 9 have a condition of their own and no place
+unfoldable pub offerVerdict : Model → ℕ → Level → Level → Verdict
+offerVerdict M t L W =
+    unless (standingHolds M t L) 7 0
+    before unless (ltb t maxLevels) 8 0
+    before unless (countsHold (W .vectors) (W .points)) 9 0
+    before numbersVerdict M L W
+    before rangesVerdict M (suc t) W
+    before weightsVerdict (M .states) (W .points) (W .weight)
+    before floorsVerdict M L W
+    before cornersVerdict M L W
+    before pointsVerdict M L W

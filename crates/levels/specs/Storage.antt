@@ -1,0 +1,73 @@
+-- From storage to a level: rows packed by the counts, as the model's tables are. Every contract speaks through these.
+--
+--   choices by v, o     entries by v, s     weights by i, s     actions, corners, values by their one index
+use Prim.Native.Nat.{ℕ, _+_, _*_}
+use mathlib.Core.List.{List}
+use lib.ListN.{getD, replicate}
+use lib.IntN.{ℤ, pos}
+use Rattle.integers.specs.Cells.{cut}
+use Rattle.tables.specs.Storage.{entryIn}
+use Rattle.plans.specs.Level.{Level as Ideal}
+use Rattle.levels.specs.declared.Level.{Level}
+
+abbrev pub choiceIn : ℕ → List ℕ → ℕ → ℕ → ℕ
+choiceIn k cells v o = getD cells (v * k + o) 0
+
+abbrev pub cornerIn : List ℤ → ℕ → ℤ
+cornerIn cells s = getD cells s (pos 0)
+
+-- the weights of point i
+abbrev pub pointIn : ℕ → List ℕ → ℕ → ℕ → ℕ
+pointIn n cells i s = getD cells (i * n + s) 0
+
+-- the level that is stored, of a model with n states and k observations
+abbrev pub levelOf : ℕ → ℕ → Level → Ideal
+levelOf n k l = record {
+  vectors = l .vectors;
+  action = λ v. getD (l .actions) v 0;
+  choice = choiceIn k (l .choices);
+  entry = entryIn n (l .entries);
+  corner = cornerIn (l .corners);
+  points = l .points;
+  weight = pointIn n (l .weights);
+  value = λ i. getD (l .values) i (pos 0);
+}
+
+-- the same level with 0 past the counts
+unfoldable pub keptLevel : ℕ → ℕ → Level → Level
+keptLevel n k l = record {
+  vectors = l .vectors;
+  actions = cut 0 (l .vectors) (l .actions);
+  choices = cut 0 (l .vectors * k) (l .choices);
+  entries = cut (pos 0) (l .vectors * n) (l .entries);
+  corners = cut (pos 0) n (l .corners);
+  points = l .points;
+  weights = cut 0 (l .points * n) (l .weights);
+  values = cut (pos 0) (l .points) (l .values);
+}
+
+-- level 0 of document 01: one zero vector, zero corners, no points
+abbrev pub freshLevel : Level
+freshLevel = record {
+  vectors = 1;
+  actions = replicate 32 0;
+  choices = replicate 256 0;
+  entries = replicate 512 (pos 0);
+  corners = replicate 16 (pos 0);
+  points = 0;
+  weights = replicate 512 0;
+  values = replicate 32 (pos 0);
+}
+
+-- a level of which every part is 0, the count of vectors too
+abbrev pub noLevel : Level
+noLevel = record {
+  vectors = 0;
+  actions = replicate 32 0;
+  choices = replicate 256 0;
+  entries = replicate 512 (pos 0);
+  corners = replicate 16 (pos 0);
+  points = 0;
+  weights = replicate 512 0;
+  values = replicate 32 (pos 0);
+}

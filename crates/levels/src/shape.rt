@@ -1,0 +1,191 @@
+// Refusals 9 to 12 of a level by itself, and what is kept of it.
+ghost use mathlib.Core.Path.{_≡_};
+ghost use Prim.Native.Nat.{_+_, _*_, _≤_, _<_, _^_};
+ghost use lib.ListN.{length, getD};
+ghost use lib.IntN.{pos};
+ghost use Rattle.integers.specs.Whole.{totalTo};
+ghost use Rattle.tables.specs.Limits.{maxStates, maxObservations, maxVectors};
+ghost use Rattle.plans.specs.Limits.{maxPoints};
+ghost use Rattle.levels.specs.Storage.{choiceIn, pointIn, keptLevel, freshLevel, noLevel};
+ghost use Rattle.levels.specs.Judged.{countsHold, rowsWithin, weightsVerdict, actionsExist, numbersIn};
+use super::Actions;
+use super::Choices;
+use super::Level;
+use integers::cells;
+use tables::Tables;
+use tables::Verdict;
+
+// 9
+pub fn counts_hold(vectors: usize, points: usize) -> bool
+    ensures { λ r. ⌜ r ≡ countsHold vectors points ⌝ }
+{
+    if vectors < 1 {
+        return false;
+    }
+    if Tables::VECTORS < vectors {
+        return false;
+    }
+    points <= Level::POINTS
+}
+
+// 11: the first row, of width w, with a number outside ± limit.
+pub fn rows_within(cells: &[i64], rows: usize, w: usize, limit: u64, number: u8) -> Verdict
+    requires { ⌜ (rows ≤ maxVectors) × ((w ≤ maxStates) × (limit < 2 ^ 63)) ⌝ }
+    requires { ⌜ rows * w ≤ length (now cells) ⌝ }
+    ensures { λ r. ⌜ r ≡ rowsWithin number rows w limit (λ i x. getD (now (cells .entry)) (i * w + x) (pos 0)) ⌝ }
+{
+    let mut found = Verdict::Fine;
+    'rows: for i in 0..rows {
+        let at = i * w;
+        for x in 0..w {
+            if !integers::within(limit, cells[at + x]) {
+                found = Verdict::Refused(number, i);
+                break 'rows;
+            }
+        }
+    }
+    found
+}
+
+fn weight(x: u32) -> u64
+    ensures { λ r. ⌜ r ≡ x ⌝ }
+{
+    x as u64
+}
+
+// The total of the n weights from `at` on.
+fn weights_total(cells: &[u32], at: usize, n: usize) -> u64
+    requires { ⌜ (at + n ≤ length (now cells)) × (n ≤ maxStates) ⌝ }
+    ensures { λ r. ⌜ r ≡ totalTo n (λ s. getD (now (cells .entry)) (at + s) 0) ⌝ }
+{
+    let mut sum: u64 = 0;
+    for s in 0..n {
+        sum += weight(cells[at + s]);
+    }
+    sum
+}
+
+// 12: the first point whose weights do not total 100.
+pub fn weights_hold(cells: &[u32], n: usize, points: usize) -> Verdict
+    requires { ⌜ (n ≤ maxStates) × (points ≤ maxPoints) ⌝ }
+    requires { ⌜ points * n ≤ length (now cells) ⌝ }
+    ensures { λ r. ⌜ r ≡ weightsVerdict n points (pointIn n (now (cells .entry))) ⌝ }
+{
+    for i in 0..points {
+        if weights_total(cells, i * n, n) != Level::TOTAL {
+            return Verdict::Refused(12, i);
+        }
+    }
+    Verdict::Fine
+}
+
+fn action(x: u8) -> usize
+    ensures { λ r. ⌜ r ≡ x ⌝ }
+{
+    x as usize
+}
+
+fn choice(x: u16) -> usize
+    ensures { λ r. ⌜ r ≡ x ⌝ }
+{
+    x as usize
+}
+
+pub fn actions_exist(actions: &Actions, vectors: usize, m: usize) -> bool
+    requires { ⌜ vectors ≤ maxVectors ⌝ }
+    ensures { λ r. ⌜ r ≡ actionsExist m vectors (λ v. getD (now (actions .entry)) v 0) ⌝ }
+{
+    for v in 0..vectors {
+        if m <= action(actions[v]) {
+            return false;
+        }
+    }
+    true
+}
+
+// 10: the first vector whose action, or a vector that it chooses, does not exist.
+pub fn numbers_exist(
+    actions: &Actions,
+    choices: &Choices,
+    vectors: usize,
+    m: usize,
+    k: usize,
+    standing: usize,
+) -> Verdict
+    requires { ⌜ (vectors ≤ maxVectors) × (k ≤ maxObservations) ⌝ }
+    ensures { λ r. ⌜ r ≡ numbersIn vectors m k standing (λ v. getD (now (actions .entry)) v 0) (choiceIn k (now (choices .entry))) ⌝ }
+{
+    let mut found = Verdict::Fine;
+    'vectors: for v in 0..vectors {
+        if m <= action(actions[v]) {
+            found = Verdict::Refused(10, v);
+            break 'vectors;
+        }
+        let at = v * k;
+        for o in 0..k {
+            if standing <= choice(choices[at + o]) {
+                found = Verdict::Refused(10, v);
+                break 'vectors;
+            }
+        }
+    }
+    found
+}
+
+// The level with 0 past its counts.
+pub fn keep_level(n: usize, k: usize, l: Level) -> Level
+    requires { ⌜ (n ≤ maxStates) × ((k ≤ maxObservations) × ((l .vectors ≤ maxVectors) × (l .points ≤ maxPoints))) ⌝ }
+    ensures { λ r. ⌜ r ≡ keptLevel n k l ⌝ }
+{
+    let vectors = l.vectors;
+    let points = l.points;
+    let mut actions = l.actions;
+    let mut choices = l.choices;
+    let mut entries = l.entries;
+    let mut corners = l.corners;
+    let mut weights = l.weights;
+    let mut values = l.values;
+    cells::clear_u8(&mut actions, vectors);
+    cells::clear_u16(&mut choices, vectors * k);
+    cells::clear_i64(&mut entries, vectors * n);
+    cells::clear_i64(&mut corners, n);
+    cells::clear_u32(&mut weights, points * n);
+    cells::clear_i64(&mut values, points);
+    Level {
+        vectors: vectors,
+        actions: actions,
+        choices: choices,
+        entries: entries,
+        corners: corners,
+        points: points,
+        weights: weights,
+        values: values,
+    }
+}
+
+impl Level {
+    // Level 0: one zero vector, zero corners, no points.
+    pub fn fresh() -> Level
+        ensures { λ r. ⌜ r ≡ freshLevel ⌝ }
+    {
+        Level {
+            vectors: 1,
+            actions: [0u8; Tables::VECTORS],
+            choices: [0u16; Tables::VECTORS * Tables::OBSERVATIONS],
+            entries: [0i64; Tables::VECTORS * Tables::STATES],
+            corners: [0i64; Tables::STATES],
+            points: 0,
+            weights: [0u32; Level::POINTS * Tables::STATES],
+            values: [0i64; Level::POINTS],
+        }
+    }
+
+    // A level of which every part is 0.
+    pub fn none() -> Level
+        ensures { λ r. ⌜ r ≡ noLevel ⌝ }
+    {
+        let mut l = Level::fresh();
+        l.vectors = 0;
+        l
+    }
+}

@@ -1,0 +1,47 @@
+// Products of weights with vectors, and the first vector with the largest.
+ghost use mathlib.Core.Path.{_≡_};
+ghost use Prim.Native.Nat.{ℕ, _+_, _*_, _≤_, _<_};
+ghost use lib.ListN.{length, getD};
+ghost use lib.IntN.{pos, natAbs};
+ghost use Rattle.integers.specs.Whole.{Below};
+ghost use Rattle.integers.specs.Search.{firstLargest};
+ghost use Rattle.tables.specs.Limits.{maxStates, maxVectors, maxEntry};
+ghost use Rattle.tables.specs.Storage.{weightIn, entryIn};
+ghost use Rattle.plans.specs.Limits.{maxReached};
+ghost use Rattle.plans.specs.Level.{product};
+use tables::Entries;
+use tables::Vector;
+use tables::Weights;
+
+// The product of weights with the n numbers from `at` on.
+pub fn product(q: &Weights, cells: &[i64], at: usize, n: usize) -> i64
+    requires { ⌜ (n ≤ maxStates) × (at + n ≤ length (now cells)) ⌝ }
+    requires { ⌜ Below maxReached n (now q) ⌝ }
+    requires { ⌜ ((s : ℕ) → s < n → natAbs (getD (now cells) (at + s) (pos 0)) ≤ maxEntry) ⌝ }
+    ensures { λ r. ⌜ r ≡ product n (weightIn (now (q .entry))) (λ s. getD (now (cells .entry)) (at + s) (pos 0)) ⌝ }
+{
+    let mut sum: i64 = 0;
+    for s in 0..n {
+        sum = integers::add_scaled(sum, q[s], cells[at + s]);
+    }
+    sum
+}
+
+// The first vector with the largest product.
+pub fn best_vector(q: &Weights, entries: &Entries, n: usize, vectors: usize) -> Vector
+    requires { ⌜ (n ≤ maxStates) × ((0 < vectors) × (vectors ≤ maxVectors)) ⌝ }
+    requires { ⌜ Below maxReached n (now q) ⌝ }
+    requires { ⌜ ((v : ℕ) → v < vectors → (s : ℕ) → s < n → natAbs (entryIn n (now entries) v s) ≤ maxEntry) ⌝ }
+    ensures { λ r. ⌜ r .0 ≡ firstLargest vectors (λ v. product n (weightIn (now (q .entry))) (entryIn n (now (entries .entry)) v)) ⌝ }
+{
+    let mut best: usize = 0;
+    let mut most = product(q, entries, 0, n);
+    for v in 1..vectors {
+        let here = product(q, entries, v * n, n);
+        if most < here {
+            most = here;
+            best = v;
+        }
+    }
+    Vector(best)
+}

@@ -1,0 +1,110 @@
+use Prim.Native.Nat.{_+_, _-_, _≤_}
+use mathlib.Core.Path.{_≡_, sym, _∙_}
+use mathlib.Core.Logic.{⊎-elim}
+use native.Mathlib.Omega.{arith}
+use borrow.Author.Needs.{needs}
+use lib.Dec.{lit≤}
+use lib.ListN.{getD}
+use Rattle.tables.specs.Storage.{weightIn}
+use Rattle.plans.specs.Limits.{pointTotal, maxReached}
+use Rattle.sawtooth.proofs.Laws.{Least, least-start, least-taken, least-left, least-limits, least-none, least-drop}
+use Rattle.sawtooth.proofs.drop_of.Statement.{statement}
+use Rattle.sawtooth.proofs.drop_of.Tie as tie
+
+abbrev Inv-loop : tie.InvT-loop
+Inv-loop q weights at gain n top₀ under₀ s₀ top under s = (s ≤ n) × Least (λ t. getD weights (at + t) 0) (weightIn q) s top under
+
+abbrev μ-loop : tie.MeasureT-loop
+μ-loop q weights at gain n top₀ under₀ s₀ top under s = n - s
+
+limits : (c : tie.At-loop Inv-loop μ-loop) → (c .loop .top ≤ maxReached) × (c .loop .under ≤ pointTotal)
+limits c = let a = c .before in least-limits _ _ (c .loop .inv .1) (c .loop .inv .0) (a .pre .1 .1) (a .pre .1 .0 .below) (lit≤ tt)
+
+loop-holds : tie.Need-loop-holds Inv-loop μ-loop
+loop-holds c = (omega arith, least-start _ _)
+
+add-weight : tie.Need-add-weight Inv-loop μ-loop
+add-weight c = search needs
+
+mul-weight : tie.Need-mul-weight Inv-loop μ-loop
+mul-weight c = search needs
+
+element-copy-out-weight : tie.Need-element-copy-out-weight Inv-loop μ-loop
+element-copy-out-weight c = search needs
+
+weight-requires : tie.Need-weight-requires Inv-loop μ-loop
+weight-requires c κs = search needs
+
+mul-x : tie.Need-mul-x Inv-loop μ-loop
+mul-x c = search needs
+
+element-copy-out-x : tie.Need-element-copy-out-x Inv-loop μ-loop
+element-copy-out-x c = search needs
+
+cross-requires : tie.Need-cross-requires Inv-loop μ-loop
+cross-requires c κs =
+    let l = c .before .before .before .before in (l .before .pre .1 .0 .below (l .loop .s) (omega arith), limits l .1)
+
+cross-requires-2 : tie.Need-cross-requires-2 Inv-loop μ-loop
+cross-requires-2 c κs =
+    let l = c .before .before .before .before .before in
+    (limits l .0, rw (c .before .before .weight .ensures) (l .before .pre .1 .1 (l .loop .s) (omega arith)))
+
+add-s : tie.Need-add-s Inv-loop μ-loop
+add-s c = search needs
+
+loop-less : tie.Need-loop-less Inv-loop μ-loop
+loop-less c = search needs
+
+loop-again : tie.Need-loop-again Inv-loop μ-loop
+loop-again c =
+    let l = c .before .before .before .before .before .before .before in
+    let weight = c .before .before .before .before .weight .ensures in (
+      omega arith,
+      ⊎-elim
+          (λ w. least-taken _ _ (l .loop .inv .1) (rw (c .before .before .cross .ensures, c .before .cross2 .ensures, weight) at (w .0 .taken)) (w .1)
+          (w .2 ∙ weight))
+          (λ w. least-left _ _ (l .loop .inv .1) (rw (c .before .before .cross .ensures, c .before .cross2 .ensures, weight) at (w .0 .left)) (w .1) (w .2))
+          (c .if1 .came),
+    )
+
+returns : tie.Need-returns Inv-loop μ-loop
+returns c =
+    let l = c .before .before in
+    let e : l .loop .s ≡ l .before .args .n = omega arith in
+    sym (least-none _ _ (l .before .args .gain) (rw e at (l .loop .inv .1)) (c .if2 .taken))
+
+reach-requires : tie.Need-reach-requires Inv-loop μ-loop
+reach-requires c κs = (limits (c .before .before) .0, c .before .before .before .pre .0 .1 .1)
+
+div-result : tie.Need-div-result Inv-loop μ-loop
+div-result c = omega arith
+
+returns-2 : tie.Need-returns-2 Inv-loop μ-loop
+returns-2 c =
+    let l = c .before .before .before in
+    let e : l .loop .s ≡ l .before .args .n = omega arith in
+    rw (c .reach .ensures) (sym (least-drop _ _ (l .before .args .gain) (rw e at (l .loop .inv .1)) (c .before .if2 .left)))
+
+pub drop-of-spec : {M : Type 1} → statement M
+drop-of-spec =
+    tie.close
+    (tie.spec
+    Inv-loop
+    μ-loop
+    loop-holds
+    add-weight
+    mul-weight
+    element-copy-out-weight
+    weight-requires
+    mul-x
+    element-copy-out-x
+    cross-requires
+    cross-requires-2
+    add-s
+    loop-less
+    loop-again
+    returns
+    reach-requires
+    div-result
+    returns-2)

@@ -1,0 +1,55 @@
+use mathlib.Core.Path.{_≡_, _∙_}
+use native.Mathlib.Omega.{arith}
+use borrow.Author.Needs.{needs}
+use lib.IntN.{ℤ, _-ℤ_}
+use mir.Syntax.{w64}
+use mir.Val.{toZ, ofZ}
+use mir.Facts.{toZ-ofZ}
+use Rattle.integers.proofs.Words.{answer}
+use Rattle.tables.specs.Storage.{weightIn}
+use Rattle.plans.specs.Level.{product}
+use Rattle.levels.specs.Storage.{cornerIn}
+use Rattle.sawtooth.proofs.Laws.{gain-parts, gain-limit, first-cells, first-fit, positive-below, positive-from}
+use Rattle.sawtooth.proofs.gain_of.Statement.{statement}
+use Rattle.sawtooth.proofs.gain_of.Tie as tie
+
+product-requires : tie.Need-product-requires
+product-requires c κs =
+    let a = c .before in
+    ((search needs, search needs), (record { below = λ i l. omega (arith, a .pre .1 .1 .0 .below i l) }, first-fit (a .pre .1 .0)))
+
+abbrev gained : tie.Start → ℤ
+gained c = product (c .args .n) (weightIn (c .args .p .now)) (cornerIn (c .args .corners .now)) -ℤ c .args .value
+
+at-corners : (c : tie.After-product)
+    → let a = c .before .before .args in
+    toZ w64 (ofZ w64 (c .product .result)) ≡ product (a .n) (weightIn (a .p .now)) (cornerIn (a .corners .now))
+at-corners c = answer (c .product .ok) (c .product .ensures ∙ first-cells _ _ (c .before .before .args .corners .now))
+
+minus-requires : tie.Need-minus-requires
+minus-requires c κs =
+    let a = c .before .before in
+    rw (at-corners c, toZ-ofZ (a .fits .value))
+    (omega (arith, gain-parts (weightIn (a .args .p .now)) (a .args .value) (a .pre .0) (a .pre .1 .0) (a .pre .1 .1 .0 .below) (a .pre .1 .1 .1)))
+
+gain : (c : tie.After-minus) → toZ w64 (ofZ w64 (c .minus .result)) ≡ gained (c .before .before .before)
+gain c = answer (c .minus .ok) (c .minus .ensures ∙ rw (at-corners (c .before), toZ-ofZ (c .before .before .before .fits .value)))
+
+returns : tie.Need-returns
+returns c = positive-below (gained (c .before .before .before .before)) (rw (gain (c .before)) at (c .if1 .taken))
+
+cast-result : tie.Need-cast-result
+cast-result c =
+    let a = c .before .before .before .before in
+    rw (gain (c .before)) (
+      positive-from (gained a) (rw (gain (c .before)) at (c .if1 .left)) .0,
+      omega (arith, gain-limit (weightIn (a .args .p .now)) (a .args .value) (a .pre .0) (a .pre .1 .0) (a .pre .1 .1 .0 .below) (a .pre .1 .1 .1)),
+    )
+
+returns-2 : tie.Need-returns-2
+returns-2 c =
+    let a = c .before .before .before .before in
+    rw (gain (c .before)) (positive-from (gained a) (rw (gain (c .before)) at (c .if1 .left)) .1)
+
+pub gain-of-spec : {M : Type 1} → statement M
+gain-of-spec = tie.close (tie.spec product-requires minus-requires returns cast-result returns-2)

@@ -1,0 +1,89 @@
+use Prim.Native.Nat.{_-_, _≤_}
+use mathlib.Core.Path.{_≡_, sym}
+use native.Mathlib.Omega.{arith}
+use borrow.Author.Needs.{needs}
+use lib.ListN.{getD}
+use lib.IntN.{pos}
+use Rattle.integers.specs.Cells.{padded}
+use Rattle.integers.proofs.Lists.{padded-none, padded-turn}
+use Rattle.integers.proofs.Words.{back}
+use Rattle.plans.specs.Limits.{maxPoints}
+use Rattle.sawtooth.specs.Storage.{positive, gainIn}
+use Rattle.sawtooth.proofs.Laws.{filled-below, filled-gain}
+use Rattle.sawtooth.proofs.gains.Statement.{statement}
+use Rattle.sawtooth.proofs.gains.Tie as tie
+
+abbrev Inv-loop : tie.InvT-loop
+Inv-loop corners weights values points n g₀ i₀ g i = (i ≤ points) × (g ≡ padded 0 maxPoints i (λ j. positive (gainIn n corners weights values j)))
+
+abbrev μ-loop : tie.MeasureT-loop
+μ-loop corners weights values points n g₀ i₀ g i = points - i
+
+loop-holds : tie.Need-loop-holds Inv-loop μ-loop
+loop-holds c = (search needs, sym (padded-none _ _ _))
+
+point-weights-requires : tie.Need-point-weights-requires Inv-loop μ-loop
+point-weights-requires c κs = search needs
+
+mul-gain-of : tie.Need-mul-gain-of Inv-loop μ-loop
+mul-gain-of c = search needs
+
+element-copy-out-gain-of : tie.Need-element-copy-out-gain-of Inv-loop μ-loop
+element-copy-out-gain-of c = search needs
+
+gain-of-requires : tie.Need-gain-of-requires Inv-loop μ-loop
+gain-of-requires c κs =
+    let a = c .before .before .before .before .before in
+    let i = c .before .before .before .before .loop .i in (
+      a .pre .0,
+      (
+        a .pre .1 .0,
+        (
+          filled-below _ i _ _ (c .before .before .point-weights .ensures) (a .pre .1 .1 .0) (omega arith),
+          rw (back (getD (a .args .values .now) i (pos 0)) (c .gain-of-arg .given)) (a .pre .1 .1 .1 .value i (omega arith)),
+        ),
+      ),
+    )
+
+mul-g : tie.Need-mul-g Inv-loop μ-loop
+mul-g c = search needs
+
+array-write-g : tie.Need-array-write-g Inv-loop μ-loop
+array-write-g c = search needs
+
+add-i : tie.Need-add-i Inv-loop μ-loop
+add-i c = search needs
+
+loop-less : tie.Need-loop-less Inv-loop μ-loop
+loop-less c = search needs
+
+loop-again : tie.Need-loop-again Inv-loop μ-loop
+loop-again c =
+    let l = c .before .before .before .before .before in (
+      search needs,
+      padded-turn _ _ _ _ (l .loop .inv .1)
+          (filled-gain _ _ _ _ (c .before .before .before .point-weights .ensures) (l .before .args .corners .now) (l .before .args .values .now)
+          (back _ (c .before .gain-of-arg .given)) (c .gain-of .ensures))
+          (omega arith),
+    )
+
+returns : tie.Need-returns Inv-loop μ-loop
+returns c = let e : c .before .loop .i ≡ c .before .before .args .points = omega arith in rw e at (c .before .loop .inv .1)
+
+pub gains-spec : {M : Type 1} → statement M
+gains-spec =
+    tie.close
+    (tie.spec
+    Inv-loop
+    μ-loop
+    loop-holds
+    point-weights-requires
+    mul-gain-of
+    element-copy-out-gain-of
+    gain-of-requires
+    mul-g
+    array-write-g
+    add-i
+    loop-less
+    loop-again
+    returns)

@@ -1,0 +1,101 @@
+use Prim.Native.Nat.{_+_, _*_, _-_, _≤_}
+use mathlib.Core.Path.{_≡_, sym}
+use mathlib.Core.Bool.{false}
+use mathlib.Core.Logic.{⊎-elim}
+use native.Mathlib.Omega.{arith}
+use borrow.Author.Needs.{needs}
+use Rattle.integers.specs.Whole.{largestTo}
+use Rattle.integers.proofs.Sums.{largest-none}
+use Rattle.tables.specs.Limits.{maxStates}
+use Rattle.plans.specs.Limits.{maxPoints}
+use Rattle.sawtooth.specs.Storage.{dropIn}
+use Rattle.sawtooth.proofs.Laws.{row-fits, drop-beaten, largest-kept, largest-new}
+use Rattle.sawtooth.proofs.largest_drop.Statement.{statement}
+use Rattle.sawtooth.proofs.largest_drop.Tie as tie
+
+abbrev Inv-loop : tie.InvT-loop
+Inv-loop q weights gains points n best₀ i₀ best i = (i ≤ points) × (best ≡ largestTo i (dropIn n weights gains q))
+
+abbrev μ-loop : tie.MeasureT-loop
+μ-loop q weights gains points n best₀ i₀ best i = points - i
+
+-- the point's weights lie within the array
+inside : (c : tie.In-loop Inv-loop μ-loop) → let l = c .before in l .loop .i * l .before .args .n + l .before .args .n ≤ maxPoints * maxStates
+inside c = row-fits (c .before .loop .i) (c .before .before .args .n) (omega arith) (c .before .before .pre .0)
+
+loop-holds : tie.Need-loop-holds Inv-loop μ-loop
+loop-holds c = (search needs, sym (largest-none _))
+
+mul-at : tie.Need-mul-at Inv-loop μ-loop
+mul-at c = omega (arith, inside c)
+
+mul-gain : tie.Need-mul-gain Inv-loop μ-loop
+mul-gain c = search needs
+
+element-copy-out-gain : tie.Need-element-copy-out-gain Inv-loop μ-loop
+element-copy-out-gain c = search needs
+
+least-above-requires : tie.Need-least-above-requires Inv-loop μ-loop
+least-above-requires c κs = search needs
+
+reaches-requires : tie.Need-reaches-requires Inv-loop μ-loop
+reaches-requires c κs =
+    let t = c .before .before in
+    let a = t .before .before .pre in
+    let i = t .before .loop .i in
+    ((a .0, (inside t, (a .1 .1 .1 .below i (omega arith), c .least-above .ensures .1))), (a .1 .0, a .1 .1 .0 .weight i (omega arith)))
+
+drop-of-requires : tie.Need-drop-of-requires Inv-loop μ-loop
+drop-of-requires c κs =
+    let t = c .before .before .before .before in
+    let a = t .before .before .pre in
+    let i = t .before .loop .i in
+    ((a .0, (inside t, a .1 .1 .1 .below i (omega arith))), (a .1 .0, a .1 .1 .0 .weight i (omega arith)))
+
+add-i : tie.Need-add-i Inv-loop μ-loop
+add-i c = search needs
+
+loop-less : tie.Need-loop-less Inv-loop μ-loop
+loop-less c = search needs
+
+-- a point that does not reach is not above the best
+left-out : (c : tie.After-reaches Inv-loop μ-loop)
+    → let l = c .before .before .before .before in
+    let a = l .before .args in
+    c .reaches .result ≡ false → dropIn (a .n) (a .weights .now) (a .gains .now) (a .q .now) (l .loop .i) ≤ l .loop .best
+left-out c =
+    let l = c .before .before .before .before in
+    let a = l .before .args in
+    drop-beaten (a .n) (a .weights .now) (a .gains .now) (a .q .now) (l .loop .i) (c .before .least-above .ensures .0) (c .reaches .ensures)
+
+loop-again : tie.Need-loop-again Inv-loop μ-loop
+unfolding dropIn
+loop-again c =
+    let l = c .before .before .before .before .before in (
+      search needs,
+      ⊎-elim (λ w. largest-new _ _ (l .loop .inv .1) (w .3) (w .1 .ensures) (w .2 .taken))
+          (⊎-elim (λ w. largest-kept _ _ (l .loop .inv .1) (w .3) (rw (w .1 .ensures) at (w .2 .left)))
+          (λ w. largest-kept _ _ (l .loop .inv .1) (w .1) (left-out (c .before) (w .0 .left))))
+          (c .if1 .came),
+    )
+
+returns : tie.Need-returns Inv-loop μ-loop
+returns c = let e : c .before .loop .i ≡ c .before .before .args .points = omega arith in rw e at (c .before .loop .inv .1)
+
+pub largest-drop-spec : {M : Type 1} → statement M
+largest-drop-spec =
+    tie.close
+    (tie.spec
+    Inv-loop
+    μ-loop
+    loop-holds
+    mul-at
+    mul-gain
+    element-copy-out-gain
+    least-above-requires
+    reaches-requires
+    drop-of-requires
+    add-i
+    loop-less
+    loop-again
+    returns)

@@ -1,0 +1,2 @@
+-- The sawtooth ceiling over stored corners, points and gains.
+pub mod Storage
