@@ -1,13 +1,14 @@
 -- Laws of arrays of which the first cells count. Assumes nothing.
 use mathlib.Core.Path.{_≡_, refl, sym, _∙_, ap}
-use mathlib.Core.List.{List, [], _∷_, _++_, append-assoc}
+use mathlib.Core.List.{List, [], _∷_, _++_, append-assoc, append-nil}
 use Prim.Native.Nat.{ℕ, zero, suc, _+_, _*_, _-_, _/_, _%_, _≤_, _<_}
 use native.Mathlib.Nat as NatL
+use native.Mathlib.Nat.{add-zero, add-suc}
 use native.Mathlib.Omega.{arith}
 use native.Mathlib.Numerals.{add-one}
 use native.Mathlib.Decide.{decLt}
-use lib.ListN.{length, getD, take, set, replicate, length-append, length-replicate, length-set, List·getD-append}
-use lib.Seq.{set-at, getD-append-seam, take-suc-set, take-all, getD-take, length-take-le}
+use lib.ListN.{length, getD, take, drop, set, replicate, length-append, length-replicate, length-set, List·getD-append}
+use lib.Seq.{paste, paste-zero, paste-suc, ext-getD, take-at, drop-append-add, set-at, getD-append-seam, take-suc-set, take-all, getD-take, length-take-le}
 use lib.Arith.{digits-div, digits-mod}
 use Rattle.integers.specs.Cells.{listed, padded, grid, cut}
 
@@ -76,6 +77,60 @@ module _ {A : Type 0} where
   unfolding grid
   grid-length z size rows w f h = padded-length z size (rows * w) (λ i. f (i / w) (i % w)) h
 
+  -- as a loop pastes a row: x of its cells so far
+  pub record Pasting (at x : ℕ) (row xs ys : List A) : Type 0 where
+    pub same : ys ≡ paste xs at row x
+    pub long : length ys ≡ length xs
+
+  pub pasting-start : (at : ℕ) (row xs : List A) → Pasting at 0 row xs xs
+  pasting-start at row xs = record { same = paste-zero xs at row; long = refl }
+
+  pub pasting-more : (at x : ℕ) (row xs ys : List A) (d : A) {v : A} → at + x < length xs → x < length row → v ≡ getD row x d → Pasting at x row xs ys
+      → Pasting at (x + 1) row xs (set ys (at + x) v)
+  pasting-more at x row xs ys d l h e p = record {
+    same = rw (p .same, e, add-one) (paste-suc xs at row x d l h);
+    long = length-set ys _ _ ∙ p .long;
+  }
+
+  listed-add : (n m : ℕ) (f : ℕ → A) → listed (n + m) f ≡ listed n f ++ listed m (λ i. f (n + i))
+  unfolding listed
+  listed-add n zero f = ap (λ (k : ℕ). listed k f) (add-zero n) ∙ sym (append-nil (listed n f))
+  listed-add n (suc m) f =
+      ap (λ (k : ℕ). listed k f) (add-suc n m)
+      ∙ ap (λ (l : List A). l ++ (f (n + m) ∷ [])) (listed-add n m f)
+      ∙ append-assoc (listed n f) (listed m (λ i. f (n + i))) (f (n + m) ∷ [])
+
+  take-listed : (w : ℕ) (row : List A) (f : ℕ → A) (d : A) → w ≤ length row → ((x : ℕ) → x < w → getD row x d ≡ f x) → take w row ≡ listed w f
+  take-listed w row f d l e =
+      ext-getD d (take w row) (listed w f) (length-take-le w row l ∙ sym (length-listed w f))
+      (λ x b. let h : x < w = omega (arith, length-take-le w row l) in getD-take w row x d h ∙ e x h ∙ sym (getD-listed w f x d h))
+
+  drop-replicate : (z : A) (w k : ℕ) → drop w (replicate k z) ≡ replicate (k - w) z
+  drop-replicate z zero k = ap (λ (n : ℕ). replicate n z) (let q : k ≡ k - 0 = omega arith in q)
+  drop-replicate z (suc w) zero = ap (λ (n : ℕ). replicate n z) (let q : 0 ≡ 0 - suc w = omega arith in q)
+  drop-replicate z (suc w) (suc k) = drop-replicate z w k ∙ ap (λ (n : ℕ). replicate n z) (let q : k - w ≡ suc k - suc w = omega arith in q)
+
+  -- a grid with one row more
+  pub grid-more : (z : A) (size r w : ℕ) (f : ℕ → ℕ → A) (row : List A) → (r + 1) * w ≤ size → w ≤ length row → ((x : ℕ) → x < w → getD row x z ≡ f r x)
+      → paste (grid z size r w f) (r * w) row w ≡ grid z size (r + 1) w f
+  unfolding grid padded
+  grid-more z size r w f row h l e =
+      let g : ℕ → A = λ i. f (i / w) (i % w) in
+      let rest : List A = replicate (size - (r * w + w)) z in
+      let rows : (r + 1) * w ≡ r * w + w = omega arith in
+      ap (λ (k : List A). k ++ take w row ++ drop (r * w + w) (listed (r * w) g ++ replicate (size - r * w) z)) (take-at (listed (r * w) g) _ (r * w) (length-listed (r * w) g))
+      ∙ ap (λ (k : List A). listed (r * w) g ++ take w row ++ k) (dropped g)
+      ∙ ap (λ (k : List A). listed (r * w) g ++ k ++ rest) (take-listed w row (λ x. g (r * w + x)) z l (λ x b. e x b ∙ rw (digits-div r b, digits-mod r b)))
+      ∙ ap (λ (k : List A). k ++ rest) (sym (listed-add (r * w) w g))
+      ∙ ap (λ (k : ℕ). listed k g ++ replicate (size - k) z) (sym rows)
+    where
+      dropped : (g : ℕ → A) → drop (r * w + w) (listed (r * w) g ++ replicate (size - r * w) z) ≡ replicate (size - (r * w + w)) z
+      dropped g =
+          ap (λ (k : ℕ). drop (k + w) (listed (r * w) g ++ replicate (size - r * w) z)) (sym (length-listed (r * w) g))
+          ∙ drop-append-add (listed (r * w) g) (replicate (size - r * w) z) w
+          ∙ drop-replicate z w (size - r * w)
+          ∙ ap (λ (k : ℕ). replicate k z) (let q : size - r * w - w ≡ size - (r * w + w) = omega arith in q)
+
   -- as a loop cuts it: the cells from n up to i are z
   pub record Cutting (z : A) (n i : ℕ) (xs ys : List A) : Type 0 where
     pub from : n ≤ i
@@ -83,11 +138,7 @@ module _ {A : Type 0} where
     pub front : take i ys ≡ take n xs ++ replicate (i - n) z
 
   pub cutting-start : (z : A) (n : ℕ) (xs : List A) → Cutting z n n xs xs
-  cutting-start z n xs = record { from = omega arith; long = refl; front = sym (ap (λ (k : ℕ). take n xs ++ replicate k z) (let e : n - n ≡ 0 = omega arith in e) ∙ nil (take n xs)) }
-    where
-      nil : (l : List A) → l ++ [] ≡ l
-      nil [] = refl
-      nil (x ∷ l) = ap (λ (k : List A). x ∷ k) (nil l)
+  cutting-start z n xs = record { from = omega arith; long = refl; front = sym (ap (λ (k : ℕ). take n xs ++ replicate k z) (let e : n - n ≡ 0 = omega arith in e) ∙ append-nil (take n xs)) }
 
   replicate-more : (z : A) (k : ℕ) → replicate k z ++ (z ∷ []) ≡ replicate (suc k) z
   replicate-more z zero = refl
@@ -120,3 +171,26 @@ module _ {A : Type 0} where
   unfolding cut
   cut-length z n xs l =
       length-append (take n xs) (replicate (length xs - n) z) ∙ omega (arith, length-take-le n xs l, length-replicate (length xs - n) z)
+
+-- ---- read with the default that fills them
+module _ {A : Type 0} (z : A) where
+  -- a default that fills a list is found at every place
+  pub replicate-at : (n i : ℕ) → getD (replicate n z) i z ≡ z
+  replicate-at zero i = refl
+  replicate-at (suc n) zero = refl
+  replicate-at (suc n) (suc i) = replicate-at n i
+
+  filled-at : (n : ℕ) (xs : List A) (k i : ℕ) → i < n → getD (take n xs ++ replicate k z) i z ≡ getD xs i z
+  filled-at zero xs k i l = absurd (omega arith)
+  filled-at (suc n) [] k i l = replicate-at k i
+  filled-at (suc n) (x ∷ xs) k zero l = refl
+  filled-at (suc n) (x ∷ xs) k (suc i) l = filled-at n xs k i (omega arith)
+
+  -- read with the default that it is filled with, a cut list is the list, however long: past the end both are the default
+  pub cut-at-default : (n : ℕ) (xs : List A) (i : ℕ) → i < n → getD (cut z n xs) i z ≡ getD xs i z
+  unfolding cut
+  cut-at-default n xs i l = filled-at n xs (length xs - n) i l
+
+  -- a cell of the rows that are kept
+  pub cut-cell : (rows w : ℕ) (xs : List A) (r : ℕ) → r < rows → (x : ℕ) → x < w → getD (cut z (rows * w) xs) (r * w + x) z ≡ getD xs (r * w + x) z
+  cut-cell rows w xs r h x l = cut-at-default (rows * w) xs (r * w + x) (cell-below r rows x w h l)

@@ -127,3 +127,6 @@ leZ-false a b e = by (ltZ b a) refl
     by : (c : Bool) → ltZ b a ≡ c → b <ℤ a
     by true f = ltZ-yes (is-T f)
     by false f = absurd (let z : true ≡ false = sym (leZ-is a b (le-by a b (ltZ-false b a f))) ∙ e in subst T z tt)
+
+pub le-true : (a b : ℤ) → leZ a b ≡ true → a ≤ℤ b
+le-true a b e = leZ-yes (is-T e)

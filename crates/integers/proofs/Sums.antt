@@ -4,7 +4,7 @@ use Prim.Native.Nat.{ℕ, zero, suc, _+_, _*_, _≤_, _<_, max}
 use native.Mathlib.Nat as NatL
 use native.Mathlib.Numerals.{add-one}
 use native.Mathlib.Omega.{arith}
-use native.Mathlib.Decide.{decLe}
+use native.Mathlib.Decide.{decLe, decLt}
 use lib.IntN.{ℤ, pos, _+ℤ_}
 use lib.Signed.{_≤ℤ_}
 use Rattle.integers.specs.Whole.{_·_, sumTo, totalTo, largestTo}
@@ -58,6 +58,25 @@ pub total-bound : (n B : ℕ) (f : ℕ → ℕ) → ((i : ℕ) → i < n → f i
 unfolding totalTo
 total-bound zero B f h = omega arith
 total-bound (suc n) B f h = omega (arith, total-bound n B f (λ i l. h i (omega arith)), h n (omega arith))
+
+-- one term is at most the total, and some terms at most all
+pub total-part : (n : ℕ) (f : ℕ → ℕ) (i : ℕ) → i < n → f i ≤ totalTo n f
+unfolding totalTo
+total-part zero f i l = absurd (omega arith)
+total-part (suc n) f i l = by (decLt i n) (λ h. total-part n f i h)
+  where
+    by : Dec (i < n) → (i < n → f i ≤ totalTo n f) → f i ≤ totalTo n f + f n
+    by (yes h) r = omega (arith, r h)
+    by (no h) r = let e : i ≡ n = omega arith in rw e (omega arith)
+
+pub total-fewer : (j n : ℕ) (f : ℕ → ℕ) → j ≤ n → totalTo j f ≤ totalTo n f
+unfolding totalTo
+total-fewer j zero f l = let e : j ≡ 0 = omega arith in rw e (omega arith)
+total-fewer j (suc n) f l = by (decLt n j) (λ h. total-fewer j n f h)
+  where
+    by : Dec (n < j) → (j ≤ n → totalTo j f ≤ totalTo n f) → totalTo j f ≤ totalTo n f + f n
+    by (yes h) r = let e : j ≡ suc n = omega arith in rw e (omega arith)
+    by (no h) r = omega (arith, r (omega arith))
 
 -- ---- split, scaled, swapped
 pub sum-add : (n : ℕ) (f g : ℕ → ℤ) → sumTo n (λ i. f i +ℤ g i) ≡ sumTo n f +ℤ sumTo n g

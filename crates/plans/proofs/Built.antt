@@ -8,14 +8,14 @@ use lib.IntN.{ℤ, pos, negℤ, natAbs, _+ℤ_}
 use lib.Signed.{_≤ℤ_}
 use Rattle.integers.specs.Whole.{_·_, sumTo, totalTo, largestTo}
 use Rattle.integers.proofs.Order.{≤-trans, sub-≤, one-·, ·-mono}
-use Rattle.integers.proofs.Sums.{sum-mono, total-cong, total-mul, total-mul-right, total-swap}
+use Rattle.integers.proofs.Sums.{sum-mono, total-cong, total-mul, total-mul-right, total-swap, total-part}
 use Rattle.integers.proofs.Sizes.{abs-add, abs-times, times-bound, sum-weighed, abs-below, abs-above, multiple-above, multiple-between}
 use Rattle.integers.proofs.Rounding.{floor-≤, floor-range, ceil-≥, ceil-range}
 use Rattle.integers.proofs.Searches.{largest-in, largest-max}
 use Rattle.tables.specs.Limits.{one, maxReward, K}
 use Rattle.tables.specs.Model.{Model, Valid, successor, expectedReward, backup, backedUp}
 use Rattle.plans.specs.Limits.{maxBuilt, pointTotal, range}
-use Rattle.plans.specs.Level.{Level, product, drop, gain, ceiling, backupAt, corner-weight, follows, Meets, Shaped}
+use Rattle.plans.specs.Level.{Level, level0, product, drop, gain, ceiling, backupAt, corner-weight, follows, Meets, Shaped}
 use Rattle.plans.specs.Build.{chosen, entryFor, bestAction, leastFor, leastValue, built}
 use Rattle.plans.proofs.Ceiling.{sawtooth, product-const, corner-total}
 
@@ -90,6 +90,17 @@ backup-range M L t T S a la choice hc s ls = omega (arith, next)
     next =
         next-range (M .discount) 1 t (M .reward s a) _ (T .discount-limit) (omega (arith, T .reward-limit a la s ls))
         (rw (chances M T a la s ls) at ahead)
+
+-- no weight of a state reached is above a million times the total of the weights
+pub successor-limit : (M : Model) → Valid M → (p : ℕ → ℕ) (a o s' : ℕ) → a < M .actions → o < M .observations → s' < M .states
+    → successor M p a o s' ≤ one * one * totalTo (M .states) p
+successor-limit M T p a o s' la lo ls =
+    omega (
+      arith,
+      total-part (M .states) (successor M p a o) s' ls,
+      total-part (M .observations) (λ o. totalTo (M .states) (successor M p a o)) o lo,
+      successor-total M T p a la,
+    )
 
 pub ceiling-below : (n : ℕ) (L : Level) (q : ℕ → ℕ) → ceiling n L q ≤ℤ product n q (L .corner)
 unfolding ceiling
@@ -190,3 +201,17 @@ module _ (M : Model) (L : Level) (t : ℕ) (T : Valid M) (S : Shaped M t L) wher
       corner = λ s l a la. value-meets M L (corner-weight s) a la;
       point = λ i l a la. value-meets M L (weight i) a la;
     }
+
+-- level 0 lies within the limits of level 0
+pub level0-shaped : (M : Model) → Valid M → Shaped M 0 level0
+unfolding level0
+level0-shaped M v = record {
+  some-vectors = omega arith;
+  few-vectors = omega arith;
+  few-points = omega arith;
+  action-in = λ i l. v .some-actions;
+  entry-in = λ i l s b. omega arith;
+  corner-in = λ s l. omega arith;
+  value-in = λ i l. omega arith;
+  total = λ i l. absurd (omega arith);
+}

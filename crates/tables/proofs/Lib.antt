@@ -3,3 +3,4 @@ pub mod Refusals
 pub mod Accepted
 pub mod Fitting
 pub mod Regroup
+pub mod Same

@@ -1,0 +1,3 @@
+-- Laws of the backup inequalities, of vectors and of the ceiling.
+pub mod Floors
+pub mod Roofs

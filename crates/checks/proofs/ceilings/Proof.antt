@@ -1,0 +1,81 @@
+use Prim.Native.Nat.{_≤_, _-_}
+use mathlib.Core.Path.{_≡_, sym, _∙_}
+use native.Mathlib.Omega.{arith}
+use borrow.Author.Needs.{needs}
+use mir.Syntax.{w64}
+use mir.Val.{toZ, ofZ}
+use Rattle.integers.specs.Whole.{sumTo}
+use Rattle.integers.proofs.Sums.{sum-none, sum-step}
+use Rattle.integers.proofs.Words.{answer}
+use Rattle.sawtooth.specs.Storage.{ceilingIn}
+use Rattle.checks.proofs.Roofs.{aheadAt, ahead-below, ahead-fits}
+use Rattle.checks.proofs.ceilings.Statement.{statement}
+use Rattle.checks.proofs.ceilings.Tie as tie
+
+abbrev Inv-loop : tie.InvT-loop
+Inv-loop observation u corners weights gains n k points a sum₀ o₀ sum o =
+    (o ≤ k) × (toZ w64 sum ≡ sumTo o (aheadAt n k observation u (ceilingIn n corners weights gains points) (a .0)))
+
+abbrev μ-loop : tie.MeasureT-loop
+μ-loop observation u corners weights gains n k points a sum₀ o₀ sum o = k - o
+
+loop-holds : tie.Need-loop-holds Inv-loop μ-loop
+loop-holds c = (search needs, sym (sum-none _))
+
+successors-requires : tie.Need-successors-requires Inv-loop μ-loop
+successors-requires c κs =
+    let pre = c .before .before .pre in ((pre .0 .0, (pre .0 .1 .0, (pre .0 .1 .1, c .loop-test .taken))), (pre .1 .0, pre .1 .1 .0))
+
+ceiling-requires : tie.Need-ceiling-requires Inv-loop μ-loop
+ceiling-requires c κs =
+    let pre = c .before .before .before .before .pre in
+    let level = pre .1 .1 .1 in (
+      pre .0 .0,
+      (
+        ahead-below (level .1 .1 .1) _ (c .before .before .loop-test .taken) (c .before .successors .ensures),
+        (level .0, (level .1 .0, level .1 .1 .0)),
+      ),
+    )
+
+-- the ceiling at the successor weights
+here : (c : tie.After-ceiling Inv-loop μ-loop)
+    → let l = c .before .before .before .before in
+    let a = l .before .args in
+    toZ w64 (ofZ w64 (c .ceiling .result))
+    ≡ aheadAt (a .n) (a .k) (a .observation .now) (a .u .now) (ceilingIn (a .n) (a .corners .now) (a .weights .now) (a .gains .now) (a .points)) (a .a .0)
+    (l .loop .o)
+here c = answer (c .ceiling .ok) (c .ceiling .ensures ∙ rw (c .before .before .successors .ensures))
+
+plus-requires : tie.Need-plus-requires Inv-loop μ-loop
+plus-requires c κs =
+    let l = c .before .before .before .before in
+    ahead-fits (l .before .pre .1 .1 .1 .1 .1 .1) _ (c .before .before .before .loop-test .taken) (l .loop .inv .1) (here c)
+
+add-o : tie.Need-add-o Inv-loop μ-loop
+add-o c = search needs
+
+loop-less : tie.Need-loop-less Inv-loop μ-loop
+loop-less c = search needs
+
+loop-again : tie.Need-loop-again Inv-loop μ-loop
+loop-again c =
+    let l = c .before .before .before .before .before in
+    (search needs, answer (c .plus .ok) (c .plus .ensures ∙ rw (here (c .before)) (sum-step _ _ (l .loop .inv .1))))
+
+returns : tie.Need-returns Inv-loop μ-loop
+returns c = let e : c .before .loop .o ≡ c .before .before .args .k = omega arith in rw e at (c .before .loop .inv .1)
+
+pub ceilings-spec : {M : Type 1} → statement M
+ceilings-spec =
+    tie.close
+    (tie.spec
+    Inv-loop
+    μ-loop
+    loop-holds
+    successors-requires
+    ceiling-requires
+    plus-requires
+    add-o
+    loop-less
+    loop-again
+    returns)

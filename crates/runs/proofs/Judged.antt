@@ -1,0 +1,206 @@
+-- From verdicts to facts, and back: what a standing level that holds, and an offer that is fine, are known to have. Assumes nothing.
+use mathlib.Core.Path.{_≡_, refl}
+use mathlib.Core.Bool.{true}
+use Prim.Native.Nat.{ℕ, suc, _*_, _≤_, _<_}
+use native.Mathlib.Omega.{arith}
+use lib.IntN.{ℤ, natAbs}
+use lib.Signed.{_≤ℤ_}
+use borrow.Author.Tests.{leb-true, le-leb, ltb-true, lt-ltb, eqb-true, eq-eqb}
+use Rattle.integers.specs.Whole.{_·_, totalTo}
+use Rattle.integers.proofs.Parts.{is-T, leZ-is, le-true}
+use Rattle.integers.proofs.Searches.{and-true, and-is, every-at, at-every}
+use Rattle.tables.specs.declared.Verdict.{Verdict}
+use Rattle.tables.specs.declared.Verdict.the-variants.{Fine, Refused}
+use Rattle.tables.specs.Limits.{K}
+use Rattle.tables.specs.Model.{Model, Valid, backup}
+use Rattle.tables.proofs.Refusals.{before-fine, unless-fine, fine-at, at-fine}
+use Rattle.tables.proofs.Accepted.{valid, is-valid}
+use Rattle.plans.specs.Limits.{maxLevels, pointTotal, range}
+use Rattle.plans.specs.Level.{Level, backupAt, corner-weight, follows, Meets, Shaped}
+use Rattle.levels.specs.Judged.{countsHold, rowsWithin, rangesVerdict, weightsVerdict, actionsExist, isFine, standingHolds}
+use Rattle.levels.specs.Judged.{numbersIn, numbersVerdict, floorsVerdict, coversBackups, cornersVerdict, pointsVerdict, offerVerdict}
+use Rattle.levels.proofs.Laws.{passed, fine-before}
+
+-- ---- one test
+fine-true : (v : Verdict) → isFine v ≡ true → v ≡ Fine
+fine-true Fine e = refl
+fine-true (Refused number place) e = absurd (is-T e)
+
+fine-is : {v : Verdict} → v ≡ Fine → isFine v ≡ true
+fine-is e = rw e
+
+rows-fine : (number rows w limit : ℕ) (cell : ℕ → ℕ → ℤ) → rowsWithin number rows w limit cell ≡ Fine
+    → (r : ℕ) → r < rows → (x : ℕ) → x < w → natAbs (cell r x) ≤ limit
+unfolding rowsWithin
+rows-fine number rows w limit cell e r l x b = leb-true _ _ (unless-fine _ _ _ (fine-at _ w (fine-at _ rows e r l) x b))
+
+rows-is : (number rows w limit : ℕ) (cell : ℕ → ℕ → ℤ) → ((r : ℕ) → r < rows → (x : ℕ) → x < w → natAbs (cell r x) ≤ limit)
+    → rowsWithin number rows w limit cell ≡ Fine
+unfolding rowsWithin
+rows-is number rows w limit cell h = at-fine _ rows (λ r l. at-fine _ w (λ x b. passed number r (le-leb _ _ (h r l x b))))
+
+covers-true : (M : Model) (L : Level) (p : ℕ → ℕ) (w : ℤ) → coversBackups M L p w ≡ true → (a : ℕ) → a < M .actions → backupAt M L p a ≤ℤ K · w
+covers-true M L p w e a l = le-true _ _ (every-at (M .actions) _ e a l)
+
+covers-is : (M : Model) (L : Level) (p : ℕ → ℕ) (w : ℤ) → ((a : ℕ) → a < M .actions → backupAt M L p a ≤ℤ K · w) → coversBackups M L p w ≡ true
+covers-is M L p w h = at-every (M .actions) _ (λ a l. leZ-is _ _ (h a l))
+
+-- ---- a level by itself
+pub weights-fine : (n points : ℕ) (weight : ℕ → ℕ → ℕ) → weightsVerdict n points weight ≡ Fine
+    → (i : ℕ) → i < points → totalTo n (weight i) ≡ pointTotal
+unfolding weightsVerdict
+weights-fine n points weight e i l = eqb-true _ _ (unless-fine _ _ _ (fine-at _ points e i l))
+
+pub weights-is : (n points : ℕ) (weight : ℕ → ℕ → ℕ) → ((i : ℕ) → i < points → totalTo n (weight i) ≡ pointTotal)
+    → weightsVerdict n points weight ≡ Fine
+unfolding weightsVerdict
+weights-is n points weight h = at-fine _ points (λ i l. passed 12 i (eq-eqb _ _ (h i l)))
+
+-- the tests of a level by itself, in the order of the standing level's
+record Tests (M : Model) (t : ℕ) (W : Level) : Type 0 where
+  counts : countsHold (W .vectors) (W .points) ≡ true
+  actions : actionsExist (M .actions) (W .vectors) (W .action) ≡ true
+  ranges : rangesVerdict M t W ≡ Fine
+  weights : weightsVerdict (M .states) (W .points) (W .weight) ≡ Fine
+
+module _ (M : Model) (t : ℕ) (W : Level) where
+  tests-shaped : Tests M t W → Shaped M t W
+  unfolding rangesVerdict
+  tests-shaped e =
+      let c = and-true _ _ (e .counts) in
+      let v = and-true _ _ (c .0) in
+      let r = before-fine _ _ (e .ranges) in
+      let q = before-fine _ _ (r .1) in
+      record {
+        some-vectors = leb-true 1 (W .vectors) (v .0);
+        few-vectors = leb-true _ _ (v .1);
+        few-points = leb-true _ _ (c .1);
+        action-in = λ v l. ltb-true _ _ (every-at _ _ (e .actions) v l);
+        entry-in = rows-fine 11 (W .vectors) (M .states) (range t) (W .entry) (r .0);
+        corner-in = λ s l. rows-fine 11 (M .states) 1 (range t) (λ s x. W .corner s) (q .0) s l 0 (omega arith);
+        value-in = λ i l. rows-fine 11 (W .points) 1 (pointTotal * range t) (λ i x. W .value i) (q .1) i l 0 (omega arith);
+        total = weights-fine _ _ _ (e .weights);
+      }
+
+  shaped-tests : Shaped M t W → Tests M t W
+  unfolding rangesVerdict
+  shaped-tests S = record {
+    counts = and-is (and-is (le-leb 1 (W .vectors) (omega (arith, S .some-vectors))) (le-leb _ _ (S .few-vectors))) (le-leb _ _ (S .few-points));
+    actions = at-every _ _ (λ v l. lt-ltb _ _ (S .action-in v l));
+    ranges =
+        fine-before (rows-is 11 (W .vectors) (M .states) (range t) (W .entry) (S .entry-in))
+        (fine-before (rows-is 11 (M .states) 1 (range t) (λ s x. W .corner s) (λ s l x b. S .corner-in s l))
+        (rows-is 11 (W .points) 1 (pointTotal * range t) (λ i x. W .value i) (λ i l x b. S .value-in i l)));
+    weights = weights-is _ _ _ (S .total);
+  }
+
+-- ---- a standing level, and an offer over it
+-- what 7 tests
+pub record Standing (M : Model) (t : ℕ) (L : Level) : Type 0 where
+  pub valid-tables : Valid M
+  pub few-levels : t ≤ maxLevels
+  pub shaped : Shaped M t L
+
+-- what 7 to 15 test
+pub record Accepted (M : Model) (t : ℕ) (L W : Level) : Type 0 where
+  pub standing : Standing M t L
+  pub room : t < maxLevels
+  pub shaped : Shaped M (suc t) W
+  pub meets : Meets M L W
+
+module _ (M : Model) (t : ℕ) (L : Level) where
+  pub standing-true : standingHolds M t L ≡ true → Standing M t L
+  unfolding standingHolds
+  standing-true e =
+      let m = and-true _ _ e in
+      let n = and-true _ _ (m .1) in
+      let c = and-true _ _ (n .1) in
+      let a = and-true _ _ (c .1) in
+      let r = and-true _ _ (a .1) in
+      record {
+        valid-tables = valid M (fine-true _ (m .0));
+        few-levels = leb-true t maxLevels (n .0);
+        shaped = tests-shaped M t L record { counts = c .0; actions = a .0; ranges = fine-true _ (r .0); weights = fine-true _ (r .1) };
+      }
+
+  pub standing-is : Standing M t L → standingHolds M t L ≡ true
+  unfolding standingHolds
+  standing-is s =
+      let e = shaped-tests M t L (s .shaped) in
+      and-is (fine-is (is-valid M (s .valid-tables))) (and-is (le-leb t maxLevels (s .few-levels))
+      (and-is (e .counts) (and-is (e .actions) (and-is (fine-is (e .ranges)) (fine-is (e .weights))))))
+
+  module _ (W : Level) where
+    numbers-fine : numbersVerdict M L W ≡ Fine
+        → (v : ℕ) → v < W .vectors → (W .action v < M .actions) × ((o : ℕ) → o < M .observations → W .choice v o < L .vectors)
+    unfolding numbersIn
+    numbers-fine e v l =
+        let h = before-fine _ _ (fine-at _ (W .vectors) e v l) in
+        (ltb-true _ _ (unless-fine _ _ _ (h .0)), λ o b. ltb-true _ _ (unless-fine _ _ _ (fine-at _ (M .observations) (h .1) o b)))
+
+    floors-fine : floorsVerdict M L W ≡ Fine
+        → (v : ℕ) → v < W .vectors → (s : ℕ) → s < M .states → K · W .entry v s ≤ℤ backup M (W .action v) (follows L (W .choice v)) s
+    unfolding floorsVerdict
+    floors-fine e v l s b = le-true _ _ (unless-fine _ _ _ (fine-at _ (M .states) (fine-at _ (W .vectors) e v l) s b))
+
+    corners-fine : cornersVerdict M L W ≡ Fine
+        → (s : ℕ) → s < M .states → (a : ℕ) → a < M .actions → backupAt M L (corner-weight s) a ≤ℤ K · W .corner s
+    unfolding cornersVerdict
+    corners-fine e s l = covers-true M L (corner-weight s) (W .corner s) (unless-fine _ _ _ (fine-at _ (M .states) e s l))
+
+    points-fine : pointsVerdict M L W ≡ Fine
+        → (i : ℕ) → i < W .points → (a : ℕ) → a < M .actions → backupAt M L (W .weight i) a ≤ℤ K · W .value i
+    unfolding pointsVerdict
+    points-fine e i l = covers-true M L (W .weight i) (W .value i) (unless-fine _ _ _ (fine-at _ (W .points) e i l))
+
+    -- An accepted offer has the shape of the next level and meets its inequalities over the standing one.
+    -- Each stage of a fine verdict is fine, so each of its tests passed: the tests of 9 to 12 are the limits of `Shaped`, with the actions of 10, and
+    -- those of 10 and 13 to 15 are the conditions of `Meets`. Qed.
+    pub accepted : offerVerdict M t L W ≡ Fine → Accepted M t L W
+    unfolding offerVerdict
+    accepted e7 =
+        let e8 = before-fine _ _ e7 in
+        let e9 = before-fine _ _ (e8 .1) in
+        let e10 = before-fine _ _ (e9 .1) in
+        let e11 = before-fine _ _ (e10 .1) in
+        let e12 = before-fine _ _ (e11 .1) in
+        let e13 = before-fine _ _ (e12 .1) in
+        let e14 = before-fine _ _ (e13 .1) in
+        let e15 = before-fine _ _ (e14 .1) in
+        let numbers = numbers-fine (e11 .0) in
+        record {
+          standing = standing-true (unless-fine _ _ _ (e8 .0));
+          room = ltb-true t maxLevels (unless-fine _ _ _ (e9 .0));
+          shaped = tests-shaped M (suc t) W record {
+            counts = unless-fine _ _ _ (e10 .0);
+            actions = at-every _ _ (λ v l. lt-ltb _ _ (numbers v l .0));
+            ranges = e12 .0;
+            weights = e13 .0;
+          };
+          meets = record {
+            vector = λ v l. record {
+              action-exists = numbers v l .0;
+              choice-exists = numbers v l .1;
+              entry-holds = floors-fine (e14 .0) v l;
+            };
+            corner = corners-fine (e15 .0);
+            point = points-fine (e15 .1);
+          };
+        }
+
+    -- The other way round: every test of every stage passes. Qed.
+    pub accepts : Accepted M t L W → offerVerdict M t L W ≡ Fine
+    unfolding offerVerdict numbersIn floorsVerdict cornersVerdict pointsVerdict
+    accepts a =
+        let e = shaped-tests M (suc t) W (a .shaped) in
+        let m = a .meets in
+        fine-before (passed 7 0 (standing-is (a .standing)))
+        (fine-before (passed 8 0 (lt-ltb t maxLevels (a .room)))
+        (fine-before (passed 9 0 (e .counts))
+        (fine-before (at-fine _ (W .vectors) (λ v l. fine-before (passed 10 v (lt-ltb _ _ (m .vector v l .action-exists)))
+        (at-fine _ (M .observations) (λ o b. passed 10 v (lt-ltb _ _ (m .vector v l .choice-exists o b))))))
+        (fine-before (e .ranges)
+        (fine-before (e .weights)
+        (fine-before (at-fine _ (W .vectors) (λ v l. at-fine _ (M .states) (λ s b. passed 13 v (leZ-is _ _ (m .vector v l .entry-holds s b)))))
+        (fine-before (at-fine _ (M .states) (λ s l. passed 14 s (covers-is M L (corner-weight s) (W .corner s) (m .corner s l))))
+        (at-fine _ (W .points) (λ i l. passed 15 i (covers-is M L (W .weight i) (W .value i) (m .point i l)))))))))))

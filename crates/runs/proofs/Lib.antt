@@ -1,0 +1,4 @@
+-- Laws of what the calls answer, and demand 3.
+pub mod Judged
+pub mod Stored
+pub mod Demand3

@@ -1,0 +1,3 @@
+-- What each call answers, and what holds after a list of offers.
+pub mod State
+pub mod Demand3
