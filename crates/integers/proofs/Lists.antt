@@ -9,7 +9,9 @@ use native.Mathlib.Numerals.{add-one}
 use native.Mathlib.Decide.{decLt}
 use lib.ListN.{length, getD, take, drop, set, replicate, length-append, length-replicate, length-set, List·getD-append}
 use lib.Seq.{paste, paste-zero, paste-suc, ext-getD, take-at, drop-append-add, set-at, getD-append-seam, take-suc-set, take-all, getD-take, length-take-le}
+use lib.IntN.{ℤ, pos, natAbs}
 use lib.Arith.{digits-div, digits-mod}
+use Rattle.integers.specs.Whole.{Below, Within}
 use Rattle.integers.specs.Cells.{listed, padded, grid, cut}
 
 -- an index into rows of width w
@@ -65,6 +67,16 @@ module _ {A : Type 0} where
   unfolding padded
   padded-length z size n f h =
       length-append (listed n f) (replicate (size - n) z) ∙ omega (arith, length-listed n f, length-replicate (size - n) z)
+
+  listed-cong : (n : ℕ) (f g : ℕ → A) → ((i : ℕ) → i < n → f i ≡ g i) → listed n f ≡ listed n g
+  unfolding listed
+  listed-cong zero f g h = refl
+  listed-cong (suc n) f g h = rw (listed-cong n f g (λ i l. h i (omega arith)), h n (omega arith))
+
+  -- what is filled in is read below the count only
+  pub padded-cong : (z : A) (size n : ℕ) (f g : ℕ → A) → ((i : ℕ) → i < n → f i ≡ g i) → padded z size n f ≡ padded z size n g
+  unfolding padded
+  padded-cong z size n f g h = rw (listed-cong n f g h)
 
   -- a cell of a grid
   pub grid-at : (z : A) (size rows w : ℕ) (f : ℕ → ℕ → A) (r x : ℕ) (d : A) → r < rows → x < w → getD (grid z size rows w f) (r * w + x) d ≡ f r x
@@ -194,3 +206,11 @@ module _ {A : Type 0} (z : A) where
   -- a cell of the rows that are kept
   pub cut-cell : (rows w : ℕ) (xs : List A) (r : ℕ) → r < rows → (x : ℕ) → x < w → getD (cut z (rows * w) xs) (r * w + x) z ≡ getD xs (r * w + x) z
   cut-cell rows w xs r h x l = cut-at-default (rows * w) xs (r * w + x) (cell-below r rows x w h l)
+
+-- ---- bounds on what an array is filled with
+pub filled-below : (size : ℕ) {n limit : ℕ} (f : ℕ → ℕ) {xs : List ℕ} → xs ≡ padded 0 size n f → ((i : ℕ) → i < n → f i ≤ limit) → Below limit n xs
+filled-below size {n} f e h = record { below = λ i l. rw (e, padded-at 0 size n f i 0 l) (h i l) }
+
+pub filled-within : (size : ℕ) {n limit : ℕ} (f : ℕ → ℤ) {xs : List ℤ} → xs ≡ padded (pos 0) size n f → ((i : ℕ) → i < n → natAbs (f i) ≤ limit)
+    → Within limit n xs
+filled-within size {n} f e h = record { within = λ i l. rw (e, padded-at (pos 0) size n f i (pos 0) l) (h i l) }

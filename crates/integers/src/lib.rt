@@ -78,3 +78,14 @@ pub fn within(limit: u64, x: i64) -> bool
     }
     x <= most
 }
+
+// The size of x, without its sign.
+pub fn magnitude(x: i64) -> u64
+    ensures { λ r. ⌜ r ≡ natAbs x ⌝ }
+{
+    if x < 0 {
+        let above = x + 1;
+        return (0 - above) as u64 + 1;
+    }
+    x as u64
+}

@@ -12,9 +12,9 @@ use Rattle.integers.proofs.Sums.{sum-mono, total-cong, total-mul, total-mul-rig
 use Rattle.integers.proofs.Sizes.{abs-add, abs-times, times-bound, sum-weighed, abs-below, abs-above, multiple-above, multiple-between}
 use Rattle.integers.proofs.Rounding.{floor-≤, floor-range, ceil-≥, ceil-range}
 use Rattle.integers.proofs.Searches.{largest-in, largest-max}
-use Rattle.tables.specs.Limits.{one, maxReward, K}
+use Rattle.tables.specs.Limits.{one, maxReward, maxEntry, K}
 use Rattle.tables.specs.Model.{Model, Valid, successor, expectedReward, backup, backedUp}
-use Rattle.plans.specs.Limits.{maxBuilt, pointTotal, range}
+use Rattle.plans.specs.Limits.{maxLevels, maxBuilt, pointTotal, range}
 use Rattle.plans.specs.Level.{Level, level0, product, drop, gain, ceiling, backupAt, corner-weight, follows, Meets, Shaped}
 use Rattle.plans.specs.Build.{chosen, entryFor, bestAction, leastFor, leastValue, built}
 use Rattle.plans.proofs.Ceiling.{sawtooth, product-const, corner-total}
@@ -214,4 +214,27 @@ level0-shaped M v = record {
   corner-in = λ s l. omega arith;
   value-in = λ i l. omega arith;
   total = λ i l. absurd (omega arith);
+}
+
+-- ---- ranges grow with the level
+
+pub range-mono : (t t' : ℕ) → t ≤ t' → range t ≤ range t'
+unfolding range
+range-mono t t' l = NatL.mul-le-mul-left maxReward l
+
+-- a range of an accepted level is at most the hundredth's
+pub range-limit : (t : ℕ) → t ≤ maxLevels → range t ≤ maxEntry
+unfolding range
+range-limit t l = omega arith
+
+pub shaped-mono : (M : Model) (L : Level) (t t' : ℕ) → t ≤ t' → Shaped M t L → Shaped M t' L
+shaped-mono M L t t' l S = record {
+  some-vectors = S .some-vectors;
+  few-vectors = S .few-vectors;
+  few-points = S .few-points;
+  action-in = S .action-in;
+  entry-in = λ v h s b. omega (arith, S .entry-in v h s b, range-mono t t' l);
+  corner-in = λ s h. omega (arith, S .corner-in s h, range-mono t t' l);
+  value-in = λ i h. omega (arith, S .value-in i h, range-mono t t' l);
+  total = S .total;
 }

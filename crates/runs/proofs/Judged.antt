@@ -131,7 +131,7 @@ module _ (M : Model) (t : ℕ) (L : Level) where
       (and-is (e .counts) (and-is (e .actions) (and-is (fine-is (e .ranges)) (fine-is (e .weights))))))
 
   module _ (W : Level) where
-    numbers-fine : numbersVerdict M L W ≡ Fine
+    pub numbers-fine : numbersVerdict M L W ≡ Fine
         → (v : ℕ) → v < W .vectors → (W .action v < M .actions) × ((o : ℕ) → o < M .observations → W .choice v o < L .vectors)
     unfolding numbersIn
     numbers-fine e v l =

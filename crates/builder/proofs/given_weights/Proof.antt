@@ -1,0 +1,77 @@
+use Prim.Native.Nat.{_+_, _*_, _-_, _≤_}
+use mathlib.Core.Path.{_≡_, sym}
+use native.Mathlib.Omega.{arith}
+use borrow.Author.Needs.{needs}
+use Rattle.integers.specs.Cells.{padded}
+use Rattle.integers.proofs.Lists.{padded-none, padded-turn}
+use Rattle.tables.specs.Limits.{maxStates}
+use Rattle.plans.specs.Limits.{maxBuilt}
+use Rattle.levels.specs.Storage.{pointIn}
+use Rattle.levels.proofs.Laws.{row-fits}
+use Rattle.builder.proofs.given_weights.Statement.{statement}
+use Rattle.builder.proofs.given_weights.Tie as tie
+
+abbrev Inv-loop : tie.InvT-loop
+Inv-loop n i at weights w₀ s₀ w s = (s ≤ n) × (w ≡ padded 0 maxStates s (pointIn n weights i))
+
+abbrev μ-loop : tie.MeasureT-loop
+μ-loop n i at weights w₀ s₀ w s = n - s
+
+-- the point's weights lie within the array
+inside : (c : tie.Start Inv-loop μ-loop) → c .args .i * c .args .n + c .args .n ≤ maxBuilt * maxStates
+inside c = row-fits {R = maxBuilt} {X = maxStates} (c .args .i) maxBuilt (c .args .n) (c .pre .1) (omega arith) (c .pre .0)
+
+mul-at : tie.Need-mul-at Inv-loop μ-loop
+mul-at c = omega (arith, inside c)
+
+loop-holds : tie.Need-loop-holds Inv-loop μ-loop
+loop-holds c = (search needs, sym (padded-none _ _ _))
+
+add-weight : tie.Need-add-weight Inv-loop μ-loop
+add-weight c = omega (arith, inside (c .before .before .before))
+
+mul-weight : tie.Need-mul-weight Inv-loop μ-loop
+mul-weight c = omega (arith, inside (c .before .before .before))
+
+array-read-weight : tie.Need-array-read-weight Inv-loop μ-loop
+array-read-weight c = omega (arith, inside (c .before .before .before))
+
+weight-requires : tie.Need-weight-requires Inv-loop μ-loop
+weight-requires c κs = search needs
+
+mul-w : tie.Need-mul-w Inv-loop μ-loop
+mul-w c = search needs
+
+array-write-w : tie.Need-array-write-w Inv-loop μ-loop
+array-write-w c = search needs
+
+add-s : tie.Need-add-s Inv-loop μ-loop
+add-s c = search needs
+
+loop-less : tie.Need-loop-less Inv-loop μ-loop
+loop-less c = search needs
+
+loop-again : tie.Need-loop-again Inv-loop μ-loop
+loop-again c = (search needs, padded-turn _ _ _ _ (c .before .before .loop .inv .1) (c .weight .ensures) (omega arith))
+
+returns : tie.Need-returns Inv-loop μ-loop
+returns c = let e : c .before .loop .s ≡ c .before .before .before .args .n = omega arith in rw e at (c .before .loop .inv .1)
+
+pub given-weights-spec : {M : Type 1} → statement M
+given-weights-spec =
+    tie.close
+    (tie.spec
+    Inv-loop
+    μ-loop
+    mul-at
+    loop-holds
+    add-weight
+    mul-weight
+    array-read-weight
+    weight-requires
+    mul-w
+    array-write-w
+    add-s
+    loop-less
+    loop-again
+    returns)

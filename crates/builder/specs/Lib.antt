@@ -1,0 +1,2 @@
+-- The builder's steps over storage.
+pub mod Storage

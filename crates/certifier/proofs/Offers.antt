@@ -1,0 +1,118 @@
+-- An offer's tests in their two stages: what the first leaves known for the second, and that the two are all of them. Assumes nothing.
+use mathlib.Core.Path.{_≡_, refl}
+use mathlib.Core.Bool.{true}
+use mathlib.Core.List.{List}
+use Prim.Native.Nat.{ℕ, suc, _<_}
+use native.Mathlib.Omega.{arith}
+use borrow.Author.Tests.{ltb-true, lt-ltb, le-leb}
+use Rattle.integers.specs.Cells.{padded}
+use Rattle.integers.proofs.Lists.{padded-at}
+use Rattle.integers.proofs.Searches.{and-true, and-is, at-every}
+use Rattle.tables.specs.declared.Tables.{Tables}
+use Rattle.tables.specs.declared.Verdict.{Verdict}
+use Rattle.tables.specs.declared.Verdict.the-variants.{Fine, Refused}
+use Rattle.tables.specs.Model.{Model, Valid}
+use Rattle.tables.specs.Storage.{modelOf}
+use Rattle.tables.specs.Verdicts.{_before_}
+use Rattle.tables.specs.Judged.{modelVerdict}
+use Rattle.tables.proofs.Refusals.{before-fine, unless-fine}
+use Rattle.plans.specs.Limits.{maxLevels, maxPoints}
+use Rattle.plans.specs.Level.{Level as Ideal, Shaped}
+use Rattle.levels.specs.declared.Level.{Level}
+use Rattle.levels.specs.Storage.{levelOf}
+use Rattle.levels.specs.Judged.{countsHold, rangesVerdict, weightsVerdict, isFine, standingHolds, numbersVerdict}
+use Rattle.levels.specs.Judged.{floorsVerdict, cornersVerdict, pointsVerdict, offerVerdict}
+use Rattle.runs.specs.declared.Certifier.{Certifier}
+use Rattle.runs.specs.State.{modelIn, readBy, levelIn, verdictOn}
+use Rattle.plans.proofs.Built.{shaped-mono}
+use Rattle.runs.proofs.Judged.{Accepted, standing-true, numbers-fine, accepted}
+use Rattle.sawtooth.specs.Storage.{positive, gainIn}
+use Rattle.checks.specs.Storage.{Standing}
+use Rattle.certifier.specs.Stages.{shapeVerdict, backupsVerdict}
+use Rattle.certifier.proofs.Stages.{stops, goes, fine}
+
+-- ---- the two stages are all the tests
+before-assoc : (u v w : Verdict) → ((u before v) before w) ≡ (u before (v before w))
+before-assoc Fine v w = refl
+before-assoc (Refused k i) v w = refl
+
+pub offer-split : (M : Model) (t : ℕ) (L W : Ideal) → offerVerdict M t L W ≡ (shapeVerdict M t L W before backupsVerdict M L W)
+unfolding offerVerdict shapeVerdict backupsVerdict
+offer-split M t L W = simp before-assoc
+
+-- ---- the stages as the code goes through them
+module _ (c : Certifier) (l : Level) where
+  module _ {shape : Verdict} (e : shape ≡ shapeVerdict (modelIn c) (c .number) (levelIn c) (readBy c l)) where
+    pub refused-shape : {k i : ℕ} → shape ≡ Refused k i → shape ≡ verdictOn c l
+    unfolding verdictOn
+    refused-shape f = rw offer-split (stops _ e f)
+
+    pub left-backups : {backups : Verdict} → shape ≡ Fine → backups ≡ backupsVerdict (modelIn c) (levelIn c) (readBy c l) → backups ≡ verdictOn c l
+    unfolding verdictOn
+    left-backups f g = rw offer-split (goes e f g)
+
+  module _ {floors : Verdict} (e : floors ≡ floorsVerdict (modelIn c) (levelIn c) (readBy c l)) where
+    pub refused-13 : {k i : ℕ} → floors ≡ Refused k i → floors ≡ backupsVerdict (modelIn c) (levelIn c) (readBy c l)
+    unfolding backupsVerdict
+    refused-13 f = stops _ e f
+
+    module _ (f : floors ≡ Fine) {corners : Verdict} (g : corners ≡ cornersVerdict (modelIn c) (levelIn c) (readBy c l)) where
+      pub refused-14 : {k i : ℕ} → corners ≡ Refused k i → corners ≡ backupsVerdict (modelIn c) (levelIn c) (readBy c l)
+      unfolding backupsVerdict
+      refused-14 h = goes e f (stops _ g h)
+
+      pub left-15 : {points : Verdict} → corners ≡ Fine → points ≡ pointsVerdict (modelIn c) (levelIn c) (readBy c l)
+          → points ≡ backupsVerdict (modelIn c) (levelIn c) (readBy c l)
+      unfolding backupsVerdict
+      left-15 h p = goes e f (goes g h p)
+
+  pub offer-accepted : verdictOn c l ≡ Fine → Accepted (modelIn c) (c .number) (levelIn c) (readBy c l)
+  unfolding verdictOn
+  offer-accepted e = accepted (modelIn c) (c .number) (levelIn c) (readBy c l) e
+
+-- ---- what the first stage leaves known, with both levels within the limits of the last
+pub record Fitting (M : Model) (t : ℕ) (L W : Ideal) : Type 0 where
+  pub valid : Valid M
+  pub room : t < maxLevels
+  pub standing : Shaped M maxLevels L
+  pub shaped : Shaped M maxLevels W
+  pub chosen : (v : ℕ) → v < W .vectors → (o : ℕ) → o < M .observations → W .choice v o < L .vectors
+
+module _ (M : Model) (t : ℕ) (L W : Ideal) where
+  -- the offered level passes the tests of a standing one, at the next level
+  would-stand : standingHolds M t L ≡ true → t < maxLevels → countsHold (W .vectors) (W .points) ≡ true → numbersVerdict M L W ≡ Fine
+      → rangesVerdict M (suc t) W ≡ Fine → weightsVerdict (M .states) (W .points) (W .weight) ≡ Fine → standingHolds M (suc t) W ≡ true
+  unfolding standingHolds
+  would-stand stands room counts numbers ranges weights =
+      and-is (and-true (isFine (modelVerdict M)) _ stands .0) (and-is (le-leb (suc t) maxLevels (omega arith))
+      (and-is counts (and-is (at-every _ _ (λ v l. lt-ltb _ _ (numbers-fine M t L W numbers v l .0))) (and-is (fine ranges) (fine weights)))))
+
+  pub fitting : shapeVerdict M t L W ≡ Fine → Fitting M t L W
+  unfolding shapeVerdict
+  fitting e7 =
+      let e8 = before-fine _ _ e7 in
+      let e9 = before-fine _ _ (e8 .1) in
+      let e10 = before-fine _ _ (e9 .1) in
+      let e11 = before-fine _ _ (e10 .1) in
+      let e12 = before-fine _ _ (e11 .1) in
+      let stands = unless-fine _ _ _ (e8 .0) in
+      let room = ltb-true t maxLevels (unless-fine _ _ _ (e9 .0)) in
+      let s = standing-true M t L stands in
+      let o = standing-true M (suc t) W (would-stand stands room (unless-fine _ _ _ (e10 .0)) (e11 .0) (e12 .0) (e12 .1)) in
+      record {
+        valid = s .valid-tables;
+        room = room;
+        standing = shaped-mono M L t maxLevels (s .few-levels) (s .shaped);
+        shaped = shaped-mono M W (suc t) maxLevels (o .few-levels) (o .shaped);
+        chosen = λ v l. numbers-fine M t L W (e11 .0) v l .1;
+      }
+
+-- ---- the standing level with the gains of its points, as the code lists them
+pub standing-gains : (m : Tables) (l : Level) {gains : List ℕ} → Valid (modelOf m)
+    → Shaped (modelOf m) maxLevels (levelOf (m .states) (m .observations) l)
+    → gains ≡ padded 0 maxPoints (l .points) (λ i. positive (gainIn (m .states) (l .corners) (l .weights) (l .values) i)) → Standing m l gains
+standing-gains m l valid shaped e = record {
+  valid = valid;
+  shaped = shaped;
+  gained = λ i b. rw e (padded-at 0 maxPoints (l .points) _ i 0 b);
+}

@@ -1,0 +1,174 @@
+use mathlib.Core.Path.{_≡_, sym, _∙_}
+use mathlib.Core.Bool.{Bool, true, _&&_}
+use Prim.Native.Nat.{_≤_}
+use native.Mathlib.Nat.{mul-le-mul}
+use native.Mathlib.Omega.{arith}
+use lib.Dec.{leb}
+use borrow.Author.Tests.{le-leb, lt-leb, not-true, not-false}
+use Rattle.tables.specs.declared.Verdict.the-variants.{Fine}
+use Rattle.tables.specs.Limits.{maxStates, maxVectors}
+use Rattle.tables.specs.Judged.{modelVerdict}
+use Rattle.tables.proofs.Accepted.{valid}
+use Rattle.plans.specs.Limits.{maxLevels, maxPoints}
+use Rattle.levels.specs.Judged.{countsHold, rangesVerdict, actionsExist, isFine, standingHolds}
+use Rattle.levels.proofs.Laws.{Long}
+use Rattle.runs.specs.declared.Certifier.{Certifier}
+use Rattle.runs.specs.State.{modelIn, levelIn}
+use Rattle.certifier.proofs.Stages.{fails, holds-on, fine, not-fine, counts-few}
+use borrow.Author.Needs.{needs}
+use Rattle.certifier.proofs.standing_holds.Statement.{statement}
+use Rattle.certifier.proofs.standing_holds.Tie as tie
+
+long : (c : tie.Start) → Long (c .args .c .level)
+long c = search needs
+
+-- from each test that was passed to the one before it
+abbrev of-counts : tie.Else2 → tie.Else1
+of-counts c = c .before .before
+
+abbrev of-actions : tie.Else3 → tie.Else2
+of-actions c = c .before .before .before .before
+
+abbrev of-ranges : tie.After-enum-told3 → tie.Else3
+of-ranges c = c .before .before .before
+
+-- the certifier
+abbrev state : tie.After-enum-told → Certifier
+state c = c .before .before .before .before .before .args .c
+
+abbrev state-counts : tie.Else2 → Certifier
+state-counts c = state (of-counts c .before)
+
+abbrev state-actions : tie.Else3 → Certifier
+state-actions c = state-counts (of-actions c)
+
+tables : (c : tie.After-enum-told) → modelVerdict (modelIn (state c)) ≡ Fine
+tables c = sym (c .before .before .judge-tables .ensures) ∙ c .enum-told .given .1
+
+levels : (c : tie.Else1) → leb (state (c .before) .number) maxLevels ≡ true
+levels c = le-leb (state (c .before) .number) maxLevels (c .if1 .left)
+
+counts : (c : tie.Else2) → countsHold (state-counts c .level .vectors) (state-counts c .level .points) ≡ true
+counts c = sym (c .before .counts-hold .ensures) ∙ not-false _ (c .if2 .left)
+
+few : (c : tie.Else2) → (state-counts c .level .vectors ≤ maxVectors) × (state-counts c .level .points ≤ maxPoints)
+few c = counts-few (state-counts c .level .vectors) (state-counts c .level .points) (counts c)
+
+few-states : (c : tie.Else2) → state-counts c .tables .states ≤ maxStates
+few-states c = valid (modelIn (state-counts c)) (tables (of-counts c .before)) .few-states
+
+-- what is left past the counts
+on : (c : tie.Else2) {x b : Bool} → x ≡ b
+    → x
+    ≡ (isFine (modelVerdict (modelIn (state-counts c)))
+    && (leb (state-counts c .number) maxLevels && (countsHold (state-counts c .level .vectors) (state-counts c .level .points) && b)))
+on c e = holds-on (fine (tables (of-counts c .before))) (holds-on (levels (of-counts c)) (holds-on (counts c) e))
+
+actions : (c : tie.Else3)
+    → actionsExist (state-actions c .tables .actions) (state-actions c .level .vectors) (levelIn (state-actions c) .action) ≡ true
+actions c = sym (c .before .actions-exist .ensures) ∙ not-false _ (c .if3 .left)
+
+ranges : (c : tie.After-enum-told3)
+    → rangesVerdict (modelIn (state-actions (of-ranges c))) (state-actions (of-ranges c) .number) (levelIn (state-actions (of-ranges c))) ≡ Fine
+ranges c = sym (c .before .before .ranges-hold .ensures) ∙ c .enum-told3 .given .1
+
+judge-tables-requires : tie.Need-judge-tables-requires
+judge-tables-requires c κs = search needs
+
+enum-told : tie.Need-enum-told
+enum-told c = search needs
+
+enum-told-2 : tie.Need-enum-told-2
+enum-told-2 c = search needs
+
+returns : tie.Need-returns
+unfolding standingHolds
+returns c = fails _ (not-fine (sym (c .before .before .judge-tables .ensures) ∙ c .enum-told2 .given .1))
+
+returns-2 : tie.Need-returns-2
+unfolding standingHolds
+returns-2 c = holds-on (fine (tables (c .before))) (fails _ (lt-leb _ maxLevels (c .if1 .taken)))
+
+counts-hold-requires : tie.Need-counts-hold-requires
+counts-hold-requires c κs = search needs
+
+returns-3 : tie.Need-returns-3
+unfolding standingHolds
+returns-3 c =
+    let e = c .before .before in
+    holds-on (fine (tables (e .before))) (holds-on (levels e) (fails _ (sym (c .before .counts-hold .ensures) ∙ not-true _ (c .if2 .taken))))
+
+actions-exist-requires : tie.Need-actions-exist-requires
+actions-exist-requires c κs = few (c .before .before) .0
+
+returns-4 : tie.Need-returns-4
+unfolding standingHolds
+returns-4 c = on (c .before .before .before .before) (fails _ (sym (c .before .actions-exist .ensures) ∙ not-true _ (c .if3 .taken)))
+
+ranges-hold-requires : tie.Need-ranges-hold-requires
+ranges-hold-requires c κs =
+    let e = of-actions c in
+    ((few-states e, of-counts e .if1 .left), few e)
+
+enum-told-3 : tie.Need-enum-told-3
+enum-told-3 c = search needs
+
+enum-told-4 : tie.Need-enum-told-4
+enum-told-4 c = search needs
+
+returns-5 : tie.Need-returns-5
+unfolding standingHolds
+returns-5 c =
+    let a = c .before .before .before in
+    on (of-actions a) (holds-on (actions a) (fails _ (not-fine (sym (c .before .before .ranges-hold .ensures) ∙ c .enum-told4 .given .1))))
+
+weights-hold-requires : tie.Need-weights-hold-requires
+weights-hold-requires c κs =
+    let e = of-actions (of-ranges (c .before .before .before)) in
+    let start = of-counts e .before .before .before .before .before .before in
+    ((few-states e, few e .1), omega (arith, mul-le-mul (few e .1) (few-states e), long start .weights))
+
+enum-told-5 : tie.Need-enum-told-5
+enum-told-5 c = search needs
+
+enum-told-6 : tie.Need-enum-told-6
+enum-told-6 c = search needs
+
+returns-6 : tie.Need-returns-6
+unfolding standingHolds
+returns-6 c =
+    let r = c .before .before .before .before .before .before in
+    let a = of-ranges r in
+    let w = not-fine (sym (c .before .before .weights-hold .ensures) ∙ c .enum-told6 .given .1) in
+    on (of-actions a) (holds-on (actions a) (holds-on (fine (ranges r)) (sym w)))
+
+returns-7 : tie.Need-returns-7
+unfolding standingHolds
+returns-7 c =
+    let r = c .before .before .before .before .before .before in
+    let a = of-ranges r in
+    let w = fine (sym (c .before .before .weights-hold .ensures) ∙ c .enum-told5 .given .1) in
+    on (of-actions a) (holds-on (actions a) (holds-on (fine (ranges r)) (sym w)))
+
+pub standing-holds-spec : {M : Type 1} → statement M
+standing-holds-spec =
+    tie.close
+    (tie.spec
+    judge-tables-requires
+    enum-told
+    enum-told-2
+    returns
+    returns-2
+    counts-hold-requires
+    returns-3
+    actions-exist-requires
+    returns-4
+    ranges-hold-requires
+    enum-told-3
+    enum-told-4
+    returns-5
+    weights-hold-requires
+    enum-told-5
+    enum-told-6
+    returns-6
+    returns-7)

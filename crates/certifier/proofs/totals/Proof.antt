@@ -1,0 +1,89 @@
+use mathlib.Core.Path.{_≡_, sym, _∙_}
+use mathlib.Core.Bool.{true}
+use borrow.Author.Tests.{not-true, not-false}
+use Rattle.tables.specs.Storage.{weightIn}
+use Rattle.runs.specs.State.{holds, mixtureHolds}
+use Rattle.runs.proofs.Demand3.{totals-demand}
+use Rattle.certifier.proofs.Bounds.{mixture-below, few-states, refused-7, refused-16, refused-17, bounds-given}
+use Rattle.certifier.proofs.totals.Statement.{statement}
+use Rattle.certifier.proofs.totals.Tie as tie
+
+-- what the tests of 7, 16 and 17 said
+held : (c : tie.Else1) → holds (c .before .before .args .c) ≡ true
+held c = sym (c .before .standing-holds .ensures) ∙ not-false _ (c .if1 .left)
+
+above : (c : tie.Else2) → c .before .before .before .before .args .c .number ≡ 0 → ⊥
+above c = c .if2 .left
+
+mixed : (c : tie.Else3)
+    → let a = c .before .before .before .before .before .before .before .args in mixtureHolds (a .c .tables .states) (weightIn (a .b)) ≡ true
+mixed c = sym (c .before .mixture-holds .ensures) ∙ not-false _ (c .if3 .left)
+
+standing-holds-requires : tie.Need-standing-holds-requires
+standing-holds-requires c κs = tt
+
+no-bounds-requires : tie.Need-no-bounds-requires
+no-bounds-requires c κs = tt
+
+returns : tie.Need-returns
+returns c =
+    let a = c .before .before .before .args in
+    let e = refused-7 (a .c) (a .b) (sym (c .before .before .standing-holds .ensures) ∙ not-true _ (c .before .if1 .taken)) (c .no-bounds .ensures) in
+    (e, totals-demand (a .c) (a .b) _ e)
+
+no-bounds-requires-2 : tie.Need-no-bounds-requires-2
+no-bounds-requires-2 c κs = tt
+
+returns-2 : tie.Need-returns-2
+returns-2 c =
+    let k = c .before .before .before in
+    let a = k .before .before .args in
+    let e = refused-16 (a .c) (a .b) (held k) (c .before .if2 .taken) (c .no-bounds2 .ensures) in
+    (e, totals-demand (a .c) (a .b) _ e)
+
+mixture-holds-requires : tie.Need-mixture-holds-requires
+mixture-holds-requires c κs = let k = c .before .before .before in few-states (k .before .before .args .c) (held k)
+
+no-bounds-requires-3 : tie.Need-no-bounds-requires-3
+no-bounds-requires-3 c κs = tt
+
+returns-3 : tie.Need-returns-3
+returns-3 c =
+    let l = c .before .before .before .before in
+    let k = l .before .before in
+    let a = k .before .before .args in
+    let f = sym (c .before .before .mixture-holds .ensures) ∙ not-true _ (c .before .if3 .taken) in
+    let e = refused-17 (a .c) (a .b) (held k) (above l) f (c .no-bounds3 .ensures) in
+    (e, totals-demand (a .c) (a .b) _ e)
+
+widened-requires : tie.Need-widened-requires
+widened-requires c κs = let k = c .before .before .before .before .before in few-states (k .before .before .args .c) (held k)
+
+bounds-at-requires : tie.Need-bounds-at-requires
+bounds-at-requires c κs =
+    let k = c .before .before .before .before .before .before in
+    (held k, mixture-below (k .before .before .args .b) (c .widened .ensures) (mixed (c .before)))
+
+returns-4 : tie.Need-returns-4
+returns-4 c =
+    let l = c .before .before .before .before .before in
+    let k = l .before .before in
+    let a = k .before .before .args in
+    let e = bounds-given (a .c) (a .b) (held k) (above l) (mixed (c .before .before)) (c .before .widened .ensures) (c .bounds-at .ensures) in
+    (e, totals-demand (a .c) (a .b) _ e)
+
+pub totals-spec : {M : Type 1} → statement M
+totals-spec =
+    tie.close
+    (tie.spec
+    standing-holds-requires
+    no-bounds-requires
+    returns
+    no-bounds-requires-2
+    returns-2
+    mixture-holds-requires
+    no-bounds-requires-3
+    returns-3
+    widened-requires
+    bounds-at-requires
+    returns-4)

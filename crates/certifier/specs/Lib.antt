@@ -1,0 +1,2 @@
+-- The two stages of an offer's tests.
+pub mod Stages
