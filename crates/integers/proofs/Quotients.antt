@@ -1,11 +1,15 @@
 -- The machine's quotient drops towards 0; corrected by the remainder's sign it is the quotient rounded down or up. Assumes nothing.
 use mathlib.Core.Path.{_≡_, refl, sym, _∙_, ap}
 use mathlib.Core.Bool.{true, false}
-use Prim.Native.Nat.{ℕ, zero, suc, _+_, _*_, _/_, _%_, _≤_, _<_}
+use Prim.Native.Nat.{ℕ, zero, suc, _+_, _*_, _/_, _%_, _≤_, _<_, _^_}
 use native.Mathlib.Nat as NatL
 use native.Mathlib.Omega.{arith}
 use lib.IntN.{ℤ, pos, negsuc, negℤ, _+ℤ_, _-ℤ_}
-use lib.Signed.{mag, ltZ, quotZ, remZ}
+use lib.Signed.{mag-rem, mag, ltZ, quotZ, remZ}
+use mir.Syntax.{w64}
+use mir.Val.{SFits, toZ, ofZ}
+use mir.Facts.{toZ-ofZ, toZ-pos}
+use mir.ValLaws.{sfits-le}
 use Rattle.integers.specs.Whole.{floorDiv, ceilDiv}
 use Rattle.integers.proofs.Parts.{up, add-parts, sub-parts-ℤ, neg-parts, eq-by, ltZ-true, ltZ-false}
 
@@ -79,3 +83,17 @@ module _ (k : ℕ) (p : 0 < k) where
   ceil-small (pos zero) = rw (NatL.zero-div k) (omega arith)
   ceil-small (pos (suc a)) = omega (arith, NatL.div-le-self a k)
   ceil-small (negsuc a) = quotient-small (negsuc a)
+
+-- ---- from the machine's words
+module _ (x : ℤ) (k : ℕ) (fit : SFits w64 x) (p : 0 < k) (small : k < 2 ^ 63) where
+  machine : {A : Type 0} (f : ℤ → ℤ → A) → f (toZ w64 (ofZ w64 x)) (toZ w64 k) ≡ f x (pos k)
+  machine f = rw (toZ-ofZ fit, toZ-pos w64 {n = k} small)
+
+  pub quotient-fits : SFits w64 (quotZ (toZ w64 (ofZ w64 x)) (toZ w64 k))
+  quotient-fits = rw (machine quotZ) (sfits-le (quotient-small k p x) fit)
+
+  pub quotient : toZ w64 (ofZ w64 (quotZ (toZ w64 (ofZ w64 x)) (toZ w64 k))) ≡ quotZ x (pos k)
+  quotient = toZ-ofZ quotient-fits ∙ machine quotZ
+
+  pub remainder : toZ w64 (ofZ w64 (remZ (toZ w64 (ofZ w64 x)) (toZ w64 k))) ≡ remZ x (pos k)
+  remainder = rw (machine remZ) (toZ-ofZ (sfits-le (mag-rem x (pos k)) fit))
