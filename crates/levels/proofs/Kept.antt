@@ -3,7 +3,9 @@ use mathlib.Core.Path.{refl}
 use Prim.Native.Nat.{_+_, _*_}
 use lib.IntN.{pos}
 use Rattle.integers.proofs.Lists.{replicate-at, cut-at-default, cut-cell}
+use Rattle.tables.specs.Limits.{maxStates, maxObservations, maxVectors}
 use Rattle.tables.specs.Model.{Model}
+use Rattle.plans.specs.Limits.{maxPoints}
 use Rattle.plans.specs.Level.{level0, Agree}
 use Rattle.levels.specs.declared.Level.{Level}
 use Rattle.levels.specs.Storage.{levelOf, keptLevel, freshLevel}
@@ -30,10 +32,10 @@ module _ (M : Model) where
   fresh-agree = record {
     vectors-same = refl;
     points-same = refl;
-    action-same = λ v h. replicate-at 0 32 v;
-    choice-same = λ v h o b. replicate-at 0 256 (v * M .observations + o);
-    entry-same = λ v h s b. replicate-at (pos 0) 512 (v * M .states + s);
-    corner-same = λ s h. replicate-at (pos 0) 16 s;
-    weight-same = λ i h s b. replicate-at 0 512 (i * M .states + s);
-    value-same = λ i h. replicate-at (pos 0) 32 i;
+    action-same = λ v h. replicate-at 0 maxVectors v;
+    choice-same = λ v h o b. replicate-at 0 (maxVectors * maxObservations) (v * M .observations + o);
+    entry-same = λ v h s b. replicate-at (pos 0) (maxVectors * maxStates) (v * M .states + s);
+    corner-same = λ s h. replicate-at (pos 0) maxStates s;
+    weight-same = λ i h s b. replicate-at 0 (maxPoints * maxStates) (i * M .states + s);
+    value-same = λ i h. replicate-at (pos 0) maxPoints i;
   }

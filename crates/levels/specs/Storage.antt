@@ -6,7 +6,9 @@ use mathlib.Core.List.{List}
 use lib.ListN.{getD, replicate}
 use lib.IntN.{ℤ, pos}
 use Rattle.integers.specs.Cells.{cut}
+use Rattle.tables.specs.Limits.{maxStates, maxObservations, maxVectors}
 use Rattle.tables.specs.Storage.{entryIn}
+use Rattle.plans.specs.Limits.{maxPoints}
 use Rattle.plans.specs.Level.{Level as Ideal}
 use Rattle.levels.specs.declared.Level.{Level}
 
@@ -46,28 +48,23 @@ keptLevel n k l = record {
   values = cut (pos 0) (l .points) (l .values);
 }
 
+-- a level with a count of vectors, every other part 0
+abbrev pub zeroLevel : ℕ → Level
+zeroLevel vectors = record {
+  vectors = vectors;
+  actions = replicate maxVectors 0;
+  choices = replicate (maxVectors * maxObservations) 0;
+  entries = replicate (maxVectors * maxStates) (pos 0);
+  corners = replicate maxStates (pos 0);
+  points = 0;
+  weights = replicate (maxPoints * maxStates) 0;
+  values = replicate maxPoints (pos 0);
+}
+
 -- level 0 of document 01: one zero vector, zero corners, no points
 abbrev pub freshLevel : Level
-freshLevel = record {
-  vectors = 1;
-  actions = replicate 32 0;
-  choices = replicate 256 0;
-  entries = replicate 512 (pos 0);
-  corners = replicate 16 (pos 0);
-  points = 0;
-  weights = replicate 512 0;
-  values = replicate 32 (pos 0);
-}
+freshLevel = zeroLevel 1
 
 -- a level of which every part is 0, the count of vectors too
 abbrev pub noLevel : Level
-noLevel = record {
-  vectors = 0;
-  actions = replicate 32 0;
-  choices = replicate 256 0;
-  entries = replicate 512 (pos 0);
-  corners = replicate 16 (pos 0);
-  points = 0;
-  weights = replicate 512 0;
-  values = replicate 32 (pos 0);
-}
+noLevel = zeroLevel 0

@@ -55,9 +55,9 @@ noTables = record {
   actions = 0;
   observations = 0;
   discount = 0;
-  transition = replicate 2048 0;
-  observation = replicate 1024 0;
-  reward = replicate 128 (pos 0);
+  transition = replicate (maxActions * maxStates * maxStates) 0;
+  observation = replicate (maxActions * maxStates * maxObservations) 0;
+  reward = replicate (maxActions * maxStates) (pos 0);
 }
 
 abbrev pub openedBy : Verdict → Tables → Opened

@@ -2,7 +2,10 @@ use mathlib.Core.Path.{_≡_, sym, _∙_}
 use mathlib.Core.Bool.{true}
 use borrow.Author.Tests.{not-true, not-false}
 use native.Mathlib.Omega.{arith}
+use Prim.Native.Nat.{_*_}
 use lib.ListN.{length}
+use Rattle.tables.specs.Limits.{maxStates}
+use Rattle.plans.specs.Limits.{maxBuilt}
 use Rattle.runs.specs.State.{holds}
 use Rattle.runs.proofs.Judged.{weights-fine}
 use Rattle.certifier.proofs.Bounds.{few-states}
@@ -41,7 +44,7 @@ weights-hold-requires c κs =
     let a = c .before .before .before .before .before .before .before .before .before .before .args in
     let h = held (c .before .before .before .before .before .before .before .before) in
     let room = points-room (a .c) (a .t2) h (c .before .before .before .before .before .before .if2 .left) (c .before .before .before .before .before .if3 .left) in
-    let long : length (a .t2 .weights) ≡ 256 = search (needs, c .before .before .before .before .before .before .before .before .before .before .good .1) in
+    let long : length (a .t2 .weights) ≡ maxBuilt * maxStates = search (needs, c .before .before .before .before .before .before .before .before .before .before .good .1) in
     ((few-states (a .c) h, omega (arith, c .before .before .before .before .before .if3 .left)), omega (arith, room, long))
 
 enum-told : tie.Need-enum-told

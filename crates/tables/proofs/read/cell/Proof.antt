@@ -2,11 +2,12 @@ use Prim.Native.Nat.{_+_, _*_, _<_}
 use mathlib.Core.Path.{refl}
 use native.Mathlib.Omega.{arith}
 use Rattle.integers.proofs.Lists.{cell-below}
+use Rattle.tables.specs.Limits.{maxActions, maxStates}
 use Rattle.tables.proofs.read.cell.Statement.{statement}
 use Rattle.tables.proofs.read.cell.Tie as tie
 
-in-table : (c : tie.Start) → c .args .row * c .args .w + c .args .x < 128 * c .args .w
-in-table c = cell-below (c .args .row) 128 (c .args .x) (c .args .w) (c .pre .0) (c .pre .1 .1)
+in-table : (c : tie.Start) → c .args .row * c .args .w + c .args .x < maxActions * maxStates * c .args .w
+in-table c = cell-below (c .args .row) (maxActions * maxStates) (c .args .x) (c .args .w) (c .pre .0) (c .pre .1 .1)
 
 mul-result : tie.Need-mul-result
 mul-result c = omega (arith, in-table c)
