@@ -22,11 +22,11 @@ use Rattle.integers.proofs.Words.{answer}
 use Rattle.integers.proofs.Parts.{T-true, T-false}
 use Rattle.integers.proofs.Searches.{largest-later, largest-same, largest-cong}
 use Rattle.tables.specs.declared.Tables.{Tables}
-use Rattle.tables.specs.Limits.{maxStates, maxActions, maxObservations, maxVectors, one, K}
+use Rattle.tables.specs.Limits.{maxStates, maxActions, maxObservations, maxVectors, one, K, maxLevels}
 use Rattle.tables.specs.Model.{Model, backedUp}
 use Rattle.tables.specs.Storage.{weightIn, modelOf, TransitionsFit, ObservationsFit, RewardsFit}
 use Rattle.tables.proofs.Regroup.{transitions-fit, observations-fit, rewards-fit}
-use Rattle.plans.specs.Limits.{maxLevels, maxPoints, pointTotal}
+use Rattle.plans.specs.Limits.{maxPoints, pointTotal}
 use Rattle.plans.specs.Level.{Level as Ideal, corner-weight, follows, Shaped}
 use Rattle.plans.specs.Build.{chosen, entryFor, bestAction, leastFor, leastValue, seed, built}
 use Rattle.plans.proofs.Agreement.{product-cong, successor-weights, backupAt-weights, backup-cong}

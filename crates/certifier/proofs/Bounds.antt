@@ -17,10 +17,10 @@ use Rattle.integers.proofs.Searches.{and-true, every-at, largest-cong}
 use Rattle.integers.proofs.Sizes.{times-bound, sum-weighed}
 use Rattle.integers.proofs.Sums.{total-bound}
 use Rattle.tables.specs.declared.Verdict.the-variants.{Fine}
-use Rattle.tables.specs.Limits.{maxStates, maxVectors, maxWeight, maxEntry}
+use Rattle.tables.specs.Limits.{maxStates, maxVectors, maxWeight, maxEntry, maxLevels}
 use Rattle.tables.specs.Model.{Model}
 use Rattle.tables.specs.Storage.{weightIn, entryIn}
-use Rattle.plans.specs.Limits.{maxLevels, maxPoints, range, maxReached}
+use Rattle.plans.specs.Limits.{maxPoints, range, maxReached}
 use Rattle.plans.specs.Level.{Level as Ideal, product, Shaped}
 use Rattle.plans.specs.Totals.{best, lower, upper, advice}
 use Rattle.plans.proofs.Agreement.{product-cong, ceiling-weights}

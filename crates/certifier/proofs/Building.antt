@@ -7,7 +7,8 @@ use native.Mathlib.Omega.{arith}
 use borrow.Author.Tests.{lt-ltb, le-ltb, le-leb, lt-leb}
 use Rattle.tables.specs.declared.Verdict.{Verdict}
 use Rattle.tables.specs.declared.Verdict.the-variants.{Fine, Refused}
-use Rattle.plans.specs.Limits.{maxLevels, maxBuilt}
+use Rattle.tables.specs.Limits.{maxLevels}
+use Rattle.plans.specs.Limits.{maxBuilt}
 use Rattle.plans.proofs.Built.{shaped-mono}
 use Rattle.levels.specs.declared.Level.{Level}
 use Rattle.levels.specs.Storage.{pointIn}

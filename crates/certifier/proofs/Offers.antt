@@ -16,7 +16,8 @@ use Rattle.tables.specs.Storage.{modelOf}
 use Rattle.tables.specs.Verdicts.{_before_}
 use Rattle.tables.specs.Judged.{modelVerdict}
 use Rattle.tables.proofs.Refusals.{before-fine, unless-fine}
-use Rattle.plans.specs.Limits.{maxLevels, maxPoints}
+use Rattle.tables.specs.Limits.{maxLevels}
+use Rattle.plans.specs.Limits.{maxPoints}
 use Rattle.plans.specs.Level.{Level as Ideal, Shaped}
 use Rattle.levels.specs.declared.Level.{Level}
 use Rattle.levels.specs.Storage.{levelOf}

@@ -6,7 +6,7 @@ use Rattle.tables.specs.declared.Verdict.{Verdict}
 use Rattle.tables.specs.declared.Verdict.the-variants.{Refused}
 use Rattle.tables.specs.Model.{Model}
 use Rattle.tables.specs.Verdicts.{_before_, unless}
-use Rattle.plans.specs.Limits.{maxLevels}
+use Rattle.tables.specs.Limits.{maxLevels}
 use Rattle.plans.specs.Level.{Level}
 use Rattle.levels.specs.Storage.{noLevel}
 use Rattle.runs.specs.declared.Bounds.{Bounds}

@@ -13,12 +13,12 @@ use Rattle.integers.proofs.Lists.{padded-at, padded-length}
 use Rattle.tables.specs.declared.Tables.{Tables}
 use Rattle.tables.specs.declared.Verdict.{Verdict}
 use Rattle.tables.specs.declared.Verdict.the-variants.{Fine, Refused}
-use Rattle.tables.specs.Limits.{maxStates, maxActions, maxObservations, maxVectors, maxEntry, K}
+use Rattle.tables.specs.Limits.{maxStates, maxActions, maxObservations, maxVectors, maxEntry, K, maxLevels}
 use Rattle.tables.specs.Model.{Valid, backup}
 use Rattle.tables.specs.Storage.{entryIn, modelOf, foreseenIn, backupIn, TransitionsFit, ObservationsFit, RewardsFit, ChosenFit, foreseenLimit}
 use Rattle.tables.specs.Verdicts.{unless, firstOf}
 use Rattle.tables.proofs.Regroup.{backup-regrouped, foreseen-limit, transitions-fit, observations-fit, rewards-fit}
-use Rattle.plans.specs.Limits.{maxLevels, range}
+use Rattle.plans.specs.Limits.{range}
 use Rattle.plans.specs.Level.{Shaped, follows}
 use Rattle.plans.proofs.Agreement.{backup-cong}
 use Rattle.levels.specs.declared.Level.{Level}

@@ -17,11 +17,11 @@ use Rattle.integers.proofs.Sizes.{abs-times, sum-weighed}
 use Rattle.integers.proofs.Terms.{Terms, terms-limit}
 use Rattle.integers.proofs.Sums.{sum-cong, sum-more, total-cong, total-part, total-fewer}
 use Rattle.tables.specs.declared.Tables.{Tables}
-use Rattle.tables.specs.Limits.{maxStates, maxWeight, maxReward, one, K}
+use Rattle.tables.specs.Limits.{maxStates, maxWeight, maxReward, one, K, maxLevels}
 use Rattle.tables.specs.Model.{Model, successor, expectedReward}
 use Rattle.tables.specs.Storage.{weightIn, rewardIn, modelOf, movedIn, seenIn, expectedIn, TransitionsFit, RewardsFit, movedLimit}
 use Rattle.tables.proofs.Regroup.{moved-successor, expected-is, moved-limit}
-use Rattle.plans.specs.Limits.{maxLevels, pointTotal, maxReached, range}
+use Rattle.plans.specs.Limits.{pointTotal, maxReached, range}
 use Rattle.plans.specs.Level.{Level as Ideal, Shaped, ceiling, backupAt, corner-weight}
 use Rattle.plans.proofs.Agreement.{ceiling-weights, backupAt-weights}
 use Rattle.plans.proofs.Ceiling.{corner-total}

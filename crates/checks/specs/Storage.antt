@@ -7,10 +7,10 @@ use lib.IntN.{ℤ, natAbs, _+ℤ_}
 use Rattle.integers.specs.Whole.{_·_, sumTo}
 use Rattle.integers.specs.Cells.{padded}
 use Rattle.tables.specs.declared.Tables.{Tables}
-use Rattle.tables.specs.Limits.{maxStates, maxEntry, K}
+use Rattle.tables.specs.Limits.{maxStates, maxEntry, K, maxLevels}
 use Rattle.tables.specs.Model.{Valid}
 use Rattle.tables.specs.Storage.{modelOf, movedIn, seenIn, expectedIn}
-use Rattle.plans.specs.Limits.{maxLevels, maxReached}
+use Rattle.plans.specs.Limits.{maxReached}
 use Rattle.plans.specs.Level.{Shaped}
 use Rattle.levels.specs.declared.Level.{Level}
 use Rattle.levels.specs.Storage.{levelOf}

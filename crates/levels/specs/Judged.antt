@@ -8,11 +8,11 @@ use Rattle.integers.specs.Whole.{_·_, totalTo}
 use Rattle.integers.specs.Search.{every}
 use Rattle.tables.specs.declared.Verdict.{Verdict}
 use Rattle.tables.specs.declared.Verdict.the-variants.{Fine, Refused}
-use Rattle.tables.specs.Limits.{maxVectors, K}
+use Rattle.tables.specs.Limits.{maxVectors, K, maxLevels}
 use Rattle.tables.specs.Model.{Model, backup}
 use Rattle.tables.specs.Verdicts.{_before_, unless, firstOf}
 use Rattle.tables.specs.Judged.{countWithin, modelVerdict}
-use Rattle.plans.specs.Limits.{maxLevels, maxPoints, pointTotal, range}
+use Rattle.plans.specs.Limits.{maxPoints, pointTotal, range}
 use Rattle.plans.specs.Level.{Level, backupAt, corner-weight, follows}
 
 -- ---- a level by itself

@@ -12,9 +12,9 @@ use Rattle.integers.proofs.Sums.{sum-mono, total-cong, total-mul, total-mul-rig
 use Rattle.integers.proofs.Sizes.{abs-add, abs-times, times-bound, sum-weighed, abs-below, abs-above, multiple-above, multiple-between}
 use Rattle.integers.proofs.Rounding.{floor-≤, floor-range, ceil-≥, ceil-range}
 use Rattle.integers.proofs.Searches.{largest-in, largest-max}
-use Rattle.tables.specs.Limits.{one, maxReward, maxEntry, K}
+use Rattle.tables.specs.Limits.{one, maxReward, maxEntry, K, maxLevels}
 use Rattle.tables.specs.Model.{Model, Valid, successor, expectedReward, backup, backedUp}
-use Rattle.plans.specs.Limits.{maxLevels, maxBuilt, pointTotal, range}
+use Rattle.plans.specs.Limits.{maxBuilt, pointTotal, range}
 use Rattle.plans.specs.Level.{Level, level0, product, drop, gain, ceiling, backupAt, corner-weight, follows, Meets, Shaped}
 use Rattle.plans.specs.Build.{chosen, entryFor, bestAction, leastFor, leastValue, built}
 use Rattle.plans.proofs.Ceiling.{sawtooth, product-const, corner-total}

@@ -2,10 +2,6 @@
 use Prim.Native.Nat.{ℕ, _*_}
 use Rattle.tables.specs.Limits.{one, maxReward}
 
--- the most levels that are accepted
-abbrev pub maxLevels : ℕ
-maxLevels = 100
-
 abbrev pub maxPoints : ℕ
 maxPoints = 32
 

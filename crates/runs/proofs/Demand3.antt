@@ -15,7 +15,7 @@ use Rattle.tables.specs.Storage.{weightIn, modelOf, kept}
 use Rattle.tables.specs.Judged.{modelVerdict}
 use Rattle.tables.proofs.Accepted.{valid}
 use Rattle.tables.proofs.Same.{valid-same, kept-same}
-use Rattle.plans.specs.Limits.{maxLevels}
+use Rattle.tables.specs.Limits.{maxLevels}
 use Rattle.plans.specs.Level.{Level as Ideal, level0, Chain, fresh as start, over, Agree}
 use Rattle.plans.specs.Build.{built}
 use Rattle.plans.specs.Totals.{best, lower, upper, advice}

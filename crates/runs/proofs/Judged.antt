@@ -11,11 +11,11 @@ use Rattle.integers.proofs.Parts.{is-T, leZ-is, le-true}
 use Rattle.integers.proofs.Searches.{and-true, and-is, every-at, at-every}
 use Rattle.tables.specs.declared.Verdict.{Verdict}
 use Rattle.tables.specs.declared.Verdict.the-variants.{Fine, Refused}
-use Rattle.tables.specs.Limits.{K}
+use Rattle.tables.specs.Limits.{K, maxLevels}
 use Rattle.tables.specs.Model.{Model, Valid, backup}
 use Rattle.tables.proofs.Refusals.{before-fine, unless-fine, fine-at, at-fine}
 use Rattle.tables.proofs.Accepted.{valid, is-valid}
-use Rattle.plans.specs.Limits.{maxLevels, pointTotal, range}
+use Rattle.plans.specs.Limits.{pointTotal, range}
 use Rattle.plans.specs.Level.{Level, backupAt, corner-weight, follows, Meets, Shaped}
 use Rattle.levels.specs.Judged.{countsHold, rowsWithin, rangesVerdict, weightsVerdict, actionsExist, isFine, standingHolds}
 use Rattle.levels.specs.Judged.{numbersIn, numbersVerdict, floorsVerdict, coversBackups, cornersVerdict, pointsVerdict, offerVerdict}

@@ -14,7 +14,8 @@ use Rattle.tables.specs.declared.Tables.{Tables}
 use Rattle.tables.specs.declared.Verdict.{Verdict}
 use Rattle.tables.specs.declared.Verdict.the-variants.{Fine, Refused}
 use Rattle.tables.specs.Storage.{weightIn, modelOf, kept}
-use Rattle.plans.specs.Limits.{maxLevels, maxBuilt, pointTotal}
+use Rattle.tables.specs.Limits.{maxLevels}
+use Rattle.plans.specs.Limits.{maxBuilt, pointTotal}
 use Rattle.plans.specs.Level.{Level as Ideal, Agree, level0}
 use Rattle.plans.specs.Totals.{lower, upper, advice, Bracket}
 use Rattle.levels.specs.declared.Level.{Level}

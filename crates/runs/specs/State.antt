@@ -10,12 +10,12 @@ use Rattle.integers.specs.Cells.{padded, grid}
 use Rattle.tables.specs.declared.Tables.{Tables}
 use Rattle.tables.specs.declared.Verdict.{Verdict}
 use Rattle.tables.specs.declared.Verdict.the-variants.{Fine, Refused}
-use Rattle.tables.specs.Limits.{maxStates, maxVectors, maxObservations, maxWeight}
+use Rattle.tables.specs.Limits.{maxStates, maxVectors, maxObservations, maxWeight, maxLevels}
 use Rattle.tables.specs.Model.{Model}
 use Rattle.tables.specs.Storage.{weightIn, modelOf, kept}
 use Rattle.tables.specs.Verdicts.{_before_, unless}
 use Rattle.tables.specs.Judged.{modelVerdict, noTables}
-use Rattle.plans.specs.Limits.{maxLevels, maxPoints, maxBuilt}
+use Rattle.plans.specs.Limits.{maxPoints, maxBuilt}
 use Rattle.plans.specs.Level.{Level as Ideal}
 use Rattle.plans.specs.Totals.{lower, upper, advice}
 use Rattle.plans.specs.Build.{built}

@@ -1,5 +1,5 @@
 -- The numbers of document 01's first part, each in its one place.
-use Prim.Native.Nat.{ℕ}
+use Prim.Native.Nat.{ℕ, _*_}
 
 abbrev pub maxStates : ℕ
 maxStates = 16
@@ -25,9 +25,13 @@ maxReward = 100_000
 abbrev pub maxWeight : ℕ
 maxWeight = 1_000_000
 
--- the largest entry of a vector, either way: that of the hundredth level, in ticks
+-- the most levels that are accepted
+abbrev pub maxLevels : ℕ
+maxLevels = 100
+
+-- the largest entry of a vector, either way: that of the last level, in ticks
 abbrev pub maxEntry : ℕ
-maxEntry = 10_000_000
+maxEntry = maxReward * maxLevels
 
 -- a backup is worked out in units of 1 / K tick: discount, transition and observation are thousandths each
 unfoldable pub K : ℕ

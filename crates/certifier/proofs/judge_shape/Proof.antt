@@ -7,10 +7,10 @@ use native.Mathlib.Omega.{arith}
 use lib.Dec.{ltb}
 use borrow.Author.Tests.{le-ltb, lt-ltb, not-true, not-false}
 use Rattle.tables.specs.declared.Verdict.{Verdict}
-use Rattle.tables.specs.Limits.{maxVectors}
+use Rattle.tables.specs.Limits.{maxVectors, maxLevels}
 use Rattle.tables.specs.Model.{Valid}
 use Rattle.tables.specs.Verdicts.{_before_, unless}
-use Rattle.plans.specs.Limits.{maxLevels, maxPoints}
+use Rattle.plans.specs.Limits.{maxPoints}
 use Rattle.levels.specs.declared.Level.{Level}
 use Rattle.levels.specs.Judged.{countsHold, numbersVerdict, rangesVerdict}
 use Rattle.levels.proofs.Laws.{Long}

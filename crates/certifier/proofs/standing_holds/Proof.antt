@@ -6,10 +6,10 @@ use native.Mathlib.Omega.{arith}
 use lib.Dec.{leb}
 use borrow.Author.Tests.{le-leb, lt-leb, not-true, not-false}
 use Rattle.tables.specs.declared.Verdict.the-variants.{Fine}
-use Rattle.tables.specs.Limits.{maxStates, maxVectors}
+use Rattle.tables.specs.Limits.{maxStates, maxVectors, maxLevels}
 use Rattle.tables.specs.Judged.{modelVerdict}
 use Rattle.tables.proofs.Accepted.{valid}
-use Rattle.plans.specs.Limits.{maxLevels, maxPoints}
+use Rattle.plans.specs.Limits.{maxPoints}
 use Rattle.levels.specs.Judged.{countsHold, rangesVerdict, actionsExist, isFine, standingHolds}
 use Rattle.levels.proofs.Laws.{Long}
 use Rattle.runs.specs.declared.Certifier.{Certifier}
