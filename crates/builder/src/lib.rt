@@ -269,14 +269,15 @@ fn given_weights(p: Points, n: usize, i: usize) -> Weights
 }
 
 // The weights at which vector v is made: corner 0, 1, .., then the points.
-fn seed_weights(p: Points, n: usize, v: usize) -> Weights
-    requires { ⌜ (n ≤ maxStates) × (v < n + maxBuilt) ⌝ }
-    ensures { λ r. ⌜ ((s : ℕ) → s < n → weightIn r s ≡ seed n (pointIn n (p .weights)) v s) ⌝ }
+fn seed_weights(p: Points, n: usize, v: Vector) -> Weights
+    requires { ⌜ (n ≤ maxStates) × (v .0 < n + maxBuilt) ⌝ }
+    ensures { λ r. ⌜ ((s : ℕ) → s < n → weightIn r s ≡ seed n (pointIn n (p .weights)) (v .0) s) ⌝ }
 {
-    if v < n {
-        return checks::corner_weights(State(v));
+    let i = v.0;
+    if i < n {
+        return checks::corner_weights(State(i));
     }
-    given_weights(p, n, v - n)
+    given_weights(p, n, i - n)
 }
 
 fn number(a: Action) -> u8
@@ -300,7 +301,7 @@ pub fn build_vectors(m: Tables, l: Level, p: Points) -> Rows
     let mut choices = [0u16; Tables::VECTORS * Tables::OBSERVATIONS];
     let mut entries = [0i64; Tables::VECTORS * Tables::STATES];
     for v in 0..count {
-        let best = best_candidate(m, l, seed_weights(p, n, v));
+        let best = best_candidate(m, l, seed_weights(p, n, Vector(v)));
         let made = best.candidate;
         let chosen = made.chosen;
         let row = made.entries;

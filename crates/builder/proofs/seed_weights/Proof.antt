@@ -13,7 +13,7 @@ corner-weights-requires c κs = search needs
 returns : tie.Need-returns
 returns c s l =
     let a = c .before .before .args in
-    rw (seed-corner (a .n) (pointIn (a .n) (a .p .weights)) (a .v) (c .before .if1 .taken))
+    rw (seed-corner (a .n) (pointIn (a .n) (a .p .weights)) (a .v .0) (c .before .if1 .taken))
     (corner-at (c .corner-weights .ensures) (omega (arith, c .before .if1 .taken, c .before .before .pre .0)) s)
 
 given-weights-requires : tie.Need-given-weights-requires
@@ -22,8 +22,8 @@ given-weights-requires c κs = search needs
 returns-2 : tie.Need-returns-2
 returns-2 c s l =
     let a = c .before .before .args in
-    rw (seed-point (a .n) (pointIn (a .n) (a .p .weights)) (a .v) (c .before .if1 .left))
-    (point-at (a .n) (a .p .weights) (a .v - a .n) (c .given-weights .ensures) s l)
+    rw (seed-point (a .n) (pointIn (a .n) (a .p .weights)) (a .v .0) (c .before .if1 .left))
+    (point-at (a .n) (a .p .weights) (a .v .0 - a .n) (c .given-weights .ensures) s l)
 
 pub seed-weights-spec : {M : Type 1} → statement M
 seed-weights-spec =
