@@ -1,12 +1,12 @@
 -- The builder's steps: one action's vector at some weights, the best of the actions' vectors, and the parts of a level.
-use Prim.Native.Nat.{ℕ, _*_}
+use Prim.Native.Nat.{ℕ, _*_, _-_}
 use mathlib.Core.List.{List}
 use lib.IntN.{ℤ, pos}
 use Rattle.integers.specs.Whole.{floorDiv}
 use Rattle.integers.specs.Search.{firstLargest}
 use Rattle.integers.specs.Cells.{padded, grid}
 use Rattle.tables.specs.declared.Tables.{Tables}
-use Rattle.tables.specs.Limits.{maxStates, maxVectors, maxObservations, K}
+use Rattle.tables.specs.Limits.{maxStates, maxVectors, maxObservations, maxLevels, K}
 use Rattle.tables.specs.Model.{Valid}
 use Rattle.tables.specs.Storage.{weightIn, entryIn, modelOf, foreseenIn, backupIn}
 use Rattle.plans.specs.Level.{Level as Ideal, product, Shaped}
@@ -20,7 +20,7 @@ use Rattle.builder.specs.declared.Rows.{Rows}
 
 -- a level that is built upon has fewer than 100 below it
 abbrev pub topBuilt : ℕ
-topBuilt = 99
+topBuilt = maxLevels - 1
 
 -- the first previous vector with the largest product with the successor weights
 unfoldable pub choiceFor : ℕ → ℕ → List ℕ → List ℕ → List ℤ → ℕ → List ℕ → ℕ → ℕ → ℕ

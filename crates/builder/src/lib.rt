@@ -23,6 +23,7 @@ use levels::Corners;
 use levels::Level;
 use levels::PointWeights;
 use levels::Values;
+use levels::shape;
 use levels::vectors;
 use runs::Points;
 use sawtooth::Gains;
@@ -248,12 +249,6 @@ pub fn least_value(m: Tables, l: Level, gains: Gains, p: Weights) -> i64
     most
 }
 
-fn weight(x: u32) -> u64
-    ensures { λ r. ⌜ r ≡ x ⌝ }
-{
-    x as u64
-}
-
 // The weights of a point that the builder is given.
 fn given_weights(p: Points, n: usize, i: usize) -> Weights
     requires { ⌜ (n ≤ maxStates) × (i < maxBuilt) ⌝ }
@@ -263,7 +258,7 @@ fn given_weights(p: Points, n: usize, i: usize) -> Weights
     let weights = p.weights;
     let mut w = [0u64; Tables::STATES];
     for s in 0..n {
-        w[s] = weight(weights[at + s]);
+        w[s] = shape::weight(weights[at + s]);
     }
     w
 }

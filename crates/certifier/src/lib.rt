@@ -209,12 +209,6 @@ pub fn offer(c: Certifier, l: Level) -> Answer
     }
 }
 
-fn weight(x: u32) -> u64
-    ensures { λ r. ⌜ r ≡ x ⌝ }
-{
-    x as u64
-}
-
 // 17: whether no weight exceeds 1,000,000 and some is above 0.
 fn mixture_holds(b: [u32; Tables::STATES], n: usize) -> bool
     requires { ⌜ n ≤ maxStates ⌝ }
@@ -222,7 +216,7 @@ fn mixture_holds(b: [u32; Tables::STATES], n: usize) -> bool
 {
     let mut total: u64 = 0;
     for s in 0..n {
-        let w = weight(b[s]);
+        let w = shape::weight(b[s]);
         if Level::WEIGHT < w {
             return false;
         }
@@ -237,15 +231,9 @@ fn widened(b: [u32; Tables::STATES], n: usize) -> Weights
 {
     let mut w = [0u64; Tables::STATES];
     for s in 0..n {
-        w[s] = weight(b[s]);
+        w[s] = shape::weight(b[s]);
     }
     w
-}
-
-fn action(x: u8) -> usize
-    ensures { λ r. ⌜ r ≡ x ⌝ }
-{
-    x as usize
 }
 
 // A refusal of totals, with every other part 0.
@@ -281,7 +269,7 @@ fn bounds_at(c: Certifier, q: Weights) -> Bounds
         lower: lower,
         upper: upper,
         gap: integers::minus(upper, lower),
-        action: Action(action(actions[i])),
+        action: Action(shape::action(actions[i])),
     }
 }
 

@@ -20,6 +20,7 @@ use levels::Chosen;
 use levels::Corners;
 use levels::Level;
 use levels::PointWeights;
+use levels::shape;
 use sawtooth::Gains;
 use tables::Action;
 use tables::Foreseen;
@@ -212,12 +213,6 @@ fn entry_holds<'a>(
     integers::scaled(Tables::K, entry) <= most
 }
 
-fn index(x: u8) -> usize
-    ensures { λ r. ⌜ r ≡ x ⌝ }
-{
-    x as usize
-}
-
 // 13: the first vector with an entry above its backup.
 pub fn floors_hold(m: Tables, standing: Level, offered: Level) -> Verdict
     requires { ⌜ Valid (modelOf m) ⌝ }
@@ -233,7 +228,7 @@ pub fn floors_hold(m: Tables, standing: Level, offered: Level) -> Verdict
     let actions = offered.actions;
     let mut found = Verdict::Fine;
     'vectors: for v in 0..vectors {
-        let a = Action(index(actions[v]));
+        let a = Action(shape::action(actions[v]));
         let chosen = choices_of(&offered.choices, k, Vector(v));
         let f = sums::foreseen(&m.observation, n, k, &standing.entries, &chosen, a);
         for s in 0..n {

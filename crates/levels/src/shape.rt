@@ -47,7 +47,8 @@ pub fn rows_within(cells: &[i64], rows: usize, w: usize, limit: u64, number: u8)
     found
 }
 
-fn weight(x: u32) -> u64
+// A weight of a mixture or a point.
+pub fn weight(x: u32) -> u64
     ensures { λ r. ⌜ r ≡ x ⌝ }
 {
     x as u64
@@ -79,7 +80,8 @@ pub fn weights_hold(cells: &[u32], n: usize, points: usize) -> Verdict
     Verdict::Fine
 }
 
-fn action(x: u8) -> usize
+// An action's number, as it is stored.
+pub fn action(x: u8) -> usize
     ensures { λ r. ⌜ r ≡ x ⌝ }
 {
     x as usize

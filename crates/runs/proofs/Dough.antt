@@ -126,7 +126,7 @@ record Table : Type 0 where
   d2 : ceiling 2 (levelOf 2 2 one) (λ s. corner-weight 0 s * 20_000_000 + corner-weight 1 s * 22_500_000) ≡ negsuc 2_499_999_999
   d3 : verdictOn (standing 1 one) (alone (negsuc 50) (negsuc 31) (pos 12_500)) ≡ Fine
   d4 : verdictOn (standing 1 one) (alone (negsuc 49) (negsuc 31) (pos 12_500)) ≡ Refused 13 0
-  d5 : cornerIn (two .corners) 0 ≡ negsuc 31
+  d5 : (cornerIn (two .corners) 0 ≡ negsuc 31) × (verdictOn (standing 1 one) two ≡ Fine)
   d6 : verdictOn (standing 1 one) (alone (negsuc 50) (negsuc 32) (pos 12_500)) ≡ Refused 14 0
   d7 : verdictOn (standing 1 one) (alone (negsuc 50) (negsuc 31) (pos 12_500)) ≡ Fine
   d8 : verdictOn (standing 1 one) (alone (negsuc 50) (negsuc 31) (pos 12_499)) ≡ Refused 15 0
@@ -151,7 +151,7 @@ table = record {
   d2 = refl;
   d3 = refl;
   d4 = refl;
-  d5 = refl;
+  d5 = (refl, refl);
   d6 = refl;
   d7 = refl;
   d8 = refl;

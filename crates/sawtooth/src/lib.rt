@@ -18,6 +18,7 @@ use levels::Corners;
 use levels::Level;
 use levels::PointWeights;
 use levels::Values;
+use levels::shape;
 use levels::vectors;
 use tables::Tables;
 use tables::Weights;
@@ -27,12 +28,6 @@ pub type Gains = [u64; Level::POINTS];
 // No drop is compared with more than this: one more of it times a weight still fits.
 const CAP: u64 = 100_000_000_000_000_000;
 
-fn weight(x: u32) -> u64
-    ensures { λ r. ⌜ r ≡ x ⌝ }
-{
-    x as u64
-}
-
 // The weights of point i.
 pub fn point_weights(weights: &PointWeights, n: usize, i: usize) -> Weights
     requires { ⌜ (n ≤ maxStates) × (i < maxPoints) ⌝ }
@@ -41,7 +36,7 @@ pub fn point_weights(weights: &PointWeights, n: usize, i: usize) -> Weights
     let at = i * n;
     let mut p = [0u64; Tables::STATES];
     for s in 0..n {
-        p[s] = weight(weights[at + s]);
+        p[s] = shape::weight(weights[at + s]);
     }
     p
 }
@@ -107,7 +102,7 @@ fn reaches(q: &Weights, weights: &PointWeights, at: usize, gain: u64, n: usize, 
     ensures { λ r. ⌜ r ≡ every n (λ s. leb (least * getD (now (weights .entry)) (at + s) 0) (getD (now (q .entry)) s 0 * gain)) ⌝ }
 {
     for s in 0..n {
-        let p = weight(weights[at + s]);
+        let p = shape::weight(weights[at + s]);
         if reach(q[s], gain) < wanted(least, p) {
             return false;
         }
@@ -133,7 +128,7 @@ fn drop_of(q: &Weights, weights: &PointWeights, at: usize, gain: u64, n: usize) 
     let mut top: u64 = 1; // under no weight: any state with weight takes its place
     let mut under: u64 = 0;
     for s in 0..n {
-        let p = weight(weights[at + s]);
+        let p = shape::weight(weights[at + s]);
         let x = q[s];
         if cross(x, under) < cross(top, p) {
             top = x;

@@ -42,11 +42,11 @@ judging c = record { valid = c .pre .0; stands = c .pre .1 .0; offers = c .pre .
 vectors-holds : tie.Need-vectors-holds Inv-loop μ-loop Inv-vectors μ-vectors
 vectors-holds c = (omega arith, (refl, first-none _))
 
-array-read-index : tie.Need-array-read-index Inv-loop μ-loop Inv-vectors μ-vectors
-array-read-index c = vector-below (judging (c .before .before .before)) (c .vectors-test .taken)
+array-read-action : tie.Need-array-read-action Inv-loop μ-loop Inv-vectors μ-vectors
+array-read-action c = vector-below (judging (c .before .before .before)) (c .vectors-test .taken)
 
-index-requires : tie.Need-index-requires Inv-loop μ-loop Inv-vectors μ-vectors
-index-requires c κs = tt
+action-requires : tie.Need-action-requires Inv-loop μ-loop Inv-vectors μ-vectors
+action-requires c κs = tt
 
 choices-of-requires : tie.Need-choices-of-requires Inv-loop μ-loop Inv-vectors μ-vectors
 choices-of-requires c κs =
@@ -56,11 +56,11 @@ choices-of-requires c κs =
 -- the vector with its action and its choices
 taken : (c : tie.After-choices-of Inv-loop μ-loop Inv-vectors μ-vectors) →
     let a = c .before .before .before .before .before .before .before .args in
-    Taken (a .t1) (a .t2) (a .t3) (c .before .before .before .before .before .vectors .v) (c .before .before .before .index .result) (c .choices-of .result)
+    Taken (a .t1) (a .t2) (a .t3) (c .before .before .before .before .before .vectors .v) (c .before .before .before .action .result) (c .choices-of .result)
 taken c = record {
   judging = judging (c .before .before .before .before .before .before .before);
   exists = c .before .before .before .before .vectors-test .taken;
-  acts = c .before .before .before .index .ensures;
+  acts = c .before .before .before .action .ensures;
   chooses = c .choices-of .ensures;
 }
 
@@ -157,8 +157,8 @@ floors-hold-spec =
     Inv-vectors
     μ-vectors
     vectors-holds
-    array-read-index
-    index-requires
+    array-read-action
+    action-requires
     choices-of-requires
     slice-aggregate-foreseen
     foreseen-requires
