@@ -1,0 +1,111 @@
+-- Laws of the words of a file: the byte at a place, and what it does to the words from there on. Assumes nothing.
+use Prim.Native.Nat.{ℕ, suc, _+_, _-_, _≤_, _<_}
+use mathlib.Core.Path.{_≡_, refl, sym, ap, _∙_}
+use mathlib.Core.List.{List, [], _∷_}
+use native.Mathlib.Omega.{arith}
+use native.Mathlib.Numerals.{add-one}
+use borrow.Author.Tests.{eq-eqb, ne-eqb}
+use lib.ListN.{length, getD, take, drop}
+use lib.Seq.{drop-cons, drop-length}
+use Rattle.words.specs.Class.{classOf}
+use Rattle.words.specs.Words.{Role, parts, alone, opens, belongs, roleOf, Words, word, end, run, whereBelongs, Mode, between, inside, comment, step, wordsOf, wordsIn, Run}
+
+-- what the byte at a place does
+abbrev pub roleIn : List ℕ → ℕ → Role
+roleIn s at = roleOf (classOf (getD s at 0))
+
+-- it belongs to no word that began before it
+abbrev pub Ends : Role → Type 0
+Ends parts = Unit
+Ends alone = Unit
+Ends opens = Unit
+Ends belongs = ⊥
+
+ends-run : (r : Role) (w : List ℕ) → Ends r → whereBelongs r w ≡ []
+ends-run parts w e = refl
+ends-run alone w e = refl
+ends-run opens w e = refl
+ends-run belongs w e = absurd e
+
+ends-step : (r : Role) (at b : ℕ) (s : List ℕ) (next : Mode → Words) → Ends r → step inside r at b s next ≡ step between r at b s next
+ends-step parts at b s next e = refl
+ends-step alone at b s next e = refl
+ends-step opens at b s next e = refl
+ends-step belongs at b s next e = absurd e
+
+-- ---- at the end of the file
+pub at-end : (m : Mode) (s : List ℕ) (at : ℕ) → at ≡ length s → wordsIn m s at ≡ end (length s)
+unfolding wordsIn wordsOf
+at-end m s at e = rw (e, drop-length)
+
+pub end-run : (s : List ℕ) (at : ℕ) → at ≡ length s → Run s at at
+unfolding run
+end-run s at e =
+    let z : at - at ≡ 0 = omega arith in
+    record { up = omega arith; low = omega arith; same = at-end inside s at e ∙ sym (at-end between s at e); bytes = rw (z, e, drop-length) }
+
+-- ---- at a byte of the file
+module _ (s : List ℕ) (at : ℕ) (h : at < length s) where
+  from-here : drop at s ≡ getD s at 0 ∷ drop (at + 1) s
+  from-here = rw (add-one, drop-cons s at 0)
+
+  pub step-in : (m : Mode) → wordsIn m s at ≡ step m (roleIn s at) at (getD s at 0) (drop (at + 1) s) (λ m'. wordsIn m' s (at + 1))
+  unfolding wordsIn wordsOf
+  step-in m = ap (wordsOf m at) from-here
+
+  -- the same, by its role
+  pub step-by : (m : Mode) {r : Role} → roleIn s at ≡ r → wordsIn m s at ≡ step m r at (getD s at 0) (drop (at + 1) s) (λ m'. wordsIn m' s (at + 1))
+  step-by m e = step-in m ∙ ap (λ (r : Role). step m r at (getD s at 0) (drop (at + 1) s) (λ m'. wordsIn m' s (at + 1))) e
+
+  -- a comment goes on past any byte but LF, which ends it and parts words
+  pub comment-on : (getD s at 0 ≡ 10 → ⊥) → wordsIn comment s at ≡ wordsIn comment s (at + 1)
+  comment-on n = step-in comment ∙ rw (ne-eqb _ _ n)
+
+  pub comment-ends : getD s at 0 ≡ 10 → wordsIn comment s at ≡ wordsIn between s at
+  comment-ends e = step-in comment ∙ rw (eq-eqb _ _ e) (sym (step-by between (ap (λ (b : ℕ). roleOf (classOf b)) e)))
+
+  -- one byte more in front of those that are taken from the next on
+  took : (r : ℕ) → at + 1 ≤ r → getD s at 0 ∷ take (r - (at + 1)) (drop (at + 1) s) ≡ take (r - at) (drop at s)
+  took r l =
+      let e : r - at ≡ suc (r - (at + 1)) = omega arith in
+      rw (e, from-here)
+
+  -- a byte that belongs to a word lengthens the rest of it
+  run-on : roleIn s at ≡ belongs → run (drop at s) ≡ getD s at 0 ∷ run (drop (at + 1) s)
+  unfolding run
+  run-on e = ap run from-here ∙ ap (λ (r : Role). whereBelongs r (getD s at 0 ∷ run (drop (at + 1) s))) e
+
+  pub run-more : {r : ℕ} → roleIn s at ≡ belongs → Run s (at + 1) r → Run s at r
+  run-more {r} e w =
+      record { up = omega arith; low = w .low; same = step-by inside e ∙ w .same; bytes = run-on e ∙ ap (λ (l : List ℕ). getD s at 0 ∷ l) (w .bytes) ∙ took r (w .up) }
+
+  -- any other ends it
+  pub run-ends : Ends (roleIn s at) → Run s at at
+  unfolding run
+  run-ends e =
+      let z : at - at ≡ 0 = omega arith in
+      record {
+        up = omega arith;
+        low = omega arith;
+        same = step-in inside ∙ ends-step (roleIn s at) at (getD s at 0) (drop (at + 1) s) (λ m'. wordsIn m' s (at + 1)) e ∙ sym (step-in between);
+        bytes = rw z (ap run from-here ∙ ends-run (roleIn s at) (getD s at 0 ∷ run (drop (at + 1) s)) e);
+      }
+
+  -- the word that begins here: a colon, or a byte that belongs to a word and the rest of it
+  pub colon-word : roleIn s at ≡ alone → wordsIn between s at ≡ word at (take ((at + 1) - at) (drop at s)) (wordsIn between s (at + 1))
+  colon-word e =
+      let z : (at + 1) - (at + 1) ≡ 0 = omega arith in
+      step-by between e ∙ ap (λ (w : List ℕ). word at w (wordsIn between s (at + 1))) (rw z at (took (at + 1) (omega arith)))
+
+  pub plain-word : {r : ℕ} → roleIn s at ≡ belongs → Run s (at + 1) r → wordsIn between s at ≡ word at (take (r - at) (drop at s)) (wordsIn between s r)
+  plain-word {r} e w =
+      step-by between e
+      ∙ ap (λ (l : List ℕ). word at (getD s at 0 ∷ l) (wordsIn inside s (at + 1))) (w .bytes)
+      ∙ ap (λ (l : List ℕ). word at l (wordsIn inside s (at + 1))) (took r (w .up))
+      ∙ ap (λ (l : Words). word at (take (r - at) (drop at s)) l) (w .same)
+
+-- ---- a worked example: "T:0 #x" LF ".5"
+pub example : wordsOf between 0 (84 ∷ 58 ∷ 48 ∷ 32 ∷ 35 ∷ 120 ∷ 10 ∷ 46 ∷ 53 ∷ [])
+    ≡ word 0 (84 ∷ []) (word 1 (58 ∷ []) (word 2 (48 ∷ []) (word 7 (46 ∷ 53 ∷ []) (end 9))))
+unfolding wordsOf run
+example = refl

@@ -1,0 +1,47 @@
+use Prim.Native.Nat.{_-_, _≤_}
+use mathlib.Core.Path.{_≡_, refl, sym, _∙_}
+use native.Mathlib.Omega.{arith}
+use lib.ListN.{length}
+use Rattle.words.specs.Words.{between, comment, wordsIn}
+use Rattle.words.proofs.Laws.{at-end, comment-on, comment-ends}
+use Rattle.words.proofs.line_end.Statement.{statement}
+use Rattle.words.proofs.line_end.Tie as tie
+
+abbrev Inv-loop : tie.InvT-loop
+Inv-loop s from at₀ at = (from ≤ at) × ((at ≤ length s) × (wordsIn comment s from ≡ wordsIn comment s at))
+
+abbrev μ-loop : tie.MeasureT-loop
+μ-loop s from at₀ at = length s - at
+
+loop-holds : tie.Need-loop-holds Inv-loop μ-loop
+loop-holds c = (omega arith, (omega arith, refl))
+
+shared-slice-read-if1 : tie.Need-shared-slice-read-if1 Inv-loop μ-loop
+shared-slice-read-if1 c = omega arith
+
+returns : tie.Need-returns Inv-loop μ-loop
+returns c =
+    let l = c .before .before .before .loop in
+    (omega arith, (omega arith, l .inv .1 .1 ∙ comment-ends (c .before .before .before .before .args .s .now) (l .at) (omega arith) (c .if1 .taken)))
+
+add-at : tie.Need-add-at Inv-loop μ-loop
+add-at c = omega arith
+
+loop-less : tie.Need-loop-less Inv-loop μ-loop
+loop-less c = omega arith
+
+loop-again : tie.Need-loop-again Inv-loop μ-loop
+loop-again c =
+    let l = c .before .before .before .loop in
+    (omega arith, (omega arith, l .inv .1 .1 ∙ comment-on (c .before .before .before .before .args .s .now) (l .at) (omega arith) (c .if1 .left)))
+
+returns-2 : tie.Need-returns-2 Inv-loop μ-loop
+returns-2 c =
+    let s = c .before .before .args .s .now in
+    let l = c .before .loop in
+    let e : l .at ≡ length s = omega arith in
+    (omega arith, (omega arith, l .inv .1 .1 ∙ at-end comment s (l .at) e ∙ sym (at-end between s (l .at) e)))
+
+pub line-end-spec : {M : Type 1} → statement M
+line-end-spec =
+    tie.close (tie.spec Inv-loop μ-loop loop-holds shared-slice-read-if1 returns add-at loop-less loop-again returns-2)

@@ -1,0 +1,97 @@
+use Prim.Native.Nat.{_-_, _≤_}
+use mathlib.Core.Path.{_≡_, refl, sym, ap, subst, _∙_}
+use mathlib.Core.List.{[], _∷_}
+use native.Mathlib.Omega.{arith}
+use borrow.Author.Needs.{needs}
+use lib.ListN.{length}
+use Rattle.words.specs.declared.Class.{Class}
+use Rattle.words.specs.Words.{Role, parts, opens, roleOf, between, wordsIn, Begins}
+use Rattle.words.proofs.Keys.{by-keys}
+use Rattle.words.proofs.Laws.{step-by}
+use Rattle.words.proofs.skip.Statement.{statement}
+use Rattle.words.proofs.skip.Tie as tie
+
+abbrev Inv-loop : tie.InvT-loop
+Inv-loop s from at₀ at = (from ≤ at) × ((at ≤ length s) × (wordsIn between s from ≡ wordsIn between s at))
+
+abbrev μ-loop : tie.MeasureT-loop
+μ-loop s from at₀ at = length s - at
+
+loop-holds : tie.Need-loop-holds Inv-loop μ-loop
+loop-holds c = (omega arith, (omega arith, refl))
+
+shared-slice-read-class-of : tie.Need-shared-slice-read-class-of Inv-loop μ-loop
+shared-slice-read-class-of c = omega arith
+
+class-of-requires : tie.Need-class-of-requires Inv-loop μ-loop
+class-of-requires c κs = search needs
+
+enum-told : tie.Need-enum-told Inv-loop μ-loop
+enum-told c = c .match .keys1
+
+add-at : tie.Need-add-at Inv-loop μ-loop
+add-at c = omega arith
+
+loop-less : tie.Need-loop-less Inv-loop μ-loop
+loop-less c = omega arith
+
+loop-again : tie.Need-loop-again Inv-loop μ-loop
+loop-again c =
+    let s = c .before .before .before .before .before .before .before .args .s .now in
+    let l = c .before .before .before .before .before .loop in
+    let k = c .before .before .class-of in
+    let e = ap roleOf (sym (k .ensures)) ∙ by-keys (λ (r : Role). r ≡ parts) (0 ∷ []) (k .result) (refl, tt) (c .before .match .keys1) in
+    (omega arith, (omega arith, l .inv .1 .1 ∙ step-by s (l .at) (omega arith) between e))
+
+enum-told-2 : tie.Need-enum-told-2 Inv-loop μ-loop
+enum-told-2 c = c .match .keys2
+
+add-line-end : tie.Need-add-line-end Inv-loop μ-loop
+add-line-end c = omega arith
+
+line-end-requires : tie.Need-line-end-requires Inv-loop μ-loop
+line-end-requires c κs = omega arith
+
+loop-less-2 : tie.Need-loop-less-2 Inv-loop μ-loop
+loop-less-2 c = omega arith
+
+loop-again-2 : tie.Need-loop-again-2 Inv-loop μ-loop
+loop-again-2 c =
+    let s = c .before .before .before .before .before .before .before .before .args .s .now in
+    let l = c .before .before .before .before .before .before .loop in
+    let k = c .before .before .before .class-of in
+    let e = ap roleOf (sym (k .ensures)) ∙ by-keys (λ (r : Role). r ≡ opens) (2 ∷ []) (k .result) (refl, tt) (c .before .before .match .keys2) in
+    (omega arith, (omega arith, l .inv .1 .1 ∙ step-by s (l .at) (omega arith) between e ∙ c .line-end .ensures .1 .1))
+
+returns : tie.Need-returns Inv-loop μ-loop
+returns c =
+    let l = c .before .before .before .before .loop .inv in
+    let k = c .before .class-of in
+    let b = by-keys Begins (1 ∷ 3 ∷ 4 ∷ 5 ∷ 6 ∷ 7 ∷ []) (k .result) (search needs) (c .match .keys3) in
+    record { up = l .0; low = l .1 .0; same = l .1 .1; begins = λ h. subst (λ (k : Class). Begins (roleOf k)) (k .ensures) b }
+
+returns-2 : tie.Need-returns-2 Inv-loop μ-loop
+returns-2 c =
+    let l = c .before .loop .inv in
+    record { up = l .0; low = l .1 .0; same = l .1 .1; begins = λ h. absurd (omega arith) }
+
+pub skip-spec : {M : Type 1} → statement M
+skip-spec =
+    tie.close
+    (tie.spec
+    Inv-loop
+    μ-loop
+    loop-holds
+    shared-slice-read-class-of
+    class-of-requires
+    enum-told
+    add-at
+    loop-less
+    loop-again
+    enum-told-2
+    add-line-end
+    line-end-requires
+    loop-less-2
+    loop-again-2
+    returns
+    returns-2)

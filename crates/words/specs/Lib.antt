@@ -1,0 +1,3 @@
+-- Bytes to classes, and a file to words.
+pub mod Class
+pub mod Words

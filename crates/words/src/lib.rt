@@ -1,0 +1,112 @@
+// The words of a text file: byte classes, and the next word from an offset.
+ghost use mathlib.Core.Path.{_≡_};
+ghost use Prim.Native.Nat.{_≤_};
+ghost use lib.ListN.{length};
+ghost use Rattle.words.specs.Class.{classOf};
+ghost use Rattle.words.specs.Words.{wordsIn, between, comment, Skipped, Run, Worded};
+
+pub enum Class {
+    Space,
+    Colon,
+    Hash,
+    Digit,
+    Point,
+    Minus,
+    Star,
+    Rest,
+}
+
+pub fn class_of(b: u8) -> Class
+    ensures { λ r. ⌜ r ≡ classOf b ⌝ }
+{
+    match b {
+        b' ' | b'\t' | b'\r' | b'\n' => Class::Space,
+        b':' => Class::Colon,
+        b'#' => Class::Hash,
+        b'0'..=b'9' => Class::Digit,
+        b'.' => Class::Point,
+        b'-' => Class::Minus,
+        b'*' => Class::Star,
+        _ => Class::Rest,
+    }
+}
+
+// Where the next word starts and stops, or that none is left.
+pub enum Word {
+    At(usize, usize),
+    End,
+}
+
+// The end of a comment: the next LF, or the end of the file.
+fn line_end(s: &[u8], from: usize) -> usize
+    requires { ⌜ from ≤ length (now s) ⌝ }
+    ensures { λ r. ⌜ (from ≤ r) × ((r ≤ length (now (s .entry))) × (wordsIn comment (now (s .entry)) from ≡ wordsIn between (now (s .entry)) r)) ⌝ }
+{
+    let mut at = from;
+    while at < s.len() {
+        if s[at] == b'\n' {
+            return at;
+        }
+        at += 1;
+    }
+    at
+}
+
+// The start of the next word, past spaces and comments, or the end of the file.
+fn skip(s: &[u8], from: usize) -> usize
+    requires { ⌜ from ≤ length (now s) ⌝ }
+    ensures { λ r. ⌜ Skipped (now (s .entry)) from r ⌝ }
+{
+    let mut at = from;
+    while at < s.len() {
+        let k = class_of(s[at]);
+        match k {
+            Class::Space => {
+                at += 1;
+            }
+            Class::Hash => {
+                at = line_end(s, at + 1);
+            }
+            _ => {
+                return at;
+            }
+        }
+    }
+    at
+}
+
+// The end of a word that began before `from`.
+fn word_end(s: &[u8], from: usize) -> usize
+    requires { ⌜ from ≤ length (now s) ⌝ }
+    ensures { λ r. ⌜ Run (now (s .entry)) from r ⌝ }
+{
+    let mut at = from;
+    while at < s.len() {
+        let k = class_of(s[at]);
+        match k {
+            Class::Space | Class::Colon | Class::Hash => {
+                return at;
+            }
+            _ => {
+                at += 1;
+            }
+        }
+    }
+    at
+}
+
+// The next word from an offset.
+pub fn word_at(s: &[u8], from: usize) -> Word
+    requires { ⌜ from ≤ length (now s) ⌝ }
+    ensures { λ r. ⌜ Worded (now (s .entry)) from r ⌝ }
+{
+    let at = skip(s, from);
+    if s.len() <= at {
+        return Word::End;
+    }
+    let k = class_of(s[at]);
+    let Class::Colon = k else {
+        return Word::At(at, word_end(s, at + 1));
+    };
+    Word::At(at, at + 1)
+}
