@@ -1,16 +1,36 @@
--- Laws of the words of a file: the byte at a place, and what it does to the words from there on. Assumes nothing.
+-- Laws of the words of a file: the class of a byte, and what the byte at a place does to the words from there on. Assumes nothing.
 use Prim.Native.Nat.{ℕ, suc, _+_, _-_, _≤_, _<_}
 use mathlib.Core.Path.{_≡_, refl, sym, ap, _∙_}
+use mathlib.Core.Bool.{Bool, true, false, _&&_, _||_, cond, and-eq-true-iff}
 use mathlib.Core.List.{List, [], _∷_}
 use native.Mathlib.Omega.{arith}
 use native.Mathlib.Numerals.{add-one}
-use borrow.Author.Tests.{eq-eqb, ne-eqb}
+use borrow.Author.Tests.{eq-eqb, ne-eqb, eqb-true, leb-true}
+use lib.Dec.{eqb, leb}
 use lib.ListN.{length, getD, take, drop}
 use lib.Seq.{drop-cons, drop-length}
+use Rattle.words.specs.declared.Class.{Class}
+use Rattle.words.specs.declared.Class.the-variants.{Space, Colon, Hash, Digit, Point, Minus, Star, Rest}
 use Rattle.words.specs.Class.{classOf}
 use Rattle.words.specs.Words.{Role, parts, alone, opens, belongs, roleOf, Words, word, end, run, whereBelongs, Mode, between, inside, comment, step, wordsOf, wordsIn, Run}
 
--- what the byte at a place does
+-- ---- the class of a byte, by its tests
+test : (P : Class → Type 0) (t : Bool) (x y : Class) → (t ≡ true → P x) → P y → P (cond t x y)
+test P true x y p q = p refl
+test P false x y p q = q
+
+pub by-class : (P : Class → Type 0) (b : ℕ) → P Space → (b ≡ 58 → P Colon) → (b ≡ 35 → P Hash) → (48 ≤ b → b ≤ 57 → P Digit)
+    → (b ≡ 46 → P Point) → (b ≡ 45 → P Minus) → (b ≡ 42 → P Star) → P Rest → P (classOf b)
+by-class P b space colon hash digit point minus star rest =
+    test P (eqb b 32 || (eqb b 9 || (eqb b 13 || eqb b 10))) _ _ (λ e. space)
+    (test P _ _ _ (λ e. colon (eqb-true b 58 e))
+    (test P _ _ _ (λ e. hash (eqb-true b 35 e))
+    (test P (leb 48 b && leb b 57) _ _ (λ e. let both = and-eq-true-iff (leb 48 b) (leb b 57) .0 e in digit (leb-true 48 b (both .0)) (leb-true b 57 (both .1)))
+    (test P _ _ _ (λ e. point (eqb-true b 46 e))
+    (test P _ _ _ (λ e. minus (eqb-true b 45 e))
+    (test P _ _ _ (λ e. star (eqb-true b 42 e)) rest))))))
+
+-- ---- what the byte at a place does
 abbrev pub roleIn : List ℕ → ℕ → Role
 roleIn s at = roleOf (classOf (getD s at 0))
 
@@ -46,10 +66,10 @@ end-run s at e =
 
 -- ---- at a byte of the file
 module _ (s : List ℕ) (at : ℕ) (h : at < length s) where
-  from-here : drop at s ≡ getD s at 0 ∷ drop (at + 1) s
+  pub from-here : drop at s ≡ getD s at 0 ∷ drop (at + 1) s
   from-here = rw (add-one, drop-cons s at 0)
 
-  pub step-in : (m : Mode) → wordsIn m s at ≡ step m (roleIn s at) at (getD s at 0) (drop (at + 1) s) (λ m'. wordsIn m' s (at + 1))
+  step-in : (m : Mode) → wordsIn m s at ≡ step m (roleIn s at) at (getD s at 0) (drop (at + 1) s) (λ m'. wordsIn m' s (at + 1))
   unfolding wordsIn wordsOf
   step-in m = ap (wordsOf m at) from-here
 

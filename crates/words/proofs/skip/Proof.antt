@@ -1,11 +1,11 @@
 use Prim.Native.Nat.{_-_, _≤_}
-use mathlib.Core.Path.{_≡_, refl, sym, ap, subst, _∙_}
+use mathlib.Core.Path.{_≡_, refl, _∙_}
 use mathlib.Core.List.{[], _∷_}
 use native.Mathlib.Omega.{arith}
 use borrow.Author.Needs.{needs}
 use lib.ListN.{length}
 use Rattle.words.specs.declared.Class.{Class}
-use Rattle.words.specs.Words.{Role, parts, opens, roleOf, between, wordsIn, Begins}
+use Rattle.words.specs.Words.{parts, opens, roleOf, between, wordsIn, Begins}
 use Rattle.words.proofs.Keys.{by-keys}
 use Rattle.words.proofs.Laws.{step-by}
 use Rattle.words.proofs.skip.Statement.{statement}
@@ -40,7 +40,7 @@ loop-again c =
     let s = c .before .before .before .before .before .before .before .args .s .now in
     let l = c .before .before .before .before .before .loop in
     let k = c .before .before .class-of in
-    let e = ap roleOf (sym (k .ensures)) ∙ by-keys (λ (r : Role). r ≡ parts) (0 ∷ []) (k .result) (refl, tt) (c .before .match .keys1) in
+    let e = by-keys (λ (k : Class). roleOf k ≡ parts) (0 ∷ []) (k .ensures) (refl, tt) (c .before .match .keys1) in
     (omega arith, (omega arith, l .inv .1 .1 ∙ step-by s (l .at) (omega arith) between e))
 
 enum-told-2 : tie.Need-enum-told-2 Inv-loop μ-loop
@@ -60,15 +60,15 @@ loop-again-2 c =
     let s = c .before .before .before .before .before .before .before .before .args .s .now in
     let l = c .before .before .before .before .before .before .loop in
     let k = c .before .before .before .class-of in
-    let e = ap roleOf (sym (k .ensures)) ∙ by-keys (λ (r : Role). r ≡ opens) (2 ∷ []) (k .result) (refl, tt) (c .before .before .match .keys2) in
+    let e = by-keys (λ (k : Class). roleOf k ≡ opens) (2 ∷ []) (k .ensures) (refl, tt) (c .before .before .match .keys2) in
     (omega arith, (omega arith, l .inv .1 .1 ∙ step-by s (l .at) (omega arith) between e ∙ c .line-end .ensures .1 .1))
 
 returns : tie.Need-returns Inv-loop μ-loop
 returns c =
     let l = c .before .before .before .before .loop .inv in
     let k = c .before .class-of in
-    let b = by-keys Begins (1 ∷ 3 ∷ 4 ∷ 5 ∷ 6 ∷ 7 ∷ []) (k .result) (search needs) (c .match .keys3) in
-    record { up = l .0; low = l .1 .0; same = l .1 .1; begins = λ h. subst (λ (k : Class). Begins (roleOf k)) (k .ensures) b }
+    let b = by-keys (λ (k : Class). Begins (roleOf k)) (1 ∷ 3 ∷ 4 ∷ 5 ∷ 6 ∷ 7 ∷ []) (k .ensures) (search needs) (c .match .keys3) in
+    record { up = l .0; low = l .1 .0; same = l .1 .1; begins = λ h. b }
 
 returns-2 : tie.Need-returns-2 Inv-loop μ-loop
 returns-2 c =

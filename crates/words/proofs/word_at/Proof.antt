@@ -1,11 +1,11 @@
 use Prim.Native.Nat.{_<_}
-use mathlib.Core.Path.{_≡_, refl, sym, ap, subst, _∙_}
+use mathlib.Core.Path.{_≡_, refl, _∙_}
 use mathlib.Core.List.{[], _∷_}
 use native.Mathlib.Omega.{arith}
 use borrow.Author.Needs.{needs}
 use lib.ListN.{length}
 use Rattle.words.specs.declared.Class.{Class}
-use Rattle.words.specs.Words.{Role, alone, belongs, roleOf, between, Begins}
+use Rattle.words.specs.Words.{alone, belongs, roleOf, between, Begins}
 use Rattle.words.proofs.Keys.{by-keys}
 use Rattle.words.proofs.Laws.{at-end, colon-word, plain-word}
 use Rattle.words.proofs.word_at.Statement.{statement}
@@ -41,8 +41,8 @@ returns-2 c =
     let k = c .before .before .class-of in
     let w = c .word-end .ensures in
     let h : at .result < length s = omega arith in
-    let p = by-keys (λ (r : Role). Begins r → r ≡ belongs) (0 ∷ 2 ∷ 3 ∷ 4 ∷ 5 ∷ 6 ∷ 7 ∷ []) (k .result) (λ b. absurd b, (λ b. absurd b, (λ b. refl, (λ b. refl, (λ b. refl, (λ b. refl, (λ b. refl, tt))))))) (c .before .match .keys2) in
-    let e = subst (λ (k : Class). Begins (roleOf k) → roleOf k ≡ belongs) (k .ensures) p (at .ensures .begins h) in
+    let p = by-keys (λ (k : Class). Begins (roleOf k) → roleOf k ≡ belongs) (0 ∷ 2 ∷ 3 ∷ 4 ∷ 5 ∷ 6 ∷ 7 ∷ []) (k .ensures) (λ b. absurd b, (λ b. absurd b, (λ b. refl, (λ b. refl, (λ b. refl, (λ b. refl, (λ b. refl, tt))))))) (c .before .match .keys2) in
+    let e = p (at .ensures .begins h) in
     record { is = at .ensures .same ∙ plain-word s (at .result) h e w; lies = (at .ensures .up, (omega (arith, w .up), w .low)) }
 
 add-t5 : tie.Need-add-t5
@@ -54,7 +54,7 @@ returns-3 c =
     let at = c .before .before .before .before .before .skip in
     let k = c .before .before .class-of in
     let h : at .result < length s = omega arith in
-    let e = ap roleOf (sym (k .ensures)) ∙ by-keys (λ (r : Role). r ≡ alone) (1 ∷ []) (k .result) (refl, tt) (c .before .match .keys1) in
+    let e = by-keys (λ (k : Class). roleOf k ≡ alone) (1 ∷ []) (k .ensures) (refl, tt) (c .before .match .keys1) in
     record { is = at .ensures .same ∙ colon-word s (at .result) h e; lies = (at .ensures .up, (omega arith, omega arith)) }
 
 pub word-at-spec : {M : Type 1} → statement M

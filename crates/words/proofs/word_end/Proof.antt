@@ -1,11 +1,11 @@
 use Prim.Native.Nat.{ℕ, _-_, _≤_}
-use mathlib.Core.Path.{_≡_, sym, ap, subst, _∙_}
+use mathlib.Core.Path.{_≡_}
 use mathlib.Core.List.{[], _∷_}
 use native.Mathlib.Omega.{arith}
 use borrow.Author.Needs.{needs}
 use lib.ListN.{length}
 use Rattle.words.specs.declared.Class.{Class}
-use Rattle.words.specs.Words.{Role, belongs, roleOf, Run}
+use Rattle.words.specs.Words.{belongs, roleOf, Run}
 use Rattle.words.proofs.Keys.{by-keys}
 use Rattle.words.proofs.Laws.{Ends, end-run, run-more, run-ends}
 use Rattle.words.proofs.word_end.Statement.{statement}
@@ -33,7 +33,7 @@ returns c =
     let l = c .before .before .before .before .loop in
     let k = c .before .class-of in
     l .inv .1 (l .at)
-    (run-ends s (l .at) (omega arith) (subst (λ (k : Class). Ends (roleOf k)) (k .ensures) (by-keys Ends (0 ∷ 1 ∷ 2 ∷ []) (k .result) (search needs) (c .match .keys1))))
+    (run-ends s (l .at) (omega arith) (by-keys (λ (k : Class). Ends (roleOf k)) (0 ∷ 1 ∷ 2 ∷ []) (k .ensures) (search needs) (c .match .keys1)))
 
 add-at : tie.Need-add-at Inv-loop μ-loop
 add-at c = omega arith
@@ -46,7 +46,7 @@ loop-again c =
     let s = c .before .before .before .before .before .before .args .s .now in
     let l = c .before .before .before .before .loop in
     let k = c .before .class-of in
-    let e = ap roleOf (sym (k .ensures)) ∙ by-keys (λ (r : Role). r ≡ belongs) (3 ∷ 4 ∷ 5 ∷ 6 ∷ 7 ∷ []) (k .result) (search needs) (c .match .keys2) in
+    let e = by-keys (λ (k : Class). roleOf k ≡ belongs) (3 ∷ 4 ∷ 5 ∷ 6 ∷ 7 ∷ []) (k .ensures) (search needs) (c .match .keys2) in
     (omega arith, λ r w. l .inv .1 r (run-more s (l .at) (omega arith) e w))
 
 returns-2 : tie.Need-returns-2 Inv-loop μ-loop
