@@ -1,0 +1,2 @@
+-- Words to numbers.
+pub mod Numeral
