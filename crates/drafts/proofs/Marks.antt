@@ -1,0 +1,100 @@
+-- Cells that are marked one after the other, and what an index stands for. Assumes nothing.
+use Prim.Native.Nat.{ℕ, zero, suc, _+_, _*_, _≤_, _<_}
+use mathlib.Core.Path.{_≡_, refl, sym, ap, _∙_}
+use mathlib.Core.Bool.{Bool, true, false, _||_, cond}
+use mathlib.Core.List.{List, [], _∷_}
+use native.Mathlib.Omega.{arith}
+use native.Mathlib.Numerals.{add-one}
+use borrow.Author.Tests.{eq-eqb, ne-eqb, eqb-false}
+use lib.Dec.{eqb}
+use lib.ListN.{length, set}
+use lib.IntN.{ℤ}
+use Rattle.integers.specs.Search.{some}
+use Rattle.drafts.specs.Drafts.{markedFrom, marked, lowest, spread, stated, rewarded}
+
+module _ {A : Type 0} where
+  same-length : (at : ℕ) (test : ℕ → Bool) (v : A) (l : List A) → length (markedFrom at test v l) ≡ length l
+  unfolding markedFrom
+  same-length at test v [] = refl
+  same-length at test v (x ∷ l) = ap suc (same-length (suc at) test v l)
+
+  unmarked : (at : ℕ) (test : ℕ → Bool) (v : A) (l : List A) → ((i : ℕ) → at ≤ i → test i ≡ false) → l ≡ markedFrom at test v l
+  unfolding markedFrom
+  unmarked at test v [] h = refl
+  unmarked at test v (x ∷ l) h =
+      ap (λ (r : List A). x ∷ r) (unmarked (suc at) test v l (λ i k. h i (omega arith)))
+      ∙ ap (λ (t : Bool). cond t v x ∷ markedFrom (suc at) test v l) (sym (h at (omega arith)))
+
+  one-cell : (f g : Bool) (v x : A) → cond g v (cond f v x) ≡ cond (f || g) v x
+  one-cell true true v x = refl
+  one-cell true false v x = refl
+  one-cell false g v x = refl
+
+  both-marked : (at : ℕ) (f g : ℕ → Bool) (v : A) (l : List A) → markedFrom at g v (markedFrom at f v l) ≡ markedFrom at (λ i. f i || g i) v l
+  unfolding markedFrom
+  both-marked at f g v [] = refl
+  both-marked at f g v (x ∷ l) =
+      ap (λ (r : List A). cond (g at) v (cond (f at) v x) ∷ r) (both-marked (suc at) f g v l)
+      ∙ ap (λ (y : A). y ∷ markedFrom (suc at) (λ i. f i || g i) v l) (one-cell (f at) (g at) v x)
+
+  writing : (at q : ℕ) (v : A) (l : List A) → set l q v ≡ markedFrom at (λ i. eqb i (at + q)) v l
+  unfolding markedFrom
+  writing at q v [] = refl
+  writing at zero v (x ∷ l) =
+      ap (λ (r : List A). v ∷ r) (unmarked (suc at) (λ i. eqb i (at + 0)) v l (λ i h. ne-eqb i (at + 0) (λ e. omega arith)))
+      ∙ ap (λ (t : Bool). cond t v x ∷ markedFrom (suc at) (λ i. eqb i (at + 0)) v l) (sym (eq-eqb at (at + 0) (omega arith)))
+  writing at (suc q) v (x ∷ l) =
+      let e : suc at + q ≡ at + suc q = omega arith in
+      ap (λ (r : List A). x ∷ r) (writing (suc at) q v l)
+      ∙ ap (λ (n : ℕ). x ∷ markedFrom (suc at) (λ i. eqb i n) v l) e
+      ∙ ap (λ (t : Bool). cond t v x ∷ markedFrom (suc at) (λ i. eqb i (at + suc q)) v l) (sym (ne-eqb at (at + suc q) (λ e. omega arith)))
+
+  -- a cell that is written is marked
+  pub write-marks : (q : ℕ) (v : A) (l : List A) → set l q v ≡ marked (λ i. eqb i q) v l
+  write-marks q v l =
+      let e : 0 + q ≡ q = omega arith in
+      writing 0 q v l ∙ ap (λ (n : ℕ). marked (λ i. eqb i n) v l) e
+
+  -- the tests p 0, .., p (k - 1) are marked, one after the other
+  pub record Marking (p : ℕ → ℕ → Bool) (v : A) (l : List A) (k : ℕ) (l' : List A) : Type 0 where
+    pub long : length l' ≡ length l
+    pub is : l' ≡ marked (λ i. some k (λ j. p j i)) v l
+
+  pub marking-start : (p : ℕ → ℕ → Bool) (v : A) (l : List A) → Marking p v l 0 l
+  unfolding some
+  marking-start p v l = record { long = refl; is = unmarked 0 (λ i. false) v l (λ i h. refl) }
+
+  pub marking-more : {p : ℕ → ℕ → Bool} {v : A} {l l' l'' : List A} {k : ℕ} → Marking p v l k l' → l'' ≡ marked (p k) v l' → Marking p v l (k + 1) l''
+  unfolding some
+  marking-more {p} {v} {l} {l'} {k = k} m e = record {
+    long = ap length e ∙ same-length 0 (p k) v l' ∙ m .long;
+    is = e ∙ ap (marked (p k) v) (m .is) ∙ both-marked 0 (λ i. some k (λ j. p j i)) (p k) v l
+        ∙ ap (λ (n : ℕ). marked (λ i. some n (λ j. p j i)) v l) (sym (add-one k));
+  }
+
+  pub marking-end : {p : ℕ → ℕ → Bool} {v : A} {l l' : List A} {k : ℕ} (n : ℕ) → Marking p v l k l' → k ≡ n → l' ≡ marked (λ i. some n (λ j. p j i)) v l
+  marking-end {p} {v} {l} n m e = m .is ∙ ap (λ (n : ℕ). marked (λ i. some n (λ j. p j i)) v l) e
+
+star-within : (t : Bool) (n i : ℕ) → (t ≡ false → i < n) → cond t 0 i + cond t n 1 ≤ n
+star-within true n i h = omega arith
+star-within false n i h = omega (arith, h refl)
+
+not-star : (n i : ℕ) → i ≤ n → eqb i n ≡ false → i < n
+not-star n i h e = omega (arith, eqb-false i n e)
+
+-- those that an index stands for lie below the count
+pub stands-within : (n i : ℕ) {l k : ℕ} → l ≡ lowest n i → k ≡ spread n i → i ≤ n → l + k ≤ n
+stands-within n i e d h = rw (e, d) (star-within (eqb i n) n i (not-star n i h))
+
+-- what is marked for them is what is stated
+pub stated-by : (m n w a s x p : ℕ) (l : List ℕ) {b bs r rs y ys : ℕ}
+    → b ≡ lowest m a → bs ≡ spread m a → r ≡ lowest n s → rs ≡ spread n s → y ≡ lowest w x → ys ≡ spread w x
+    → marked (λ i. some bs (λ b'. some rs (λ r'. some ys (λ j. eqb i (((b + b') * n + (r + r')) * w + (y + j)))))) p l ≡ stated m n w a s x p l
+unfolding stated
+stated-by m n w a s x p l b bs r rs y ys = rw (b, bs, r, rs, y, ys) refl
+
+pub rewarded-by : (m n a s : ℕ) (v : ℤ) (l : List ℤ) {r rs y ys : ℕ}
+    → r ≡ lowest m a → rs ≡ spread m a → y ≡ lowest n s → ys ≡ spread n s
+    → marked (λ i. some rs (λ r'. some ys (λ j. eqb i ((r + r') * n + (y + j))))) v l ≡ rewarded m n a s v l
+unfolding rewarded
+rewarded-by m n a s v l r rs y ys = rw (r, rs, y, ys) refl

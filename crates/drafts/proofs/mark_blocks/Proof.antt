@@ -1,0 +1,73 @@
+use Prim.Native.Nat.{ℕ, _+_, _-_, _*_, _≤_, _<_}
+use native.Mathlib.Nat.{mul-le-mul, mul-le-mul-right}
+use native.Mathlib.Omega.{arith}
+use borrow.Author.Needs.{needs}
+use lib.Dec.{eqb}
+use Rattle.integers.specs.Search.{some}
+use Rattle.integers.proofs.Lists.{row-below}
+use Rattle.tables.specs.Limits.{maxStates, maxActions}
+use Rattle.drafts.proofs.Marks.{Marking, marking-start, marking-more, marking-end}
+use Rattle.drafts.proofs.mark_blocks.Statement.{statement}
+use Rattle.drafts.proofs.mark_blocks.Tie as tie
+
+-- the rows of a block lie below the table's
+below : (a blocks n s rows b : ℕ) → b < blocks → s + rows ≤ n → a + blocks ≤ maxActions → n ≤ maxStates
+    → ((a + b) * n + (s + rows) ≤ (a + blocks) * n) × ((a + blocks) * n ≤ maxActions * maxStates)
+below a blocks n s rows b h few m k = (omega (arith, row-below (a + b) (a + blocks) n (omega arith)), mul-le-mul m k)
+
+abbrev Inv-loop : tie.InvT-loop
+Inv-loop cells₀ a blocks n s rows w x count v b₀ cells b =
+    (b ≤ blocks) × Marking (λ b i. some rows (λ r. some count (λ j. eqb i (((a + b) * n + (s + r)) * w + (x + j))))) v cells₀ b cells
+
+abbrev μ-loop : tie.MeasureT-loop
+μ-loop cells₀ a blocks n s rows w x count v b₀ cells b = blocks - b
+
+loop-holds : tie.Need-loop-holds Inv-loop μ-loop
+loop-holds c = (omega arith, marking-start _ _ _)
+
+add-mark-rows : tie.Need-add-mark-rows Inv-loop μ-loop
+add-mark-rows c = omega arith
+
+mul-mark-rows : tie.Need-mul-mark-rows Inv-loop μ-loop
+mul-mark-rows c =
+    let a = c .before .before .before .before in
+    let g = a .args in
+    omega (arith, below (g .a) (g .blocks) (g .n) (g .s) (g .rows) (c .before .before .loop .b) (omega arith) (a .pre .1 .0 .0) (a .pre .0 .0) (a .pre .0 .1 .0))
+
+mark-rows-requires : tie.Need-mark-rows-requires Inv-loop μ-loop
+mark-rows-requires c κs =
+    let a = c .before .before .before .before in
+    let g = a .args in
+    let under = below (g .a) (g .blocks) (g .n) (g .s) (g .rows) (c .before .before .loop .b) (omega arith) (a .pre .1 .0 .0) (a .pre .0 .0) (a .pre .0 .1 .0) in
+    ((omega (arith, under), (a .pre .0 .1 .1, a .pre .1 .0 .1)), omega (arith, c .before .before .loop .inv .1 .long, a .pre .1 .1, mul-le-mul-right (a .args .w) (under .0)))
+
+add-b : tie.Need-add-b Inv-loop μ-loop
+add-b c = search needs
+
+loop-less : tie.Need-loop-less Inv-loop μ-loop
+loop-less c = search needs
+
+loop-again : tie.Need-loop-again Inv-loop μ-loop
+loop-again c = (omega arith, marking-more (c .before .before .before .before .before .loop .inv .1) (c .before .before .mark-rows .ensures))
+
+same-length : tie.Need-same-length Inv-loop μ-loop
+same-length c = c .before .loop .inv .1 .long
+
+returns : tie.Need-returns Inv-loop μ-loop
+returns c = marking-end _ (c .before .loop .inv .1) (omega arith)
+
+pub mark-blocks-spec : {M : Type 1} → statement M
+mark-blocks-spec =
+    tie.close
+    (tie.spec
+    Inv-loop
+    μ-loop
+    loop-holds
+    add-mark-rows
+    mul-mark-rows
+    mark-rows-requires
+    add-b
+    loop-less
+    loop-again
+    same-length
+    returns)

@@ -1,0 +1,131 @@
+// What a statement of a model file does to the cells of a table: an index stands for itself, a star for all.
+ghost use mathlib.Core.Path.{_≡_};
+ghost use Prim.Native.Nat.{_+_, _*_, _≤_};
+ghost use lib.Dec.{eqb};
+ghost use lib.ListN.{length};
+ghost use Rattle.integers.specs.Search.{some};
+ghost use Rattle.tables.specs.Limits.{maxStates, maxActions};
+ghost use Rattle.drafts.specs.Drafts.{marked, lowest, spread, stated, rewarded};
+
+// The first of those that i stands for: 0 where i is n, which stands for all of n.
+fn lowest_of(n: usize, i: usize) -> usize
+    ensures { λ r. ⌜ r ≡ lowest n i ⌝ }
+{
+    if i == n {
+        return 0;
+    }
+    i
+}
+
+// How many they are.
+fn spread_of(n: usize, i: usize) -> usize
+    ensures { λ r. ⌜ r ≡ spread n i ⌝ }
+{
+    if i == n {
+        return n;
+    }
+    1
+}
+
+// v in `count` cells of a row, from the place x on.
+fn mark_u16(cells: &mut [u16], row: usize, x: usize, count: usize, v: u16)
+    requires { ⌜ row + (x + count) ≤ length (now cells) ⌝ }
+    ensures { λ _. ⌜ now (cells .exit) ≡ marked (λ i. some count (λ j. eqb i (row + (x + j)))) v (now (cells .entry)) ⌝ }
+{
+    for j in 0..count {
+        cells[row + (x + j)] = v;
+    }
+}
+
+fn mark_i64(cells: &mut [i64], row: usize, x: usize, count: usize, v: i64)
+    requires { ⌜ row + (x + count) ≤ length (now cells) ⌝ }
+    ensures { λ _. ⌜ now (cells .exit) ≡ marked (λ i. some count (λ j. eqb i (row + (x + j)))) v (now (cells .entry)) ⌝ }
+{
+    for j in 0..count {
+        cells[row + (x + j)] = v;
+    }
+}
+
+// The same in `rows` rows of width w, from row s of a block on.
+fn mark_rows(
+    cells: &mut [u16],
+    block: usize,
+    s: usize,
+    rows: usize,
+    w: usize,
+    x: usize,
+    count: usize,
+    v: u16,
+)
+    requires { ⌜ (block + (s + rows) ≤ maxActions * maxStates) × ((w ≤ maxStates) × (x + count ≤ w)) ⌝ }
+    requires { ⌜ (block + (s + rows)) * w ≤ length (now cells) ⌝ }
+    ensures { λ _. ⌜ now (cells .exit) ≡ marked (λ i. some rows (λ r. some count (λ j. eqb i ((block + (s + r)) * w + (x + j))))) v (now (cells .entry)) ⌝ }
+{
+    for r in 0..rows {
+        mark_u16(cells, (block + (s + r)) * w, x, count, v);
+    }
+}
+
+// The same in `blocks` blocks of n rows.
+fn mark_blocks(
+    cells: &mut [u16],
+    a: usize,
+    blocks: usize,
+    n: usize,
+    s: usize,
+    rows: usize,
+    w: usize,
+    x: usize,
+    count: usize,
+    v: u16,
+)
+    requires { ⌜ (a + blocks ≤ maxActions) × ((n ≤ maxStates) × (w ≤ maxStates)) ⌝ }
+    requires { ⌜ (s + rows ≤ n) × (x + count ≤ w) ⌝ }
+    requires { ⌜ (a + blocks) * n * w ≤ length (now cells) ⌝ }
+    ensures { λ _. ⌜ now (cells .exit) ≡ marked (λ i. some blocks (λ b. some rows (λ r. some count (λ j. eqb i (((a + b) * n + (s + r)) * w + (x + j)))))) v (now (cells .entry)) ⌝ }
+{
+    for b in 0..blocks {
+        mark_rows(cells, (a + b) * n, s, rows, w, x, count, v);
+    }
+}
+
+// p is stated for block a, row s and place x of a table of m blocks of n rows of width w.
+pub fn state(cells: &mut [u16], m: usize, n: usize, w: usize, a: usize, s: usize, x: usize, p: u16)
+    requires { ⌜ (m ≤ maxActions) × ((n ≤ maxStates) × (w ≤ maxStates)) ⌝ }
+    requires { ⌜ (a ≤ m) × ((s ≤ n) × (x ≤ w)) ⌝ }
+    requires { ⌜ m * n * w ≤ length (now cells) ⌝ }
+    ensures { λ _. ⌜ now (cells .exit) ≡ stated m n w a s x p (now (cells .entry)) ⌝ }
+{
+    let block = lowest_of(m, a);
+    let blocks = spread_of(m, a);
+    let row = lowest_of(n, s);
+    let rows = spread_of(n, s);
+    let place = lowest_of(w, x);
+    let count = spread_of(w, x);
+    mark_blocks(cells, block, blocks, n, row, rows, w, place, count, p);
+}
+
+// v in `count` cells from x on, of `rows` rows of width n from row a on.
+fn mark_rewards(cells: &mut [i64], a: usize, rows: usize, n: usize, x: usize, count: usize, v: i64)
+    requires { ⌜ (a + rows ≤ maxActions) × ((n ≤ maxStates) × (x + count ≤ n)) ⌝ }
+    requires { ⌜ (a + rows) * n ≤ length (now cells) ⌝ }
+    ensures { λ _. ⌜ now (cells .exit) ≡ marked (λ i. some rows (λ r. some count (λ j. eqb i ((a + r) * n + (x + j))))) v (now (cells .entry)) ⌝ }
+{
+    for r in 0..rows {
+        mark_i64(cells, (a + r) * n, x, count, v);
+    }
+}
+
+// r is stated for action a and state s, of m actions and n states.
+pub fn state_reward(cells: &mut [i64], m: usize, n: usize, a: usize, s: usize, r: i64)
+    requires { ⌜ (m ≤ maxActions) × (n ≤ maxStates) ⌝ }
+    requires { ⌜ (a ≤ m) × (s ≤ n) ⌝ }
+    requires { ⌜ m * n ≤ length (now cells) ⌝ }
+    ensures { λ _. ⌜ now (cells .exit) ≡ rewarded m n a s r (now (cells .entry)) ⌝ }
+{
+    let row = lowest_of(m, a);
+    let rows = spread_of(m, a);
+    let place = lowest_of(n, s);
+    let count = spread_of(n, s);
+    mark_rewards(cells, row, rows, n, place, count, r);
+}
