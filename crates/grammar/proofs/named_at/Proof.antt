@@ -1,0 +1,43 @@
+use Rattle.grammar.specs.Grammar.{key, colon, named}
+use Rattle.grammar.proofs.Laws.{value-next, reads-on}
+use Rattle.grammar.proofs.Arms.{reads-back}
+use borrow.Author.Needs.{needs}
+use Rattle.grammar.proofs.named_at.Statement.{statement}
+use Rattle.grammar.proofs.named_at.Tie as tie
+
+key-at-requires : tie.Need-key-at-requires
+key-at-requires c κs = search needs
+
+enum-known-x : tie.Need-enum-known-x
+enum-known-x c = search needs
+
+enum-told : tie.Need-enum-told
+enum-told c = search needs
+
+returns : tie.Need-returns
+unfolding named
+returns c = reads-back (λ v. v) 0 (λ _ ws. key colon ws) (c .before .before .key-at .ensures) (c .before .match .keys2)
+
+slice-aggregate-key-at : tie.Need-slice-aggregate-key-at
+slice-aggregate-key-at c = search needs
+
+key-at-requires-2 : tie.Need-key-at-requires-2
+key-at-requires-2 c κs = value-next _ _ (c .before .before .before .before .key-at .ensures) (c .before .before .x .given .1) .1 .1
+
+returns-2 : tie.Need-returns-2
+unfolding named
+returns-2 c =
+    let g = c .before .before .before .x .given in
+    reads-on (g .0 .0) (g .0 .1 .0) (λ _ ws. key colon ws) (c .before .before .before .before .before .key-at .ensures) (g .1) (c .key-at2 .ensures)
+
+pub named-at-spec : {M : Type 1} → statement M
+named-at-spec =
+    tie.close
+    (tie.spec
+    key-at-requires
+    enum-known-x
+    enum-told
+    returns
+    slice-aggregate-key-at
+    key-at-requires-2
+    returns-2)

@@ -1,0 +1,2 @@
+-- Words to numbers, keys and indices.
+pub mod Grammar
