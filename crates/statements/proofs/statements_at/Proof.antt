@@ -1,0 +1,135 @@
+use Prim.Native.Nat.{ℕ, _-_}
+use mathlib.Core.Path.{_≡_, refl, _∙_}
+use mathlib.Core.List.{List}
+use native.Mathlib.Omega.{arith}
+use borrow.Author.Needs.{needs}
+use lib.ListN.{length}
+use lib.IntN.{ℤ}
+use Rattle.grammar.proofs.Laws.{value-next}
+use Rattle.statements.specs.Statements.{reward, draft}
+use Rattle.statements.proofs.Laws.{room-kept, Left, left-start, left-end, left-back, left-on}
+use Prim.Native.Nat.{ℕ, _-_}
+use mathlib.Core.Path.{_≡_, refl, _∙_}
+use mathlib.Core.List.{List}
+use native.Mathlib.Omega.{arith}
+use borrow.Author.Needs.{needs}
+use lib.ListN.{length}
+use lib.IntN.{ℤ}
+use Rattle.grammar.proofs.Laws.{value-next}
+use Rattle.statements.specs.Statements.{reward, draft, Room}
+use Rattle.statements.proofs.Laws.{room-kept, Left, left-start, left-end, left-back, left-on}
+use Rattle.statements.proofs.statements_at.Statement.{statement}
+use Rattle.statements.proofs.statements_at.Tie as tie
+
+record Going (file : List ℕ) (from : ℕ) (transition₀ observation₀ : List ℕ) (reward₀ : List ℤ) (m n k : ℕ) (transition observation : List ℕ) (reward : List ℤ) (at : ℕ) : Type 0 where
+  transition-room : Room m n n transition
+  observation-room : Room m n k observation
+  reward-room : Room m n 1 reward
+  transition-long : length transition ≡ length transition₀
+  observation-long : length observation ≡ length observation₀
+  reward-long : length reward ≡ length reward₀
+  left : Left m n k file from (draft transition₀ observation₀ reward₀) at (draft transition observation reward)
+
+abbrev Inv-loop : tie.InvT-loop
+Inv-loop file from transition₀ observation₀ reward₀ m n k at₀ transition observation reward at =
+    Going file from transition₀ observation₀ reward₀ m n k transition observation reward at
+
+abbrev μ-loop : tie.MeasureT-loop
+μ-loop file from transition₀ observation₀ reward₀ m n k at₀ transition observation reward at = length file - at
+
+loop-holds : tie.Need-loop-holds Inv-loop μ-loop
+loop-holds c =
+    let p = c .before .before .before .pre .1 in
+    record { transition-room = p .0; observation-room = p .1 .0; reward-room = p .1 .1; transition-long = refl; observation-long = refl; reward-long = refl; left = left-start _ _ _ _ _ _ (c .before .before .before .pre .0) }
+
+word-from-requires : tie.Need-word-from-requires Inv-loop μ-loop
+word-from-requires c κs = search needs
+
+enum-told : tie.Need-enum-told Inv-loop μ-loop
+enum-told c = search needs
+
+enum-told-2 : tie.Need-enum-told-2 Inv-loop μ-loop
+enum-told-2 c = search needs
+
+same-length : tie.Need-same-length Inv-loop μ-loop
+same-length c = c .before .before .before .loop .inv .transition-long
+
+same-length-2 : tie.Need-same-length-2 Inv-loop μ-loop
+same-length-2 c = c .before .before .before .loop .inv .observation-long
+
+same-length-3 : tie.Need-same-length-3 Inv-loop μ-loop
+same-length-3 c = c .before .before .before .loop .inv .reward-long
+
+returns : tie.Need-returns Inv-loop μ-loop
+returns c =
+    let i = c .before .before .before .loop .inv .left in
+    left-end _ _ _ _ _ _ i (c .before .before .word-from .result) (c .before .before .word-from .ensures (i .inside)) (c .before .match .keys2)
+
+statement-at-requires : tie.Need-statement-at-requires Inv-loop μ-loop
+statement-at-requires c κs =
+    let i = c .before .before .before .before .before .before .loop .inv in
+    (i .left .inside, (i .transition-room, (i .observation-room, i .reward-room)))
+
+enum-known-x : tie.Need-enum-known-x Inv-loop μ-loop
+enum-known-x c = search needs
+
+enum-told-3 : tie.Need-enum-told-3 Inv-loop μ-loop
+enum-told-3 c = search needs
+
+same-length-4 : tie.Need-same-length-4 Inv-loop μ-loop
+same-length-4 c = c .before .before .before .before .before .before .before .statement-at .kept .1 .1 .0 ∙ c .before .before .before .before .before .before .before .before .before .before .before .before .before .before .loop .inv .transition-long
+
+same-length-5 : tie.Need-same-length-5 Inv-loop μ-loop
+same-length-5 c = c .before .before .before .before .before .before .before .statement-at .kept .1 .1 .1 .0 ∙ c .before .before .before .before .before .before .before .before .before .before .before .before .before .before .loop .inv .observation-long
+
+same-length-6 : tie.Need-same-length-6 Inv-loop μ-loop
+same-length-6 c = c .before .before .before .before .before .before .before .statement-at .kept .1 .1 .1 .1 .0 ∙ c .before .before .before .before .before .before .before .before .before .before .before .before .before .before .loop .inv .reward-long
+
+returns-2 : tie.Need-returns-2 Inv-loop μ-loop
+returns-2 c =
+    let i = c .before .before .before .before .before .before .before .before .before .before .before .before .before .before .loop .inv .left in
+    left-back _ _ _ _ _ _ i (c .before .before .before .before .before .before .before .before .before .before .before .before .before .word-from .result) (c .before .before .before .before .before .before .before .before .before .before .before .before .before .word-from .ensures (i .inside)) _ (c .before .before .before .before .before .before .before .before .before .before .before .before .match .keys1) (c .before .before .before .before .before .before .before .statement-at .ensures) (c .before .match2 .keys2)
+
+loop-less : tie.Need-loop-less Inv-loop μ-loop
+loop-less c =
+    let g = value-next _ _ (c .before .before .before .before .before .before .before .before .statement-at .ensures) (c .before .x .given .1) in
+    omega (arith, g)
+
+loop-again : tie.Need-loop-again Inv-loop μ-loop
+loop-again c =
+    let i = c .before .before .before .before .before .before .before .before .before .before .before .before .before .before .before .loop .inv in
+    let s = c .before .before .before .before .before .before .before .before .statement-at in
+    let g = c .before .x .given in
+    record {
+      transition-room = room-kept (i .transition-room) (s .kept .1 .1 .0);
+      observation-room = room-kept (i .observation-room) (s .kept .1 .1 .1 .0);
+      reward-room = room-kept (i .reward-room) (s .kept .1 .1 .1 .1 .0);
+      transition-long = s .kept .1 .1 .0 ∙ i .transition-long;
+      observation-long = s .kept .1 .1 .1 .0 ∙ i .observation-long;
+      reward-long = s .kept .1 .1 .1 .1 .0 ∙ i .reward-long;
+      left = left-on _ _ _ _ _ _ (i .left) (c .before .before .before .before .before .before .before .before .before .before .before .before .before .before .word-from .result) (c .before .before .before .before .before .before .before .before .before .before .before .before .before .before .word-from .ensures (i .left .inside)) (g .0 .0) (g .0 .1 .0) (c .before .before .before .before .before .before .before .before .before .before .before .before .before .match .keys1) (s .ensures) (g .1);
+    }
+
+pub statements-at-spec : {M : Type 1} → statement M
+statements-at-spec =
+    tie.close
+    (tie.spec
+    Inv-loop
+    μ-loop
+    loop-holds
+    word-from-requires
+    enum-told
+    enum-told-2
+    same-length
+    same-length-2
+    same-length-3
+    returns
+    statement-at-requires
+    enum-known-x
+    enum-told-3
+    same-length-4
+    same-length-5
+    same-length-6
+    returns-2
+    loop-less
+    loop-again)

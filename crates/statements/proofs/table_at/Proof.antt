@@ -1,0 +1,126 @@
+use Prim.Native.Nat.{ℕ}
+use mathlib.Core.List.{List}
+use native.Mathlib.Omega.{arith}
+use borrow.Author.Needs.{needs}
+use Rattle.words.specs.Words.{Words, wordsIn, between}
+use Rattle.drafts.specs.Drafts.{stated}
+use Rattle.grammar.specs.Grammar.{Answer, _then_, choose, key, colon}
+use Rattle.grammar.proofs.Laws.{value-next, reads-on, choose-on}
+use Rattle.grammar.proofs.Arms.{reads-back, choose-back}
+use Rattle.statements.specs.Statements.{probability, indexed, row, entry, table}
+use borrow.Author.Needs.{needs}
+use Rattle.statements.proofs.table_at.Statement.{statement}
+use Rattle.statements.proofs.table_at.Tie as tie
+
+-- what follows `: s`, and `: a`
+abbrev cells-after : ℕ → ℕ → ℕ → List ℕ → ℕ → ℕ → Words → Answer (List ℕ)
+cells-after m n w cells a s ws = choose (key colon ws) (λ ws. entry m n w a s cells ws) (row probability (stated m n w a s) 0 w cells ws)
+
+abbrev after : ℕ → ℕ → ℕ → List ℕ → ℕ → Words → Answer (List ℕ)
+after m n w cells a ws = indexed n ws then λ s ws. cells-after m n w cells a s ws
+
+indexed-at-requires : tie.Need-indexed-at-requires
+indexed-at-requires c κs = search needs
+
+enum-known-i : tie.Need-enum-known-i
+enum-known-i c = search needs
+
+enum-told : tie.Need-enum-told
+enum-told c = search needs
+
+returns : tie.Need-returns
+unfolding table
+returns c =
+    let a = c .before .before .before .before .before .args in
+    reads-back _ 0 (after (a .m) (a .n) (a .w) (a .cells .now)) (c .before .before .indexed-at .ensures) (c .before .match .keys2)
+
+indexed-at-requires-2 : tie.Need-indexed-at-requires-2
+indexed-at-requires-2 c κs = (value-next _ _ (c .before .before .before .indexed-at .ensures) (c .before .i .given .1) .1 .1, (c .before .before .before .before .before .before .pre .1 .some-rows, c .before .before .before .before .before .before .pre .1 .few-rows))
+
+enum-known-j : tie.Need-enum-known-j
+enum-known-j c = search needs
+
+enum-told-2 : tie.Need-enum-told-2
+enum-told-2 c = search needs
+
+returns-2 : tie.Need-returns-2
+unfolding table
+returns-2 c =
+    let a = c .before .before .before .before .before .before .before .before .before .args in
+    let g = c .before .before .before .before .i .given in
+    reads-on (g .0 .0) (g .0 .1 .0) (after (a .m) (a .n) (a .w) (a .cells .now)) (c .before .before .before .before .before .before .indexed-at .ensures) (g .1)
+    (reads-back _ 0 (cells-after (a .m) (a .n) (a .w) (a .cells .now) (g .0 .0)) (c .before .before .indexed-at2 .ensures) (c .before .match2 .keys2))
+
+slice-aggregate-key-at : tie.Need-slice-aggregate-key-at
+slice-aggregate-key-at c = search needs
+
+key-at-requires : tie.Need-key-at-requires
+key-at-requires c κs = value-next _ _ (c .before .before .before .before .indexed-at2 .ensures) (c .before .before .j .given .1) .1 .1
+
+enum-known-c : tie.Need-enum-known-c
+enum-known-c c = search needs
+
+enum-told-3 : tie.Need-enum-told-3
+enum-told-3 c = search needs
+
+row-at-requires : tie.Need-row-at-requires
+row-at-requires c κs =
+    let i = value-next _ _ (c .before .before .before .before .before .before .before .before .before .before .before .before .indexed-at .ensures) (c .before .before .before .before .before .before .before .before .before .before .i .given .1) in
+    let j = value-next _ _ (c .before .before .before .before .before .before .before .before .indexed-at2 .ensures) (c .before .before .before .before .before .before .j .given .1) in
+    ((j .1 .1, c .before .before .before .before .before .before .before .before .before .before .before .before .before .before .before .pre .1), (i .0, (j .0, (omega arith, omega arith))))
+
+same-length : tie.Need-same-length
+same-length c = search needs
+
+returns-3 : tie.Need-returns-3
+unfolding table
+returns-3 c =
+    let a = c .before .before .before .before .before .before .before .before .before .before .before .before .before .before .before .before .before .before .args in
+    let g = c .before .before .before .before .before .before .before .before .before .before .before .before .before .i .given in
+    let h = c .before .before .before .before .before .before .before .before .before .j .given in
+    reads-on (g .0 .0) (g .0 .1 .0) (after (a .m) (a .n) (a .w) (a .cells .now)) (c .before .before .before .before .before .before .before .before .before .before .before .before .before .before .before .indexed-at .ensures) (g .1)
+    (reads-on (h .0 .0) (h .0 .1 .0) (cells-after (a .m) (a .n) (a .w) (a .cells .now) (g .0 .0)) (c .before .before .before .before .before .before .before .before .before .before .before .indexed-at2 .ensures) (h .1)
+    (choose-back (λ ws. entry (a .m) (a .n) (a .w) (g .0 .0) (h .0 .0) (a .cells .now) ws) (c .before .before .before .before .before .before .key-at .ensures) (c .before .before .before .before .before .match3 .keys2) (c .before .before .row-at .ensures)))
+
+entry-at-requires : tie.Need-entry-at-requires
+entry-at-requires c κs =
+    let i = value-next _ _ (c .before .before .before .before .before .before .before .before .before .before .before .before .before .indexed-at .ensures) (c .before .before .before .before .before .before .before .before .before .before .before .i .given .1) in
+    let j = value-next _ _ (c .before .before .before .before .before .before .before .before .before .indexed-at2 .ensures) (c .before .before .before .before .before .before .before .j .given .1) in
+    ((value-next _ _ (c .before .before .before .before .key-at .ensures) (c .before .before .c .given .1) .1 .1, c .before .before .before .before .before .before .before .before .before .before .before .before .before .before .before .before .pre .1), (i .0, j .0))
+
+same-length-2 : tie.Need-same-length-2
+same-length-2 c = search needs
+
+returns-4 : tie.Need-returns-4
+unfolding table
+returns-4 c =
+    let a = c .before .before .before .before .before .before .before .before .before .before .before .before .before .before .before .before .before .before .before .args in
+    let g = c .before .before .before .before .before .before .before .before .before .before .before .before .before .before .i .given in
+    let e = c .before .before .before .before .before .c .given in
+    let h = c .before .before .before .before .before .before .before .before .before .before .j .given in
+    reads-on (g .0 .0) (g .0 .1 .0) (after (a .m) (a .n) (a .w) (a .cells .now)) (c .before .before .before .before .before .before .before .before .before .before .before .before .before .before .before .before .indexed-at .ensures) (g .1)
+    (reads-on (h .0 .0) (h .0 .1 .0) (cells-after (a .m) (a .n) (a .w) (a .cells .now) (g .0 .0)) (c .before .before .before .before .before .before .before .before .before .before .before .before .indexed-at2 .ensures) (h .1)
+    (choose-on (e .0 .0) (e .0 .1 .0) (λ ws. entry (a .m) (a .n) (a .w) (g .0 .0) (h .0 .0) (a .cells .now) ws) (row probability (stated (a .m) (a .n) (a .w) (g .0 .0) (h .0 .0)) 0 (a .w) (a .cells .now) (wordsIn between (a .file .now) (h .0 .1 .0))) (c .before .before .before .before .before .before .before .key-at .ensures) (e .1) (c .before .before .entry-at .ensures)))
+
+pub table-at-spec : {M : Type 1} → statement M
+table-at-spec =
+    tie.close
+    (tie.spec
+    indexed-at-requires
+    enum-known-i
+    enum-told
+    returns
+    indexed-at-requires-2
+    enum-known-j
+    enum-told-2
+    returns-2
+    slice-aggregate-key-at
+    key-at-requires
+    enum-known-c
+    enum-told-3
+    row-at-requires
+    same-length
+    returns-3
+    entry-at-requires
+    same-length-2
+    returns-4)

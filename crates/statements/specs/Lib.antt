@@ -1,0 +1,2 @@
+-- Statements to tables.
+pub mod Statements
