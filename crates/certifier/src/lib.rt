@@ -129,15 +129,14 @@ fn judge_shape(c: Certifier, l: Level) -> Verdict
     }
     let m = c.tables;
     let standing = c.level;
-    let actions = l.actions;
-    let choices = l.choices;
     let numbers = shape::numbers_exist(
-        &actions,
-        &choices,
+        &l.actions,
+        &l.choices,
         l.vectors,
         m.actions,
         m.observations,
         standing.vectors,
+        10,
     );
     let Verdict::Fine = numbers else {
         return numbers;

@@ -5,11 +5,14 @@ use mathlib.Core.Bool.{Bool, true, false}
 use native.Mathlib.Nat.{mul-le-mul}
 use native.Mathlib.Omega.{arith}
 use lib.ListN.{length}
+use borrow.Author.Tests.{ltb-true}
 use Rattle.integers.proofs.Lists.{row-below}
 use Rattle.tables.specs.declared.Verdict.{Verdict}
 use Rattle.tables.specs.declared.Verdict.the-variants.{Fine, Refused}
 use Rattle.tables.specs.Verdicts.{_before_, unless}
+use Rattle.tables.proofs.Refusals.{before-fine, unless-fine, fine-at}
 use Rattle.levels.specs.declared.Level.{Level}
+use Rattle.levels.specs.Judged.{numbersIn}
 
 -- ---- one test
 pub passed : {b : Bool} (k i : ℕ) → b ≡ true → unless b k i ≡ Fine
@@ -20,6 +23,15 @@ failed k i e = rw e
 
 pub fine-before : {v w u : Verdict} → v ≡ Fine → w ≡ u → (v before w) ≡ u
 fine-before e f = rw (e, f)
+
+-- of vectors or nodes whose numbers are not refused, each action and each choice exists
+pub numbers-in : (number vectors m k standing : ℕ) (action : ℕ → ℕ) (choice : ℕ → ℕ → ℕ)
+    → numbersIn number vectors m k standing action choice ≡ Fine
+    → (v : ℕ) → v < vectors → (action v < m) × ((o : ℕ) → o < k → choice v o < standing)
+unfolding numbersIn
+numbers-in number vectors m k standing action choice e v l =
+    let h = before-fine _ _ (fine-at _ vectors e v l) in
+    (ltb-true _ _ (unless-fine _ _ _ (h .0)), λ o b. ltb-true _ _ (unless-fine _ _ _ (fine-at _ k (h .1) o b)))
 
 -- ---- row r of width w lies in an array that has room for R rows of width X
 pub row-fits : {R X : ℕ} (r rows w : ℕ) → r < rows → rows ≤ R → w ≤ X → r * w + w ≤ R * X

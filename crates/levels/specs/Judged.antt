@@ -55,13 +55,14 @@ standingHolds M t L =
 
 -- ---- a level W that is offered over the standing level L
 
--- 10: an action or a chosen vector does not exist
-unfoldable pub numbersIn : ℕ → ℕ → ℕ → ℕ → (ℕ → ℕ) → (ℕ → ℕ → ℕ) → Verdict
-numbersIn vectors m k standing action choice =
-    firstOf vectors (λ v. unless (ltb (action v) m) 10 v before firstOf k (λ o. unless (ltb (choice v o) standing) 10 v))
+-- the first vector, or node of a plan graph, of which the action or a choice does not exist
+unfoldable pub numbersIn : ℕ → ℕ → ℕ → ℕ → ℕ → (ℕ → ℕ) → (ℕ → ℕ → ℕ) → Verdict
+numbersIn number vectors m k standing action choice =
+    firstOf vectors (λ v. unless (ltb (action v) m) number v before firstOf k (λ o. unless (ltb (choice v o) standing) number v))
 
+-- 10: an action or a chosen vector does not exist
 abbrev pub numbersVerdict : Model → Level → Level → Verdict
-numbersVerdict M L W = numbersIn (W .vectors) (M .actions) (M .observations) (L .vectors) (W .action) (W .choice)
+numbersVerdict M L W = numbersIn 10 (W .vectors) (M .actions) (M .observations) (L .vectors) (W .action) (W .choice)
 
 -- 13: a vector entry exceeds its backup
 unfoldable pub floorsVerdict : Model → Level → Level → Verdict

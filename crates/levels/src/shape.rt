@@ -9,7 +9,6 @@ ghost use Rattle.plans.specs.Limits.{maxPoints};
 ghost use Rattle.levels.specs.Storage.{choiceIn, pointIn, keptLevel, freshLevel, noLevel};
 ghost use Rattle.levels.specs.Judged.{countsHold, rowsWithin, weightsVerdict, actionsExist, numbersIn};
 use super::Actions;
-use super::Choices;
 use super::Level;
 use integers::cells;
 use tables::Tables;
@@ -105,28 +104,30 @@ pub fn actions_exist(actions: &Actions, vectors: usize, m: usize) -> bool
     true
 }
 
-// 10: the first vector whose action, or a vector that it chooses, does not exist.
-pub fn numbers_exist(
-    actions: &Actions,
-    choices: &Choices,
+// 10 of a level, 18 of a plan graph: the first vector or node whose action, or a number that it chooses, does not exist.
+pub fn numbers_exist<'a>(
+    actions: &'a [u8],
+    choices: &'a [u16],
     vectors: usize,
     m: usize,
     k: usize,
     standing: usize,
+    number: u8,
 ) -> Verdict
     requires { ⌜ (vectors ≤ maxVectors) × (k ≤ maxObservations) ⌝ }
-    ensures { λ r. ⌜ r ≡ numbersIn vectors m k standing (λ v. getD (now (actions .entry)) v 0) (choiceIn k (now (choices .entry))) ⌝ }
+    requires { ⌜ (vectors ≤ length (now actions)) × (vectors * k ≤ length (now choices)) ⌝ }
+    ensures { λ r. ⌜ r ≡ numbersIn number vectors m k standing (λ v. getD (now (actions .entry)) v 0) (choiceIn k (now (choices .entry))) ⌝ }
 {
     let mut found = Verdict::Fine;
     'vectors: for v in 0..vectors {
         if m <= action(actions[v]) {
-            found = Verdict::Refused(10, v);
+            found = Verdict::Refused(number, v);
             break 'vectors;
         }
         let at = v * k;
         for o in 0..k {
             if standing <= choice(choices[at + o]) {
-                found = Verdict::Refused(10, v);
+                found = Verdict::Refused(number, v);
                 break 'vectors;
             }
         }

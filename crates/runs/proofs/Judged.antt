@@ -19,7 +19,7 @@ use Rattle.plans.specs.Limits.{pointTotal, range}
 use Rattle.plans.specs.Level.{Level, backupAt, corner-weight, follows, Meets, Shaped}
 use Rattle.levels.specs.Judged.{countsHold, rowsWithin, rangesVerdict, weightsVerdict, actionsExist, isFine, standingHolds}
 use Rattle.levels.specs.Judged.{numbersIn, numbersVerdict, floorsVerdict, coversBackups, cornersVerdict, pointsVerdict, offerVerdict}
-use Rattle.levels.proofs.Laws.{passed, fine-before}
+use Rattle.levels.proofs.Laws.{passed, fine-before, numbers-in}
 
 -- ---- one test
 fine-true : (v : Verdict) → isFine v ≡ true → v ≡ Fine
@@ -133,10 +133,7 @@ module _ (M : Model) (t : ℕ) (L : Level) where
   module _ (W : Level) where
     pub numbers-fine : numbersVerdict M L W ≡ Fine
         → (v : ℕ) → v < W .vectors → (W .action v < M .actions) × ((o : ℕ) → o < M .observations → W .choice v o < L .vectors)
-    unfolding numbersIn
-    numbers-fine e v l =
-        let h = before-fine _ _ (fine-at _ (W .vectors) e v l) in
-        (ltb-true _ _ (unless-fine _ _ _ (h .0)), λ o b. ltb-true _ _ (unless-fine _ _ _ (fine-at _ (M .observations) (h .1) o b)))
+    numbers-fine e = numbers-in 10 (W .vectors) (M .actions) (M .observations) (L .vectors) (W .action) (W .choice) e
 
     floors-fine : floorsVerdict M L W ≡ Fine
         → (v : ℕ) → v < W .vectors → (s : ℕ) → s < M .states → K · W .entry v s ≤ℤ backup M (W .action v) (follows L (W .choice v)) s

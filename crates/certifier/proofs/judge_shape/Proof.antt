@@ -31,7 +31,7 @@ abbrev of-counts : tie.Else3 → tie.Else1
 of-counts c = c .before .before .before
 
 abbrev of-numbers : tie.After-numbers-exist → tie.Else3
-of-numbers c = c .before .before .before .before .before .before .before
+of-numbers c = c .before .before .before .before .before .before .before .before
 
 abbrev of-ranges : tie.After-ranges-hold → tie.After-numbers-exist
 of-ranges c = c .before .before .before
@@ -102,7 +102,11 @@ returns-3 c =
     passes 7 0 (stands (e .before)) (passes 8 0 (room e) (breaks _ (sym (c .before .counts-hold .ensures) ∙ not-true _ (c .if3 .taken))))
 
 numbers-exist-requires : tie.Need-numbers-exist-requires
-numbers-exist-requires c κs = let e = c .before .before .before .before .before .before in (few e .0, tables (of-counts e) .few-observations)
+numbers-exist-requires c κs =
+    let e = c .before .before .before .before .before .before .before in
+    let k = tables (of-counts e) .few-observations in
+    let l = long (of-counts e .before .before) in
+    ((few e .0, k), (omega (arith, few e .0, l .actions), omega (arith, mul-le-mul (few e .0) k, l .choices)))
 
 enum-told : tie.Need-enum-told
 enum-told c = search needs

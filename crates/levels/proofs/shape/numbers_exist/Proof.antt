@@ -5,55 +5,60 @@ use borrow.Author.Tests.{lt-ltb, le-ltb}
 use mathlib.Core.Bool.{true}
 use mathlib.Core.List.{List}
 use lib.Dec.{ltb}
-use lib.ListN.{getD}
+use lib.ListN.{length, getD}
+use Rattle.integers.proofs.Lists.{row-below}
 use Rattle.tables.specs.declared.Verdict.{Verdict}
 use Rattle.tables.specs.declared.Verdict.the-variants.{Fine}
 use Rattle.tables.specs.Verdicts.{_before_, unless, firstOf}
 use Rattle.tables.proofs.Refusals.{first-none, first-more, first-here, refused-before}
 use Rattle.levels.specs.Storage.{choiceIn}
 use Rattle.levels.specs.Judged.{numbersIn}
-use Rattle.levels.proofs.Laws.{passed, failed, fine-before, row-fits}
+use Rattle.levels.proofs.Laws.{passed, failed, fine-before}
 use Rattle.levels.proofs.shape.numbers_exist.Statement.{statement}
 use Rattle.levels.proofs.shape.numbers_exist.Tie as tie
 
 -- the verdict on what vector v chooses for o, and on the vector
-abbrev chosen : List ℕ → ℕ → ℕ → ℕ → ℕ → Verdict
-chosen choices k standing v o = unless (ltb (choiceIn k choices v o) standing) 10 v
+abbrev chosen : ℕ → List ℕ → ℕ → ℕ → ℕ → ℕ → Verdict
+chosen number choices k standing v o = unless (ltb (choiceIn k choices v o) standing) number v
 
-abbrev verdict : List ℕ → List ℕ → ℕ → ℕ → ℕ → ℕ → Verdict
-verdict actions choices m k standing v = unless (ltb (getD actions v 0) m) 10 v before firstOf k (chosen choices k standing v)
+abbrev verdict : ℕ → List ℕ → List ℕ → ℕ → ℕ → ℕ → ℕ → Verdict
+verdict number actions choices m k standing v =
+    unless (ltb (getD actions v 0) m) number v before firstOf k (chosen number choices k standing v)
 
 abbrev Inv-loop : tie.InvT-loop
-Inv-loop actions choices vectors m k standing found₀ v at o₀ found o =
-    (o ≤ k) × ((found ≡ Fine) × (firstOf o (chosen choices k standing v) ≡ Fine))
+Inv-loop actions choices vectors m k standing number found₀ v at o₀ found o =
+    (o ≤ k) × ((found ≡ Fine) × (firstOf o (chosen number choices k standing v) ≡ Fine))
 
 abbrev μ-loop : tie.MeasureT-loop
-μ-loop actions choices vectors m k standing found₀ v at o₀ found o = k - o
+μ-loop actions choices vectors m k standing number found₀ v at o₀ found o = k - o
 
 abbrev Inv-vectors : tie.InvT-vectors
-Inv-vectors actions choices vectors m k standing found₀ v₀ found v =
-    (v ≤ vectors) × ((found ≡ Fine) × (firstOf v (verdict actions choices m k standing) ≡ Fine))
+Inv-vectors actions choices vectors m k standing number found₀ v₀ found v =
+    (v ≤ vectors) × ((found ≡ Fine) × (firstOf v (verdict number actions choices m k standing) ≡ Fine))
 
 abbrev μ-vectors : tie.MeasureT-vectors
-μ-vectors actions choices vectors m k standing found₀ v₀ found v = vectors - v
+μ-vectors actions choices vectors m k standing number found₀ v₀ found v = vectors - v
 
 vectors-holds : tie.Need-vectors-holds Inv-loop μ-loop Inv-vectors μ-vectors
 vectors-holds c = (omega arith, (refl, first-none _))
 
-element-copy-out-action : tie.Need-element-copy-out-action Inv-loop μ-loop Inv-vectors μ-vectors
-element-copy-out-action c = omega arith
+shared-slice-read-action : tie.Need-shared-slice-read-action Inv-loop μ-loop Inv-vectors μ-vectors
+shared-slice-read-action c = omega (arith, c .before .before .before .before .before .pre)
 
 action-requires : tie.Need-action-requires Inv-loop μ-loop Inv-vectors μ-vectors
 action-requires c κs = tt
 
 -- the vector's choices lie in the array
 row-here : (c : tie.Else1 Inv-loop μ-loop Inv-vectors μ-vectors) →
-    let k = c .before .before .before .before .before .args .k in c .before .before .before .before .vectors .v * k + k ≤ 256
-row-here c = row-fits {R = 32} {X = 8} _ (c .before .before .before .before .before .args .vectors) _ (omega arith) (omega arith) (omega arith)
+    let a = c .before .before .before .before .before .before .before .args in
+    c .before .before .before .before .vectors .v * a .k + a .k ≤ length (a .choices .now)
+row-here c =
+    let a = c .before .before .before .before .before .before .before in
+    omega (arith, row-below (c .before .before .before .before .vectors .v) (a .args .vectors) (a .args .k) (omega arith), a .pre .1 .1)
 
 -- the vector's action exists
 acts : (c : tie.Else1 Inv-loop μ-loop Inv-vectors μ-vectors) →
-    let a = c .before .before .before .before .before .args in
+    let a = c .before .before .before .before .before .before .before .args in
     ltb (getD (a .actions .now) (c .before .before .before .before .vectors .v) 0) (a .m) ≡ true
 acts c = lt-ltb _ _ (rw (c .before .action .ensures) at (c .if1 .left))
 
@@ -69,8 +74,8 @@ add-choice c = omega (arith, row-here (c .before .before))
 mul-choice : tie.Need-mul-choice Inv-loop μ-loop Inv-vectors μ-vectors
 mul-choice c = omega (arith, row-here (c .before .before))
 
-element-copy-out-choice : tie.Need-element-copy-out-choice Inv-loop μ-loop Inv-vectors μ-vectors
-element-copy-out-choice c = omega (arith, row-here (c .before .before))
+shared-slice-read-choice : tie.Need-shared-slice-read-choice Inv-loop μ-loop Inv-vectors μ-vectors
+shared-slice-read-choice c = omega (arith, row-here (c .before .before .before))
 
 choice-requires : tie.Need-choice-requires Inv-loop μ-loop Inv-vectors μ-vectors
 choice-requires c κs = tt
@@ -98,7 +103,7 @@ vectors-less c = omega arith
 
 vectors-again : tie.Need-vectors-again Inv-loop μ-loop Inv-vectors μ-vectors
 vectors-again c =
-    let e : c .before .loop .o ≡ c .before .before .before .before .before .before .before .args .k = omega arith in (
+    let e : c .before .loop .o ≡ c .before .before .before .before .before .before .before .before .before .args .k = omega arith in (
       omega arith,
       (
         c .before .loop .inv .1 .0,
@@ -110,7 +115,7 @@ vectors-again c =
 returns : tie.Need-returns Inv-loop μ-loop Inv-vectors μ-vectors
 unfolding numbersIn
 returns c =
-    let e : c .before .vectors .v ≡ c .before .before .args .vectors = omega arith in
+    let e : c .before .vectors .v ≡ c .before .before .before .before .args .vectors = omega arith in
     c .before .vectors .inv .1 .0 ∙ sym (rw e at (c .before .vectors .inv .1 .1))
 
 returns-2 : tie.Need-returns-2 Inv-loop μ-loop Inv-vectors μ-vectors
@@ -139,13 +144,13 @@ numbers-exist-spec =
     Inv-vectors
     μ-vectors
     vectors-holds
-    element-copy-out-action
+    shared-slice-read-action
     action-requires
     mul-at
     loop-holds
     add-choice
     mul-choice
-    element-copy-out-choice
+    shared-slice-read-choice
     choice-requires
     add-o
     loop-less
