@@ -8,6 +8,7 @@ use borrow.Author.Tests.{lt-ltb, le-ltb, le-leb, lt-leb}
 use Rattle.tables.specs.declared.Verdict.{Verdict}
 use Rattle.tables.specs.declared.Verdict.the-variants.{Fine, Refused}
 use Rattle.tables.specs.Limits.{maxLevels}
+use Rattle.tables.proofs.Refusals.{breaks, passes}
 use Rattle.plans.specs.Limits.{maxBuilt}
 use Rattle.plans.proofs.Built.{shaped-mono}
 use Rattle.levels.specs.declared.Level.{Level}
@@ -20,7 +21,6 @@ use Rattle.runs.specs.State.{modelIn, levelIn, holds, buildVerdict, stored, bui
 use Rattle.runs.proofs.Judged.{standing-true}
 use Rattle.builder.specs.Storage.{topBuilt, Buildable}
 use Rattle.certifier.specs.Stages.{noBuilt}
-use Rattle.certifier.proofs.Stages.{breaks, passes}
 
 module _ (c : Certifier) (p : Points) where
   -- a refusing answer, and a level that was built

@@ -15,7 +15,7 @@ use Rattle.tables.specs.Model.{Model, Valid}
 use Rattle.tables.specs.Storage.{modelOf}
 use Rattle.tables.specs.Verdicts.{_before_}
 use Rattle.tables.specs.Judged.{modelVerdict}
-use Rattle.tables.proofs.Refusals.{before-fine, unless-fine}
+use Rattle.tables.proofs.Refusals.{before-fine, unless-fine, stops, goes}
 use Rattle.tables.specs.Limits.{maxLevels}
 use Rattle.plans.specs.Limits.{maxPoints}
 use Rattle.plans.specs.Level.{Level as Ideal, Shaped}
@@ -30,7 +30,7 @@ use Rattle.runs.proofs.Judged.{Accepted, standing-true, numbers-fine, accepted}
 use Rattle.sawtooth.specs.Storage.{positive, gainIn}
 use Rattle.checks.specs.Storage.{Standing}
 use Rattle.certifier.specs.Stages.{shapeVerdict, backupsVerdict}
-use Rattle.certifier.proofs.Stages.{stops, goes, fine}
+use Rattle.certifier.proofs.Stages.{fine}
 
 -- ---- the two stages are all the tests
 before-assoc : (u v w : Verdict) → ((u before v) before w) ≡ (u before (v before w))

@@ -15,29 +15,14 @@ use Rattle.tables.specs.declared.Verdict.{Verdict}
 use Rattle.tables.specs.declared.Verdict.the-variants.{Fine, Refused}
 use Rattle.tables.specs.Limits.{maxVectors}
 use Rattle.tables.specs.Storage.{entryIn, modelOf}
-use Rattle.tables.specs.Verdicts.{_before_, unless}
 use Rattle.tables.specs.Judged.{countWithin, modelVerdict, openedFrom, openedBy as tablesBy}
-use Rattle.tables.proofs.Refusals.{never, first-cong}
+use Rattle.tables.proofs.Refusals.{never, stops, goes, first-cong}
 use Rattle.plans.specs.Limits.{maxPoints, range}
 use Rattle.levels.specs.declared.Level.{Level}
 use Rattle.levels.specs.Storage.{levelOf}
 use Rattle.levels.specs.Judged.{countsHold, rowsWithin, rangesVerdict, isFine}
 use Rattle.runs.specs.declared.Answer.{Answer}
 use Rattle.runs.specs.State.{fresh, noCertifier, opened, openedBy}
-
--- ---- a verdict by stages: one that refuses is the whole, and after one that is fine the whole is the rest
-pub stops : {v x : Verdict} {k i : ℕ} (w : Verdict) → v ≡ x → v ≡ Refused k i → v ≡ (x before w)
-stops w e f = rw (sym e, f)
-
-pub goes : {v x u w : Verdict} → v ≡ x → v ≡ Fine → u ≡ w → u ≡ (x before w)
-goes e f g = rw (sym e, f) g
-
--- the same of a stage that is one test
-pub breaks : {b : Bool} {k i : ℕ} (w : Verdict) → b ≡ false → Refused k i ≡ (unless b k i before w)
-breaks w e = rw e
-
-pub passes : {b : Bool} {u w : Verdict} (k i : ℕ) → b ≡ true → u ≡ w → u ≡ (unless b k i before w)
-passes k i e f = rw e f
 
 -- ---- several tests: one that fails is the whole, and after one that holds the whole is the rest
 pub fails : {a : Bool} (b : Bool) → a ≡ false → false ≡ (a && b)

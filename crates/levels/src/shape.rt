@@ -86,7 +86,8 @@ pub fn action(x: u8) -> usize
     x as usize
 }
 
-fn choice(x: u16) -> usize
+// A chosen number, as it is stored.
+pub fn choice(x: u16) -> usize
     ensures { λ r. ⌜ r ≡ x ⌝ }
 {
     x as usize

@@ -73,23 +73,31 @@ sums-weighed : (m n r : ℕ) (w : ℕ → ℕ → ℕ) (e : ℕ → ℕ → ℤ)
 sums-weighed m n r w e h =
     sum-weighed m r _ _ (λ i l. sum-weighed n r _ _ (λ j b. times-bound (w i j) (e i j) (NatL.le-refl (w i j)) (h i l j b)))
 
--- Backups of a level t that is within its limits are within K times the range of level t + 1.
--- The reward is at most maxReward. What follows is a weighted sum of entries within range t, whose weights total one × one (`chances`); times the
+-- Backups of what lies within range t are within K times range (t + 1).
+-- The reward is at most maxReward. What follows is a weighted sum of numbers within range t, whose weights total one × one (`chances`); times the
 -- discount, at most one, and with K = one × one × one, it is within K × range t. And maxReward + range t = range (t + 1). Qed.
+pub backup-within : (M : Model) (t : ℕ) → Valid M → (a : ℕ) → a < M .actions → (next : ℕ → ℕ → ℤ)
+    → ((o : ℕ) → o < M .observations → (s' : ℕ) → s' < M .states → natAbs (next o s') ≤ range t)
+    → (s : ℕ) → s < M .states → natAbs (backup M a next s) ≤ K * range (suc t)
+unfolding backup
+backup-within M t T a la next h s ls = omega (arith, within)
+  where
+    ahead : natAbs (sumTo (M .states) (λ s'. sumTo (M .observations) (λ o. (M .transition s a s' * M .observation a s' o) · next o s')))
+        ≤ totalTo (M .states) (λ s'. totalTo (M .observations) (λ o. M .transition s a s' * M .observation a s' o)) * range t
+    ahead = sums-weighed (M .states) (M .observations) (range t) _ _ (λ s' l o b. h o b s' l)
+
+    within : natAbs (backup M a next s) ≤ K * (1 * range (suc t))
+    within =
+        next-range (M .discount) 1 t (M .reward s a) _ (T .discount-limit) (omega (arith, T .reward-limit a la s ls))
+        (rw (chances M T a la s ls) at ahead)
+
+-- in particular those of a level t that is within its limits
 pub backup-range : (M : Model) (L : Level) (t : ℕ) → Valid M → Shaped M t L → (a : ℕ) → a < M .actions → (choice : ℕ → ℕ)
     → ((o : ℕ) → o < M .observations → choice o < L .vectors) → (s : ℕ) → s < M .states
     → natAbs (backup M a (follows L choice) s) ≤ K * range (suc t)
-unfolding backup follows
-backup-range M L t T S a la choice hc s ls = omega (arith, next)
-  where
-    ahead : natAbs (sumTo (M .states) (λ s'. sumTo (M .observations) (λ o. (M .transition s a s' * M .observation a s' o) · L .entry (choice o) s')))
-        ≤ totalTo (M .states) (λ s'. totalTo (M .observations) (λ o. M .transition s a s' * M .observation a s' o)) * range t
-    ahead = sums-weighed (M .states) (M .observations) (range t) _ _ (λ s' l o b. S .entry-in (choice o) (hc o b) s' l)
-
-    next : natAbs (backup M a (follows L choice) s) ≤ K * (1 * range (suc t))
-    next =
-        next-range (M .discount) 1 t (M .reward s a) _ (T .discount-limit) (omega (arith, T .reward-limit a la s ls))
-        (rw (chances M T a la s ls) at ahead)
+unfolding follows
+backup-range M L t T S a la choice hc s ls =
+    backup-within M t T a la (λ o s'. L .entry (choice o) s') (λ o b s' l. S .entry-in (choice o) (hc o b) s' l) s ls
 
 -- no weight of a state reached is above a million times the total of the weights
 pub successor-limit : (M : Model) → Valid M → (p : ℕ → ℕ) (a o s' : ℕ) → a < M .actions → o < M .observations → s' < M .states
@@ -129,7 +137,7 @@ ceiling-range M L t S q = multiple-between (totalTo (M .states) q) (range t) (ce
         (λ s l. rw one-· (abs-above (range t) (L .corner s) (S .corner-in s l))) (λ i l. rw one-· (point-low i l)) q))
 
 -- Backups at weights p lie within K times the range of level t + 1 times the total of p.
--- As for `backup-range`: the expected reward is within the total of p times maxReward, the ceilings at the successor weights are within their totals
+-- As for `backup-within`: the expected reward is within the total of p times maxReward, the ceilings at the successor weights are within their totals
 -- times range t (`ceiling-range`), and those totals are one × one times the total of p (`successor-total`). Qed.
 pub backupAt-range : (M : Model) (L : Level) (t : ℕ) → Valid M → Shaped M t L → (p : ℕ → ℕ) (a : ℕ) → a < M .actions
     → natAbs (backupAt M L p a) ≤ K * (totalTo (M .states) p * range (suc t))

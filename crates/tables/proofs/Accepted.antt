@@ -13,7 +13,7 @@ use Rattle.tables.specs.Model.{Model, Valid}
 use Rattle.tables.specs.Judged.{countWithin, cellsWithin, limitsHold, rowsTotal, modelVerdict}
 use Rattle.tables.proofs.Refusals.{before-fine, unless-fine, fine-at, at-fine}
 
-count-true : (limit n : ℕ) → countWithin limit n ≡ true → (0 < n) × (n ≤ limit)
+pub count-true : (limit n : ℕ) → countWithin limit n ≡ true → (0 < n) × (n ≤ limit)
 count-true limit n e =
     let h = and-true (leb 1 n) (leb n limit) e in
     (omega (arith, leb-true 1 n (h .0)), leb-true n limit (h .1))

@@ -1,5 +1,5 @@
 -- Laws of refusals: the first that is found, as a loop finds it, and what it says that none is. Assumes nothing.
-use mathlib.Core.Path.{_≡_, refl}
+use mathlib.Core.Path.{_≡_, refl, sym}
 use mathlib.Core.Bool.{Bool, true, false}
 use Prim.Native.Nat.{ℕ, zero, suc, _+_, _<_}
 use native.Mathlib.Omega.{arith}
@@ -24,6 +24,20 @@ refused-before w e = rw e
 pub unless-fine : (b : Bool) (k i : ℕ) → unless b k i ≡ Fine → b ≡ true
 unless-fine true k i e = refl
 unless-fine false k i e = never e
+
+-- ---- a verdict by stages: one that refuses is the whole, and after one that is fine the whole is the rest
+pub stops : {v x : Verdict} {k i : ℕ} (w : Verdict) → v ≡ x → v ≡ Refused k i → v ≡ (x before w)
+stops w e f = rw (sym e, f)
+
+pub goes : {v x u w : Verdict} → v ≡ x → v ≡ Fine → u ≡ w → u ≡ (x before w)
+goes e f g = rw (sym e, f) g
+
+-- the same of a stage that is one test
+pub breaks : {b : Bool} {k i : ℕ} (w : Verdict) → b ≡ false → Refused k i ≡ (unless b k i before w)
+breaks w e = rw e
+
+pub passes : {b : Bool} {u w : Verdict} (k i : ℕ) → b ≡ true → u ≡ w → u ≡ (unless b k i before w)
+passes k i e f = rw e f
 
 -- ---- the first of several
 module _ (v : ℕ → Verdict) where

@@ -31,21 +31,28 @@ module _ (m : Tables) where
   unfolding expectedIn expectedReward
   expected-is p a = refl
 
-  -- a transition times what is foreseen, with the transition inside the sum
-  spread : (t : ℕ) (entries : List ℤ) (chosen : List ℕ) (a s' : ℕ)
-      → t · foreseenIn (m .states) (m .observations) (m .observation) entries chosen a s'
-      ≡ sumTo (m .observations) (λ o. (t * observationIn (m .states) (m .observations) (m .observation) a s' o) · chosenIn (m .states) entries chosen o s')
-  unfolding foreseenIn
-  spread t entries chosen a s' = sym (sum-· t (m .observations) _) ∙ sum-cong (m .observations) _ _ (λ o l. sym (·-· t _ _))
+  -- a transition times a sum over observations, with the transition inside the sum
+  spread : (t : ℕ) (next : ℕ → ℕ → ℤ) (a s' : ℕ)
+      → t · sumTo (m .observations) (λ o. observationIn (m .states) (m .observations) (m .observation) a s' o · next o s')
+      ≡ sumTo (m .observations) (λ o. (t * observationIn (m .states) (m .observations) (m .observation) a s' o) · next o s')
+  spread t next a s' = sym (sum-· t (m .observations) _) ∙ sum-cong (m .observations) _ _ (λ o l. sym (·-· t _ _))
 
-  -- with what is foreseen at each state, the backup is the model's
+  -- with the sum over observations at each state, the backup is the model's
+  pub backup-foreseen : (next : ℕ → ℕ → ℤ) (f : List ℤ) (a s : ℕ)
+      → ((s' : ℕ) → s' < m .states
+      → getD f s' (pos 0) ≡ sumTo (m .observations) (λ o. observationIn (m .states) (m .observations) (m .observation) a s' o · next o s'))
+      → backupIn (m .states) (m .discount) (m .transition) (m .reward) f a s ≡ backup (modelOf m) a next s
+  unfolding backupIn onwardIn backup
+  backup-foreseen next f a s h =
+      ap (λ (z : ℤ). K · rewardIn (m .states) (m .reward) s a +ℤ m .discount · z)
+      (sum-cong (m .states) _ _ (λ s' l. ap (λ (z : ℤ). transitionIn (m .states) (m .transition) s a s' · z) (h s' l) ∙ spread _ next a s'))
+
+  -- so it is with what is foreseen by the vectors chosen
   pub backup-regrouped : (entries : List ℤ) (chosen : List ℕ) (f : List ℤ) (a s : ℕ)
       → ((s' : ℕ) → s' < m .states → getD f s' (pos 0) ≡ foreseenIn (m .states) (m .observations) (m .observation) entries chosen a s')
       → backupIn (m .states) (m .discount) (m .transition) (m .reward) f a s ≡ backup (modelOf m) a (chosenIn (m .states) entries chosen) s
-  unfolding backupIn onwardIn backup
-  backup-regrouped entries chosen f a s h =
-      ap (λ (z : ℤ). K · rewardIn (m .states) (m .reward) s a +ℤ m .discount · z)
-      (sum-cong (m .states) _ _ (λ s' l. ap (λ (z : ℤ). transitionIn (m .states) (m .transition) s a s' · z) (h s' l) ∙ spread _ entries chosen a s'))
+  unfolding foreseenIn
+  backup-regrouped entries chosen f a s h = backup-foreseen (chosenIn (m .states) entries chosen) f a s h
 
 -- ---- how large they are
 

@@ -17,7 +17,7 @@ use super::Verdict;
 use super::read;
 use integers::cells;
 
-fn count_within(limit: usize, n: usize) -> bool
+pub fn count_within(limit: usize, n: usize) -> bool
     ensures { λ r. ⌜ r ≡ countWithin limit n ⌝ }
 {
     if n < 1 {
