@@ -1,0 +1,38 @@
+-- A plan graph and its worth: a node's worth needs the sum over observations, and that sum needs worths one step lower.
+--
+--   worthOf      the worth of node v at state s with d steps left
+--   observedOf   the sum over observations at the state reached, of worths with d steps left
+use Prim.Native.Nat.{ℕ, zero, suc, _≤_, _<_}
+use lib.IntN.{ℤ, pos}
+use Rattle.integers.specs.Whole.{_·_, sumTo}
+use Rattle.tables.specs.Model.{Model, Valid, backedUp}
+use Rattle.worth.specs.Limits.{maxNodes, maxSteps}
+
+-- each node has an action and, for each observation, the node to go on with
+pub record PlanGraph : Type 0 where
+  pub nodes : ℕ
+  pub action : ℕ → ℕ
+  pub next : ℕ → ℕ → ℕ
+
+-- 0 with no step left, else the vector backup over K rounded down, with worths one step lower for entries
+unfoldable pub worthOf : Model → PlanGraph → ℕ → ℕ → ℕ → ℤ
+worthOf M G zero v s = pos 0
+worthOf M G (suc d) v s = backedUp M (G .action v) (λ o s'. worthOf M G d (G .next v o) s') s
+
+-- the sum over o of O(a,s',o) × the worth at s' of the node that follows o
+unfoldable pub observedOf : Model → PlanGraph → ℕ → ℕ → ℕ → ℤ
+observedOf M G d v s' = sumTo (M .observations) (λ o. M .observation (G .action v) s' o · worthOf M G d (G .next v o) s')
+
+-- what tables and a graph that are not refused have
+pub record Sound (M : Model) (G : PlanGraph) : Type 0 where
+  pub valid : Valid M
+  pub few-nodes : G .nodes ≤ maxNodes
+  pub action-in : (v : ℕ) → v < G .nodes → G .action v < M .actions
+  pub next-in : (v : ℕ) → v < G .nodes → (o : ℕ) → o < M .observations → G .next v o < G .nodes
+
+-- and what is asked of them: a node, a state and steps left
+pub record Accepted (M : Model) (G : PlanGraph) (v s d : ℕ) : Type 0 where
+  pub sound : Sound M G
+  pub node : v < G .nodes
+  pub state : s < M .states
+  pub steps : d ≤ maxSteps
