@@ -54,11 +54,11 @@ module _ (M : Model) (G : PlanGraph) (h : Sound M G) where
 
 -- ---- lent arrays
 module _ (c : Counts) (discount : ℕ) (transition observation : List ℕ) (reward : List ℤ) (actions next : List ℕ) where
-  abbrev M : Model
-  M = modelIn c discount transition observation reward
+  abbrev model : Model
+  model = modelIn c discount transition observation reward
 
-  abbrev G : PlanGraph
-  G = graphIn c actions next
+  abbrev graph : PlanGraph
+  graph = graphIn c actions next
 
   abbrev tables : Tables
   tables = record {
@@ -71,36 +71,36 @@ module _ (c : Counts) (discount : ℕ) (transition observation : List ℕ) (rewa
     reward = reward;
   }
 
-  pub worth-none : (d v s : ℕ) → d ≡ 0 → pos 0 ≡ worthOf M G d v s
+  pub worth-none : (d v s : ℕ) → d ≡ 0 → pos 0 ≡ worthOf model graph d v s
   unfolding worthOf
   worth-none zero v s e = refl
   worth-none (suc d) v s e = absurd (omega arith)
 
   -- with the sum over observations at each state, one step lower, the backup over K is the worth
-  pub worth-from : (d v s : ℕ) {f : List ℤ} → (d ≡ 0 → ⊥) → f ≡ padded (pos 0) maxStates (c .states) (observedOf M G (d - 1) v)
-      → floorDiv (backupIn (c .states) discount transition reward f (G .action v) s) K ≡ worthOf M G d v s
+  pub worth-from : (d v s : ℕ) {f : List ℤ} → (d ≡ 0 → ⊥) → f ≡ padded (pos 0) maxStates (c .states) (observedOf model graph (d - 1) v)
+      → floorDiv (backupIn (c .states) discount transition reward f (graph .action v) s) K ≡ worthOf model graph d v s
   unfolding worthOf backedUp observedOf
   worth-from zero v s more e = absurd (more refl)
   worth-from (suc d) v s {f} more e =
       let less : suc d - 1 ≡ d = omega arith in
       ap (λ (z : ℤ). floorDiv z K)
-      (backup-foreseen tables (λ o s'. worthOf M G d (G .next v o) s') f (G .action v) s
-      (λ s' l. rw (e, less) (padded-at (pos 0) maxStates (c .states) (observedOf M G d v) s' (pos 0) l)))
+      (backup-foreseen tables (λ o s'. worthOf model graph d (graph .next v o) s') f (graph .action v) s
+      (λ s' l. rw (e, less) (padded-at (pos 0) maxStates (c .states) (observedOf model graph d v) s' (pos 0) l)))
 
 -- ---- what is not refused
 -- Each stage of a fine verdict is fine, so each of its tests passed. Qed.
 pub accepted : (M : Model) (G : PlanGraph) (v s d : ℕ) → worthVerdict M G v s d ≡ Fine → Accepted M G v s d
 unfolding worthVerdict
 accepted M G v s d e =
-    let tables = before-fine _ _ e in
-    let count = before-fine _ _ (tables .1) in
+    let tested = before-fine _ _ e in
+    let count = before-fine _ _ (tested .1) in
     let numbers = before-fine _ _ (count .1) in
     let exist = numbers-in 18 (G .nodes) (M .actions) (M .observations) (G .nodes) (G .action) (G .next) (numbers .0) in
     let asked = and-true _ _ (unless-fine _ _ _ (numbers .1)) in
     let left = and-true _ _ (asked .1) in
     record {
       sound = record {
-        valid = valid M (tables .0);
+        valid = valid M (tested .0);
         few-nodes = count-true _ _ (unless-fine _ _ _ (count .0)) .1;
         action-in = λ u l. exist u l .0;
         next-in = λ u l. exist u l .1;

@@ -1,4 +1,4 @@
--- A plan graph and its worth: a node's worth needs the sum over observations, and that sum needs worths one step lower.
+-- A plan graph, and the worth of its nodes by one backup for each step left.
 --
 --   worthOf      the worth of node v at state s with d steps left
 --   observedOf   the sum over observations at the state reached, of worths with d steps left
@@ -14,7 +14,7 @@ pub record PlanGraph : Type 0 where
   pub action : ℕ → ℕ
   pub next : ℕ → ℕ → ℕ
 
--- 0 with no step left, else the vector backup over K rounded down, with worths one step lower for entries
+-- nothing with no step left; else the vector backup, over K and rounded down, of what follows with a step less
 unfoldable pub worthOf : Model → PlanGraph → ℕ → ℕ → ℕ → ℤ
 worthOf M G zero v s = pos 0
 worthOf M G (suc d) v s = backedUp M (G .action v) (λ o s'. worthOf M G d (G .next v o) s') s

@@ -1,4 +1,4 @@
-// A plan graph's worth: worth calls the sum over observations, which calls worth with a step less left.
+// A plan graph's worth, by two functions in turn: the worth of a node, and the sum over observations of what follows it.
 ghost use mathlib.Core.Path.{_≡_};
 ghost use Prim.Native.Nat.{_≤_, _<_};
 ghost use lib.ListN.{getD};
@@ -41,7 +41,7 @@ pub struct Valued {
     pub ticks: i64,
 }
 
-// By which lent arrays are read.
+// The counts by which lent arrays are read.
 struct Counts {
     states: usize,
     actions: usize,
