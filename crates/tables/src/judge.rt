@@ -108,7 +108,7 @@ fn limits_hold(m: Tables) -> bool
 }
 
 // The total of the w cells from `at` on.
-fn row_total(cells: &[u16], at: usize, w: usize) -> u64
+pub fn row_total(cells: &[u16], at: usize, w: usize) -> u64
     requires { ⌜ (at + w ≤ length (now cells)) × (w ≤ maxStates) ⌝ }
     ensures { λ r. ⌜ r ≡ totalTo w (λ x. getD (now (cells .entry)) (at + x) 0) ⌝ }
 {
@@ -120,7 +120,7 @@ fn row_total(cells: &[u16], at: usize, w: usize) -> u64
 }
 
 // 5 and 6: the first row, by action and then by state, that does not total 1.
-fn rows_total(cells: &[u16], m: usize, n: usize, w: usize, number: u8) -> Verdict
+pub fn rows_total(cells: &[u16], m: usize, n: usize, w: usize, number: u8) -> Verdict
     requires { ⌜ (m ≤ maxActions) × ((n ≤ maxStates) × (w ≤ maxStates)) ⌝ }
     requires { ⌜ m * n * w ≤ length (now cells) ⌝ }
     ensures { λ r. ⌜ r ≡ rowsTotal number m n w (cellIn n w (now (cells .entry))) ⌝ }

@@ -1,0 +1,143 @@
+use Prim.Native.Nat.{_+_}
+use mathlib.Core.Path.{_∙_}
+use native.Mathlib.Omega.{arith}
+use borrow.Author.Needs.{needs}
+use lib.ListN.{length}
+use Rattle.tables.specs.Limits.{maxStates, maxActions, maxObservations}
+use Rattle.tables.specs.Verdicts.{_before_}
+use Rattle.words.specs.Words.{wordsIn, between}
+use Rattle.grammar.specs.Grammar.{_then_, field}
+use Rattle.grammar.proofs.Laws.{value-is, value-next, field-low}
+use Rattle.modelfile.specs.ModelFile.{statesName, actionsName, observationsName, body, counted}
+use Rattle.modelfile.proofs.Laws.{goes-back, goes-on}
+use borrow.Author.Needs.{needs}
+use Rattle.modelfile.proofs.counted_at.Statement.{statement}
+use Rattle.modelfile.proofs.counted_at.Tie as tie
+
+slice-aggregate-field-at : tie.Need-slice-aggregate-field-at
+slice-aggregate-field-at c = search needs
+
+field-at-requires : tie.Need-field-at-requires
+field-at-requires c κs = search needs
+
+enum-known-x : tie.Need-enum-known-x
+enum-known-x c = search needs
+
+enum-told : tie.Need-enum-told
+enum-told c = search needs
+
+back-requires : tie.Need-back-requires
+back-requires c κs = search needs
+
+returns : tie.Need-returns
+unfolding counted
+returns c =
+    let size = length (c .before .before .before .before .before .before .args .file .now) in
+    let d = c .before .before .before .before .before .before .args .discount in
+    c .back .ensures ∙ goes-back size (λ n ws. field actionsName 2 0 1 maxActions ws then λ m ws. field observationsName 2 0 1 maxObservations ws then λ k ws. body (size + 1) d n m k ws) (c .before .before .before .field-at .ensures) (c .before .before .match .keys2)
+
+slice-aggregate-field-at-2 : tie.Need-slice-aggregate-field-at-2
+slice-aggregate-field-at-2 c = search needs
+
+field-at-requires-2 : tie.Need-field-at-requires-2
+field-at-requires-2 c κs = (value-next _ _ (c .before .before .before .before .field-at .ensures) (c .before .before .x .given .1) .1 .1, (omega arith, omega arith))
+
+enum-known-y : tie.Need-enum-known-y
+enum-known-y c = search needs
+
+enum-told-2 : tie.Need-enum-told-2
+enum-told-2 c = search needs
+
+back-requires-2 : tie.Need-back-requires-2
+back-requires-2 c κs = search needs
+
+returns-2 : tie.Need-returns-2
+unfolding counted
+returns-2 c =
+    let size = length (c .before .before .before .before .before .before .before .before .before .before .before .args .file .now) in
+    let d = c .before .before .before .before .before .before .before .before .before .before .before .args .discount in
+    let g = c .before .before .before .before .before .before .x .given in
+    c .back2 .ensures ∙ goes-back size (λ m ws. field observationsName 2 0 1 maxObservations ws then λ k ws. body (size + 1) d (g .0 .0) m k ws) (c .before .before .before .field-at2 .ensures) (c .before .before .match2 .keys2)
+    ∙ goes-on size (λ n ws. field actionsName 2 0 1 maxActions ws then λ m ws. field observationsName 2 0 1 maxObservations ws then λ k ws. body (size + 1) d n m k ws) (c .before .before .before .before .before .before .before .before .field-at .ensures) (g .0 .0) (g .0 .1 .0) (g .1)
+
+slice-aggregate-field-at-3 : tie.Need-slice-aggregate-field-at-3
+slice-aggregate-field-at-3 c = search needs
+
+field-at-requires-3 : tie.Need-field-at-requires-3
+field-at-requires-3 c κs = (value-next _ _ (c .before .before .before .before .field-at2 .ensures) (c .before .before .y .given .1) .1 .1, (omega arith, omega arith))
+
+enum-known-z : tie.Need-enum-known-z
+enum-known-z c = search needs
+
+enum-told-3 : tie.Need-enum-told-3
+enum-told-3 c = search needs
+
+back-requires-3 : tie.Need-back-requires-3
+back-requires-3 c κs = search needs
+
+returns-3 : tie.Need-returns-3
+unfolding counted
+returns-3 c =
+    let size = length (c .before .before .before .before .before .before .before .before .before .before .before .before .before .before .before .before .args .file .now) in
+    let d = c .before .before .before .before .before .before .before .before .before .before .before .before .before .before .before .before .args .discount in
+    let g = c .before .before .before .before .before .before .before .before .before .before .before .x .given in
+    let h = c .before .before .before .before .before .before .y .given in
+    c .back3 .ensures ∙ goes-back size (λ k ws. body (size + 1) d (g .0 .0) (h .0 .0) k ws) (c .before .before .before .field-at3 .ensures) (c .before .before .match3 .keys2)
+    ∙ goes-on size (λ m ws. field observationsName 2 0 1 maxObservations ws then λ k ws. body (size + 1) d (g .0 .0) m k ws) (c .before .before .before .before .before .before .before .before .field-at2 .ensures) (h .0 .0) (h .0 .1 .0) (h .1)
+    ∙ goes-on size (λ n ws. field actionsName 2 0 1 maxActions ws then λ m ws. field observationsName 2 0 1 maxObservations ws then λ k ws. body (size + 1) d n m k ws) (c .before .before .before .before .before .before .before .before .before .before .before .before .before .field-at .ensures) (g .0 .0) (g .0 .1 .0) (g .1)
+
+body-at-requires : tie.Need-body-at-requires
+body-at-requires c κs =
+    let file = c .before .before .before .before .before .before .before .before .before .before .before .before .before .before .before .before .args .file .now in
+    let g = c .before .before .before .before .before .before .before .before .before .before .before .x .given in
+    let h = c .before .before .before .before .before .before .y .given in
+    let e = c .before .z .given in
+    let n = value-next (g .0 .0) (g .0 .1 .0) (c .before .before .before .before .before .before .before .before .before .before .before .before .before .field-at .ensures) (g .1) in
+    let m = value-next (h .0 .0) (h .0 .1 .0) (c .before .before .before .before .before .before .before .before .field-at2 .ensures) (h .1) in
+    let k = value-next (e .0 .0) (e .0 .1 .0) (c .before .before .before .field-at3 .ensures) (e .1) in (
+      k .1 .1,
+      (
+        (field-low statesName 2 0 1 maxStates (g .0 .0) (wordsIn between file (g .0 .1 .0)) (wordsIn between file (c .before .before .before .before .before .before .before .before .before .before .before .before .before .before .before .before .args .at)) (value-is (g .0 .0) (g .0 .1 .0) (c .before .before .before .before .before .before .before .before .before .before .before .before .before .field-at .ensures) (g .1)), n .0),
+        (
+          (field-low actionsName 2 0 1 maxActions (h .0 .0) (wordsIn between file (h .0 .1 .0)) (wordsIn between file (g .0 .1 .0)) (value-is (h .0 .0) (h .0 .1 .0) (c .before .before .before .before .before .before .before .before .field-at2 .ensures) (h .1)), m .0),
+          (field-low observationsName 2 0 1 maxObservations (e .0 .0) (wordsIn between file (e .0 .1 .0)) (wordsIn between file (h .0 .1 .0)) (value-is (e .0 .0) (e .0 .1 .0) (c .before .before .before .field-at3 .ensures) (e .1)), k .0),
+        ),
+      ),
+    )
+
+returns-4 : tie.Need-returns-4
+unfolding counted
+returns-4 c =
+    let size = length (c .before .before .before .before .before .before .before .before .before .before .before .before .before .before .before .before .before .args .file .now) in
+    let d = c .before .before .before .before .before .before .before .before .before .before .before .before .before .before .before .before .before .args .discount in
+    let g = c .before .before .before .before .before .before .before .before .before .before .before .before .x .given in
+    let h = c .before .before .before .before .before .before .before .y .given in
+    let e = c .before .before .z .given in
+    c .body-at .ensures ∙ goes-on size (λ k ws. body (size + 1) d (g .0 .0) (h .0 .0) k ws) (c .before .before .before .before .field-at3 .ensures) (e .0 .0) (e .0 .1 .0) (e .1)
+    ∙ goes-on size (λ m ws. field observationsName 2 0 1 maxObservations ws then λ k ws. body (size + 1) d (g .0 .0) m k ws) (c .before .before .before .before .before .before .before .before .before .field-at2 .ensures) (h .0 .0) (h .0 .1 .0) (h .1)
+    ∙ goes-on size (λ n ws. field actionsName 2 0 1 maxActions ws then λ m ws. field observationsName 2 0 1 maxObservations ws then λ k ws. body (size + 1) d n m k ws) (c .before .before .before .before .before .before .before .before .before .before .before .before .before .before .field-at .ensures) (g .0 .0) (g .0 .1 .0) (g .1)
+
+pub counted-at-spec : {M : Type 1} → statement M
+counted-at-spec =
+    tie.close
+    (tie.spec
+    slice-aggregate-field-at
+    field-at-requires
+    enum-known-x
+    enum-told
+    back-requires
+    returns
+    slice-aggregate-field-at-2
+    field-at-requires-2
+    enum-known-y
+    enum-told-2
+    back-requires-2
+    returns-2
+    slice-aggregate-field-at-3
+    field-at-requires-3
+    enum-known-z
+    enum-told-3
+    back-requires-3
+    returns-3
+    body-at-requires
+    returns-4)

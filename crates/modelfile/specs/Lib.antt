@@ -1,0 +1,2 @@
+-- The whole file.
+pub mod ModelFile

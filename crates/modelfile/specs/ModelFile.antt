@@ -1,0 +1,141 @@
+-- What a model file is read as: its headers in order, the start numbers, any number of statements, and then the totals.
+use Prim.Native.Nat.{ℕ, _+_, _*_}
+use mathlib.Core.Bool.{cond}
+use mathlib.Core.List.{List, [], _∷_}
+use lib.Dec.{eqb, leb}
+use lib.ListN.{length, getD, replicate}
+use lib.IntN.{pos}
+use Rattle.integers.specs.Whole.{totalTo}
+use Rattle.tables.specs.declared.Tables.{Tables}
+use Rattle.tables.specs.declared.Verdict.{Verdict}
+use Rattle.tables.specs.declared.Verdict.the-variants.{Fine, Refused}
+use Rattle.tables.specs.Limits.{maxStates, maxActions, maxObservations, one}
+use Rattle.tables.specs.Storage.{cellIn}
+use Rattle.tables.specs.Verdicts.{_before_, unless}
+use Rattle.tables.specs.Judged.{rowsTotal, noTables}
+use Rattle.words.specs.Words.{Words, wordsIn, between}
+use Rattle.drafts.specs.Drafts.{stated}
+use Rattle.grammar.specs.declared.Read.{Read}
+use Rattle.grammar.specs.declared.Read.the-variants.{Value}
+use Rattle.grammar.specs.declared.Read.the-variants.{Refused as NotRead}
+use Rattle.grammar.specs.Grammar.{Answer, got, refused, _then_, key, named, field}
+use Rattle.statements.specs.Statements.{startTotal, startNumber, row, Draft, draft, statements}
+use Rattle.modelfile.specs.declared.ModelFile.{ModelFile}
+
+abbrev pub maxBytes : ℕ
+maxBytes = 32_768
+
+-- ---- the words of the headers, in bytes
+
+-- "discount"
+abbrev pub discountName : List ℕ
+discountName = 100 ∷ 105 ∷ 115 ∷ 99 ∷ 111 ∷ 117 ∷ 110 ∷ 116 ∷ []
+
+-- "values"
+abbrev pub valuesName : List ℕ
+valuesName = 118 ∷ 97 ∷ 108 ∷ 117 ∷ 101 ∷ 115 ∷ []
+
+-- "reward"
+abbrev pub rewardWord : List ℕ
+rewardWord = 114 ∷ 101 ∷ 119 ∷ 97 ∷ 114 ∷ 100 ∷ []
+
+-- "states"
+abbrev pub statesName : List ℕ
+statesName = 115 ∷ 116 ∷ 97 ∷ 116 ∷ 101 ∷ 115 ∷ []
+
+-- "actions"
+abbrev pub actionsName : List ℕ
+actionsName = 97 ∷ 99 ∷ 116 ∷ 105 ∷ 111 ∷ 110 ∷ 115 ∷ []
+
+-- "observations"
+abbrev pub observationsName : List ℕ
+observationsName = 111 ∷ 98 ∷ 115 ∷ 101 ∷ 114 ∷ 118 ∷ 97 ∷ 116 ∷ 105 ∷ 111 ∷ 110 ∷ 115 ∷ []
+
+-- "start"
+abbrev pub startName : List ℕ
+startName = 115 ∷ 116 ∷ 97 ∷ 114 ∷ 116 ∷ []
+
+-- ---- the words of a file, in order
+
+-- the tables and the start numbers, in hundredths
+pub record Text : Type 0 where
+  pub tables : Tables
+  pub start : List ℕ
+
+abbrev pub textOf : ℕ → ℕ → ℕ → ℕ → List ℕ → Draft → Text
+textOf d n m k start cells = record {
+  tables = record {
+    states = n;
+    actions = m;
+    observations = k;
+    discount = d;
+    transition = cells .transition;
+    observation = cells .observation;
+    reward = cells .reward;
+  };
+  start = start;
+}
+
+-- unstated entries are 0
+abbrev pub noCells : Draft
+noCells =
+    draft (replicate (maxActions * maxStates * maxStates) 0) (replicate (maxActions * maxStates * maxObservations) 0) (replicate (maxActions * maxStates) (pos 0))
+
+-- `start:` with n numbers, then the statements
+unfoldable pub body : ℕ → ℕ → ℕ → ℕ → ℕ → Words → Answer Text
+body fuel d n m k ws =
+    named startName ws then λ _ ws. row startNumber (stated 1 1 n 0 0) 0 n (replicate maxStates 0) ws then λ start ws.
+    statements fuel m n k noCells ws then λ cells ws. got (textOf d n m k start cells) ws
+
+-- `states:`, `actions:` and `observations:`, counts of one or two digits
+unfoldable pub counted : ℕ → ℕ → Words → Answer Text
+counted fuel d ws =
+    field statesName 2 0 1 maxStates ws then λ n ws. field actionsName 2 0 1 maxActions ws then λ m ws.
+    field observationsName 2 0 1 maxObservations ws then λ k ws. body fuel d n m k ws
+
+-- `values: reward`
+unfoldable pub valued : Words → Answer ℕ
+valued ws = named valuesName ws then λ _ ws. key rewardWord ws
+
+-- `discount:` in thousandths, and all that follows
+unfoldable pub headed : ℕ → Words → Answer Text
+headed fuel ws = field discountName 1 3 0 one ws then λ d ws. valued ws then λ _ ws. counted fuel d ws
+
+-- ---- the totals, after the last statement
+
+-- the same refusal, at the end of the file
+abbrev pub placed : ℕ → Verdict → Verdict
+placed size Fine = Fine
+placed size (Refused number place) = Refused number size
+
+-- 4, then 5, then 6
+unfoldable pub totalsVerdict : ℕ → Text → Verdict
+totalsVerdict size t =
+    let m = t .tables in
+    unless (eqb (totalTo (m .states) (λ s. getD (t .start) s 0)) startTotal) 4 size
+    before placed size (rowsTotal 5 (m .actions) (m .states) (m .states) (cellIn (m .states) (m .states) (m .transition)))
+    before placed size (rowsTotal 6 (m .actions) (m .states) (m .observations) (cellIn (m .states) (m .observations) (m .observation)))
+
+-- ---- the file
+
+-- every part 0 but the refusal
+abbrev pub refusedFile : ℕ → ℕ → ModelFile
+refusedFile number place = record { verdict = Refused number place; tables = noTables; start = replicate maxStates 0 }
+
+abbrev pub judgedFile : Verdict → Text → ModelFile
+judgedFile Fine t = record { verdict = Fine; tables = t .tables; start = t .start }
+judgedFile (Refused number place) t = refusedFile number place
+
+abbrev pub ended : ℕ → Answer Text → ModelFile
+ended size (got t ws) = judgedFile (totalsVerdict size t) t
+ended size (refused number place) = refusedFile number place
+
+-- 1 for a file that is too long
+unfoldable pub modelFile : List ℕ → ModelFile
+modelFile file =
+    cond (leb (length file) maxBytes) (ended (length file) (headed (length file + 1) (wordsIn between file 0))) (refusedFile 1 0)
+
+-- what is handed back of a word that was refused
+abbrev pub handed : Read → ModelFile
+handed (Value v next) = refusedFile 0 0
+handed (NotRead number place) = refusedFile number place
