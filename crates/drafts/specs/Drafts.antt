@@ -1,13 +1,14 @@
--- What a statement does to the cells of a table, packed as tables/specs/Storage.antt says.
+-- What a statement does to the cells of a table. Where a cell lies, tables/specs/Storage.antt says.
 --
 --   marked test v cells     v in each place that passes the test, the other cells as they were
 --   among n i test          the test holds for one of those that i stands for: all of n where i is n (a star), else i alone
-use Prim.Native.Nat.{ℕ, suc, _+_, _*_}
+use Prim.Native.Nat.{ℕ, suc, _+_}
 use mathlib.Core.Bool.{Bool, cond}
 use mathlib.Core.List.{List, [], _∷_}
 use lib.Dec.{eqb}
 use lib.IntN.{ℤ}
 use Rattle.integers.specs.Search.{some}
+use Rattle.tables.specs.Storage.{rowPlace, cellPlace}
 
 module _ {A : Type 0} where
   unfoldable pub markedFrom : ℕ → (ℕ → Bool) → A → List A → List A
@@ -29,8 +30,8 @@ among n i test = some (spread n i) (λ j. test (lowest n i + j))
 
 -- a table of m blocks of n rows of width w, after p was stated for block a, row s and place x
 unfoldable pub stated : ℕ → ℕ → ℕ → ℕ → ℕ → ℕ → ℕ → List ℕ → List ℕ
-stated m n w a s x p = marked (λ i. among m a (λ a'. among n s (λ s'. among w x (λ x'. eqb i ((a' * n + s') * w + x'))))) p
+stated m n w a s x p = marked (λ i. among m a (λ a'. among n s (λ s'. among w x (λ x'. eqb i (cellPlace n w a' s' x'))))) p
 
 -- the rewards of m actions and n states, after r was stated for action a and state s
 unfoldable pub rewarded : ℕ → ℕ → ℕ → ℕ → ℤ → List ℤ → List ℤ
-rewarded m n a s r = marked (λ i. among m a (λ a'. among n s (λ s'. eqb i (a' * n + s')))) r
+rewarded m n a s r = marked (λ i. among m a (λ a'. among n s (λ s'. eqb i (rowPlace n a' s')))) r

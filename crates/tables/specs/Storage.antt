@@ -11,9 +11,16 @@ use Rattle.tables.specs.declared.Tables.{Tables}
 use Rattle.tables.specs.Limits.{maxStates, maxObservations, maxVectors, one, maxReward, maxWeight, maxEntry, K}
 use Rattle.tables.specs.Model.{Model}
 
--- the cell at place x of row s of block a, with n rows of width w to a block
+-- where row s of block a lies, with n rows to a block, and where place x of a row of width w does
+abbrev pub rowPlace : ℕ → ℕ → ℕ → ℕ
+rowPlace n a s = a * n + s
+
+abbrev pub cellPlace : ℕ → ℕ → ℕ → ℕ → ℕ → ℕ
+cellPlace n w a s x = rowPlace n a s * w + x
+
+-- the cell at place x of row s of block a
 abbrev pub cellIn : ℕ → ℕ → List ℕ → ℕ → ℕ → ℕ → ℕ
-cellIn n w cells a s x = getD cells ((a * n + s) * w + x) 0
+cellIn n w cells a s x = getD cells (cellPlace n w a s x) 0
 
 abbrev pub transitionIn : ℕ → List ℕ → ℕ → ℕ → ℕ → ℕ
 transitionIn n cells s a s' = cellIn n n cells a s s'
@@ -22,14 +29,14 @@ abbrev pub observationIn : ℕ → ℕ → List ℕ → ℕ → ℕ → ℕ → 
 observationIn n k cells a s' o = cellIn n k cells a s' o
 
 abbrev pub rewardIn : ℕ → List ℤ → ℕ → ℕ → ℤ
-rewardIn n cells s a = getD cells (a * n + s) (pos 0)
+rewardIn n cells s a = getD cells (rowPlace n a s) (pos 0)
 
 -- weights are listed by state
 abbrev pub weightIn : List ℕ → ℕ → ℕ
 weightIn p s = getD p s 0
 
 abbrev pub entryIn : ℕ → List ℤ → ℕ → ℕ → ℤ
-entryIn n cells v s = getD cells (v * n + s) (pos 0)
+entryIn n cells v s = getD cells (rowPlace n v s) (pos 0)
 
 -- the entry at s' of the vector chosen for o
 abbrev pub chosenIn : ℕ → List ℤ → List ℕ → ℕ → ℕ → ℤ

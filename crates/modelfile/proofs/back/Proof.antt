@@ -1,9 +1,7 @@
 use mathlib.Core.Path.{sym, ap, _∙_}
 use borrow.Author.Needs.{needs}
-use Rattle.tables.specs.Verdicts.{_before_}
 use Rattle.modelfile.specs.ModelFile.{handed}
 use Rattle.modelfile.proofs.Laws.{hands-none}
-use borrow.Author.Needs.{needs}
 use Rattle.modelfile.proofs.back.Statement.{statement}
 use Rattle.modelfile.proofs.back.Tie as tie
 

@@ -6,7 +6,6 @@ use borrow.Author.Needs.{needs}
 use lib.ListN.{length, replicate, length-replicate}
 use lib.IntN.{pos}
 use Rattle.tables.specs.Limits.{maxStates, maxActions}
-use Rattle.tables.specs.Verdicts.{_before_}
 use Rattle.words.specs.Words.{Words}
 use Rattle.drafts.specs.Drafts.{stated}
 use Rattle.grammar.specs.Grammar.{Answer, got, _then_}
@@ -15,7 +14,6 @@ use Rattle.statements.specs.Statements.{startNumber, row, draft, statements, Ro
 use Rattle.modelfile.specs.ModelFile.{Text, textOf, noCells, body}
 use Rattle.modelfile.proofs.Laws.{ends-there, goes-further, goes-back, goes-on}
 use Rattle.tables.proofs.Fitting.{sizes}
-use borrow.Author.Needs.{needs}
 use Rattle.modelfile.proofs.body_at.Statement.{statement}
 use Rattle.modelfile.proofs.body_at.Tie as tie
 

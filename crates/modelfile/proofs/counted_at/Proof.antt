@@ -4,13 +4,11 @@ use native.Mathlib.Omega.{arith}
 use borrow.Author.Needs.{needs}
 use lib.ListN.{length}
 use Rattle.tables.specs.Limits.{maxStates, maxActions, maxObservations}
-use Rattle.tables.specs.Verdicts.{_before_}
 use Rattle.words.specs.Words.{wordsIn, between}
 use Rattle.grammar.specs.Grammar.{_then_, field}
 use Rattle.grammar.proofs.Laws.{value-is, value-next, field-low}
 use Rattle.modelfile.specs.ModelFile.{statesName, actionsName, observationsName, body, counted}
 use Rattle.modelfile.proofs.Laws.{goes-back, goes-on}
-use borrow.Author.Needs.{needs}
 use Rattle.modelfile.proofs.counted_at.Statement.{statement}
 use Rattle.modelfile.proofs.counted_at.Tie as tie
 

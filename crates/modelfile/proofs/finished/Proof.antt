@@ -1,9 +1,7 @@
 use mathlib.Core.Path.{sym, ap, _∙_}
 use borrow.Author.Needs.{needs}
 use Rattle.tables.specs.declared.Verdict.{Verdict}
-use Rattle.tables.specs.Verdicts.{_before_}
 use Rattle.modelfile.specs.ModelFile.{judgedFile}
-use borrow.Author.Needs.{needs}
 use Rattle.modelfile.proofs.finished.Statement.{statement}
 use Rattle.modelfile.proofs.finished.Tie as tie
 

@@ -2,12 +2,10 @@ use Prim.Native.Nat.{_+_}
 use mathlib.Core.Path.{_∙_}
 use borrow.Author.Needs.{needs}
 use lib.ListN.{length}
-use Rattle.tables.specs.Verdicts.{_before_}
 use Rattle.grammar.specs.Grammar.{_then_}
 use Rattle.grammar.proofs.Laws.{value-next}
 use Rattle.modelfile.specs.ModelFile.{counted, valued, headed}
 use Rattle.modelfile.proofs.Laws.{goes-back, goes-on}
-use borrow.Author.Needs.{needs}
 use Rattle.modelfile.proofs.headed_at.Statement.{statement}
 use Rattle.modelfile.proofs.headed_at.Tie as tie
 

@@ -1,8 +1,6 @@
 use mathlib.Core.Path.{sym, ap}
 use borrow.Author.Needs.{needs}
-use Rattle.tables.specs.Verdicts.{_before_}
 use Rattle.modelfile.specs.ModelFile.{placed}
-use borrow.Author.Needs.{needs}
 use Rattle.modelfile.proofs.placed_at.Statement.{statement}
 use Rattle.modelfile.proofs.placed_at.Tie as tie
 

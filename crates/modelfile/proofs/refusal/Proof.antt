@@ -3,9 +3,7 @@ use borrow.Author.Needs.{needs}
 use lib.ListN.{replicate}
 use Rattle.tables.specs.declared.Verdict.the-variants.{Refused}
 use Rattle.tables.specs.Limits.{maxStates}
-use Rattle.tables.specs.Verdicts.{_before_}
 use Rattle.tables.specs.declared.Tables.{Tables}
-use borrow.Author.Needs.{needs}
 use Rattle.modelfile.proofs.refusal.Statement.{statement}
 use Rattle.modelfile.proofs.refusal.Tie as tie
 

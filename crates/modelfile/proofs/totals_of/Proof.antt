@@ -4,7 +4,6 @@ use mathlib.Core.List.{List}
 use native.Mathlib.Omega.{arith}
 use borrow.Author.Needs.{needs}
 use borrow.Author.Tests.{eq-eqb, ne-eqb}
-use Rattle.tables.specs.Verdicts.{_before_}
 use Rattle.statements.specs.Statements.{startTotal}
 use Rattle.modelfile.specs.ModelFile.{placed, totalsVerdict}
 use lib.ListN.{getD}
@@ -12,7 +11,6 @@ use Rattle.integers.specs.Whole.{totalTo}
 use Rattle.integers.proofs.Sums.{total-cong}
 use Rattle.tables.proofs.Refusals.{stops, goes, breaks, passes}
 use Rattle.tables.proofs.Fitting.{Long, Few, sizes}
-use borrow.Author.Needs.{needs}
 use Rattle.modelfile.proofs.totals_of.Statement.{statement}
 use Rattle.modelfile.proofs.totals_of.Tie as tie
 

@@ -1,10 +1,8 @@
 use borrow.Author.Needs.{needs}
-use Rattle.tables.specs.Verdicts.{_before_}
 use Rattle.grammar.specs.Grammar.{key}
 use Rattle.grammar.proofs.Laws.{value-next, reads-on}
 use Rattle.grammar.proofs.Arms.{reads-back}
 use Rattle.modelfile.specs.ModelFile.{rewardWord, valued}
-use borrow.Author.Needs.{needs}
 use Rattle.modelfile.proofs.valued_at.Statement.{statement}
 use Rattle.modelfile.proofs.valued_at.Tie as tie
 

@@ -5,7 +5,6 @@ use Rattle.grammar.specs.Grammar.{got, _then_}
 use Rattle.grammar.proofs.Laws.{value-next, reads-on, reads-done}
 use Rattle.grammar.proofs.Arms.{reads-back}
 use Rattle.statements.specs.Statements.{probability, entry}
-use borrow.Author.Needs.{needs}
 use Rattle.statements.proofs.entry_at.Statement.{statement}
 use Rattle.statements.proofs.entry_at.Tie as tie
 

@@ -4,7 +4,6 @@ use Rattle.grammar.specs.Grammar.{index}
 use Rattle.grammar.proofs.Laws.{value-next, reads-on}
 use Rattle.grammar.proofs.Arms.{reads-back}
 use Rattle.statements.specs.Statements.{indexed}
-use borrow.Author.Needs.{needs}
 use Rattle.statements.proofs.indexed_at.Statement.{statement}
 use Rattle.statements.proofs.indexed_at.Tie as tie
 

@@ -4,7 +4,6 @@ use Rattle.grammar.specs.Grammar.{got, _then_}
 use Rattle.grammar.proofs.Laws.{value-next, reads-made, choose-on}
 use Rattle.grammar.proofs.Arms.{choose-back}
 use Rattle.statements.specs.Statements.{table, reward, draft, rewardStatement, observationOrReward}
-use borrow.Author.Needs.{needs}
 use Rattle.statements.proofs.other_statement_at.Statement.{statement}
 use Rattle.statements.proofs.other_statement_at.Tie as tie
 

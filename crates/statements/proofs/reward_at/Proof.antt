@@ -11,19 +11,6 @@ use Rattle.grammar.proofs.Laws.{value-next, earlier, reads-done}
 use Rattle.grammar.proofs.Arms.{reads-back}
 use Rattle.statements.proofs.Laws.{reward-by}
 use Rattle.integers.proofs.Words.{answer}
-use mathlib.Core.Path.{ap, _∙_}
-use mathlib.Core.Bool.{Bool}
-use native.Mathlib.Omega.{arith}
-use borrow.Author.Needs.{needs}
-use lib.IntN.{ℤ}
-use Rattle.words.specs.Words.{wordsIn, between}
-use Rattle.drafts.specs.Drafts.{rewarded}
-use Rattle.numerals.specs.Numeral.{signed}
-use Rattle.grammar.specs.Grammar.{got, minus}
-use Rattle.grammar.proofs.Laws.{value-next, earlier, reads-done}
-use Rattle.grammar.proofs.Arms.{reads-back}
-use Rattle.statements.proofs.Laws.{reward-by}
-use borrow.Author.Needs.{needs}
 use Rattle.statements.proofs.reward_at.Statement.{statement}
 use Rattle.statements.proofs.reward_at.Tie as tie
 

@@ -3,7 +3,6 @@ use Rattle.grammar.specs.Grammar.{got, _then_}
 use Rattle.grammar.proofs.Laws.{value-next, reads-on, reads-made}
 use Rattle.grammar.proofs.Arms.{reads-back}
 use Rattle.statements.specs.Statements.{reward, rewards, draft, rewardStatement}
-use borrow.Author.Needs.{needs}
 use Rattle.statements.proofs.reward_statement_at.Statement.{statement}
 use Rattle.statements.proofs.reward_statement_at.Tie as tie
 

@@ -7,7 +7,6 @@ use Rattle.grammar.specs.Grammar.{Answer, _then_}
 use Rattle.grammar.proofs.Laws.{value-next, reads-on}
 use Rattle.grammar.proofs.Arms.{reads-back}
 use Rattle.statements.specs.Statements.{indexed, starred, reward, rewards}
-use borrow.Author.Needs.{needs}
 use Rattle.statements.proofs.rewards_at.Statement.{statement}
 use Rattle.statements.proofs.rewards_at.Tie as tie
 

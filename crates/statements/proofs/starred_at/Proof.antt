@@ -3,7 +3,6 @@ use Rattle.grammar.specs.Grammar.{key, star}
 use Rattle.grammar.proofs.Laws.{value-next, reads-on}
 use Rattle.grammar.proofs.Arms.{reads-back}
 use Rattle.statements.specs.Statements.{starred}
-use borrow.Author.Needs.{needs}
 use Rattle.statements.proofs.starred_at.Statement.{statement}
 use Rattle.statements.proofs.starred_at.Tie as tie
 

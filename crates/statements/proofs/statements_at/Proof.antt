@@ -8,16 +8,7 @@ use lib.IntN.{ℤ}
 use Rattle.grammar.proofs.Laws.{value-next}
 use Rattle.statements.specs.Statements.{reward, draft}
 use Rattle.statements.proofs.Laws.{room-kept, Left, left-start, left-end, left-back, left-on}
-use Prim.Native.Nat.{ℕ, _-_}
-use mathlib.Core.Path.{_≡_, refl, _∙_}
-use mathlib.Core.List.{List}
-use native.Mathlib.Omega.{arith}
-use borrow.Author.Needs.{needs}
-use lib.ListN.{length}
-use lib.IntN.{ℤ}
-use Rattle.grammar.proofs.Laws.{value-next}
 use Rattle.statements.specs.Statements.{reward, draft, Room}
-use Rattle.statements.proofs.Laws.{room-kept, Left, left-start, left-end, left-back, left-on}
 use Rattle.statements.proofs.statements_at.Statement.{statement}
 use Rattle.statements.proofs.statements_at.Tie as tie
 

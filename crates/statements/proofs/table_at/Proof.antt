@@ -8,7 +8,6 @@ use Rattle.grammar.specs.Grammar.{Answer, _then_, choose, key, colon}
 use Rattle.grammar.proofs.Laws.{value-next, reads-on, choose-on}
 use Rattle.grammar.proofs.Arms.{reads-back, choose-back}
 use Rattle.statements.specs.Statements.{probability, indexed, row, entry, table}
-use borrow.Author.Needs.{needs}
 use Rattle.statements.proofs.table_at.Statement.{statement}
 use Rattle.statements.proofs.table_at.Tie as tie
 
