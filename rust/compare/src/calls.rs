@@ -1,0 +1,148 @@
+//! Calls on storage of any content: opening, offers, totals, building, the worth of plan graphs.
+
+use crate::gen::{self, List, Question, Step, DOCUMENT};
+use crate::rng::Rng;
+use crate::show;
+use num_bigint::BigInt;
+use reference::{Certifier, Graph, Level, Points, Refusal, Rules, Tables, Totals};
+
+/// What can be called. A library is compared with the reference by having these functions.
+pub trait Calls {
+    fn open(&self, tables: &Tables) -> Result<Certifier, Refusal>;
+    fn offer(&self, certifier: &mut Certifier, level: &Level) -> Result<(), Refusal>;
+    fn totals(&self, certifier: &Certifier, mixture: &[u64]) -> Result<Totals, Refusal>;
+    fn build(&self, certifier: &Certifier, points: &Points) -> Result<Level, Refusal>;
+    fn worth(&self, tables: &Tables, graph: &Graph, asked: Question) -> Result<BigInt, Refusal>;
+}
+
+/// The reference by these rules.
+impl Calls for Rules {
+    fn open(&self, tables: &Tables) -> Result<Certifier, Refusal> {
+        reference::open(tables, self)
+    }
+
+    fn offer(&self, certifier: &mut Certifier, level: &Level) -> Result<(), Refusal> {
+        reference::offer(certifier, level, self)
+    }
+
+    fn totals(&self, certifier: &Certifier, mixture: &[u64]) -> Result<Totals, Refusal> {
+        reference::totals(certifier, mixture, self)
+    }
+
+    fn build(&self, certifier: &Certifier, points: &Points) -> Result<Level, Refusal> {
+        reference::build(certifier, points, self)
+    }
+
+    fn worth(&self, tables: &Tables, graph: &Graph, asked: Question) -> Result<BigInt, Refusal> {
+        reference::worth(tables, graph, asked.node, asked.state, asked.steps, self)
+    }
+}
+
+/// One case.
+pub enum Case {
+    /// Tables to open.
+    Open(Tables),
+    /// Tables, and calls on the certifier that opens on them.
+    List(List),
+    /// Calls on a certifier of any content.
+    Handed(Certifier, Vec<Step>),
+    /// What a plan graph is worth.
+    Worth(Tables, Graph, Question),
+}
+
+/// A random case.
+pub fn random(rng: &mut Rng, number: u64) -> Case {
+    if number % 250 == 249 {
+        let shape = gen::tiny_shape(rng);
+        return Case::List(gen::climb(rng, shape));
+    }
+    let shape = gen::shape(rng);
+    match rng.below(8) {
+        0 => {
+            let mut tables = gen::tables(rng, shape);
+            for _ in 0..rng.below(3) {
+                gen::spoil_tables(rng, &mut tables);
+            }
+            Case::Open(tables)
+        }
+        1 | 2 => {
+            let mut tables = gen::tables(rng, shape);
+            if rng.once_in(8) {
+                gen::spoil_tables(rng, &mut tables);
+            }
+            let mut graph = gen::graph(rng, shape);
+            if rng.once_in(4) {
+                gen::spoil_graph(rng, &mut graph, shape);
+            }
+            let asked = gen::question(rng, &graph, shape);
+            Case::Worth(tables, graph, asked)
+        }
+        3..=5 => {
+            let levels = 1 + rng.below(4);
+            Case::List(gen::list(rng, shape, levels))
+        }
+        _ => {
+            let (certifier, steps) = gen::handed(rng, shape);
+            Case::Handed(certifier, steps)
+        }
+    }
+}
+
+impl Case {
+    /// The whole case.
+    pub fn show(&self) -> String {
+        match self {
+            Case::Open(tables) => format!("open on {}", show::tables(tables)),
+            Case::List(list) => format!("open on {}", show::list(list)),
+            Case::Handed(certifier, steps) => format!("{}{}", show::certifier(certifier), show::steps(steps)),
+            Case::Worth(tables, graph, asked) => {
+                format!("worth by {}{}{:?}\n", show::tables(tables), show::graph(graph), asked)
+            }
+        }
+    }
+
+    /// The first answer in which the other differs from the document.
+    pub fn difference(&self, other: &dyn Calls) -> Option<String> {
+        match self {
+            Case::Open(tables) => differ("open", &DOCUMENT.open(tables), &other.open(tables)),
+            Case::Worth(tables, graph, asked) => {
+                differ("worth", &DOCUMENT.worth(tables, graph, *asked), &other.worth(tables, graph, *asked))
+            }
+            Case::Handed(certifier, steps) => steps_differ(certifier, certifier, steps, other),
+            Case::List(list) => {
+                let (ours, theirs) = (DOCUMENT.open(&list.tables), other.open(&list.tables));
+                if let Some(difference) = differ("open", &ours, &theirs) {
+                    return Some(difference);
+                }
+                steps_differ(&ours.ok()?, &theirs.ok()?, &list.steps, other)
+            }
+        }
+    }
+}
+
+/// The first of these calls whose answers, or certifiers after it, differ.
+fn steps_differ(ours: &Certifier, theirs: &Certifier, steps: &[Step], other: &dyn Calls) -> Option<String> {
+    let (mut ours, mut theirs) = (ours.clone(), theirs.clone());
+    for (at, step) in steps.iter().enumerate() {
+        let found = match step {
+            Step::Offer(level) => differ("offer", &DOCUMENT.offer(&mut ours, level), &other.offer(&mut theirs, level)),
+            Step::Totals(mixture) => {
+                differ("totals", &DOCUMENT.totals(&ours, mixture), &other.totals(&theirs, mixture))
+            }
+            Step::Build(points) => differ("build", &DOCUMENT.build(&ours, points), &other.build(&theirs, points)),
+        };
+        let found = found.or_else(|| differ("certifier", &ours, &theirs));
+        if let Some(found) = found {
+            return Some(format!("step {}: {}", at, found));
+        }
+    }
+    None
+}
+
+/// Both answers, if they are not equal.
+fn differ<Answer: PartialEq + std::fmt::Debug>(call: &str, ours: &Answer, theirs: &Answer) -> Option<String> {
+    if ours == theirs {
+        return None;
+    }
+    Some(format!("{}\n  the reference: {:?}\n  the other:     {:?}", call, ours, theirs))
+}

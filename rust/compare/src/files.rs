@@ -1,0 +1,641 @@
+//! Model files: valid ones of every shape, and damaged ones.
+
+use crate::gen::{self, Shape};
+use crate::rng::Rng;
+use reference::{Tables, FILE_BYTES, THOUSAND};
+
+/// The model that the document prints, 235 bytes.
+pub const DOUGH: &str = "\
+discount: 0.9
+values: reward
+states: 2
+actions: 2
+observations: 2
+start: 0.5 0.5
+T: 0 : 0 0.5 0.5
+T: 0 : 1 0 1
+T: 1 : * 1 0
+O: 0 : 0 0.8 0.2
+O: 0 : 1 0.3 0.7
+O: 1 : * 0.5 0.5
+R: 0 : * : * : * -1
+R: 1 : 0 : * : * -10
+R: 1 : 1 : * : * 6
+";
+
+/// A small model in another dress: comments, CR LF, tabs, single forms, doubled statements.
+const DRESSED: &str = "# a kettle : *\r\n\
+discount:1.000# no discount\r\n\
+\tvalues : reward\r\n\
+states:02 actions:1 observations:3\r\n\
+start: 1\t0.00 # all on 0\r\n\
+T:*:*:* 0.5 T: 0 : 1 0 1\r\n\
+T: 0 : 01 : * 0.25 T: 0 : 1 : 0 0.750 # 3/4\r\n\
+O: * : * 0.2 0.3 0.5\r\n\
+O: 0 : 1 : 0 0 O:0:1:1 0.5\r\n\
+R: * : * : * : * -0001.50 R: 0 : 1 : * : * 1000.00\r\n\
+#";
+
+/// Words that are right in few places and wrong in most.
+const WORDS: &[&[u8]] = &[
+    b"",
+    b"0",
+    b"1",
+    b"2",
+    b"3",
+    b"7",
+    b"8",
+    b"9",
+    b"10",
+    b"15",
+    b"16",
+    b"17",
+    b"99",
+    b"100",
+    b"256",
+    b"65536",
+    b"4294967296",
+    b"18446744073709551616",
+    b"00",
+    b"01",
+    b"02",
+    b"08",
+    b"000",
+    b"001",
+    b"016",
+    b"-0",
+    b"-1",
+    b"-2",
+    b"+0",
+    b"+1",
+    b"0.0",
+    b"0.5",
+    b"0.55",
+    b"0.555",
+    b"0.5555",
+    b"0.50000",
+    b"1.",
+    b"1.0",
+    b"1.00",
+    b"1.000",
+    b"1.0000",
+    b"1.001",
+    b"1.01",
+    b".5",
+    b".",
+    b"..",
+    b"1..0",
+    b"1.0.0",
+    b"9.999",
+    b"10.0",
+    b"0100",
+    b"-",
+    b"--1",
+    b"-.5",
+    b"-0.5",
+    b"-0.00",
+    b"1-",
+    b"1000",
+    b"1000.00",
+    b"1000.01",
+    b"-1000",
+    b"-1000.00",
+    b"-1000.01",
+    b"1001",
+    b"9999.99",
+    b"10000",
+    b"00001",
+    b"0001",
+    b"-0000",
+    b"0,5",
+    b"1e0",
+    b"0x1",
+    b"*",
+    b"**",
+    b"*0",
+    b"0*",
+    b":",
+    b"::",
+    b": :",
+    b"=",
+    b";",
+    b"0:0",
+    b"T",
+    b"O",
+    b"R",
+    b"TT",
+    b"T0",
+    b"T1",
+    b"t",
+    b"o",
+    b"r",
+    b"Discount",
+    b"discount",
+    b"values",
+    b"reward",
+    b"Reward",
+    b"rewards",
+    b"cost",
+    b"states",
+    b"actions",
+    b"observations",
+    b"start",
+    b"uniform",
+    b"identity",
+    b"x",
+    b"\0",
+    b"0\0",
+    b"\x0b",
+    b"0\x0b",
+    b"\x0c",
+    b"1\x0c",
+    b"\x7f",
+    b"\x80",
+    b"1\x80",
+    b"\xa0",
+    b"\xff",
+    b"\xef\xbb\xbf",
+    b"#",
+    b"#c\n",
+    b"#c\r",
+    b"0#c\n",
+    b"1#2",
+    b"\"0\"",
+    b"0 0",
+    b"1\t0",
+    b"/",
+    b"\\",
+    b"T:",
+];
+
+/// Bytes of every kind.
+const BYTES: &[u8] = &[
+    0, 1, 9, 10, 11, 12, 13, 31, 32, b'#', b'*', b':', b'-', b'+', b'.', b',', b'/', b'0', b'1', b'9', b';', b'A',
+    b'T', b'O', b'R', b'd', 127, 128, 160, 255,
+];
+
+/// A file with a few words about it.
+pub struct Case {
+    pub about: String,
+    pub file: Vec<u8>,
+}
+
+impl Case {
+    fn new(about: impl Into<String>, file: impl Into<Vec<u8>>) -> Case {
+        Case { about: about.into(), file: file.into() }
+    }
+}
+
+/// The files that are the same for every seed.
+pub fn fixed() -> Vec<Case> {
+    let mut cases = vec![
+        Case::new("the dough model", DOUGH),
+        Case::new("a dressed model", DRESSED),
+        Case::new("the dough model with a wrong row", DOUGH.replace("T: 0 : 1 0 1", "T: 0 : 1 0 0")),
+        Case::new("the dough model with CR LF", DOUGH.replace('\n', "\r\n")),
+        Case::new("the dough model with CR", DOUGH.replace('\n', "\r")),
+        Case::new("the dough model with tabs", DOUGH.replace(' ', "\t")),
+        Case::new("the dough model without spaces at colons", DOUGH.replace(" : ", ":").replace(": ", ":")),
+        Case::new("the dough model on one line", DOUGH.replace('\n', " ")),
+        Case::new("the dough model twice", format!("{}{}", DOUGH, DOUGH)),
+        Case::new("the dough model with a mark in front", [b"\xef\xbb\xbf", DOUGH.as_bytes()].concat()),
+    ];
+    for (name, text) in [("dough", DOUGH), ("dressed", DRESSED)] {
+        for length in 0..=text.len() {
+            let file = &text.as_bytes()[..length];
+            cases.push(Case::new(format!("the {} model cut at {}", name, length), file));
+        }
+    }
+    let lines = split(DOUGH);
+    for line in 0..lines.len() {
+        for at in 0..lines[line].len() {
+            for &word in WORDS {
+                let about = format!("the dough model, line {}, word {}: {}", line, at, escaped(word));
+                cases.push(Case::new(about, plain(&replaced(&lines, line, at, word))));
+            }
+        }
+    }
+    for at in 0..=DOUGH.len() {
+        // A few bytes at each place; the kinds take turns.
+        for turn in 0..4 {
+            let byte = BYTES[(at * 7 + turn * 8) % BYTES.len()];
+            let mut file = DOUGH.as_bytes().to_vec();
+            file.insert(at, byte);
+            cases.push(Case::new(format!("the dough model with byte {} put in at {}", byte, at), file));
+            let mut file = DOUGH.as_bytes().to_vec();
+            if at < file.len() {
+                file[at] = byte;
+                cases.push(Case::new(format!("the dough model with byte {} at {}", byte, at), file));
+            }
+        }
+        let mut file = DOUGH.as_bytes().to_vec();
+        if at < file.len() {
+            file.remove(at);
+            cases.push(Case::new(format!("the dough model without its byte at {}", at), file));
+        }
+    }
+    for byte in 0..=255 {
+        cases.push(Case::new(format!("byte {} alone", byte), [byte]));
+        let mut file = b"discount: 0.9".to_vec();
+        file.push(byte);
+        file.extend_from_slice(&DOUGH.as_bytes()[14..]);
+        cases.push(Case::new(format!("the dough model with byte {} after the discount", byte), file));
+    }
+    cases.extend(lengths());
+    cases
+}
+
+/// Files at and past the longest.
+fn lengths() -> Vec<Case> {
+    let mut cases = Vec::new();
+    let wrong_row = DOUGH.replace("T: 0 : 1 0 1", "T: 0 : 1 0 0");
+    let cut = &DOUGH[..DOUGH.len() - 2];
+    let extra = format!("{}x", DOUGH);
+    for length in [FILE_BYTES - 1, FILE_BYTES, FILE_BYTES + 1, FILE_BYTES + 2, 40_000, 65_535, 65_536, 65_537, 300_000]
+    {
+        for (name, text) in [("whole", DOUGH), ("wrong row", &wrong_row), ("cut", cut), ("extra word", &extra)] {
+            let about = |how: &str| format!("the dough model ({}) at {} bytes: {}", name, length, how);
+            let missing = length - text.len();
+            let spaces = vec![b' '; missing];
+            let mut comment = vec![b'c'; missing];
+            comment[0] = b'#';
+            let mut comment_line = comment.clone();
+            comment_line[missing - 1] = b'\n';
+            cases.push(Case::new(about("spaces behind"), [text.as_bytes(), &spaces].concat()));
+            cases.push(Case::new(about("spaces in front"), [&spaces, text.as_bytes()].concat()));
+            cases.push(Case::new(about("a comment behind"), [text.as_bytes(), &comment].concat()));
+            cases.push(Case::new(about("a comment in front"), [&comment_line, text.as_bytes()].concat()));
+            let (first, second) = text.split_at(text.find("T:").unwrap_or(0));
+            cases.push(Case::new(
+                about("a comment inside"),
+                [first.as_bytes(), &comment_line, second.as_bytes()].concat(),
+            ));
+        }
+        for byte in [0, b' ', b'#', b':', b'0', b'x', 255] {
+            cases.push(Case::new(format!("{} bytes {}", length, byte), vec![byte; length]));
+        }
+        // Statements over and over, the last one cut.
+        let mut file = DOUGH.as_bytes().to_vec();
+        let statements = &DOUGH.as_bytes()[DOUGH.find("T:").unwrap_or(0)..];
+        while file.len() < length {
+            let more = (length - file.len()).min(statements.len());
+            file.extend_from_slice(&statements[..more]);
+        }
+        cases.push(Case::new(format!("statements up to {} bytes", length), file));
+    }
+    cases
+}
+
+/// A random file: about half of them read.
+pub fn random(rng: &mut Rng) -> Case {
+    let shape = file_shape(rng);
+    let mut lines = valid(rng, shape);
+    let how = match rng.below(12) {
+        0..=5 => "valid",
+        6 | 7 => {
+            let (line, at) = some_word(rng, &lines);
+            let word = rng.pick(WORDS);
+            lines = replaced(&lines, line, at, word);
+            "one word replaced"
+        }
+        8 => {
+            let (line, at) = some_word(rng, &lines);
+            let word = lines[line][at].clone();
+            lines[line].insert(at, word);
+            "one word doubled"
+        }
+        9 => {
+            let (line, at) = some_word(rng, &lines);
+            let (other_line, other_at) = some_word(rng, &lines);
+            let word = lines[line][at].clone();
+            lines[line][at] = std::mem::replace(&mut lines[other_line][other_at], word);
+            "two words swapped"
+        }
+        10 => {
+            let line = rng.index(lines.len());
+            if rng.once_in(2) {
+                lines.remove(line);
+                "one line left out"
+            } else {
+                let other = rng.index(lines.len());
+                let line = lines.remove(line);
+                lines.insert(other, line);
+                "one line moved"
+            }
+        }
+        _ => {
+            let (line, at) = some_word(rng, &lines);
+            let word = &mut lines[line][at];
+            let byte = rng.index(word.len());
+            word[byte] = rng.pick(BYTES);
+            "one byte of a word changed"
+        }
+    };
+    let mut file = dressed(rng, &lines);
+    let mut about = format!("a random model, {:?}, {}", shape, how);
+    match rng.below(16) {
+        0 => {
+            file.truncate(rng.index(file.len() + 1));
+            about.push_str(", cut");
+        }
+        1 => {
+            let at = rng.index(file.len());
+            file[at] = rng.pick(BYTES);
+            about.push_str(", one byte changed");
+        }
+        2 => {
+            let at = rng.index(file.len() + 1);
+            file.insert(at, rng.next() as u8);
+            about.push_str(", one byte put in");
+        }
+        _ => {}
+    }
+    Case { about, file }
+}
+
+/// The counts of a random file: mostly small, seldom as large as can be.
+fn file_shape(rng: &mut Rng) -> Shape {
+    if rng.once_in(400) {
+        return Shape { n: 16, m: 8, k: 8 };
+    }
+    gen::shape(rng)
+}
+
+/// Lines of words.
+type Lines = Vec<Vec<Vec<u8>>>;
+
+/// The words of a text without comments.
+fn split(text: &str) -> Lines {
+    let line = |line: &str| {
+        let parted = line.replace(':', " : ");
+        parted.split_whitespace().map(|word| word.as_bytes().to_vec()).collect()
+    };
+    text.lines().map(line).collect()
+}
+
+/// The number of a line and of a word in it.
+fn some_word(rng: &mut Rng, lines: &Lines) -> (usize, usize) {
+    let line = rng.index(lines.len());
+    (line, rng.index(lines[line].len()))
+}
+
+/// The lines with one word replaced.
+fn replaced(lines: &Lines, line: usize, at: usize, word: &[u8]) -> Lines {
+    let mut lines = lines.clone();
+    lines[line][at] = word.to_vec();
+    lines
+}
+
+/// The lines with a space between words and an LF after each line.
+fn plain(lines: &Lines) -> Vec<u8> {
+    let mut file = Vec::new();
+    for line in lines {
+        file.extend(line.join(&b' '));
+        file.push(b'\n');
+    }
+    file
+}
+
+/// The lines with all kinds of spaces and comments between words.
+fn dressed(rng: &mut Rng, lines: &Lines) -> Vec<u8> {
+    if rng.once_in(3) {
+        return plain(lines);
+    }
+    let tight = rng.once_in(2);
+    let wild = rng.pick(&[0, 4, 20]);
+    let end = rng.pick(&[&b"\n"[..], b"\r\n", b" ", b"\n\n", b" # next\n", b"#\r\n"]);
+    let mut file = Vec::new();
+    for line in lines {
+        for (at, word) in line.iter().enumerate() {
+            let by_colon = at == 0 || word == b":" || line[at - 1] == b":";
+            if !(by_colon && tight) || (at > 0 && rng.once_in(9)) {
+                file.push(b' ');
+            }
+            if wild > 0 && rng.once_in(wild) {
+                file.extend(gap(rng));
+            }
+            file.extend_from_slice(word);
+        }
+        file.extend_from_slice(end);
+    }
+    if rng.once_in(4) {
+        file.extend(gap(rng));
+        file.extend_from_slice(b"# the end: 1 2 *");
+    }
+    file
+}
+
+/// Spaces of some kind, or a comment with anything in it.
+fn gap(rng: &mut Rng) -> Vec<u8> {
+    match rng.below(3) {
+        0 => rng.pick(&[&b" "[..], b"\t", b"\r", b"\n", b"\r\n", b" \t \n"]).to_vec(),
+        1 => b"#\n".to_vec(),
+        _ => {
+            let mut comment = vec![b'#'];
+            for _ in 0..rng.below(12) {
+                let byte = rng.next() as u8;
+                comment.push(if byte == b'\n' { b'\r' } else { byte });
+            }
+            comment.push(b'\n');
+            comment
+        }
+    }
+}
+
+/// The lines of a file that reads: any statements first, then rows for all that are not yet right.
+fn valid(rng: &mut Rng, shape: Shape) -> Lines {
+    let model = gen::tables(rng, shape);
+    let start = gen::shares(rng, shape.n, 100);
+    let mut lines = header(rng, &model, &start);
+    let mut stated =
+        Tables { states: model.states, actions: model.actions, observations: model.observations, ..Tables::zero() };
+    for _ in 0..rng.below(8) {
+        let line = statement(rng, shape, &mut stated);
+        lines.push(line);
+    }
+    // Rewards that are left unstated, or that a statement above left, are as good as any.
+    let Shape { n, m, k } = shape;
+    for a in 0..m {
+        for s in 0..n {
+            if !rng.once_in(5) {
+                let reward = model.rewards[model.reward_cell(a, s)];
+                lines.push(words(&[
+                    "R",
+                    ":",
+                    &index(rng, a),
+                    ":",
+                    &index(rng, s),
+                    ":",
+                    "*",
+                    ":",
+                    "*",
+                    &reward_text(rng, reward),
+                ]));
+            }
+        }
+    }
+    if rng.once_in(4) {
+        // One row for all states, or for all actions too.
+        let row = gen::shares(rng, n, THOUSAND);
+        let of_all = rng.once_in(2);
+        let action = rng.index(m);
+        for a in (0..m).filter(|&a| of_all || a == action) {
+            for s in 0..n {
+                let at = model.transition_cell(a, s, 0);
+                stated.transitions[at..at + n].copy_from_slice(&row);
+            }
+        }
+        let action = if of_all { "*".to_string() } else { index(rng, action) };
+        lines.push(row_line(rng, "T", &action, "*", &row));
+    }
+    for a in 0..m {
+        for s in 0..n {
+            let at = model.transition_cell(a, s, 0);
+            let row = model.transitions[at..at + n].to_vec();
+            if stated.transitions[at..at + n].iter().sum::<u64>() != THOUSAND {
+                let old = stated.transitions[at..at + n].to_vec();
+                state_row(rng, &mut lines, "T", a, s, &old, &row);
+            }
+            let at = model.sight_cell(a, s, 0);
+            let row = model.sights[at..at + k].to_vec();
+            if stated.sights[at..at + k].iter().sum::<u64>() != THOUSAND {
+                let old = stated.sights[at..at + k].to_vec();
+                state_row(rng, &mut lines, "O", a, s, &old, &row);
+            }
+        }
+    }
+    lines
+}
+
+/// The six lines in front.
+fn header(rng: &mut Rng, model: &Tables, start: &[u64]) -> Lines {
+    let mut first = words(&["start", ":"]);
+    for &number in start {
+        first.push(decimal(rng, number, 2).into_bytes());
+    }
+    vec![
+        words(&["discount", ":", &decimal(rng, model.discount, 3)]),
+        words(&["values", ":", "reward"]),
+        words(&["states", ":", &index(rng, model.states as usize)]),
+        words(&["actions", ":", &index(rng, model.actions as usize)]),
+        words(&["observations", ":", &index(rng, model.observations as usize)]),
+        first,
+    ]
+}
+
+/// Any statement with any indices or stars. What it states of T and O is noted.
+fn statement(rng: &mut Rng, shape: Shape, stated: &mut Tables) -> Vec<Vec<u8>> {
+    let Shape { n, m, k } = shape;
+    let (actions, action) = some_index(rng, m);
+    let (states, state) = some_index(rng, n);
+    let kind = rng.below(5);
+    if kind == 4 {
+        let reward = rng.within(-100_000, 100_000);
+        return words(&["R", ":", &action, ":", &state, ":", "*", ":", "*", &reward_text(rng, reward)]);
+    }
+    let (name, count) = if kind < 2 { ("T", n) } else { ("O", k) };
+    let mut line = words(&[name, ":", &action, ":", &state]);
+    let mut row = Vec::new();
+    if kind % 2 == 0 {
+        let (indices, last) = some_index(rng, count);
+        let probability = rng.below(THOUSAND + 1);
+        line.extend(words(&[":", &last, &decimal(rng, probability, 3)]));
+        row.extend(indices.into_iter().map(|index| (index, probability)));
+    } else {
+        for index in 0..count {
+            let probability = rng.below(THOUSAND + 1);
+            line.push(decimal(rng, probability, 3).into_bytes());
+            row.push((index, probability));
+        }
+    }
+    for &a in &actions {
+        for &s in &states {
+            for &(index, probability) in &row {
+                if name == "T" {
+                    let at = stated.transition_cell(a, s, index);
+                    stated.transitions[at] = probability;
+                } else {
+                    let at = stated.sight_cell(a, s, index);
+                    stated.sights[at] = probability;
+                }
+            }
+        }
+    }
+    line
+}
+
+/// States a row: whole, or entry by entry where it differs from what was stated, or both.
+fn state_row(rng: &mut Rng, lines: &mut Lines, name: &str, a: usize, s: usize, old: &[u64], row: &[u64]) {
+    let whole = rng.once_in(2);
+    if whole {
+        let (action, state) = (index(rng, a), index(rng, s));
+        lines.push(row_line(rng, name, &action, &state, row));
+    }
+    if !whole || rng.once_in(5) {
+        for (at, &probability) in row.iter().enumerate() {
+            if probability != old[at] || rng.once_in(4) {
+                let (action, state, last) = (index(rng, a), index(rng, s), index(rng, at));
+                lines.push(words(&[name, ":", &action, ":", &state, ":", &last, &decimal(rng, probability, 3)]));
+            }
+        }
+    }
+}
+
+/// `T: a : s` and numbers.
+fn row_line(rng: &mut Rng, name: &str, action: &str, state: &str, row: &[u64]) -> Vec<Vec<u8>> {
+    let mut line = words(&[name, ":", action, ":", state]);
+    for &probability in row {
+        line.push(decimal(rng, probability, 3).into_bytes());
+    }
+    line
+}
+
+/// Words as bytes.
+fn words(texts: &[&str]) -> Vec<Vec<u8>> {
+    texts.iter().map(|text| text.as_bytes().to_vec()).collect()
+}
+
+/// An index as one or two digits.
+fn index(rng: &mut Rng, index: usize) -> String {
+    if rng.once_in(4) {
+        format!("{:02}", index)
+    } else {
+        index.to_string()
+    }
+}
+
+/// An index below the count, or a star for all of them.
+fn some_index(rng: &mut Rng, count: usize) -> (Vec<usize>, String) {
+    if rng.once_in(3) {
+        ((0..count).collect(), "*".to_string())
+    } else {
+        let chosen = rng.index(count);
+        (vec![chosen], index(rng, chosen))
+    }
+}
+
+/// A number counted in its last of so many decimals; zeros at its end may be left out.
+fn decimal(rng: &mut Rng, value: u64, decimals: usize) -> String {
+    let unit = 10_u64.pow(decimals as u32);
+    let mut text = format!("{}.{:0width$}", value / unit, value % unit, width = decimals);
+    let least = text.find('.').map_or(0, |point| point + 1 + usize::from(rng.once_in(2)));
+    while !rng.once_in(5) && text.ends_with('0') && text.len() > least {
+        text.pop();
+    }
+    text.trim_end_matches('.').to_string()
+}
+
+/// A reward in ticks, with a minus also for 0, and up to four digits.
+fn reward_text(rng: &mut Rng, ticks: i64) -> String {
+    let minus = if ticks < 0 || (ticks == 0 && rng.once_in(2)) { "-" } else { "" };
+    let plain = decimal(rng, ticks.unsigned_abs(), 2);
+    let digits = plain.find('.').unwrap_or(plain.len());
+    let zeros = if digits < 4 && rng.once_in(5) { 4 - digits } else { 0 };
+    format!("{}{}{}", minus, "0".repeat(zeros), plain)
+}
+
+/// Bytes in a form that source text can hold.
+pub fn escaped(bytes: &[u8]) -> String {
+    let text: String = bytes.iter().flat_map(|&byte| std::ascii::escape_default(byte)).map(char::from).collect();
+    format!("b\"{}\"", text)
+}

@@ -1,0 +1,561 @@
+//! Models, levels, points, mixtures, plan graphs and lists of offers, random and repeatable.
+//!
+//! What is valid here is so by the reference with the document's rules; storage has its full size, and anything may stand
+//! past the counts.
+
+use crate::rng::Rng;
+use reference::{
+    build, offer, open, Certifier, Graph, Level, Points, Rules, Tables, ACTIONS, BUILT_POINTS, LEVELS, NODES,
+    OBSERVATIONS, POINTS, POINT_TOTAL, REWARD, STATES, STEPS, THOUSAND, VECTORS, WEIGHT,
+};
+
+/// The document.
+pub const DOCUMENT: Rules = Rules { trap: None };
+
+/// The counts of a model.
+#[derive(Clone, Copy, Debug, PartialEq, Eq)]
+pub struct Shape {
+    pub n: usize,
+    pub m: usize,
+    pub k: usize,
+}
+
+/// Counts so small that all plans of three steps can be listed: at most some thousands.
+pub fn tiny_shape(rng: &mut Rng) -> Shape {
+    let (m, k) = rng.pick(&[(1, 1), (1, 3), (2, 1), (3, 1), (2, 2), (2, 2), (2, 2), (2, 2), (3, 2), (2, 3)]);
+    Shape { n: 1 + rng.index(3), m, k }
+}
+
+/// Counts that are mostly small; now and then one of them is at its limit.
+pub fn shape(rng: &mut Rng) -> Shape {
+    let mut count = |small: usize, limit: usize| if rng.once_in(12) { limit } else { 1 + rng.index(small) };
+    let shape = Shape { n: count(4, STATES), m: count(3, ACTIONS), k: count(3, OBSERVATIONS) };
+    if shape.n * shape.n * shape.m * shape.k > 2_000 {
+        Shape { m: shape.m.min(3), k: shape.k.min(2), ..shape }
+    } else {
+        shape
+    }
+}
+
+/// Anything: numbers near limits and ends, and plain random ones.
+pub fn junk(rng: &mut Rng) -> u64 {
+    let any = rng.next();
+    rng.pick(&[0, 1, 99, 100, 101, 1_000, 1_001, 1_000_001, 1 << 32, 1 << 63, u64::MAX, any])
+}
+
+/// Anything signed.
+pub fn signed_junk(rng: &mut Rng) -> i64 {
+    junk(rng) as i64
+}
+
+/// Fills the cells past the ones in use, most of the time.
+fn litter<Cell>(rng: &mut Rng, cells: &mut [Cell], used: usize, any: impl Fn(&mut Rng) -> Cell) {
+    if !rng.once_in(4) {
+        for cell in &mut cells[used..] {
+            *cell = any(rng);
+        }
+    }
+}
+
+/// Whole weights with this total: one cell, an even share, a few cells or all of them.
+pub fn shares(rng: &mut Rng, cells: usize, total: u64) -> Vec<u64> {
+    let mut row = vec![0; cells];
+    match rng.below(4) {
+        0 => row[rng.index(cells)] = total,
+        1 => {
+            for (at, cell) in row.iter_mut().enumerate() {
+                *cell = total / cells as u64 + u64::from((at as u64) < total % cells as u64);
+            }
+        }
+        style => {
+            let parts = if style == 2 { 2 } else { cells };
+            let mut left = total;
+            for _ in 1..parts {
+                let part = rng.below(left + 1);
+                row[rng.index(cells)] += part;
+                left -= part;
+            }
+            row[rng.index(cells)] += left;
+        }
+    }
+    row
+}
+
+/// Tables that open.
+pub fn tables(rng: &mut Rng, shape: Shape) -> Tables {
+    let Shape { n, m, k } = shape;
+    let discount = rng.below(THOUSAND + 1);
+    let mut tables = Tables {
+        states: n as u64,
+        actions: m as u64,
+        observations: k as u64,
+        discount: rng.pick(&[0, 1, 500, 900, 950, 999, 1_000, discount]),
+        ..Tables::zero()
+    };
+    for row in 0..m * n {
+        tables.transitions[row * n..(row + 1) * n].copy_from_slice(&shares(rng, n, THOUSAND));
+        tables.sights[row * k..(row + 1) * k].copy_from_slice(&shares(rng, k, THOUSAND));
+    }
+    let most = rng.pick(&[1, 20, 999, 10_000, REWARD]);
+    for reward in &mut tables.rewards[..m * n] {
+        *reward = if rng.once_in(6) { rng.pick(&[-most, 0, most]) } else { rng.within(-most, most) };
+    }
+    let (transitions, sights, rewards) = tables.cells_used();
+    litter(rng, &mut tables.transitions, transitions, junk);
+    litter(rng, &mut tables.sights, sights, junk);
+    litter(rng, &mut tables.rewards, rewards, signed_junk);
+    tables
+}
+
+/// Puts one number of tables at a limit, or one past it, or anywhere.
+pub fn spoil_tables(rng: &mut Rng, tables: &mut Tables) {
+    let anything = junk(rng);
+    match rng.below(8) {
+        0 => tables.states = rng.pick(&[0, 1, 16, 17, u64::MAX, anything]),
+        1 => tables.actions = rng.pick(&[0, 1, 8, 9, u64::MAX, anything]),
+        2 => tables.observations = rng.pick(&[0, 1, 8, 9, u64::MAX, anything]),
+        3 => tables.discount = rng.pick(&[0, 1_000, 1_001, u64::MAX, anything]),
+        kind => {
+            let used = if tables.counts_fit() { tables.cells_used() } else { (1, 1, 1) };
+            let add = |cell: u64| rng_step(cell, anything);
+            match kind {
+                4 | 5 => {
+                    let cell = &mut tables.transitions[rng.index(used.0)];
+                    *cell = rng.pick(&[add(*cell), 1_000, 1_001, u64::MAX]);
+                }
+                6 => {
+                    let cell = &mut tables.sights[rng.index(used.1)];
+                    *cell = rng.pick(&[add(*cell), 1_000, 1_001, u64::MAX]);
+                }
+                _ => {
+                    let cell = rng.index(used.2);
+                    tables.rewards[cell] =
+                        rng.pick(&[REWARD, -REWARD, REWARD + 1, -REWARD - 1, i64::MIN, i64::MAX, anything as i64]);
+                }
+            }
+        }
+    }
+}
+
+/// One more or one less.
+fn rng_step(cell: u64, anything: u64) -> u64 {
+    if anything % 2 == 0 {
+        cell.saturating_sub(1)
+    } else {
+        cell.saturating_add(1)
+    }
+}
+
+/// Points to build upon; as many as are asked for.
+pub fn points(rng: &mut Rng, n: usize, count: usize) -> Points {
+    let mut points = Points { count: count as u64, weights: vec![0; (BUILT_POINTS + 1) * STATES] };
+    for j in 0..count {
+        points.weights[j * n..(j + 1) * n].copy_from_slice(&shares(rng, n, POINT_TOTAL));
+    }
+    litter(rng, &mut points.weights, count * n, junk);
+    points
+}
+
+/// Puts the number of points, or one weight, at a limit or past it.
+pub fn spoil_points(rng: &mut Rng, n: usize, points: &mut Points) {
+    if points.count == 0 || rng.once_in(3) {
+        points.count = rng.pick(&[0, 16, 17, 32, 33, u64::MAX]);
+    } else {
+        let point = rng.index(points.count as usize);
+        spoil_weights(rng, &mut points.weights[point * n..(point + 1) * n]);
+    }
+}
+
+/// Weights that total 99 or 101, or 100 only in 64 bits, or anything.
+fn spoil_weights(rng: &mut Rng, weights: &mut [u64]) {
+    let at = rng.index(weights.len());
+    match rng.below(4) {
+        0 => weights[at] = weights[at].wrapping_add(1),
+        1 => weights[at] = weights[at].wrapping_sub(1),
+        2 => {
+            let other = rng.index(weights.len());
+            weights[at] = weights[at].wrapping_add(1 << 63);
+            weights[other] = weights[other].wrapping_add(1 << 63);
+        }
+        _ => weights[at] = junk(rng),
+    }
+}
+
+/// A mixture within the limits.
+pub fn mixture(rng: &mut Rng, n: usize) -> Vec<u64> {
+    let mut mixture = match rng.below(4) {
+        0 => shares(rng, n, 1),
+        1 => shares(rng, n, POINT_TOTAL),
+        2 => shares(rng, n, WEIGHT),
+        _ => (0..n).map(|_| rng.below(WEIGHT + 1)).collect(),
+    };
+    if mixture.iter().all(|&weight| weight == 0) {
+        mixture[0] = WEIGHT;
+    }
+    mixture.resize(STATES, 0);
+    litter(rng, &mut mixture, n, junk);
+    mixture
+}
+
+/// Puts one weight of a mixture at a limit or past it, or all of them at 0.
+pub fn spoil_mixture(rng: &mut Rng, n: usize, mixture: &mut [u64]) {
+    if rng.once_in(4) {
+        for weight in &mut mixture[..n] {
+            *weight = 0;
+        }
+    } else {
+        let anything = junk(rng);
+        mixture[rng.index(n)] = rng.pick(&[0, WEIGHT, WEIGHT + 1, u64::MAX, anything]);
+    }
+}
+
+/// A level by its vectors, corners and points.
+#[derive(Clone, Debug)]
+struct Unpacked {
+    vectors: Vec<Vector>,
+    corners: Vec<i64>,
+    points: Vec<Point>,
+}
+
+#[derive(Clone, Debug)]
+struct Vector {
+    action: u64,
+    choices: Vec<u64>,
+    entries: Vec<i64>,
+}
+
+#[derive(Clone, Debug)]
+struct Point {
+    weights: Vec<u64>,
+    value: i64,
+}
+
+impl Unpacked {
+    /// A level within the limits, taken apart.
+    fn of(level: &Level, n: usize, k: usize) -> Unpacked {
+        let vector = |v: usize| Vector {
+            action: level.actions[v],
+            choices: level.choices[v * k..(v + 1) * k].to_vec(),
+            entries: level.entries[v * n..(v + 1) * n].to_vec(),
+        };
+        let point = |j: usize| Point { weights: level.weights[j * n..(j + 1) * n].to_vec(), value: level.values[j] };
+        Unpacked {
+            vectors: (0..level.vectors as usize).map(vector).collect(),
+            corners: level.corners[..n].to_vec(),
+            points: (0..level.points as usize).map(point).collect(),
+        }
+    }
+
+    /// Put together in storage, with anything past the counts.
+    fn packed(&self, rng: &mut Rng, n: usize, k: usize) -> Level {
+        let mut level = Level { vectors: self.vectors.len() as u64, points: self.points.len() as u64, ..Level::zero() };
+        for (v, vector) in self.vectors.iter().enumerate() {
+            level.actions[v] = vector.action;
+            level.choices[v * k..(v + 1) * k].copy_from_slice(&vector.choices);
+            level.entries[v * n..(v + 1) * n].copy_from_slice(&vector.entries);
+        }
+        level.corners[..n].copy_from_slice(&self.corners);
+        for (j, point) in self.points.iter().enumerate() {
+            level.weights[j * n..(j + 1) * n].copy_from_slice(&point.weights);
+            level.values[j] = point.value;
+        }
+        let (vectors, points) = (self.vectors.len(), self.points.len());
+        litter(rng, &mut level.actions, vectors, junk);
+        litter(rng, &mut level.choices, vectors * k, junk);
+        litter(rng, &mut level.entries, vectors * n, signed_junk);
+        litter(rng, &mut level.corners, n, signed_junk);
+        litter(rng, &mut level.weights, points * n, junk);
+        litter(rng, &mut level.values, points, signed_junk);
+        level
+    }
+}
+
+/// The ends of the ranges of level t: entries and corners, point values.
+fn ranges(t: u64) -> (i64, i64) {
+    let t = t.min(LEVELS + 1) as i64;
+    (REWARD * t, POINT_TOTAL as i64 * REWARD * t)
+}
+
+/// A level that the document accepts where it accepts the given one: vectors lowered, left out, doubled or put in another
+/// order, corners and points raised, points left out or doubled. Points may come to lie above the corners.
+pub fn loosened(rng: &mut Rng, level: &Level, shape: Shape, t: u64) -> Level {
+    let Shape { n, k, .. } = shape;
+    let (ticks, values) = ranges(t);
+    let mut parts = Unpacked::of(level, n, k);
+    let most = rng.pick(&[0, 1, 7, 300]);
+    for vector in &mut parts.vectors {
+        for entry in &mut vector.entries {
+            *entry = (*entry - rng.within(0, most)).max(-ticks);
+        }
+    }
+    if rng.once_in(3) {
+        let twin = rng.index(parts.vectors.len());
+        let copies = rng.pick(&[1, 1, 2, VECTORS]);
+        for _ in 0..copies {
+            if parts.vectors.len() < VECTORS {
+                let at = rng.index(parts.vectors.len() + 1);
+                parts.vectors.insert(at, parts.vectors[twin.min(parts.vectors.len() - 1)].clone());
+            }
+        }
+    }
+    if rng.once_in(3) && parts.vectors.len() > 1 {
+        parts.vectors.remove(rng.index(parts.vectors.len()));
+    }
+    if rng.once_in(3) {
+        let (one, other) = (rng.index(parts.vectors.len()), rng.index(parts.vectors.len()));
+        parts.vectors.swap(one, other);
+    }
+    let most = rng.pick(&[0, 0, 1, 50]);
+    for corner in &mut parts.corners {
+        *corner = (*corner + rng.within(0, most)).min(ticks);
+    }
+    let most = rng.pick(&[0, 0, 1, 5_000, 100_000]);
+    for point in &mut parts.points {
+        if !rng.once_in(3) {
+            point.value = (point.value + rng.within(0, most)).min(values);
+        }
+    }
+    if !parts.points.is_empty() && rng.once_in(4) {
+        parts.points.remove(rng.index(parts.points.len()));
+    }
+    if !parts.points.is_empty() && rng.once_in(4) {
+        let twin = rng.index(parts.points.len());
+        let copies = rng.pick(&[1, 1, POINTS]);
+        for _ in 0..copies {
+            if parts.points.len() < POINTS {
+                parts.points.push(parts.points[twin].clone());
+            }
+        }
+    }
+    parts.packed(rng, n, k)
+}
+
+/// A level that differs by one in one entry (more), corner or point value (less), so that it may break its inequality.
+pub fn nudged(rng: &mut Rng, level: &Level, shape: Shape) -> Level {
+    let mut level = level.clone();
+    let points = if level.points > 0 { 3 } else { 2 };
+    match rng.below(points) {
+        0 => level.entries[rng.index(level.vectors as usize * shape.n)] += 1,
+        1 => level.corners[rng.index(shape.n)] -= 1,
+        _ => level.values[rng.index(level.points as usize)] -= 1,
+    }
+    level
+}
+
+/// Puts one number of a level for t at a limit, or past it, or anywhere. `below` is the previous level's vector count.
+pub fn spoil_level(rng: &mut Rng, level: &mut Level, shape: Shape, t: u64, below: u64) {
+    let Shape { n, m, k } = shape;
+    let (ticks, values) = ranges(t);
+    let vectors = (level.vectors.min(VECTORS as u64) as usize).max(1);
+    let points = level.points.min(POINTS as u64) as usize;
+    let anything = junk(rng);
+    match rng.below(if points > 0 { 9 } else { 7 }) {
+        0 => level.vectors = rng.pick(&[0, 1, 32, 33, u64::MAX, anything]),
+        1 => level.points = rng.pick(&[0, 1, 32, 33, u64::MAX, anything]),
+        2 => level.actions[rng.index(vectors)] = rng.pick(&[m as u64 - 1, m as u64, u64::MAX, anything]),
+        3 => {
+            let choice = rng.pick(&[below.wrapping_sub(1), below, level.vectors.wrapping_sub(1), u64::MAX]);
+            level.choices[rng.index(vectors * k)] = choice;
+        }
+        4 | 5 => {
+            let entry = rng.pick(&[ticks, -ticks, ticks + 1, -ticks - 1, i64::MIN, i64::MAX, anything as i64]);
+            level.entries[rng.index(vectors * n)] = entry;
+        }
+        6 => {
+            let corner = rng.pick(&[ticks, -ticks, ticks + 1, -ticks - 1, i64::MIN, i64::MAX, anything as i64]);
+            level.corners[rng.index(n)] = corner;
+        }
+        7 => {
+            let value = rng.pick(&[values, -values, values + 1, -values - 1, i64::MIN, i64::MAX, anything as i64]);
+            level.values[rng.index(points)] = value;
+        }
+        _ => {
+            let point = rng.index(points);
+            spoil_weights(rng, &mut level.weights[point * n..(point + 1) * n]);
+        }
+    }
+}
+
+/// A plan graph within the limits.
+pub fn graph(rng: &mut Rng, shape: Shape) -> Graph {
+    let nodes = rng.pick(&[1, 2, 3, 4, NODES]);
+    let mut graph = Graph { nodes: nodes as u64, ..Graph::zero() };
+    for node in 0..nodes {
+        graph.actions[node] = rng.below(shape.m as u64);
+        for o in 0..shape.k {
+            graph.next[node * shape.k + o] = rng.below(nodes as u64);
+        }
+    }
+    litter(rng, &mut graph.actions, nodes, junk);
+    litter(rng, &mut graph.next, nodes * shape.k, junk);
+    graph
+}
+
+/// Puts the node count, an action or a next node at a limit or past it.
+pub fn spoil_graph(rng: &mut Rng, graph: &mut Graph, shape: Shape) {
+    let nodes = (graph.nodes.min(NODES as u64) as usize).max(1);
+    let anything = junk(rng);
+    match rng.below(4) {
+        0 => graph.nodes = rng.pick(&[0, 1, 32, 33, u64::MAX, anything]),
+        1 => graph.actions[rng.index(nodes)] = rng.pick(&[shape.m as u64 - 1, shape.m as u64, u64::MAX, anything]),
+        _ => {
+            let next = rng.pick(&[nodes as u64 - 1, nodes as u64, 31, 32, u64::MAX, anything]);
+            graph.next[rng.index(nodes * shape.k)] = next;
+        }
+    }
+}
+
+/// What a plan graph is asked.
+#[derive(Clone, Copy, Debug, PartialEq, Eq)]
+pub struct Question {
+    pub node: u64,
+    pub state: u64,
+    pub steps: u64,
+}
+
+/// A question within the limits or one past them.
+pub fn question(rng: &mut Rng, graph: &Graph, shape: Shape) -> Question {
+    let mut up_to = |limit: u64, once_past: u64| {
+        if rng.once_in(once_past) {
+            rng.pick(&[limit, limit + 1, u64::MAX])
+        } else {
+            rng.below(limit)
+        }
+    };
+    Question {
+        node: up_to(graph.nodes.clamp(1, NODES as u64), 20),
+        state: up_to(shape.n as u64, 20),
+        steps: up_to(STEPS + 1, 10),
+    }
+}
+
+/// One call on a certifier.
+#[derive(Clone, Debug)]
+pub enum Step {
+    Offer(Level),
+    Totals(Vec<u64>),
+    Build(Points),
+}
+
+/// Tables, and a list of calls on the certifier that opens on them.
+#[derive(Clone, Debug)]
+pub struct List {
+    pub tables: Tables,
+    pub steps: Vec<Step>,
+}
+
+/// A list of offers until so many levels are accepted: built, loosened, off by one and spoiled ones, with totals and
+/// buildings in between.
+pub fn list(rng: &mut Rng, shape: Shape, levels: u64) -> List {
+    let tables = tables(rng, shape);
+    let mut certifier = open(&tables, &DOCUMENT).expect("generated tables open");
+    let mut steps = Vec::new();
+    let most_points = if shape.n > 4 { 2 } else { 4 };
+    while certifier.level < levels {
+        let built = built(rng, &certifier, shape, most_points);
+        if rng.once_in(4) {
+            steps.push(Step::Build(points(rng, shape.n, most_points)));
+        }
+        let t = certifier.level + 1;
+        let level = match rng.below(10) {
+            0..=2 => built,
+            3..=5 => loosened(rng, &built, shape, t),
+            6 | 7 => nudged(rng, &built, shape),
+            8 => {
+                let loose = loosened(rng, &built, shape, t);
+                nudged(rng, &loose, shape)
+            }
+            _ => {
+                let mut level = built;
+                for _ in 0..1 + rng.index(3) {
+                    spoil_level(rng, &mut level, shape, t, certifier.standing.vectors);
+                }
+                level
+            }
+        };
+        let accepted = offer(&mut certifier, &level, &DOCUMENT).is_ok();
+        steps.push(Step::Offer(level));
+        for _ in 0..if accepted { 2 } else { 1 } {
+            steps.push(Step::Totals(mixture(rng, shape.n)));
+        }
+    }
+    List { tables, steps }
+}
+
+/// A built level upon the certifier, at up to so many points.
+fn built(rng: &mut Rng, certifier: &Certifier, shape: Shape, most_points: usize) -> Level {
+    let count = rng.index(most_points + 1);
+    let points = points(rng, shape.n, count);
+    build(certifier, &points, &DOCUMENT).expect("a standing certifier builds")
+}
+
+/// A list of built levels only, up to level 100 and past it.
+pub fn climb(rng: &mut Rng, shape: Shape) -> List {
+    let tables = tables(rng, shape);
+    let mut certifier = open(&tables, &DOCUMENT).expect("generated tables open");
+    let mut steps = Vec::new();
+    let mut level = Level::fresh();
+    for _ in 0..LEVELS + 2 {
+        if certifier.level < LEVELS {
+            level = built(rng, &certifier, shape, 1);
+        }
+        steps.push(Step::Offer(level.clone()));
+        // The hundredth is the last that is accepted.
+        let _ = offer(&mut certifier, &level, &DOCUMENT);
+        if rng.once_in(10) {
+            steps.push(Step::Totals(mixture(rng, shape.n)));
+            steps.push(Step::Build(points(rng, shape.n, 1)));
+        }
+    }
+    List { tables, steps }
+}
+
+/// A certifier of any content, and calls on it: one that was climbed to, with some of its numbers at a limit, past it or
+/// anywhere.
+pub fn handed(rng: &mut Rng, shape: Shape) -> (Certifier, Vec<Step>) {
+    let tables = tables(rng, shape);
+    let mut certifier = open(&tables, &DOCUMENT).expect("generated tables open");
+    for _ in 0..rng.below(3) {
+        let level = built(rng, &certifier, shape, 2);
+        offer(&mut certifier, &level, &DOCUMENT).expect("a built level passes");
+    }
+    if rng.once_in(3) {
+        certifier.standing = loosened(rng, &certifier.standing.clone(), shape, certifier.level);
+    }
+    let offered = built(rng, &certifier, shape, 2);
+    for choice in &mut certifier.standing.choices {
+        *choice = junk(rng);
+    }
+    if rng.once_in(2) {
+        certifier.level = rng.pick(&[0, 1, 2, 98, 99, 100, 101, u64::MAX]);
+    }
+    if rng.once_in(3) {
+        let t = certifier.level;
+        spoil_level(rng, &mut certifier.standing, shape, t, 1);
+    }
+    if rng.once_in(6) {
+        spoil_tables(rng, &mut certifier.tables);
+    }
+    if rng.once_in(2) {
+        certifier.tables.transitions.last_mut().into_iter().for_each(|cell| *cell = 7);
+    }
+    let mut level = offered.clone();
+    for _ in 0..rng.index(3) {
+        spoil_level(rng, &mut level, shape, certifier.level.saturating_add(1), certifier.standing.vectors);
+    }
+    let mut few = points(rng, shape.n, 2);
+    let mut mixed = mixture(rng, shape.n);
+    if rng.once_in(2) {
+        spoil_points(rng, shape.n, &mut few);
+        spoil_mixture(rng, shape.n, &mut mixed);
+    }
+    let count = BUILT_POINTS + rng.index(2);
+    let many = points(rng, shape.n, count);
+    let mut steps = vec![Step::Totals(mixed), Step::Build(few)];
+    if shape.n <= 4 {
+        steps.push(Step::Build(many));
+    }
+    steps.push(Step::Offer(level));
+    steps.push(Step::Offer(offered));
+    (certifier, steps)
+}

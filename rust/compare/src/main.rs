@@ -1,0 +1,237 @@
+//! Compares the program `ladder` with the reference on many model files, and the reference with all plans of small models.
+//!
+//! Everything is repeatable: a random case depends on the seed, its suite and its number alone. The suites are
+//! - `fixed`: files that are the same for every seed (each word and byte of a model damaged in turn, cut at every byte, lengths at and
+//!   past the longest),
+//! - `random`: random models in random dress, half of them damaged,
+//! - `plans`: lists of offers upon small models, the totals held against the best of all plans,
+//! - `calls`: storage of any content, used with `--traps`.
+//!
+//! The command ends with 0 if nothing differs, with 1 after the first difference, with 2 if it could not run.
+
+mod bracket;
+mod calls;
+mod files;
+mod gen;
+mod options;
+mod program;
+mod rng;
+mod show;
+mod traps;
+
+use gen::DOCUMENT;
+use options::{Options, USAGE};
+use program::Answerer;
+use reference::{ladder, Rules};
+use rng::Rng;
+use std::collections::BTreeMap;
+use std::process::ExitCode;
+use std::time::{Duration, Instant};
+use std::{env, fs, io};
+
+/// How many random cases there are unless a time is given.
+const FILES: u64 = 4_000;
+const PLANS: u64 = 600;
+
+fn main() -> ExitCode {
+    let options = match Options::parse(env::args().skip(1)) {
+        Ok(options) => options,
+        Err(message) => {
+            eprintln!("compare: {}\n{}", message, USAGE);
+            return ExitCode::from(2);
+        }
+    };
+    println!("seed {}", options.seed);
+    match run(&options) {
+        Ok(true) => ExitCode::SUCCESS,
+        Ok(false) => ExitCode::from(1),
+        Err(error) => {
+            eprintln!("compare: {}", error);
+            ExitCode::from(2)
+        }
+    }
+}
+
+/// Does what was asked for; whether all was well.
+fn run(options: &Options) -> io::Result<bool> {
+    let answerer = match &options.program {
+        Some(path) => Answerer::Program(path.clone()),
+        None => Answerer::Copy(Rules::default()),
+    };
+    let mut comparison = Comparison { options, answerer, tally: BTreeMap::new(), plans: bracket::Seen::default() };
+    if options.traps {
+        return traps::run(&comparison.answerer, options.seed);
+    }
+    if let Some(path) = &options.file {
+        let case = files::Case { about: path.display().to_string(), file: fs::read(path)? };
+        return comparison.file("file", &case);
+    }
+    if let Some((suite, number)) = &options.only {
+        return comparison.only(suite, *number);
+    }
+    comparison.all()
+}
+
+/// A comparison under way.
+struct Comparison<'a> {
+    options: &'a Options,
+    answerer: Answerer,
+    /// How many files were answered in which way: by refusal, or read.
+    tally: BTreeMap<String, u64>,
+    plans: bracket::Seen,
+}
+
+impl Comparison<'_> {
+    /// The fixed files, the examples, then random cases by number or by time.
+    fn all(&mut self) -> io::Result<bool> {
+        let start = Instant::now();
+        let fixed = files::fixed();
+        for (number, case) in fixed.iter().enumerate() {
+            if !self.file(&format!("fixed:{}", number), case)? {
+                return Ok(false);
+            }
+        }
+        println!("fixed files: {}, {} s", fixed.len(), start.elapsed().as_secs());
+        let examples = self.examples()?;
+        for (name, case) in &examples {
+            if !self.file(name, case)? {
+                return Ok(false);
+            }
+        }
+        println!("examples: {}", examples.len());
+
+        let limit = self.options.seconds.map(Duration::from_secs);
+        let mut lists = 0;
+        let mut random = 0;
+        loop {
+            let done = match limit {
+                Some(limit) => start.elapsed() >= limit,
+                None => random >= FILES && lists >= PLANS,
+            };
+            if done {
+                break;
+            }
+            if !self.random_file(random)? {
+                return Ok(false);
+            }
+            random += 1;
+            // Lists of offers take turns with files.
+            if lists * FILES < random * PLANS {
+                if !self.random_list(lists)? {
+                    return Ok(false);
+                }
+                lists += 1;
+            }
+        }
+        println!("random files: {}", random);
+        for (answer, count) in &self.tally {
+            println!("  {}: {}", answer, count);
+        }
+        println!("lists of offers against all plans: {}", lists);
+        println!(
+            "  {} levels accepted ({} with a point above the corners), {} refused, {} totals compared",
+            self.plans.accepted, self.plans.above_corners, self.plans.refused, self.plans.compared
+        );
+        println!("no difference in {} s", start.elapsed().as_secs());
+        Ok(true)
+    }
+
+    /// One case alone.
+    fn only(&mut self, suite: &str, number: u64) -> io::Result<bool> {
+        match suite {
+            "fixed" => match files::fixed().get(number as usize) {
+                Some(case) => self.file(&format!("fixed:{}", number), case),
+                None => Err(io::Error::new(io::ErrorKind::InvalidInput, "there is no such fixed file")),
+            },
+            "random" => self.random_file(number),
+            "plans" => self.random_list(number),
+            "calls" => {
+                let case = calls::random(&mut Rng::for_case(self.options.seed, suite, number), number);
+                print!("{}", case.show());
+                Ok(true)
+            }
+            _ => Err(io::Error::new(io::ErrorKind::InvalidInput, "there is no such suite")),
+        }
+    }
+
+    /// The random file of this number.
+    fn random_file(&mut self, number: u64) -> io::Result<bool> {
+        let case = files::random(&mut Rng::for_case(self.options.seed, "random", number));
+        self.file(&format!("random:{}", number), &case)
+    }
+
+    /// The random list of offers of this number.
+    fn random_list(&mut self, number: u64) -> io::Result<bool> {
+        let list = bracket::random(&mut Rng::for_case(self.options.seed, "plans", number));
+        match bracket::check(&list, &DOCUMENT) {
+            Ok(seen) => {
+                self.plans.accepted += seen.accepted;
+                self.plans.refused += seen.refused;
+                self.plans.compared += seen.compared;
+                self.plans.above_corners += seen.above_corners;
+                Ok(true)
+            }
+            Err(message) => {
+                let shown = show::list(&list);
+                println!("DIFFERENCE in plans:{}: {}\n{}", number, message, shown);
+                self.saved(shown.as_bytes())?;
+                Ok(false)
+            }
+        }
+    }
+
+    /// Whether the answer for a file is the reference's.
+    fn file(&mut self, name: &str, case: &files::Case) -> io::Result<bool> {
+        let ours = ladder(&case.file, &Rules::default());
+        let theirs = self.answerer.answer(&case.file)?;
+        let kind = match ours.split(" at ").next() {
+            Some(refused) if refused.starts_with("refused") => refused,
+            _ => "read",
+        };
+        *self.tally.entry(kind.to_string()).or_insert(0) += 1;
+        if ours == theirs {
+            return Ok(true);
+        }
+        println!("DIFFERENCE in {}: {}", name, case.about);
+        println!("the file, {} bytes: {}", case.file.len(), files::escaped(&case.file));
+        println!("the reference prints:\n{}", ours);
+        println!("the program prints:\n{}", theirs);
+        self.saved(&case.file)?;
+        Ok(false)
+    }
+
+    /// Writes a case to the path that was given for it.
+    fn saved(&self, case: &[u8]) -> io::Result<()> {
+        match &self.options.save {
+            Some(path) => {
+                fs::write(path, case)?;
+                println!("written to {}", path.display());
+            }
+            None => println!("--save PATH writes it, --only or --file runs it again"),
+        }
+        Ok(())
+    }
+
+    /// The example files by name, if there are any: each whole, and cut in a few places.
+    fn examples(&self) -> io::Result<Vec<(String, files::Case)>> {
+        let mut cases = Vec::new();
+        if !self.options.examples.is_dir() {
+            return Ok(cases);
+        }
+        let entries: io::Result<Vec<fs::DirEntry>> = fs::read_dir(&self.options.examples)?.collect();
+        let mut paths: Vec<_> = entries?.iter().map(fs::DirEntry::path).filter(|path| path.is_file()).collect();
+        paths.sort();
+        for path in paths {
+            let file = fs::read(&path)?;
+            let name = path.display().to_string();
+            let mut rng = Rng::for_case(self.options.seed, &name, 0);
+            for _ in 0..10 {
+                let length = rng.index(file.len() + 1);
+                let about = format!("{} cut at {}", name, length);
+                cases.push((format!("example {}", name), files::Case { about, file: file[..length].to_vec() }));
+            }
+            cases.push((format!("example {}", name), files::Case { about: name.clone(), file }));
+        }
+        Ok(cases)
+    }
+}

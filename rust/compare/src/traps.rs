@@ -1,0 +1,97 @@
+//! Proof that the comparison can fail: a copy of the rules with one trap must be told from the document.
+
+use crate::files;
+use crate::program::Answerer;
+use crate::rng::Rng;
+use crate::{bracket, calls};
+use reference::{ladder, Rules, Trap};
+use std::io;
+
+/// How many random cases of each suite are tried.
+const FILES: u64 = 1_500;
+const CALLS: u64 = 1_000;
+const PLANS: u64 = 400;
+
+/// A trap, and the first case of each suite that caught it.
+struct Hunt {
+    trap: Trap,
+    files: Option<String>,
+    calls: Option<String>,
+    plans: Option<String>,
+}
+
+impl Hunt {
+    fn rules(&self) -> Rules {
+        Rules::broken(self.trap)
+    }
+}
+
+/// Runs the suites against every trap; false if one is caught by none of them.
+///
+/// Files are answered by the program that is compared, and by the copy in the reference's stead. Calls are compared between
+/// the copy and the reference. In the third suite the copy is held against all plans of small models.
+pub fn run(answerer: &Answerer, seed: u64) -> io::Result<bool> {
+    let hunt = |&trap: &Trap| Hunt { trap, files: None, calls: None, plans: None };
+    let mut hunts: Vec<Hunt> = Trap::ALL.iter().map(hunt).collect();
+
+    for (number, case) in files::fixed().iter().enumerate() {
+        catch_in_file(answerer, &mut hunts, &format!("fixed:{}", number), case)?;
+    }
+    for number in 0..FILES {
+        let case = files::random(&mut Rng::for_case(seed, "random", number));
+        catch_in_file(answerer, &mut hunts, &format!("random:{}", number), &case)?;
+    }
+    for number in 0..CALLS {
+        let case = calls::random(&mut Rng::for_case(seed, "calls", number), number);
+        for hunt in hunts.iter_mut().filter(|hunt| hunt.calls.is_none()) {
+            if case.difference(&hunt.rules()).is_some() {
+                hunt.calls = Some(format!("calls:{}", number));
+            }
+        }
+    }
+    for number in 0..PLANS {
+        let list = bracket::random(&mut Rng::for_case(seed, "plans", number));
+        for hunt in hunts.iter_mut().filter(|hunt| hunt.plans.is_none()) {
+            if bracket::check(&list, &hunt.rules()).is_err() {
+                hunt.plans = Some(format!("plans:{}", number));
+            }
+        }
+    }
+
+    let mut all = true;
+    for hunt in &hunts {
+        let caught: Vec<&str> =
+            [&hunt.files, &hunt.calls, &hunt.plans].into_iter().flatten().map(String::as_str).collect();
+        if caught.is_empty() {
+            all = false;
+            println!("NOT CAUGHT  {}", hunt.trap);
+        } else {
+            println!("caught  {}: {}", hunt.trap, caught.join(", "));
+        }
+    }
+    let caught_by = |suite: fn(&Hunt) -> bool| hunts.iter().filter(|hunt| suite(hunt)).count();
+    println!(
+        "{} traps: {} caught by files, {} by calls, {} by plans",
+        hunts.len(),
+        caught_by(|hunt| hunt.files.is_some()),
+        caught_by(|hunt| hunt.calls.is_some()),
+        caught_by(|hunt| hunt.plans.is_some())
+    );
+    Ok(all)
+}
+
+/// Looks at one file with all traps that no file has caught yet. A file on which the program differs from the document is
+/// no catch but a difference of its own.
+fn catch_in_file(answerer: &Answerer, hunts: &mut [Hunt], name: &str, case: &files::Case) -> io::Result<()> {
+    let answer = answerer.answer(&case.file)?;
+    if answer != ladder(&case.file, &Rules::default()) {
+        let message = format!("the program differs from the document on {}; run without --traps", name);
+        return Err(io::Error::new(io::ErrorKind::Other, message));
+    }
+    for hunt in hunts.iter_mut().filter(|hunt| hunt.files.is_none()) {
+        if ladder(&case.file, &hunt.rules()) != answer {
+            hunt.files = Some(name.to_string());
+        }
+    }
+    Ok(())
+}

@@ -1,0 +1,131 @@
+//! The builder.
+
+use crate::exact::{corner, dot, first_largest, k, last_largest, round_down, round_up, weights};
+use crate::level::{ceiling_backup, examine, first_untotalled, full, vector_backup, Certifier, Level, Lists};
+use crate::model::{Model, STATES};
+use crate::refusal::Refusal;
+use crate::rules::{Rules, Trap};
+use num_bigint::BigInt;
+use std::convert::TryFrom;
+
+/// The builder is given at most so many points.
+pub const BUILT_POINTS: usize = 16;
+
+/// Points to build upon, in storage: their number, and their weights by point and state.
+#[derive(Clone, Debug, PartialEq, Eq)]
+pub struct Points {
+    pub count: u64,
+    pub weights: Vec<u64>,
+}
+
+impl Points {
+    /// No points.
+    pub fn none() -> Points {
+        Points { count: 0, weights: vec![0; BUILT_POINTS * STATES] }
+    }
+}
+
+/// A vector that the builder made: its action, the vectors chosen for each observation, its entries, and the exact backups
+/// of which the entries are the roundings.
+struct Made {
+    action: usize,
+    choices: Vec<usize>,
+    entries: Vec<BigInt>,
+    backups: Vec<BigInt>,
+}
+
+/// Builds a level upon the standing one, or refuses with 7, 8, 9 (over 16 points) or 12.
+///
+/// It has a vector made at each corner and then at each point, and keeps the points in their order.
+pub fn build(certifier: &Certifier, points: &Points, rules: &Rules) -> Result<Level, Refusal> {
+    let (model, standing) = examine(certifier, rules)?;
+    if full(certifier, rules) {
+        return Err(Refusal::at(8, 0));
+    }
+    let most = BUILT_POINTS as u64 + u64::from(rules.has(Trap::SeventeenPoints) && model.n < STATES);
+    if points.count > most {
+        return Err(Refusal::at(9, 0));
+    }
+    let (n, count) = (model.n, points.count as usize);
+    if let Some(point) = first_untotalled(&points.weights, count, n, rules) {
+        return Err(Refusal::at_index(12, point));
+    }
+
+    let kept = (0..count).map(|j| weights(&points.weights[j * n..(j + 1) * n]));
+    let kept: Vec<Vec<BigInt>> = kept.collect();
+    let corners: Vec<Vec<BigInt>> = (0..n).map(|s| corner(n, s)).collect();
+
+    let mut level = Level::zero();
+    for p in corners.iter().chain(&kept) {
+        let made = best_vector(&model, &standing, p, rules);
+        let v = level.vectors as usize;
+        level.vectors += 1;
+        level.actions[v] = made.action as u64;
+        for (o, &choice) in made.choices.iter().enumerate() {
+            level.choices[v * model.k + o] = choice as u64;
+        }
+        for (s, entry) in made.entries.iter().enumerate() {
+            level.entries[v * n + s] = stored(entry);
+        }
+    }
+    for (s, p) in corners.iter().enumerate() {
+        level.corners[s] = stored(&least_value(&model, &standing, p, rules));
+    }
+    for (j, p) in kept.iter().enumerate() {
+        level.points += 1;
+        level.weights[j * n..(j + 1) * n].copy_from_slice(&points.weights[j * n..(j + 1) * n]);
+        level.values[j] = stored(&least_value(&model, &standing, p, rules));
+    }
+    Ok(level)
+}
+
+/// An entry or a value in storage. All of them are within the range of level 100.
+fn stored(value: &BigInt) -> i64 {
+    i64::try_from(value).expect("built numbers are within their range")
+}
+
+/// The vector of one action at weights p: for each observation the first standing vector with the largest product with q,
+/// and for each state the backup over K rounded towards minus infinity.
+fn action_vector(model: &Model, standing: &Lists, p: &[BigInt], a: usize, rules: &Rules) -> Made {
+    let choice = |o| {
+        let q = model.successor(p, a, o);
+        let products: Vec<BigInt> = standing.vectors.iter().map(|vector| dot(vector, &q)).collect();
+        if rules.has(Trap::LastLargestChoice) {
+            last_largest(&products)
+        } else {
+            first_largest(&products)
+        }
+    };
+    let choices: Vec<usize> = (0..model.k).map(choice).collect();
+    let backup = |s| vector_backup(model, standing, s, a, &choices, rules);
+    let backups: Vec<BigInt> = (0..model.n).map(backup).collect();
+    let entries = backups.iter().map(|backup| round_down(backup, &k(), rules)).collect();
+    Made { action: a, choices, entries, backups }
+}
+
+/// Of the actions' vectors at weights p, the first with the largest product with p.
+fn best_vector(model: &Model, standing: &Lists, p: &[BigInt], rules: &Rules) -> Made {
+    let vectors = (0..model.m).map(|a| action_vector(model, standing, p, a, rules));
+    let mut vectors: Vec<Made> = vectors.collect();
+    let product = |made: &Made| {
+        let exact = rules.has(Trap::ExactProducts);
+        dot(if exact { &made.backups } else { &made.entries }, p)
+    };
+    let products: Vec<BigInt> = vectors.iter().map(product).collect();
+    let largest = if rules.has(Trap::LastLargestAction) { last_largest(&products) } else { first_largest(&products) };
+    vectors.swap_remove(largest)
+}
+
+/// The least whole number that meets the inequality of a corner or a point for every action.
+fn least_value(model: &Model, standing: &Lists, p: &[BigInt], rules: &Rules) -> BigInt {
+    let least = |a| {
+        let backup = ceiling_backup(model, standing, p, a, rules);
+        if rules.has(Trap::CornersRoundedDown) {
+            round_down(&backup, &k(), &Rules::default())
+        } else {
+            round_up(&backup, &k())
+        }
+    };
+    let largest = (0..model.m).map(least).max();
+    largest.expect("a model has an action")
+}

@@ -1,0 +1,167 @@
+//! The dough model: its output and the table D1 to D12.
+
+use crate::exact::weights;
+use crate::level::{ceiling, examine};
+use crate::*;
+use num_bigint::BigInt;
+
+const FILE: &str = "\
+discount: 0.9
+values: reward
+states: 2
+actions: 2
+observations: 2
+start: 0.5 0.5
+T: 0 : 0 0.5 0.5
+T: 0 : 1 0 1
+T: 1 : * 1 0
+O: 0 : 0 0.8 0.2
+O: 0 : 1 0.3 0.7
+O: 1 : * 0.5 0.5
+R: 0 : * : * : * -1
+R: 1 : 0 : * : * -10
+R: 1 : 1 : * : * 6
+";
+
+const DOCUMENT: Rules = Rules { trap: None };
+
+/// The start point (50, 50).
+fn start() -> Points {
+    let mut points = Points::none();
+    points.count = 1;
+    points.weights[..2].copy_from_slice(&[50, 50]);
+    points
+}
+
+/// The certifier after so many built levels.
+fn standing(levels: u64) -> Certifier {
+    let reading = read(FILE.as_bytes(), &DOCUMENT).unwrap();
+    let mut certifier = open(&reading.tables, &DOCUMENT).unwrap();
+    for _ in 0..levels {
+        let level = build(&certifier, &start(), &DOCUMENT).unwrap();
+        offer(&mut certifier, &level, &DOCUMENT).unwrap();
+    }
+    certifier
+}
+
+/// What the built level 2 gets after a change.
+fn second(change: impl Fn(&mut Level)) -> Result<(), Refusal> {
+    let mut certifier = standing(1);
+    let mut level = build(&certifier, &start(), &DOCUMENT).unwrap();
+    change(&mut level);
+    offer(&mut certifier, &level, &DOCUMENT)
+}
+
+/// What the built level 2 gets with this as its only vector.
+fn only_vector(entries: [i64; 2]) -> Result<(), Refusal> {
+    second(|level| {
+        level.vectors = 1;
+        level.actions[0] = 0;
+        level.choices[..2].copy_from_slice(&[0, 1]);
+        level.entries[..2].copy_from_slice(&entries);
+    })
+}
+
+/// Totals at level 2.
+fn at(mixture: [u64; 2]) -> Result<(i64, i64, i64, u64), Refusal> {
+    use std::convert::TryFrom;
+    let whole = |value: &BigInt| i64::try_from(value).unwrap();
+    totals(&standing(2), &mixture, &DOCUMENT).map(|t| (whole(&t.lower), whole(&t.upper), whole(&t.gap), t.action))
+}
+
+#[test]
+fn the_whole_output() {
+    assert_eq!(FILE.len(), 235);
+    let printed = ladder(FILE.as_bytes(), &DOCUMENT);
+    assert_eq!(printed, "1 -10000 -10000 0 0\n2 10000 12500 2500 0\n3 13350 18575 5225 0\n");
+}
+
+#[test]
+fn a_refused_row() {
+    let damaged = FILE.replace("T: 0 : 1 0 1", "T: 0 : 1 0 0");
+    assert_eq!(ladder(damaged.as_bytes(), &DOCUMENT), "refused 5 at 235\n");
+}
+
+#[test]
+fn d1_level_1_corners() {
+    assert_eq!(standing(1).standing.corners[..2], [-100, 600]);
+}
+
+#[test]
+fn d2_a_ceiling() {
+    let (_, lists) = examine(&standing(1), &DOCUMENT).unwrap();
+    let q = weights(&[20_000_000, 22_500_000]);
+    assert_eq!(ceiling(&lists, &q, &DOCUMENT), BigInt::from(-2_500_000_000_i64));
+}
+
+#[test]
+fn d3_and_d4_a_vector() {
+    assert_eq!(only_vector([-51, 251]), Ok(()));
+    assert_eq!(only_vector([-50, 251]), Err(Refusal::at(13, 0)));
+}
+
+#[test]
+fn d5_and_d6_a_corner() {
+    assert_eq!(second(|level| level.corners[0] = -32), Ok(()));
+    assert_eq!(second(|level| level.corners[0] = -33), Err(Refusal::at(14, 0)));
+}
+
+#[test]
+fn d7_and_d8_a_point() {
+    assert_eq!(second(|level| level.values[0] = 12_500), Ok(()));
+    assert_eq!(second(|level| level.values[0] = 12_499), Err(Refusal::at(15, 0)));
+}
+
+#[test]
+fn d9_the_best_two_step_plan() {
+    let model = Model::of(&standing(0).tables, &DOCUMENT).unwrap();
+    let plans = all_plans(&model, 2);
+    assert_eq!(plans.len(), 8);
+    assert_eq!(best(&plans, &[50, 50], None), Some(BigInt::from(10_025) * scale(2)));
+}
+
+#[test]
+fn d10_and_d11_totals_at_corners() {
+    assert_eq!(at([1, 0]), Ok((-51, -32, 19, 0)));
+    assert_eq!(at([0, 1]), Ok((510, 510, 0, 1)));
+}
+
+#[test]
+fn d12_and_the_limits_of_a_mixture() {
+    let seventeen = Err(Refusal::at(17, 0));
+    assert_eq!(at([0, 0]), seventeen);
+    assert_eq!(at([0, 1_000_001]), seventeen);
+    assert!(at([0, 1_000_000]).is_ok());
+    assert_eq!(totals(&standing(0), &[0, 0], &DOCUMENT), Err(Refusal::at(16, 0)));
+}
+
+#[test]
+fn a_plan_alone_earns_what_it_earns_among_all() {
+    let model = Model::of(&standing(0).tables, &DOCUMENT).unwrap();
+    let step = |action| Plan { action, next: Vec::new() };
+    let plan = Plan { action: 0, next: vec![step(0), step(1)] };
+    assert_eq!(plan.steps(), 2);
+    let earned = plan.earned(&model);
+    // By hand, from state 0: -100 + 0.9 × (0.55 × -100 + 0.1 × -1000 + 0.35 × 600) = -50.5.
+    assert_eq!(earned[0], BigInt::from(-505) * scale(2) / 10);
+    assert!(all_plans(&model, 2).iter().any(|other| other.action == 0 && other.n == earned));
+}
+
+#[test]
+fn a_worth_is_rounded_at_each_step() {
+    let tables = standing(0).tables;
+    let mut graph = Graph::zero();
+    graph.nodes = 3;
+    graph.actions[..3].copy_from_slice(&[0, 0, 1]);
+    graph.next[..6].copy_from_slice(&[1, 2, 1, 1, 2, 2]);
+    let asked = |node, state, steps| worth(&tables, &graph, node, state, steps, &DOCUMENT);
+    assert_eq!(asked(0, 0, 0), Ok(BigInt::from(0)));
+    assert_eq!(asked(0, 0, 1), Ok(BigInt::from(-100)));
+    // The backup is -50.5.
+    assert_eq!(asked(0, 0, 2), Ok(BigInt::from(-51)));
+    for (node, state, steps) in [(3, 0, 1), (0, 2, 1), (0, 0, 5)] {
+        assert_eq!(asked(node, state, steps), Err(Refusal::at(18, 0)));
+    }
+    graph.next[5] = 3;
+    assert_eq!(worth(&tables, &graph, 0, 0, 0, &DOCUMENT), Err(Refusal::at(18, 2)));
+}

@@ -1,0 +1,337 @@
+//! Reading the model file.
+
+use crate::model::{Tables, ACTIONS, OBSERVATIONS, REWARD, STATES, THOUSAND};
+use crate::refusal::Refusal;
+use crate::rules::{Rules, Trap};
+use crate::words::{
+    index_form, is_keyword, number_form, reward_form, whole_part, word_after, Form, Word, PROBABILITY, START,
+};
+use num_bigint::BigInt;
+use std::convert::TryFrom;
+
+/// A file has at most this many bytes.
+pub const FILE_BYTES: usize = 32_768;
+
+/// What a file that reads holds: its tables, and its start numbers in hundredths, as many as states have room.
+#[derive(Clone, Debug, PartialEq, Eq)]
+pub struct Reading {
+    pub tables: Tables,
+    pub start: Vec<u64>,
+}
+
+/// Reads a model file, or refuses it with 1 to 6.
+///
+/// Words are taken in order, and each is tested for its form (2) before its limit (3). Totals (4 to 6) are tested after
+/// the last statement, and their place is the file's length.
+pub fn read(file: &[u8], rules: &Rules) -> Result<Reading, Refusal> {
+    let too_long = file.len() > FILE_BYTES || (file.len() == FILE_BYTES && rules.has(Trap::LengthOffByOne));
+    if too_long {
+        return Err(Refusal::at(1, 0));
+    }
+    let end = match file.iter().position(|&byte| byte == 0) {
+        Some(nul) if rules.has(Trap::NulEndsFile) => nul,
+        _ => file.len(),
+    };
+    let mut reader = Reader { file: &file[..end], offset: 0, rules };
+    let mut stated = reader.header()?;
+    while let Some(word) = reader.next() {
+        reader.statement(&word, &mut stated)?;
+    }
+    stated.finished(end, rules)
+}
+
+/// What was stated up to some word.
+struct Stated {
+    tables: Tables,
+    start: Vec<u64>,
+    /// Which entries of T, O and R were stated: only the trap about earlier statements asks.
+    transitions: Vec<bool>,
+    sights: Vec<bool>,
+    rewards: Vec<bool>,
+}
+
+impl Stated {
+    /// The totals, in order: start, the rows of T, the rows of O.
+    fn finished(self, length: usize, rules: &Rules) -> Result<Reading, Refusal> {
+        start_total(&self.start, length)?;
+        let mut tests = [(5, self.tables.wrong_transition_row()), (6, self.tables.wrong_sight_row())];
+        if rules.has(Trap::UnstatedRowsPass) {
+            tests = [(5, self.tables.wrong_transition_row_but_zeros()), (6, self.tables.wrong_sight_row_but_zeros())];
+        }
+        if rules.has(Trap::SightRowsFirst) {
+            tests.reverse();
+        }
+        for (number, wrong) in tests {
+            if let Some((action, state)) = wrong {
+                let row = action * self.tables.states as usize + state;
+                let place = if rules.has(Trap::RowPlaceInFile) { row } else { length };
+                return Err(Refusal::at_index(number, place));
+            }
+        }
+        Ok(Reading { tables: self.tables, start: self.start })
+    }
+}
+
+/// The start numbers total 1, or 4 at the file's length.
+fn start_total(start: &[u64], length: usize) -> Result<(), Refusal> {
+    if start.iter().sum::<u64>() == 100 {
+        Ok(())
+    } else {
+        Err(Refusal::at_index(4, length))
+    }
+}
+
+/// A statement's value for one entry: it supersedes what stood there.
+fn supersede<Cell: Copy + std::ops::AddAssign>(
+    cells: &mut [Cell],
+    stated: &mut [bool],
+    at: usize,
+    value: Cell,
+    rules: &Rules,
+) {
+    if rules.has(Trap::StatementsAdd) {
+        cells[at] += value;
+    } else if !(stated[at] && rules.has(Trap::EarlierStatementWins)) {
+        cells[at] = value;
+    }
+    stated[at] = true;
+}
+
+/// The file and the offset that was reached in it.
+struct Reader<'a> {
+    file: &'a [u8],
+    offset: usize,
+    rules: &'a Rules,
+}
+
+impl<'a> Reader<'a> {
+    /// The next word, if any is left.
+    fn next(&mut self) -> Option<Word<'a>> {
+        let word = word_after(self.file, self.offset, self.rules)?;
+        self.offset = word.place + word.bytes.len();
+        Some(word)
+    }
+
+    /// The next word; a missing one gets 2 at the file's length.
+    fn word(&mut self) -> Result<Word<'a>, Refusal> {
+        let last_word_end = self.offset;
+        self.next().ok_or_else(|| {
+            let at_last = self.rules.has(Trap::MissingAtLastWord);
+            Refusal::at_index(2, if at_last { last_word_end } else { self.file.len() })
+        })
+    }
+
+    /// A refusal at a word: the place is the number of bytes before it.
+    fn at(&self, number: u8, word: &Word) -> Refusal {
+        let at_end = self.rules.has(Trap::PlaceAtWordEnd);
+        Refusal::at_index(number, word.place + if at_end { word.bytes.len() } else { 0 })
+    }
+
+    /// This word and no other, or 2.
+    fn keyword(&mut self, keyword: &str) -> Result<(), Refusal> {
+        let word = self.word()?;
+        if is_keyword(&word, keyword, self.rules) {
+            Ok(())
+        } else {
+            Err(self.at(2, &word))
+        }
+    }
+
+    /// The form of a word (2), then its limits (3).
+    fn within(&self, word: &Word, value: Option<BigInt>, unit: i64, least: i64, most: i64) -> Result<i64, Refusal> {
+        if self.rules.has(Trap::LimitBeforeForm) {
+            if let Some(whole) = whole_part(word.bytes) {
+                if whole * unit > BigInt::from(most) {
+                    return Err(self.at(3, word));
+                }
+            }
+        }
+        let value = value.ok_or_else(|| self.at(2, word))?;
+        if value < BigInt::from(least) || value > BigInt::from(most) {
+            return Err(self.at(3, word));
+        }
+        i64::try_from(&value).map_err(|_| self.at(3, word))
+    }
+
+    /// A count: one or two digits, 1 to its limit.
+    fn count(&mut self, limit: usize) -> Result<u64, Refusal> {
+        let word = self.word()?;
+        let value = index_form(word.bytes, self.rules);
+        self.within(&word, value, 1, 1, limit as i64).map(|count| count as u64)
+    }
+
+    /// The indices that a word stands for: a star for all below the count, or one or two digits for one of them.
+    fn indices(&mut self, count: u64) -> Result<Vec<usize>, Refusal> {
+        let word = self.word()?;
+        if word.bytes == b"*" {
+            let all = if self.rules.has(Trap::StarMeansZero) { 1 } else { count as usize };
+            return Ok((0..all).collect());
+        }
+        let last = count as i64 - 1 - i64::from(self.rules.has(Trap::LastIndexRefused));
+        let value = index_form(word.bytes, self.rules);
+        let index = self.within(&word, value, 1, 0, last)?;
+        Ok(vec![index as usize])
+    }
+
+    /// The number that a word states in a form of one whole digit: 0 to 1.
+    fn up_to_one(&self, word: &Word, form: Form) -> Result<u64, Refusal> {
+        let unit = 10_i64.pow(form.decimals as u32);
+        if self.rules.has(Trap::MinusInProbability) {
+            if let Some(rest) = word.bytes.strip_prefix(b"-") {
+                let value = number_form(rest, form, self.rules).map(|value| -value);
+                return self.within(word, value, unit, 0, unit).map(|number| number as u64);
+            }
+        }
+        let value = number_form(word.bytes, form, self.rules);
+        self.within(word, value, unit, 0, unit).map(|number| number as u64)
+    }
+
+    /// `count` probabilities, of which the first word was already taken.
+    fn row(&mut self, first: Word, count: u64) -> Result<Vec<u64>, Refusal> {
+        let mut row = vec![self.up_to_one(&first, PROBABILITY)?];
+        while (row.len() as u64) < count {
+            let word = self.word()?;
+            row.push(self.up_to_one(&word, PROBABILITY)?);
+        }
+        Ok(row)
+    }
+
+    /// A reward in ticks: -1000.00 to 1000.00.
+    fn reward(&mut self) -> Result<i64, Refusal> {
+        let word = self.word()?;
+        let value = reward_form(word.bytes, self.rules);
+        let least = if self.rules.has(Trap::RewardLowEndOpen) { -999_999 } else { -REWARD };
+        self.within(&word, value, 100, least, REWARD)
+    }
+
+    /// The six lines that come first and in order: discount, values, the counts, start.
+    fn header(&mut self) -> Result<Stated, Refusal> {
+        self.keyword("discount")?;
+        self.keyword(":")?;
+        let word = self.word()?;
+        let discount = self.up_to_one(&word, PROBABILITY)?;
+        self.keyword("values")?;
+        self.keyword(":")?;
+        self.keyword("reward")?;
+        self.keyword("states")?;
+        self.keyword(":")?;
+        let states = self.count(STATES)?;
+        self.keyword("actions")?;
+        self.keyword(":")?;
+        let actions = self.count(ACTIONS)?;
+        self.keyword("observations")?;
+        self.keyword(":")?;
+        let observations = self.count(OBSERVATIONS)?;
+        self.keyword("start")?;
+        self.keyword(":")?;
+        let mut start = vec![0; STATES];
+        for number in start.iter_mut().take(states as usize) {
+            let word = self.word()?;
+            *number = self.up_to_one(&word, START)?;
+        }
+        if self.rules.has(Trap::StartTotalEarly) {
+            start_total(&start, self.file.len())?;
+        }
+        let tables = Tables { states, actions, observations, discount, ..Tables::zero() };
+        Ok(Stated {
+            transitions: vec![false; tables.transitions.len()],
+            sights: vec![false; tables.sights.len()],
+            rewards: vec![false; tables.rewards.len()],
+            tables,
+            start,
+        })
+    }
+
+    /// One statement, of which the first word was already taken.
+    fn statement(&mut self, first: &Word, stated: &mut Stated) -> Result<(), Refusal> {
+        if is_keyword(first, "T", self.rules) {
+            self.transition(stated)
+        } else if is_keyword(first, "O", self.rules) {
+            self.sight(stated)
+        } else if is_keyword(first, "R", self.rules) {
+            self.rewarded(stated)
+        } else {
+            Err(self.at(2, first))
+        }
+    }
+
+    /// `T: a : s : s' p`, or `T: a : s` and n numbers. After s, a colon opens the first form.
+    fn transition(&mut self, stated: &mut Stated) -> Result<(), Refusal> {
+        let tables = &mut stated.tables;
+        let (actions, states) = self.action_and_state(tables)?;
+        let (reached, row) = self.single_or_row(tables.states, 5)?;
+        for &a in &actions {
+            for &s in &states {
+                for &s2 in &reached {
+                    let at = tables.transition_cell(a, s, s2);
+                    supersede(&mut tables.transitions, &mut stated.transitions, at, row[s2], self.rules);
+                }
+            }
+        }
+        Ok(())
+    }
+
+    /// `O: a : s' : o p`, or `O: a : s'` and k numbers.
+    fn sight(&mut self, stated: &mut Stated) -> Result<(), Refusal> {
+        let tables = &mut stated.tables;
+        let (actions, reached) = self.action_and_state(tables)?;
+        let (seen, row) = self.single_or_row(tables.observations, 6)?;
+        for &a in &actions {
+            for &s2 in &reached {
+                for &o in &seen {
+                    let at = tables.sight_cell(a, s2, o);
+                    supersede(&mut tables.sights, &mut stated.sights, at, row[o], self.rules);
+                }
+            }
+        }
+        Ok(())
+    }
+
+    /// `R: a : s : * : * r`.
+    fn rewarded(&mut self, stated: &mut Stated) -> Result<(), Refusal> {
+        let tables = &mut stated.tables;
+        let (actions, states) = self.action_and_state(tables)?;
+        for count in [tables.states, tables.observations] {
+            self.keyword(":")?;
+            if self.rules.has(Trap::RewardIndices) {
+                self.indices(count)?;
+            } else {
+                self.keyword("*")?;
+            }
+        }
+        let reward = self.reward()?;
+        for &a in &actions {
+            for &s in &states {
+                let at = tables.reward_cell(a, s);
+                supersede(&mut tables.rewards, &mut stated.rewards, at, reward, self.rules);
+            }
+        }
+        Ok(())
+    }
+
+    /// `: a : s`, with which all statements begin.
+    fn action_and_state(&mut self, tables: &Tables) -> Result<(Vec<usize>, Vec<usize>), Refusal> {
+        self.keyword(":")?;
+        let actions = self.indices(tables.actions)?;
+        self.keyword(":")?;
+        let states = self.indices(tables.states)?;
+        Ok((actions, states))
+    }
+
+    /// A colon, indices and one number for them, or a number for each index: the indices that are stated, and a row that
+    /// holds their numbers. `number` is the refusal of a wrong total of such a row.
+    fn single_or_row(&mut self, count: u64, number: u8) -> Result<(Vec<usize>, Vec<u64>), Refusal> {
+        let word = self.word()?;
+        if word.bytes == b":" {
+            let indices = self.indices(count)?;
+            let word = self.word()?;
+            let probability = self.up_to_one(&word, PROBABILITY)?;
+            return Ok((indices, vec![probability; count as usize]));
+        }
+        let row = self.row(word, count)?;
+        if self.rules.has(Trap::RowTotalEarly) && row.iter().sum::<u64>() != THOUSAND {
+            return Err(Refusal::at_index(number, self.file.len()));
+        }
+        Ok(((0..count as usize).collect(), row))
+    }
+}

@@ -1,0 +1,324 @@
+//! Levels, the certifier, and offers.
+
+use crate::exact::{corner, dot, k, kept, round_down, ticks, weights, zero};
+use crate::model::{Model, Tables, OBSERVATIONS, STATES};
+use crate::refusal::Refusal;
+use crate::rules::{Rules, Trap};
+use num_bigint::BigInt;
+
+/// A level has at most so many vectors.
+pub const VECTORS: usize = 32;
+/// A level has at most so many points.
+pub const POINTS: usize = 32;
+/// What the weights of a point total.
+pub const POINT_TOTAL: u64 = 100;
+/// At most so many levels are accepted.
+pub const LEVELS: u64 = 100;
+/// Entries and corners of level t lie within t times this of 0.
+const TICKS: u64 = 100_000;
+/// Point values of level t lie within t times this of 0.
+const POINT_VALUE: u64 = 10_000_000;
+
+/// A level of any content, in storage.
+#[derive(Clone, Debug, PartialEq, Eq)]
+pub struct Level {
+    /// The number of vectors.
+    pub vectors: u64,
+    /// Each vector's action.
+    pub actions: Vec<u64>,
+    /// The chosen vectors of the previous level, by vector and observation.
+    pub choices: Vec<u64>,
+    /// Entries in ticks, by vector and state.
+    pub entries: Vec<i64>,
+    /// Corner values in ticks, by state.
+    pub corners: Vec<i64>,
+    /// The number of points.
+    pub points: u64,
+    /// Weights, by point and state.
+    pub weights: Vec<u64>,
+    /// Each point's value in hundredths of a tick.
+    pub values: Vec<i64>,
+}
+
+/// The certifier: its tables, the standing level, and the number of levels that were accepted.
+#[derive(Clone, Debug, PartialEq, Eq)]
+pub struct Certifier {
+    pub tables: Tables,
+    pub standing: Level,
+    pub level: u64,
+}
+
+/// A level as lists: what is read of it once its counts have passed.
+pub struct Lists {
+    pub actions: Vec<u64>,
+    pub vectors: Vec<Vec<BigInt>>,
+    pub corners: Vec<BigInt>,
+    pub points: Vec<Point>,
+}
+
+/// A point's weights and its value.
+pub struct Point {
+    pub weights: Vec<BigInt>,
+    pub value: BigInt,
+}
+
+impl Level {
+    /// A level of which every part is 0: that of a refusing builder.
+    pub fn zero() -> Level {
+        Level {
+            vectors: 0,
+            actions: vec![0; VECTORS],
+            choices: vec![0; VECTORS * OBSERVATIONS],
+            entries: vec![0; VECTORS * STATES],
+            corners: vec![0; STATES],
+            points: 0,
+            weights: vec![0; POINTS * STATES],
+            values: vec![0; POINTS],
+        }
+    }
+
+    /// Level 0: one zero vector with action and choices 0, zero corners, no points.
+    pub fn fresh() -> Level {
+        Level { vectors: 1, ..Level::zero() }
+    }
+
+    /// 9: at least one vector, and no more vectors or points than fit.
+    fn counts_fit(&self) -> bool {
+        self.vectors >= 1 && self.vectors <= VECTORS as u64 && self.points <= POINTS as u64
+    }
+
+    /// 10: the first vector whose action or chosen vector does not exist.
+    fn first_dangling(&self, model: &Model, standing: u64) -> Option<usize> {
+        (0..self.vectors as usize).find(|&v| {
+            self.actions[v] >= model.m as u64 || (0..model.k).any(|o| self.choices[v * model.k + o] >= standing)
+        })
+    }
+
+    /// 11: the number of the first vector, else corner, else point that is outside the range of level t.
+    fn first_outside(&self, n: usize, t: u64, rules: &Rules) -> Option<usize> {
+        let outside = |value: i64, unit: u64| {
+            let end = BigInt::from(unit) * t + u8::from(rules.has(Trap::RangeOffByOne));
+            let value = BigInt::from(value);
+            value < -&end || value > end
+        };
+        let vector = (0..self.vectors as usize).find(|&v| (0..n).any(|s| outside(self.entries[v * n + s], TICKS)));
+        let corner = (0..n).find(|&s| outside(self.corners[s], TICKS));
+        let point = (0..self.points as usize).find(|&j| outside(self.values[j], POINT_VALUE));
+        vector.or(corner).or(point)
+    }
+
+    /// 12: the first point whose weights do not total 100.
+    fn first_untotalled(&self, n: usize, rules: &Rules) -> Option<usize> {
+        first_untotalled(&self.weights, self.points as usize, n, rules)
+    }
+
+    /// The level as lists for `n` states; the counts have passed.
+    fn lists(&self, n: usize) -> Lists {
+        let vectors = self.vectors as usize;
+        let points = self.points as usize;
+        let point = |j: usize| Point {
+            weights: weights(&self.weights[j * n..(j + 1) * n]),
+            value: BigInt::from(self.values[j]),
+        };
+        Lists {
+            actions: self.actions[..vectors].to_vec(),
+            vectors: (0..vectors).map(|v| ticks(&self.entries[v * n..(v + 1) * n])).collect(),
+            corners: ticks(&self.corners[..n]),
+            points: (0..points).map(point).collect(),
+        }
+    }
+
+    /// What is stored of an accepted level: what the rules read, and 0 past the counts.
+    fn stored(&self, model: &Model, rules: &Rules) -> Level {
+        let vectors = self.vectors as usize;
+        let points = self.points as usize;
+        Level {
+            vectors: self.vectors,
+            actions: kept(&self.actions, vectors, rules),
+            choices: kept(&self.choices, vectors * model.k, rules),
+            entries: kept(&self.entries, vectors * model.n, rules),
+            corners: kept(&self.corners, model.n, rules),
+            points: self.points,
+            weights: kept(&self.weights, points * model.n, rules),
+            values: kept(&self.values, points, rules),
+        }
+    }
+}
+
+/// The first of `count` points over `n` states whose weights do not total 100.
+pub fn first_untotalled(cells: &[u64], count: usize, n: usize, rules: &Rules) -> Option<usize> {
+    (0..count).find(|&j| {
+        let point = &cells[j * n..(j + 1) * n];
+        if rules.has(Trap::SumsWrap) {
+            point.iter().fold(0, |sum: u64, &weight| sum.wrapping_add(weight)) != POINT_TOTAL
+        } else {
+            weights(point).iter().sum::<BigInt>() != BigInt::from(POINT_TOTAL)
+        }
+    })
+}
+
+/// The ceiling of a level at weights q: corners·q less the largest drop of a point, or less 0.
+///
+/// A point with weights p and value w has G = corners·p - w. Above 0, its drop is the smallest of q(s) × G / p(s) over the
+/// states with p(s) above 0, rounded down; else it has none.
+pub fn ceiling(lists: &Lists, q: &[BigInt], rules: &Rules) -> BigInt {
+    let mut drops = Vec::new();
+    for point in &lists.points {
+        let p = &point.weights;
+        let gain = dot(&lists.corners, p) - &point.value;
+        if gain <= zero() && !rules.has(Trap::NegativeGainLifts) {
+            continue;
+        }
+        let weighted = p.iter().zip(q).filter(|(p, _)| **p > zero());
+        let mut ratios: Vec<BigInt> = weighted.map(|(p, q)| round_down(&(q * &gain), p, &Rules::default())).collect();
+        if rules.has(Trap::RatioOverZeroWeights) && ratios.len() < p.len() {
+            ratios.push(zero());
+        }
+        let drop = if rules.has(Trap::LargestRatio) { ratios.into_iter().max() } else { ratios.into_iter().min() };
+        drops.extend(drop);
+    }
+    let drop = if rules.has(Trap::SmallestDrop) { drops.into_iter().min() } else { drops.into_iter().max() };
+    dot(&lists.corners, q) - drop.unwrap_or_else(zero)
+}
+
+/// K × p·R(·, a) + g × the sum over o of the previous level's ceiling at q: what a point's value is compared with, and a
+/// corner's with weight 1 on its state.
+pub fn ceiling_backup(model: &Model, standing: &Lists, p: &[BigInt], a: usize, rules: &Rules) -> BigInt {
+    let ceilings = (0..model.k).map(|o| ceiling(standing, &model.successor(p, a, o), rules));
+    k() * model.rewarded(p, a) + model.g() * ceilings.sum::<BigInt>()
+}
+
+/// The backup of a vector at a state: for each observation, the entries of the vector chosen for it.
+pub fn vector_backup(model: &Model, standing: &Lists, s: usize, a: usize, choices: &[usize], rules: &Rules) -> BigInt {
+    model.backup(s, a, |o, s2| {
+        if rules.has(Trap::NextStateByState) {
+            let at_state = standing.vectors.iter().map(|vector| &vector[s2]);
+            at_state.max().unwrap_or(&standing.vectors[choices[o]][s2])
+        } else {
+            &standing.vectors[choices[o]][s2]
+        }
+    })
+}
+
+/// Opens a certifier on tables, or refuses them with 3, 5 or 6. It stands at level 0.
+pub fn open(tables: &Tables, rules: &Rules) -> Result<Certifier, Refusal> {
+    Model::of(tables, rules)?;
+    Ok(Certifier { tables: tables.stored(rules), standing: Level::fresh(), level: 0 })
+}
+
+/// 7: the certifier handed in is within the limits of 3, 5, 6, 9, 11 and 12, each standing vector has an action, and its
+/// level is at most 100. Its choices are not read, and its inequalities are not asked. The place is 0 whatever is broken.
+pub fn examine(certifier: &Certifier, rules: &Rules) -> Result<(Model, Lists), Refusal> {
+    let seven = Refusal::at(7, 0);
+    let model = Model::of(&certifier.tables, rules).map_err(|_| seven)?;
+    let standing = &certifier.standing;
+    let fits = certifier.level <= LEVELS
+        && standing.counts_fit()
+        && standing.first_outside(model.n, certifier.level, rules).is_none()
+        && standing.first_untotalled(model.n, rules).is_none()
+        && standing.actions[..standing.vectors as usize].iter().all(|&a| a < model.m as u64);
+    if !fits {
+        return Err(seven);
+    }
+    let choices = &standing.choices[..standing.vectors as usize * model.k];
+    if rules.has(Trap::StandingChoicesRead) && choices.iter().any(|&v| v >= VECTORS as u64) {
+        return Err(seven);
+    }
+    if rules.has(Trap::FreshOnly) && certifier.level == 0 && *standing != Level::fresh() {
+        return Err(seven);
+    }
+    let lists = standing.lists(model.n);
+    Ok((model, lists))
+}
+
+/// 8: whether 100 levels already stand.
+pub fn full(certifier: &Certifier, rules: &Rules) -> bool {
+    certifier.level == LEVELS || (certifier.level == LEVELS - 1 && rules.has(Trap::HundredEarly))
+}
+
+/// Offers a level: accepted, it stands, and the level number is one more; refused with 7 to 15, the certifier stays.
+pub fn offer(certifier: &mut Certifier, offered: &Level, rules: &Rules) -> Result<(), Refusal> {
+    let answer = judge(certifier, offered, rules);
+    match &answer {
+        Ok(stored) => {
+            if !rules.has(Trap::NothingStored) {
+                certifier.standing = stored.clone();
+            }
+            certifier.level += if rules.has(Trap::LevelMadeUp) { 2 } else { 1 };
+        }
+        Err(_) if rules.has(Trap::RefusalChanges) => certifier.standing = offered.clone(),
+        Err(_) => {}
+    }
+    answer.map(|_| ())
+}
+
+/// The level to store, or the first refusal in checking order. One number is tested throughout before the next.
+fn judge(certifier: &Certifier, offered: &Level, rules: &Rules) -> Result<Level, Refusal> {
+    let refuse_at = |number: u8, offender: Option<usize>| match offender {
+        Some(place) => Err(Refusal::at_index(number, place)),
+        None => Ok(()),
+    };
+    let (model, standing) = examine(certifier, rules)?;
+    if full(certifier, rules) {
+        return Err(Refusal::at(8, 0));
+    }
+    if !offered.counts_fit() {
+        return Err(Refusal::at(9, 0));
+    }
+    let stored = offered.stored(&model, rules);
+    if rules.has(Trap::AcceptAll) {
+        return Ok(stored);
+    }
+    if rules.has(Trap::RefuseAll) {
+        return Err(Refusal::at(13, 0));
+    }
+
+    let dangling = offered.first_dangling(&model, certifier.standing.vectors);
+    let excused = offered.first_dangling(&model, offered.vectors).is_none() && rules.has(Trap::ChoicesOfOffered);
+    if dangling.is_some() && excused {
+        return Ok(stored);
+    }
+    refuse_at(10, dangling)?;
+
+    let t = if rules.has(Trap::RangeOfStanding) { certifier.level } else { certifier.level + 1 };
+    let mut shape = [(11, offered.first_outside(model.n, t, rules)), (12, offered.first_untotalled(model.n, rules))];
+    if rules.has(Trap::TotalsBeforeRanges) {
+        shape.reverse();
+    }
+    for (number, offender) in shape {
+        refuse_at(number, offender)?;
+    }
+
+    let lists = offered.lists(model.n);
+    if rules.has(Trap::LaterLevelsWaved) && certifier.level >= 1 {
+        return Ok(stored);
+    }
+    if !rules.has(Trap::WithoutThirteen) {
+        refuse_at(13, first_above(&model, &standing, offered, &lists, rules))?;
+    }
+    let below = |value: &BigInt, p: &[BigInt]| {
+        (0..model.m).any(|a| k() * value < ceiling_backup(&model, &standing, p, a, rules))
+    };
+    if !rules.has(Trap::WithoutFourteen) {
+        let low = (0..model.n).find(|&s| below(&lists.corners[s], &corner(model.n, s)));
+        refuse_at(14, low)?;
+    }
+    if !rules.has(Trap::WithoutFifteen) {
+        let low = lists.points.iter().position(|point| below(&point.value, &point.weights));
+        refuse_at(15, low)?;
+    }
+    Ok(stored)
+}
+
+/// 13: the first vector with an entry above its backup. Both are compared exactly, K times the entry with the backup.
+fn first_above(model: &Model, standing: &Lists, offered: &Level, lists: &Lists, rules: &Rules) -> Option<usize> {
+    (0..lists.vectors.len()).find(|&v| {
+        let action = lists.actions[v] as usize;
+        let choices = &offered.choices[v * model.k..(v + 1) * model.k];
+        let choices: Vec<usize> = choices.iter().map(|&choice| choice as usize).collect();
+        (0..model.n).any(|s| {
+            let backup = vector_backup(model, standing, s, action, &choices, rules);
+            k() * &lists.vectors[v][s] > backup
+        })
+    })
+}

@@ -1,0 +1,39 @@
+//! Document 01 in big integers.
+//!
+//! Every number that is computed is a [`num_bigint::BigInt`], so nothing can overflow, and every function follows one
+//! sentence of the document as it stands, without a shortcut. It is slow, and meant to be read next to the document.
+//!
+//! What is handed in is plain storage ([`Tables`], [`Level`], [`Certifier`], [`Points`], [`Graph`]) that may hold
+//! anything. Arrays have their full fixed sizes; the cells in use come first, packed by the counts, the last index
+//! fastest. Storage is looked into only after its counts have passed.
+//!
+//! [`Rules::default`] is the document. A [`Trap`] is one deliberate departure from it, so that a comparison can be shown
+//! to fail.
+
+mod build;
+#[cfg(test)]
+mod dough;
+mod exact;
+mod file;
+mod ladder;
+mod level;
+mod model;
+mod plan;
+#[cfg(test)]
+mod readings;
+mod refusal;
+mod rules;
+mod totals;
+mod words;
+mod worth;
+
+pub use build::{build, Points, BUILT_POINTS};
+pub use file::{read, Reading, FILE_BYTES};
+pub use ladder::ladder;
+pub use level::{offer, open, Certifier, Level, LEVELS, POINTS, POINT_TOTAL, VECTORS};
+pub use model::{Model, Tables, ACTIONS, OBSERVATIONS, REWARD, STATES, THOUSAND};
+pub use plan::{all_plans, at_mixture, best, scale, Earned, Plan};
+pub use refusal::Refusal;
+pub use rules::{Rules, Trap};
+pub use totals::{totals, Totals, WEIGHT};
+pub use worth::{worth, Graph, NODES, STEPS};

@@ -1,0 +1,244 @@
+//! The model: tables as they are handed in, and the model that they state.
+
+use crate::exact::{k, kept, weights};
+use crate::refusal::Refusal;
+use crate::rules::{Rules, Trap};
+use num_bigint::BigInt;
+
+/// At most so many states.
+pub const STATES: usize = 16;
+/// At most so many actions.
+pub const ACTIONS: usize = 8;
+/// At most so many observations.
+pub const OBSERVATIONS: usize = 8;
+/// What a row of T or of O totals, and the most that the discount is.
+pub const THOUSAND: u64 = 1_000;
+/// Rewards lie within this many ticks of 0.
+pub const REWARD: i64 = 100_000;
+
+/// Tables of any content, in storage.
+#[derive(Clone, Debug, PartialEq, Eq)]
+pub struct Tables {
+    pub states: u64,
+    pub actions: u64,
+    pub observations: u64,
+    pub discount: u64,
+    /// T by action, state left, state reached.
+    pub transitions: Vec<u64>,
+    /// O by action, state reached, observation.
+    pub sights: Vec<u64>,
+    /// R by action, state left.
+    pub rewards: Vec<i64>,
+}
+
+impl Tables {
+    /// Tables of which every part is 0: those of a refused file.
+    pub fn zero() -> Tables {
+        Tables {
+            states: 0,
+            actions: 0,
+            observations: 0,
+            discount: 0,
+            transitions: vec![0; ACTIONS * STATES * STATES],
+            sights: vec![0; ACTIONS * STATES * OBSERVATIONS],
+            rewards: vec![0; ACTIONS * STATES],
+        }
+    }
+
+    /// Where T(s, a, s') lies.
+    pub fn transition_cell(&self, a: usize, s: usize, s2: usize) -> usize {
+        let n = self.states as usize;
+        (a * n + s) * n + s2
+    }
+
+    /// Where O(a, s', o) lies.
+    pub fn sight_cell(&self, a: usize, s2: usize, o: usize) -> usize {
+        (a * self.states as usize + s2) * self.observations as usize + o
+    }
+
+    /// Where R(s, a) lies.
+    pub fn reward_cell(&self, a: usize, s: usize) -> usize {
+        a * self.states as usize + s
+    }
+
+    /// Whether the counts are within their limits. Nothing else is looked into unless they are.
+    pub fn counts_fit(&self) -> bool {
+        let fits = |count: u64, limit: usize| count >= 1 && count <= limit as u64;
+        fits(self.states, STATES) && fits(self.actions, ACTIONS) && fits(self.observations, OBSERVATIONS)
+    }
+
+    /// How many cells of T, of O and of R are in use.
+    pub fn cells_used(&self) -> (usize, usize, usize) {
+        let (n, m, k) = (self.states as usize, self.actions as usize, self.observations as usize);
+        (m * n * n, m * n * k, m * n)
+    }
+
+    /// 3 on tables: counts, discount, probabilities and rewards within their limits.
+    fn within_limits(&self, rules: &Rules) -> bool {
+        if !self.counts_fit() || self.discount > THOUSAND {
+            return false;
+        }
+        let (transitions, sights, rewards) = self.cells_used();
+        let probability = |&cell: &u64| cell <= THOUSAND || rules.has(Trap::ProbabilityUnlimited);
+        self.transitions[..transitions].iter().all(probability)
+            && self.sights[..sights].iter().all(probability)
+            && self.rewards[..rewards].iter().all(|&cell| (-REWARD..=REWARD).contains(&cell))
+    }
+
+    /// The first row that `wrong` picks, by action and then by state.
+    fn first_row(&self, wrong: impl Fn(usize, usize) -> bool) -> Option<(usize, usize)> {
+        for a in 0..self.actions as usize {
+            for s in 0..self.states as usize {
+                if wrong(a, s) {
+                    return Some((a, s));
+                }
+            }
+        }
+        None
+    }
+
+    /// The row of T for an action and a state left.
+    fn transition_row(&self, a: usize, s: usize) -> &[u64] {
+        let at = self.transition_cell(a, s, 0);
+        &self.transitions[at..at + self.states as usize]
+    }
+
+    /// The row of O for an action and a state reached.
+    fn sight_row(&self, a: usize, s2: usize) -> &[u64] {
+        let at = self.sight_cell(a, s2, 0);
+        &self.sights[at..at + self.observations as usize]
+    }
+
+    /// 5: the first row of T that does not total 1,000.
+    pub fn wrong_transition_row(&self) -> Option<(usize, usize)> {
+        self.first_row(|a, s| total(self.transition_row(a, s)) != BigInt::from(THOUSAND))
+    }
+
+    /// 6: the first row of O that does not total 1,000.
+    pub fn wrong_sight_row(&self) -> Option<(usize, usize)> {
+        self.first_row(|a, s2| total(self.sight_row(a, s2)) != BigInt::from(THOUSAND))
+    }
+
+    /// 5 for a reader that passes rows of zeros.
+    pub fn wrong_transition_row_but_zeros(&self) -> Option<(usize, usize)> {
+        self.first_row(|a, s| wrong_but_zeros(self.transition_row(a, s)))
+    }
+
+    /// 6 for a reader that passes rows of zeros.
+    pub fn wrong_sight_row_but_zeros(&self) -> Option<(usize, usize)> {
+        self.first_row(|a, s2| wrong_but_zeros(self.sight_row(a, s2)))
+    }
+
+    /// What is stored of tables within the limits: entries past the counts are 0.
+    pub fn stored(&self, rules: &Rules) -> Tables {
+        let (transitions, sights, rewards) = self.cells_used();
+        Tables {
+            transitions: kept(&self.transitions, transitions, rules),
+            sights: kept(&self.sights, sights, rules),
+            rewards: kept(&self.rewards, rewards, rules),
+            ..self.clone()
+        }
+    }
+}
+
+/// What a row totals.
+fn total(row: &[u64]) -> BigInt {
+    weights(row).iter().sum()
+}
+
+/// Whether a row is neither 0 throughout nor 1,000 in total.
+fn wrong_but_zeros(row: &[u64]) -> bool {
+    let total = total(row);
+    total != BigInt::from(0) && total != BigInt::from(THOUSAND)
+}
+
+/// The model that tables within the limits state.
+#[derive(Clone, Debug)]
+pub struct Model {
+    pub n: usize,
+    pub m: usize,
+    pub k: usize,
+    discount: BigInt,
+    transitions: Vec<BigInt>,
+    sights: Vec<BigInt>,
+    rewards: Vec<BigInt>,
+    rules: Rules,
+}
+
+impl Model {
+    /// The model of tables, or their refusal: 3 at 0, then 5 and 6 at action × n + state.
+    pub fn of(tables: &Tables, rules: &Rules) -> Result<Model, Refusal> {
+        if !tables.within_limits(rules) {
+            return Err(Refusal::at(3, 0));
+        }
+        let n = if rules.has(Trap::RowsBySixteen) { STATES } else { tables.states as usize };
+        let mut tests = [(5, tables.wrong_transition_row()), (6, tables.wrong_sight_row())];
+        if rules.has(Trap::SightRowsFirst) {
+            tests.reverse();
+        }
+        for (number, wrong) in tests {
+            if let Some((action, state)) = wrong {
+                return Err(Refusal::at_index(number, action * n + state));
+            }
+        }
+        let (transitions, sights, rewards) = tables.cells_used();
+        Ok(Model {
+            n: tables.states as usize,
+            m: tables.actions as usize,
+            k: tables.observations as usize,
+            discount: BigInt::from(tables.discount),
+            transitions: weights(&tables.transitions[..transitions]),
+            sights: weights(&tables.sights[..sights]),
+            rewards: tables.rewards[..rewards].iter().map(|&cell| BigInt::from(cell)).collect(),
+            rules: *rules,
+        })
+    }
+
+    /// T(s, a, s').
+    pub fn t(&self, s: usize, a: usize, s2: usize) -> &BigInt {
+        &self.transitions[(a * self.n + s) * self.n + s2]
+    }
+
+    /// O(a, s', o).
+    pub fn o(&self, a: usize, s2: usize, o: usize) -> &BigInt {
+        &self.sights[(a * self.n + s2) * self.k + o]
+    }
+
+    /// R(s, a).
+    pub fn r(&self, s: usize, a: usize) -> &BigInt {
+        &self.rewards[a * self.n + s]
+    }
+
+    /// The discount g.
+    pub fn g(&self) -> &BigInt {
+        &self.discount
+    }
+
+    /// T × O: from s by a to s' with o seen there.
+    fn step(&self, s: usize, a: usize, s2: usize, o: usize) -> BigInt {
+        let seen_at = if self.rules.has(Trap::SightAtStateLeft) { s } else { s2 };
+        self.t(s, a, s2) * self.o(a, seen_at, o)
+    }
+
+    /// Successor weights: q(s') is the sum over s of p(s) × T(s, a, s') × O(a, s', o).
+    pub fn successor(&self, p: &[BigInt], a: usize, o: usize) -> Vec<BigInt> {
+        let q = |s2| (0..self.n).map(|s| &p[s] * self.step(s, a, s2, o)).sum();
+        (0..self.n).map(q).collect()
+    }
+
+    /// p·R(·, a).
+    pub fn rewarded(&self, p: &[BigInt], a: usize) -> BigInt {
+        (0..self.n).map(|s| &p[s] * self.r(s, a)).sum()
+    }
+
+    /// K × R(s, a) + g × the sum over s' and o of T × O × (what `next` has for o and s').
+    pub fn backup<'a>(&self, s: usize, a: usize, next: impl Fn(usize, usize) -> &'a BigInt) -> BigInt {
+        let mut sum = BigInt::from(0);
+        for s2 in 0..self.n {
+            for o in 0..self.k {
+                sum += self.step(s, a, s2, o) * next(o, s2);
+            }
+        }
+        k() * self.r(s, a) + self.g() * sum
+    }
+}
