@@ -1,10 +1,10 @@
 //! The totals against the best of all plans, over lists of offers to small models.
 
-use crate::calls::Calls;
+use crate::calls::{raise, Calls};
 use crate::gen::{self, List, Step, DOCUMENT};
 use crate::rng::Rng;
 use num_bigint::BigInt;
-use reference::{all_plans, best, scale, Certifier, Earned, Model};
+use reference::{all_plans, best, scale, Certifier, Earned, Model, STATES};
 
 /// No list goes further than this many levels.
 const LEVELS: u64 = 3;
@@ -36,34 +36,37 @@ pub fn check(list: &List, by: &dyn Calls) -> Result<Seen, String> {
     for (at, step) in list.steps.iter().enumerate() {
         let wrong = |what: String| format!("step {}: {}", at, what);
         match step {
-            Step::Offer(level) => {
+            Step::Offer(_) | Step::Raise(_) => {
                 let before = certifier.clone();
-                match by.offer(&mut certifier, level) {
-                    Ok(()) => {
-                        seen.accepted += 1;
-                        if seen.accepted > LEVELS {
-                            return Ok(seen);
-                        }
-                        seen.above_corners += u64::from(above_corners(&certifier, model.n));
-                        if certifier.level != seen.accepted || certifier.standing.vectors != level.vectors {
-                            return Err(wrong(format!(
-                                "level {} after {} acceptances",
-                                certifier.level, seen.accepted
-                            )));
-                        }
-                        plans = all_plans(&model, seen.accepted as u32);
-                        for s in 0..model.n {
-                            let mut mixture = vec![0; level.corners.len()];
-                            mixture[s] = 1;
-                            compare(&certifier, &plans, &mixture, by, model.n).map_err(wrong)?;
-                        }
+                let answer = match step {
+                    Step::Raise(points) => {
+                        let answer = raise(by, &mut certifier, points);
+                        Ok(answer.map_err(|refusal| wrong(format!("a built level is {}", refusal)))?)
                     }
-                    Err(_) => {
+                    Step::Offer(level) => by.offer(&mut certifier, level).map(|_| level.clone()),
+                    _ => continue,
+                };
+                let level = match answer {
+                    Ok(level) => level,
+                    Err(_) if certifier == before => {
                         seen.refused += 1;
-                        if certifier != before {
-                            return Err(wrong("a refused offer changed the certifier".to_string()));
-                        }
+                        continue;
                     }
+                    Err(_) => return Err(wrong("a refused offer changed the certifier".to_string())),
+                };
+                seen.accepted += 1;
+                if seen.accepted > LEVELS {
+                    return Ok(seen);
+                }
+                seen.above_corners += u64::from(above_corners(&certifier, model.n));
+                if certifier.level != seen.accepted || certifier.standing.vectors != level.vectors {
+                    return Err(wrong(format!("level {} after {} acceptances", certifier.level, seen.accepted)));
+                }
+                plans = all_plans(&model, seen.accepted as u32);
+                for s in 0..model.n {
+                    let mut mixture = vec![0; STATES];
+                    mixture[s] = 1;
+                    compare(&certifier, &plans, &mixture, by, model.n).map_err(wrong)?;
                 }
             }
             Step::Totals(mixture) if seen.accepted > 0 => {

@@ -130,6 +130,9 @@ fn steps_differ(ours: &Certifier, theirs: &Certifier, steps: &[Step], other: &dy
                 differ("totals", &DOCUMENT.totals(&ours, mixture), &other.totals(&theirs, mixture))
             }
             Step::Build(points) => differ("build", &DOCUMENT.build(&ours, points), &other.build(&theirs, points)),
+            Step::Raise(points) => {
+                differ("build and offer", &raise(&DOCUMENT, &mut ours, points), &raise(other, &mut theirs, points))
+            }
         };
         let found = found.or_else(|| differ("certifier", &ours, &theirs));
         if let Some(found) = found {
@@ -139,10 +142,66 @@ fn steps_differ(ours: &Certifier, theirs: &Certifier, steps: &[Step], other: &dy
     None
 }
 
+/// Builds, and offers what was built.
+pub fn raise(by: &dyn Calls, certifier: &mut Certifier, points: &Points) -> Result<Level, Refusal> {
+    let level = by.build(certifier, points)?;
+    by.offer(certifier, &level)?;
+    Ok(level)
+}
+
 /// Both answers, if they are not equal.
 fn differ<Answer: PartialEq + std::fmt::Debug>(call: &str, ours: &Answer, theirs: &Answer) -> Option<String> {
     if ours == theirs {
         return None;
     }
     Some(format!("{}\n  the reference: {:?}\n  the other:     {:?}", call, ours, theirs))
+}
+
+#[cfg(test)]
+mod tests {
+    use super::*;
+    use std::collections::BTreeSet;
+
+    /// The refusals among the answers to a case, and 0 for one that is served.
+    fn numbers(case: &Case) -> Vec<u8> {
+        fn number<Answer>(answer: Result<Answer, Refusal>) -> u8 {
+            answer.err().map_or(0, |refusal| refusal.number)
+        }
+        let follow = |certifier: &Certifier, steps: &[Step]| {
+            let mut certifier = certifier.clone();
+            let step = |step: &Step| match step {
+                Step::Offer(level) => number(DOCUMENT.offer(&mut certifier, level)),
+                Step::Totals(mixture) => number(DOCUMENT.totals(&certifier, mixture)),
+                Step::Build(points) => number(DOCUMENT.build(&certifier, points)),
+                Step::Raise(points) => number(raise(&DOCUMENT, &mut certifier, points)),
+            };
+            steps.iter().map(step).collect()
+        };
+        match case {
+            Case::Open(tables) => vec![number(DOCUMENT.open(tables))],
+            Case::List(list) => follow(&DOCUMENT.open(&list.tables).unwrap(), &list.steps),
+            Case::Handed(certifier, steps) => follow(certifier, steps),
+            Case::Worth(tables, graph, asked) => vec![number(DOCUMENT.worth(tables, graph, *asked))],
+        }
+    }
+
+    #[test]
+    fn every_refusal_of_a_call_occurs() {
+        let mut seen = BTreeSet::new();
+        for at in 0..300 {
+            let case = random(&mut Rng::for_case(1, "calls", at), at);
+            assert!(!case.show().is_empty());
+            seen.extend(numbers(&case));
+        }
+        let all: BTreeSet<u8> = [0, 3].into_iter().chain(5..=18).collect();
+        assert_eq!(seen, all);
+    }
+
+    #[test]
+    fn the_reference_does_not_differ_from_itself() {
+        for at in 0..50 {
+            let case = random(&mut Rng::for_case(2, "calls", at), at);
+            assert_eq!(case.difference(&DOCUMENT), None);
+        }
+    }
 }

@@ -639,3 +639,32 @@ pub fn escaped(bytes: &[u8]) -> String {
     let text: String = bytes.iter().flat_map(|&byte| std::ascii::escape_default(byte)).map(char::from).collect();
     format!("b\"{}\"", text)
 }
+
+#[cfg(test)]
+mod tests {
+    use super::*;
+    use reference::{read, Rules};
+
+    #[test]
+    fn valid_files_read_in_every_dress() {
+        for number in 0..400 {
+            let mut rng = Rng::for_case(1, "valid", number);
+            let shape = file_shape(&mut rng);
+            let lines = valid(&mut rng, shape);
+            for file in [plain(&lines), dressed(&mut rng, &lines)] {
+                let refused = read(&file, &Rules::default()).err().map(|refusal| refusal.number);
+                let expected = if file.len() > FILE_BYTES { Some(1) } else { None };
+                assert_eq!(refused, expected, "{}", escaped(&file));
+            }
+        }
+    }
+
+    #[test]
+    fn every_refusal_of_a_file_occurs() {
+        let mut seen = vec![0; 7];
+        for case in fixed() {
+            seen[read(&case.file, &Rules::default()).err().map_or(0, |refusal| refusal.number as usize)] += 1;
+        }
+        assert!(seen.iter().all(|&count| count > 0), "{:?}", seen);
+    }
+}

@@ -349,6 +349,15 @@ pub fn spoil_level(rng: &mut Rng, level: &mut Level, shape: Shape, t: u64, below
     let vectors = (level.vectors.min(VECTORS as u64) as usize).max(1);
     let points = level.points.min(POINTS as u64) as usize;
     let anything = junk(rng);
+    if rng.once_in(12) {
+        // Anything everywhere.
+        litter(rng, &mut level.actions, 0, junk);
+        litter(rng, &mut level.choices, 0, junk);
+        litter(rng, &mut level.entries, 0, signed_junk);
+        litter(rng, &mut level.corners, 0, signed_junk);
+        litter(rng, &mut level.weights, 0, junk);
+        litter(rng, &mut level.values, 0, signed_junk);
+    }
     match rng.below(if points > 0 { 9 } else { 7 }) {
         0 => level.vectors = rng.pick(&[0, 1, 32, 33, u64::MAX, anything]),
         1 => level.points = rng.pick(&[0, 1, 32, 33, u64::MAX, anything]),
@@ -429,12 +438,14 @@ pub fn question(rng: &mut Rng, graph: &Graph, shape: Shape) -> Question {
     }
 }
 
-/// One call on a certifier.
+/// One call on a certifier, or two.
 #[derive(Clone, Debug)]
 pub enum Step {
     Offer(Level),
     Totals(Vec<u64>),
     Build(Points),
+    /// Build, and offer what was built.
+    Raise(Points),
 }
 
 /// Tables, and a list of calls on the certifier that opens on them.
@@ -452,29 +463,31 @@ pub fn list(rng: &mut Rng, shape: Shape, levels: u64) -> List {
     let mut steps = Vec::new();
     let most_points = if shape.n > 4 { 2 } else { 4 };
     while certifier.level < levels {
-        let built = built(rng, &certifier, shape, most_points);
         if rng.once_in(4) {
             steps.push(Step::Build(points(rng, shape.n, most_points)));
         }
+        let count = rng.index(most_points + 1);
+        let upon = points(rng, shape.n, count);
+        let built = build(&certifier, &upon, &DOCUMENT).expect("a standing certifier builds");
         let t = certifier.level + 1;
-        let level = match rng.below(10) {
-            0..=2 => built,
-            3..=5 => loosened(rng, &built, shape, t),
-            6 | 7 => nudged(rng, &built, shape),
+        let (level, step) = match rng.below(10) {
+            0..=2 => (built, Some(Step::Raise(upon))),
+            3..=5 => (loosened(rng, &built, shape, t), None),
+            6 | 7 => (nudged(rng, &built, shape), None),
             8 => {
                 let loose = loosened(rng, &built, shape, t);
-                nudged(rng, &loose, shape)
+                (nudged(rng, &loose, shape), None)
             }
             _ => {
                 let mut level = built;
                 for _ in 0..1 + rng.index(3) {
                     spoil_level(rng, &mut level, shape, t, certifier.standing.vectors);
                 }
-                level
+                (level, None)
             }
         };
         let accepted = offer(&mut certifier, &level, &DOCUMENT).is_ok();
-        steps.push(Step::Offer(level));
+        steps.push(step.unwrap_or(Step::Offer(level)));
         for _ in 0..if accepted { 2 } else { 1 } {
             steps.push(Step::Totals(mixture(rng, shape.n)));
         }

@@ -65,6 +65,7 @@ pub fn steps(steps: &[Step]) -> String {
         Step::Offer(offered) => format!("step {}: offer {}", at, level(offered)),
         Step::Totals(mixture) => format!("step {}: totals at {}\n", at, cells(mixture)),
         Step::Build(upon) => format!("step {}: build upon {}", at, points(upon)),
+        Step::Raise(upon) => format!("step {}: build and offer upon {}", at, points(upon)),
     };
     steps.iter().enumerate().map(step).collect()
 }

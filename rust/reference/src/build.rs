@@ -6,7 +6,6 @@ use crate::model::{Model, STATES};
 use crate::refusal::Refusal;
 use crate::rules::{Rules, Trap};
 use num_bigint::BigInt;
-use std::convert::TryFrom;
 
 /// The builder is given at most so many points.
 pub const BUILT_POINTS: usize = 16;
@@ -79,9 +78,10 @@ pub fn build(certifier: &Certifier, points: &Points, rules: &Rules) -> Result<Le
     Ok(level)
 }
 
-/// An entry or a value in storage. All of them are within the range of level 100.
+/// An entry or a value in storage. By the document all of them are within the range of level 100; what a trap makes of
+/// weights without limit may be too large for storage, and is then as large as can be.
 fn stored(value: &BigInt) -> i64 {
-    i64::try_from(value).expect("built numbers are within their range")
+    i64::try_from(value).unwrap_or(i64::MAX)
 }
 
 /// The vector of one action at weights p: for each observation the first standing vector with the largest product with q,

@@ -64,7 +64,6 @@ fn only_vector(entries: [i64; 2]) -> Result<(), Refusal> {
 
 /// Totals at level 2.
 fn at(mixture: [u64; 2]) -> Result<(i64, i64, i64, u64), Refusal> {
-    use std::convert::TryFrom;
     let whole = |value: &BigInt| i64::try_from(value).unwrap();
     totals(&standing(2), &mixture, &DOCUMENT).map(|t| (whole(&t.lower), whole(&t.upper), whole(&t.gap), t.action))
 }

@@ -7,7 +7,6 @@ use crate::words::{
     index_form, is_keyword, number_form, reward_form, whole_part, word_after, Form, Word, PROBABILITY, START,
 };
 use num_bigint::BigInt;
-use std::convert::TryFrom;
 
 /// A file has at most this many bytes.
 pub const FILE_BYTES: usize = 32_768;

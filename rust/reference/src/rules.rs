@@ -2,22 +2,27 @@
 
 use std::fmt;
 
-/// Defines the traps with a sentence each.
+/// Defines the traps with a sentence each: those of the reader, and those of what comes after it.
 macro_rules! traps {
-    ($($name:ident: $text:literal,)*) => {
+    (reading { $($word:ident: $word_text:literal,)* } judging { $($name:ident: $text:literal,)* }) => {
         /// One deliberate departure from the document.
         #[derive(Clone, Copy, Debug, PartialEq, Eq)]
         pub enum Trap {
+            $(#[doc = $word_text] $word,)*
             $(#[doc = $text] $name,)*
         }
 
         impl Trap {
-            /// All of them.
-            pub const ALL: &'static [Trap] = &[$(Trap::$name,)*];
+            /// Those that only show in model files.
+            pub const READING: &'static [Trap] = &[$(Trap::$word,)*];
+
+            /// All others.
+            pub const JUDGING: &'static [Trap] = &[$(Trap::$name,)*];
 
             /// What is done wrong.
             pub fn text(self) -> &'static str {
                 match self {
+                    $(Trap::$word => $word_text,)*
                     $(Trap::$name => $text,)*
                 }
             }
@@ -26,80 +31,84 @@ macro_rules! traps {
 }
 
 traps! {
-    // The five that the document names.
-    DivisionTowardsZero: "entries and worths are rounded towards zero",
-    NextStateByState: "the next vector is chosen for each state by itself",
-    SightAtStateLeft: "O is taken at the state left",
-    RatioOverZeroWeights: "the smallest ratio includes states without weight",
-    NegativeGainLifts: "a point above the corners lifts the ceiling",
-    // Words of the file.
-    CommentEndedByCr: "a comment ends at a CR",
-    HashInsideWord: "a hash opens a comment only between words",
-    FormFeedIsSpace: "VT and FF part words",
-    NulEndsFile: "a byte 0 ends the file",
-    CaseIgnored: "keywords are read in either case",
-    LengthOffByOne: "a file of 32,768 bytes is too long",
-    PlaceAtWordEnd: "the place is the offending word's end",
-    MissingAtLastWord: "a missing word's place is the end of the last word",
-    // Forms and limits of words.
-    LimitBeforeForm: "the limit is tested before the form",
-    LeadingZeroRefused: "indices and counts have no leading zero",
-    LastIndexRefused: "the last index is outside its limit",
-    FourthDecimal: "numbers may have one more decimal",
-    StartThreeDecimals: "start numbers may have three decimals",
-    MinusInProbability: "a minus fits a probability, which is then below its limit",
-    MinusZeroRefused: "a reward of minus zero does not fit",
-    RewardLowEndOpen: "rewards have no lower limit but their form",
-    // Statements.
-    StarMeansZero: "a star stands for index 0",
-    RewardIndices: "a reward's last two words may be indices",
-    EarlierStatementWins: "an entry that was stated is not superseded",
-    StatementsAdd: "a later statement adds to the earlier",
-    StartTotalEarly: "the start total is tested before the statements",
-    RowTotalEarly: "a row's total is tested with its statement",
-    UnstatedRowsPass: "a row of zeros in a file passes",
-    RowPlaceInFile: "5 and 6 of a file have a row's place",
-    SightRowsFirst: "6 is tested before 5",
-    // Tables.
-    ProbabilityUnlimited: "probabilities in tables have no limit of their own",
-    RowsBySixteen: "a row's place counts 16 states to an action",
-    PastCountsKept: "what stands past the counts is stored",
-    // Levels.
-    WithoutThirteen: "vectors are accepted without their inequality",
-    WithoutFourteen: "corners are accepted without their inequality",
-    WithoutFifteen: "points are accepted without their inequality",
-    AcceptAll: "all levels with fitting counts are accepted",
-    RefuseAll: "all levels are refused",
-    LaterLevelsWaved: "inequalities are tested at level 1 only",
-    NothingStored: "an accepted level is not stored",
-    LevelMadeUp: "an accepted level counts twice",
-    RefusalChanges: "a refused level is stored",
-    RangeOffByOne: "ranges reach one further",
-    RangeOfStanding: "an offered level has the standing level's range",
-    TotalsBeforeRanges: "12 is tested before 11",
-    ChoicesOfOffered: "a choice is compared with the offered vectors' number",
-    HundredEarly: "100 levels are said to stand at 99",
-    StandingChoicesRead: "7 reads the standing level's choices",
-    FreshOnly: "7 refuses any level 0 but the fresh one",
-    SumsWrap: "weights are added in 64 bits",
-    LargestRatio: "a point's drop is its largest ratio",
-    SmallestDrop: "the ceiling takes the smallest drop",
-    // Totals.
-    LastLargestVector: "the action is that of the last largest vector",
-    RangeEndTotals: "totals are the ends of the range",
-    LevelZeroEarly: "level 0 is said to stand at 1",
-    MillionRefused: "weight 1,000,000 is refused",
-    SeventeenFirst: "17 is tested before 16",
-    // The builder.
-    LastLargestChoice: "the last largest vector is chosen",
-    LastLargestAction: "the last largest action's vector is kept",
-    ExactProducts: "actions are compared by their exact backups",
-    CornersRoundedDown: "corners and point values are rounded down",
-    SeventeenPoints: "17 points may be built upon",
-    // The worth of a plan graph.
-    WorthRoundedOnce: "a worth is rounded once at the end",
-    ReachedNodesOnly: "nodes that are not reached are not tested",
-    FiveSteps: "five steps may be asked for",
+    reading {
+        // Words of the file.
+        CommentEndedByCr: "a comment ends at a CR",
+        HashInsideWord: "a hash opens a comment only between words",
+        FormFeedIsSpace: "VT and FF part words",
+        NulEndsFile: "a byte 0 ends the file",
+        CaseIgnored: "keywords are read in either case",
+        LengthOffByOne: "a file of 32,768 bytes is too long",
+        PlaceAtWordEnd: "the place is the offending word's end",
+        MissingAtLastWord: "a missing word's place is the end of the last word",
+        // Forms and limits of words.
+        LimitBeforeForm: "the limit is tested before the form",
+        LeadingZeroRefused: "indices and counts have no leading zero",
+        LastIndexRefused: "the last index is outside its limit",
+        FourthDecimal: "numbers may have one more decimal",
+        StartThreeDecimals: "start numbers may have three decimals",
+        MinusInProbability: "a minus fits a probability, which is then below its limit",
+        MinusZeroRefused: "a reward of minus zero does not fit",
+        RewardLowEndOpen: "rewards have no lower limit but their form",
+        // Statements.
+        StarMeansZero: "a star stands for index 0",
+        RewardIndices: "a reward's last two words may be indices",
+        EarlierStatementWins: "an entry that was stated is not superseded",
+        StatementsAdd: "a later statement adds to the earlier",
+        StartTotalEarly: "the start total is tested before the statements",
+        RowTotalEarly: "a row's total is tested with its statement",
+        UnstatedRowsPass: "a row of zeros in a file passes",
+        RowPlaceInFile: "5 and 6 of a file have a row's place",
+    }
+    judging {
+        // The five that the document names.
+        DivisionTowardsZero: "entries and worths are rounded towards zero",
+        NextStateByState: "the next vector is chosen for each state by itself",
+        SightAtStateLeft: "O is taken at the state left",
+        RatioOverZeroWeights: "the smallest ratio includes states without weight",
+        NegativeGainLifts: "a point above the corners lifts the ceiling",
+        // Tables.
+        SightRowsFirst: "6 is tested before 5",
+        ProbabilityUnlimited: "probabilities in tables have no limit of their own",
+        RowsBySixteen: "a row's place counts 16 states to an action",
+        PastCountsKept: "what stands past the counts is stored",
+        // Levels.
+        WithoutThirteen: "vectors are accepted without their inequality",
+        WithoutFourteen: "corners are accepted without their inequality",
+        WithoutFifteen: "points are accepted without their inequality",
+        AcceptAll: "all levels with fitting counts are accepted",
+        RefuseAll: "all levels are refused",
+        LaterLevelsWaved: "inequalities are tested at level 1 only",
+        NothingStored: "an accepted level is not stored",
+        LevelMadeUp: "an accepted level counts twice",
+        RefusalChanges: "a refused level is stored",
+        RangeOffByOne: "ranges reach one further",
+        RangeOfStanding: "an offered level has the standing level's range",
+        TotalsBeforeRanges: "12 is tested before 11",
+        ChoicesOfOffered: "a choice is compared with the offered vectors' number",
+        HundredEarly: "100 levels are said to stand at 99",
+        StandingChoicesRead: "7 reads the standing level's choices",
+        FreshOnly: "7 refuses any level 0 but the fresh one",
+        SumsWrap: "weights are added in 64 bits",
+        LargestRatio: "a point's drop is its largest ratio",
+        SmallestDrop: "the ceiling takes the smallest drop",
+        // Totals.
+        LastLargestVector: "the action is that of the last largest vector",
+        RangeEndTotals: "totals are the ends of the range",
+        LevelZeroEarly: "level 0 is said to stand at 1",
+        MillionRefused: "weight 1,000,000 is refused",
+        SeventeenFirst: "17 is tested before 16",
+        // The builder.
+        LastLargestChoice: "the last largest vector is chosen",
+        LastLargestAction: "the last largest action's vector is kept",
+        ExactProducts: "actions are compared by their exact backups",
+        CornersRoundedDown: "corners and point values are rounded down",
+        SeventeenPoints: "17 points may be built upon",
+        // The worth of a plan graph.
+        WorthRoundedOnce: "a worth is rounded once at the end",
+        ReachedNodesOnly: "nodes that are not reached are not tested",
+        FiveSteps: "five steps may be asked for",
+    }
 }
 
 impl fmt::Display for Trap {
