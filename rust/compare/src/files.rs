@@ -36,6 +36,22 @@ O: 0 : 1 : 0 0 O:0:1:1 0.5\r\n\
 R: * : * : * : * -0001.50 R: 0 : 1 : * : * 1000.00\r\n\
 #";
 
+/// A model with the statements that the dough model lacks.
+const SINGLES: &str = "\
+discount: 0.95
+values: reward
+states: 2
+actions: 1
+observations: 2
+start: 1 0
+T: * : * : * 0.5
+T: 0 : 1 : 0 0.25
+T: 0 : 01 : 1 0.750
+O: * : 0 : * 0.5
+O: 0 : 1 : 0 1
+R: * : 0 : * : * -0.5
+";
+
 /// Words that are right in few places and wrong in most.
 const WORDS: &[&[u8]] = &[
     b"",
@@ -206,15 +222,8 @@ pub fn fixed() -> Vec<Case> {
             cases.push(Case::new(format!("the {} model cut at {}", name, length), file));
         }
     }
-    let lines = split(DOUGH);
-    for line in 0..lines.len() {
-        for at in 0..lines[line].len() {
-            for &word in WORDS {
-                let about = format!("the dough model, line {}, word {}: {}", line, at, escaped(word));
-                cases.push(Case::new(about, plain(&replaced(&lines, line, at, word))));
-            }
-        }
-    }
+    cases.extend(each_word("the dough model", &split(DOUGH), 0));
+    cases.extend(each_word("the model of singles", &split(SINGLES), 6));
     for at in 0..=DOUGH.len() {
         // A few bytes at each place; the kinds take turns.
         for turn in 0..4 {
@@ -242,7 +251,58 @@ pub fn fixed() -> Vec<Case> {
         cases.push(Case::new(format!("the dough model with byte {} after the discount", byte), file));
     }
     cases.extend(lengths());
+    cases.extend(largest());
     cases
+}
+
+/// Each word of some lines, from one of them on, replaced by each of many, doubled, and swapped with the next.
+fn each_word(name: &str, lines: &Lines, from: usize) -> Vec<Case> {
+    let mut cases = Vec::new();
+    for line in from..lines.len() {
+        for at in 0..lines[line].len() {
+            let place = format!("{}, line {}, word {}", name, line, at);
+            for &word in WORDS {
+                cases.push(Case::new(format!("{}: {}", place, escaped(word)), plain(&replaced(lines, line, at, word))));
+            }
+            let mut doubled = lines.clone();
+            doubled[line].insert(at, lines[line][at].clone());
+            cases.push(Case::new(format!("{}: doubled", place), plain(&doubled)));
+            if at + 1 < lines[line].len() {
+                let mut swapped = lines.clone();
+                swapped[line].swap(at, at + 1);
+                cases.push(Case::new(format!("{}: swapped with the next", place), plain(&swapped)));
+            }
+        }
+    }
+    cases
+}
+
+/// A model with as many states, actions and observations as can be, and statements at and past its last indices.
+fn largest() -> Vec<Case> {
+    let header =
+        "discount: 1 values: reward states: 16 actions: 8 observations: 8 start: 1 0 0 0 0 0 0 0 0 0 0 0 0 0 0 0\n";
+    let rows = "T: * : * : 15 1 O: * : * : 7 1 R: 7 : 15 : * : * 1000\n";
+    let statements = [
+        "",
+        "T: 7 : 15 : 15 1",
+        "T: 8 : 0 : 0 1",
+        "T: 7 : 16 : 0 1",
+        "T: 7 : 15 : 16 1",
+        "O: 7 : 15 : 7 1",
+        "O: 8 : 0 : 0 1",
+        "O: 7 : 16 : 0 1",
+        "O: 7 : 15 : 8 1",
+        "R: 8 : 0 : * : * 1",
+        "R: 0 : 16 : * : * 1",
+        "T: 7 : 15 : 14 0.001",
+        "O: 7 : 15 : 0 0.001",
+        "T: 0 : 0 : 0 0.001",
+        "O: 0 : 0 : 6 0.001",
+    ];
+    let file = |statement: &&str| {
+        Case::new(format!("the largest model and {:?}", statement), format!("{}{}{}", header, rows, statement))
+    };
+    statements.iter().map(file).collect()
 }
 
 /// Files at and past the longest.
@@ -311,6 +371,10 @@ pub fn random(rng: &mut Rng) -> Case {
             lines[line][at] = std::mem::replace(&mut lines[other_line][other_at], word);
             "two words swapped"
         }
+        10 if rng.once_in(2) => {
+            nudge(rng, &mut lines);
+            "one number changed in its last digit"
+        }
         10 => {
             let line = rng.index(lines.len());
             if rng.once_in(2) {
@@ -377,6 +441,19 @@ fn split(text: &str) -> Lines {
 fn some_word(rng: &mut Rng, lines: &Lines) -> (usize, usize) {
     let line = rng.index(lines.len());
     (line, rng.index(lines[line].len()))
+}
+
+/// Changes the last digit of a number with a point, if one is found.
+fn nudge(rng: &mut Rng, lines: &mut Lines) {
+    for _ in 0..20 {
+        let (line, at) = some_word(rng, lines);
+        let word = &mut lines[line][at];
+        if word.contains(&b'.') {
+            let last = word.len() - 1;
+            word[last] = b'0' + (word[last] - b'0' + 1) % 10;
+            return;
+        }
+    }
 }
 
 /// The lines with one word replaced.

@@ -7,6 +7,8 @@
 //! - `plans`: lists of offers upon small models, the totals held against the best of all plans,
 //! - `calls`: storage of any content, used with `--traps`.
 //!
+//! From the root of the repository: `rust/target/release/compare target/bin/ladder`.
+//!
 //! The command ends with 0 if nothing differs, with 1 after the first difference, with 2 if it could not run.
 
 mod bracket;
@@ -62,14 +64,18 @@ fn run(options: &Options) -> io::Result<bool> {
     if options.traps {
         return traps::run(&comparison.answerer, options.seed);
     }
-    if let Some(path) = &options.file {
+    let well = if let Some(path) = &options.file {
         let case = files::Case { about: path.display().to_string(), file: fs::read(path)? };
-        return comparison.file("file", &case);
+        comparison.file("file", &case)?
+    } else if let Some((suite, number)) = &options.only {
+        comparison.only(suite, *number)?
+    } else {
+        comparison.all()?
+    };
+    if well {
+        println!("no difference");
     }
-    if let Some((suite, number)) = &options.only {
-        return comparison.only(suite, *number);
-    }
-    comparison.all()
+    Ok(well)
 }
 
 /// A comparison under way.
@@ -132,22 +138,32 @@ impl Comparison<'_> {
             "  {} levels accepted ({} with a point above the corners), {} refused, {} totals compared",
             self.plans.accepted, self.plans.above_corners, self.plans.refused, self.plans.compared
         );
-        println!("no difference in {} s", start.elapsed().as_secs());
+        println!("{} s in all", start.elapsed().as_secs());
         Ok(true)
     }
 
-    /// One case alone.
+    /// One case alone. It is shown whether it differs or not.
     fn only(&mut self, suite: &str, number: u64) -> io::Result<bool> {
+        let mut rng = Rng::for_case(self.options.seed, suite, number);
         match suite {
             "fixed" => match files::fixed().get(number as usize) {
-                Some(case) => self.file(&format!("fixed:{}", number), case),
+                Some(case) => {
+                    println!("{}\n{}", case.about, files::escaped(&case.file));
+                    self.file(&format!("fixed:{}", number), case)
+                }
                 None => Err(io::Error::new(io::ErrorKind::InvalidInput, "there is no such fixed file")),
             },
-            "random" => self.random_file(number),
-            "plans" => self.random_list(number),
+            "random" => {
+                let case = files::random(&mut rng);
+                println!("{}\n{}", case.about, files::escaped(&case.file));
+                self.random_file(number)
+            }
+            "plans" => {
+                print!("{}", show::list(&bracket::random(&mut rng)));
+                self.random_list(number)
+            }
             "calls" => {
-                let case = calls::random(&mut Rng::for_case(self.options.seed, suite, number), number);
-                print!("{}", case.show());
+                print!("{}", calls::random(&mut rng, number).show());
                 Ok(true)
             }
             _ => Err(io::Error::new(io::ErrorKind::InvalidInput, "there is no such suite")),
@@ -173,7 +189,7 @@ impl Comparison<'_> {
             }
             Err(message) => {
                 let shown = show::list(&list);
-                println!("DIFFERENCE in plans:{}: {}\n{}", number, message, shown);
+                println!("DIFFERENCE in plans:{} (seed {}): {}\n{}", number, self.options.seed, message, shown);
                 self.saved(shown.as_bytes())?;
                 Ok(false)
             }
@@ -192,7 +208,7 @@ impl Comparison<'_> {
         if ours == theirs {
             return Ok(true);
         }
-        println!("DIFFERENCE in {}: {}", name, case.about);
+        println!("DIFFERENCE in {} (seed {}): {}", name, self.options.seed, case.about);
         println!("the file, {} bytes: {}", case.file.len(), files::escaped(&case.file));
         println!("the reference prints:\n{}", ours);
         println!("the program prints:\n{}", theirs);
@@ -207,7 +223,7 @@ impl Comparison<'_> {
                 fs::write(path, case)?;
                 println!("written to {}", path.display());
             }
-            None => println!("--save PATH writes it, --only or --file runs it again"),
+            None => println!("(--save PATH writes it to a file)"),
         }
         Ok(())
     }

@@ -39,11 +39,15 @@ pub fn run(answerer: &Answerer, seed: u64) -> io::Result<bool> {
     let mut hunts: Vec<Hunt> = judging.chain(reading).collect();
 
     for (number, case) in files::fixed().iter().enumerate() {
-        catch_in_file(answerer, &mut hunts, &format!("fixed:{}", number), case)?;
+        if !catch_in_file(answerer, &mut hunts, &format!("fixed:{}", number), case)? {
+            return Ok(false);
+        }
     }
     for number in 0..FILES {
         let case = files::random(&mut Rng::for_case(seed, "random", number));
-        catch_in_file(answerer, &mut hunts, &format!("random:{}", number), &case)?;
+        if !catch_in_file(answerer, &mut hunts, &format!("random:{}", number), &case)? {
+            return Ok(false);
+        }
     }
     for number in 0..CALLS {
         let case = calls::random(&mut Rng::for_case(seed, "calls", number), number);
@@ -85,17 +89,17 @@ pub fn run(answerer: &Answerer, seed: u64) -> io::Result<bool> {
 }
 
 /// Looks at one file with all traps that no file has caught yet. A file on which the program differs from the document is
-/// no catch but a difference of its own.
-fn catch_in_file(answerer: &Answerer, hunts: &mut [Hunt], name: &str, case: &files::Case) -> io::Result<()> {
+/// no catch but a difference of its own: false.
+fn catch_in_file(answerer: &Answerer, hunts: &mut [Hunt], name: &str, case: &files::Case) -> io::Result<bool> {
     let answer = answerer.answer(&case.file)?;
     if answer != ladder(&case.file, &Rules::default()) {
-        let message = format!("the program differs from the document on {}; run without --traps", name);
-        return Err(io::Error::new(io::ErrorKind::Other, message));
+        println!("DIFFERENCE between the program and the reference in {}; run without --traps", name);
+        return Ok(false);
     }
     for hunt in hunts.iter_mut().filter(|hunt| hunt.files.is_none()) {
         if ladder(&case.file, &hunt.rules()) != answer {
             hunt.files = Some(name.to_string());
         }
     }
-    Ok(())
+    Ok(true)
 }
