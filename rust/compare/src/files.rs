@@ -53,112 +53,24 @@ R: * : 0 : * : * -0.5
 ";
 
 /// Words that are right in few places and wrong in most.
-const WORDS: &[&[u8]] = &[
+const WORDS: &str = "
+    0 1 2 3 7 8 9 10 15 16 17 99 100 256 65536 4294967296 18446744073709551616 00 01 02 08 000 001 016 -0 -1 -2 +0 +1
+    0.0 0.5 0.55 0.555 0.5555 0.50000 1. 1.0 1.00 1.000 1.0000 1.001 1.01 .5 . .. 1..0 1.0.0 9.999 10.0 0100 0,5 1e0 0x1
+    - --1 1- -.5 -0.5 -0.00 1000 1000.00 1000.01 -1000 -1000.00 -1000.01 1001 9999.99 10000 00001 0001 -0000
+    * ** *0 0* : :: = ; / \\ \"0\" 0:0 T: T O R TT T0 T1 t o r Discount discount values reward Reward rewards cost
+    states actions observations start uniform identity x";
+
+/// No word, two words, comments, and words with bytes that cannot be printed.
+const ODD_WORDS: &[&[u8]] = &[
     b"",
-    b"0",
-    b"1",
-    b"2",
-    b"3",
-    b"7",
-    b"8",
-    b"9",
-    b"10",
-    b"15",
-    b"16",
-    b"17",
-    b"99",
-    b"100",
-    b"256",
-    b"65536",
-    b"4294967296",
-    b"18446744073709551616",
-    b"00",
-    b"01",
-    b"02",
-    b"08",
-    b"000",
-    b"001",
-    b"016",
-    b"-0",
-    b"-1",
-    b"-2",
-    b"+0",
-    b"+1",
-    b"0.0",
-    b"0.5",
-    b"0.55",
-    b"0.555",
-    b"0.5555",
-    b"0.50000",
-    b"1.",
-    b"1.0",
-    b"1.00",
-    b"1.000",
-    b"1.0000",
-    b"1.001",
-    b"1.01",
-    b".5",
-    b".",
-    b"..",
-    b"1..0",
-    b"1.0.0",
-    b"9.999",
-    b"10.0",
-    b"0100",
-    b"-",
-    b"--1",
-    b"-.5",
-    b"-0.5",
-    b"-0.00",
-    b"1-",
-    b"1000",
-    b"1000.00",
-    b"1000.01",
-    b"-1000",
-    b"-1000.00",
-    b"-1000.01",
-    b"1001",
-    b"9999.99",
-    b"10000",
-    b"00001",
-    b"0001",
-    b"-0000",
-    b"0,5",
-    b"1e0",
-    b"0x1",
-    b"*",
-    b"**",
-    b"*0",
-    b"0*",
-    b":",
-    b"::",
     b": :",
-    b"=",
-    b";",
-    b"0:0",
-    b"T",
-    b"O",
-    b"R",
-    b"TT",
-    b"T0",
-    b"T1",
-    b"t",
-    b"o",
-    b"r",
-    b"Discount",
-    b"discount",
-    b"values",
-    b"reward",
-    b"Reward",
-    b"rewards",
-    b"cost",
-    b"states",
-    b"actions",
-    b"observations",
-    b"start",
-    b"uniform",
-    b"identity",
-    b"x",
+    b"0 0",
+    b"1\t0",
+    b"#",
+    b"#c\n",
+    b"#c\r",
+    b"0#c\n",
+    b"1#2",
     b"\0",
     b"0\0",
     b"\x0b",
@@ -170,19 +82,13 @@ const WORDS: &[&[u8]] = &[
     b"1\x80",
     b"\xa0",
     b"\xff",
-    b"\xef\xbb\xbf",
-    b"#",
-    b"#c\n",
-    b"#c\r",
-    b"0#c\n",
-    b"1#2",
-    b"\"0\"",
-    b"0 0",
-    b"1\t0",
-    b"/",
-    b"\\",
-    b"T:",
+    b"\xef\xbb",
 ];
+
+/// All of these.
+fn wrong_words() -> Vec<&'static [u8]> {
+    WORDS.split_whitespace().map(str::as_bytes).chain(ODD_WORDS.iter().copied()).collect()
+}
 
 /// Bytes of every kind.
 const BYTES: &[u8] = &[
@@ -261,7 +167,7 @@ fn each_word(name: &str, lines: &Lines, from: usize) -> Vec<Case> {
     for line in from..lines.len() {
         for at in 0..lines[line].len() {
             let place = format!("{}, line {}, word {}", name, line, at);
-            for &word in WORDS {
+            for word in wrong_words() {
                 cases.push(Case::new(format!("{}: {}", place, escaped(word)), plain(&replaced(lines, line, at, word))));
             }
             let mut doubled = lines.clone();
@@ -282,27 +188,25 @@ fn largest() -> Vec<Case> {
     let header =
         "discount: 1 values: reward states: 16 actions: 8 observations: 8 start: 1 0 0 0 0 0 0 0 0 0 0 0 0 0 0 0\n";
     let rows = "T: * : * : 15 1 O: * : * : 7 1 R: 7 : 15 : * : * 1000\n";
-    let statements = [
-        "",
-        "T: 7 : 15 : 15 1",
-        "T: 8 : 0 : 0 1",
-        "T: 7 : 16 : 0 1",
-        "T: 7 : 15 : 16 1",
-        "O: 7 : 15 : 7 1",
-        "O: 8 : 0 : 0 1",
-        "O: 7 : 16 : 0 1",
-        "O: 7 : 15 : 8 1",
-        "R: 8 : 0 : * : * 1",
-        "R: 0 : 16 : * : * 1",
-        "T: 7 : 15 : 14 0.001",
-        "O: 7 : 15 : 0 0.001",
-        "T: 0 : 0 : 0 0.001",
-        "O: 0 : 0 : 6 0.001",
-    ];
-    let file = |statement: &&str| {
+    let statements = "
+T: 7 : 15 : 15 1
+T: 8 : 0 : 0 1
+T: 7 : 16 : 0 1
+T: 7 : 15 : 16 1
+T: 0 : 0 : 0 0.001
+T: 7 : 15 : 14 0.001
+O: 7 : 15 : 7 1
+O: 8 : 0 : 0 1
+O: 7 : 16 : 0 1
+O: 7 : 15 : 8 1
+O: 0 : 0 : 6 0.001
+O: 7 : 15 : 0 0.001
+R: 8 : 0 : * : * 1
+R: 0 : 16 : * : * 1";
+    let file = |statement: &str| {
         Case::new(format!("the largest model and {:?}", statement), format!("{}{}{}", header, rows, statement))
     };
-    statements.iter().map(file).collect()
+    statements.lines().map(file).collect()
 }
 
 /// Files at and past the longest.
@@ -354,7 +258,7 @@ pub fn random(rng: &mut Rng) -> Case {
         0..=5 => "valid",
         6 | 7 => {
             let (line, at) = some_word(rng, &lines);
-            let word = rng.pick(WORDS);
+            let word = rng.pick(&wrong_words());
             lines = replaced(&lines, line, at, word);
             "one word replaced"
         }
@@ -420,7 +324,7 @@ pub fn random(rng: &mut Rng) -> Case {
 /// The counts of a random file: mostly small, seldom as large as can be.
 fn file_shape(rng: &mut Rng) -> Shape {
     if rng.once_in(400) {
-        return Shape { n: 16, m: 8, k: 8 };
+        return Shape::LARGEST;
     }
     gen::shape(rng)
 }

@@ -20,6 +20,11 @@ pub struct Shape {
     pub k: usize,
 }
 
+impl Shape {
+    /// As many states, actions and observations as can be.
+    pub const LARGEST: Shape = Shape { n: STATES, m: ACTIONS, k: OBSERVATIONS };
+}
+
 /// Counts so small that all plans of three steps can be listed: at most some thousands.
 pub fn tiny_shape(rng: &mut Rng) -> Shape {
     let (m, k) = rng.pick(&[(1, 1), (1, 3), (2, 1), (3, 1), (2, 2), (2, 2), (2, 2), (2, 2), (3, 2), (2, 3)]);
@@ -117,15 +122,15 @@ pub fn spoil_tables(rng: &mut Rng, tables: &mut Tables) {
         3 => tables.discount = rng.pick(&[0, 1_000, 1_001, u64::MAX, anything]),
         kind => {
             let used = if tables.counts_fit() { tables.cells_used() } else { (1, 1, 1) };
-            let add = |cell: u64| rng_step(cell, anything);
+            let step = |cell: u64| if anything % 2 == 0 { cell.saturating_sub(1) } else { cell.saturating_add(1) };
             match kind {
                 4 | 5 => {
                     let cell = &mut tables.transitions[rng.index(used.0)];
-                    *cell = rng.pick(&[add(*cell), 1_000, 1_001, u64::MAX]);
+                    *cell = rng.pick(&[step(*cell), 1_000, 1_001, u64::MAX]);
                 }
                 6 => {
                     let cell = &mut tables.sights[rng.index(used.1)];
-                    *cell = rng.pick(&[add(*cell), 1_000, 1_001, u64::MAX]);
+                    *cell = rng.pick(&[step(*cell), 1_000, 1_001, u64::MAX]);
                 }
                 _ => {
                     let cell = rng.index(used.2);
@@ -134,15 +139,6 @@ pub fn spoil_tables(rng: &mut Rng, tables: &mut Tables) {
                 }
             }
         }
-    }
-}
-
-/// One more or one less.
-fn rng_step(cell: u64, anything: u64) -> u64 {
-    if anything % 2 == 0 {
-        cell.saturating_sub(1)
-    } else {
-        cell.saturating_add(1)
     }
 }
 

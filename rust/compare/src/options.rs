@@ -7,7 +7,7 @@ pub const USAGE: &str = "\
 usage: compare LADDER [OPTIONS]     compare the program at the path LADDER with the reference
        compare --self [OPTIONS]     compare the reference with itself
   --seed N         the seed of the random cases (default 1)
-  --seconds N      run random cases for that long (default: a fixed number of them)
+  --seconds N      go on with random cases until so many seconds have passed (default: a fixed number of cases)
   --traps          show that each trap is caught: a copy of the rules with that trap must differ
   --only SUITE:N   one case alone: fixed:N, random:N, calls:N or plans:N
   --file PATH      one file alone
