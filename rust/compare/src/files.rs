@@ -615,10 +615,30 @@ fn reward_text(rng: &mut Rng, ticks: i64) -> String {
     format!("{}{}{}", minus, "0".repeat(zeros), plain)
 }
 
-/// Bytes in a form that source text can hold.
+/// Bytes in a form that source text can hold; a long run of one byte is written as a product, as in `b"a" + b" " * 100`.
 pub fn escaped(bytes: &[u8]) -> String {
-    let text: String = bytes.iter().flat_map(|&byte| std::ascii::escape_default(byte)).map(char::from).collect();
-    format!("b\"{}\"", text)
+    let literal = |bytes: &[u8]| {
+        let text: String = bytes.iter().flat_map(|&byte| std::ascii::escape_default(byte)).map(char::from).collect();
+        format!("b\"{}\"", text)
+    };
+    let mut parts = Vec::new();
+    let mut from = 0;
+    let mut at = 0;
+    while at < bytes.len() {
+        let run = bytes[at..].iter().take_while(|&&byte| byte == bytes[at]).count();
+        if run >= 64 {
+            if from < at {
+                parts.push(literal(&bytes[from..at]));
+            }
+            parts.push(format!("{} * {}", literal(&bytes[at..=at]), run));
+            from = at + run;
+        }
+        at += run;
+    }
+    if from < at || parts.is_empty() {
+        parts.push(literal(&bytes[from..]));
+    }
+    parts.join(" + ")
 }
 
 #[cfg(test)]
@@ -638,6 +658,15 @@ mod tests {
                 assert_eq!(refused, expected, "{}", escaped(&file));
             }
         }
+    }
+
+    #[test]
+    fn long_runs_are_written_as_products() {
+        assert_eq!(escaped(b""), "b\"\"");
+        assert_eq!(escaped(b"a\n\xff"), "b\"a\\n\\xff\"");
+        let file = [&b"ab"[..], &[b' '; 100], b"c"].concat();
+        assert_eq!(escaped(&file), "b\"ab\" + b\" \" * 100 + b\"c\"");
+        assert_eq!(escaped(&[0; 64]), "b\"\\x00\" * 64");
     }
 
     #[test]
