@@ -1,12 +1,12 @@
 //! The totals against the best of all plans, over lists of offers to small models.
 
-use crate::calls::{raise, Calls};
+use crate::calls::Calls;
 use crate::gen::{self, List, Step, DOCUMENT};
 use crate::rng::Rng;
 use num_bigint::BigInt;
-use reference::{all_plans, best, scale, Certifier, Earned, Model, STATES};
+use reference::{all_plans, best, scale, Certifier, Earned, Level, Model, Points, STATES};
 
-/// No list goes further than this many levels.
+/// No list is followed further than this many levels.
 const LEVELS: u64 = 3;
 
 /// A list of offers upon a small model.
@@ -30,59 +30,105 @@ pub struct Seen {
 /// accepted, a refused one changes nothing.
 pub fn check(list: &List, by: &dyn Calls) -> Result<Seen, String> {
     let model = Model::of(&list.tables, &DOCUMENT).map_err(|refusal| refusal.to_string())?;
-    let mut certifier = by.open(&list.tables).map_err(|refusal| format!("opening is {}", refusal))?;
-    let mut seen = Seen::default();
-    let mut plans = Vec::new();
+    let certifier = by.open(&list.tables).map_err(|refusal| format!("opening is {}", refusal))?;
+    let mut run = Run { by, model, certifier, plans: Vec::new(), seen: Seen::default() };
     for (at, step) in list.steps.iter().enumerate() {
-        let wrong = |what: String| format!("step {}: {}", at, what);
-        match step {
-            Step::Offer(_) | Step::Raise(_) => {
-                let before = certifier.clone();
-                let answer = match step {
-                    Step::Raise(points) => {
-                        let answer = raise(by, &mut certifier, points);
-                        Ok(answer.map_err(|refusal| wrong(format!("a built level is {}", refusal)))?)
-                    }
-                    Step::Offer(level) => by.offer(&mut certifier, level).map(|_| level.clone()),
-                    _ => continue,
-                };
-                let level = match answer {
-                    Ok(level) => level,
-                    Err(_) if certifier == before => {
-                        seen.refused += 1;
-                        continue;
-                    }
-                    Err(_) => return Err(wrong("a refused offer changed the certifier".to_string())),
-                };
-                seen.accepted += 1;
-                if seen.accepted > LEVELS {
-                    return Ok(seen);
-                }
-                seen.above_corners += u64::from(above_corners(&certifier, model.n));
-                if certifier.level != seen.accepted || certifier.standing.vectors != level.vectors {
-                    return Err(wrong(format!("level {} after {} acceptances", certifier.level, seen.accepted)));
-                }
-                plans = all_plans(&model, seen.accepted as u32);
-                for s in 0..model.n {
-                    let mut mixture = vec![0; STATES];
-                    mixture[s] = 1;
-                    compare(&certifier, &plans, &mixture, by, model.n).map_err(wrong)?;
-                }
-            }
-            Step::Totals(mixture) if seen.accepted > 0 => {
-                compare(&certifier, &plans, mixture, by, model.n).map_err(wrong)?;
-                seen.compared += 1;
-            }
-            Step::Totals(_) => {}
-            Step::Build(points) => {
-                let level =
-                    by.build(&certifier, points).map_err(|refusal| wrong(format!("building is {}", refusal)))?;
-                let mut copy = certifier.clone();
-                by.offer(&mut copy, &level).map_err(|refusal| wrong(format!("a built level is {}", refusal)))?;
-            }
+        run.step(step).map_err(|message| format!("step {}: {}", at, message))?;
+        if run.seen.accepted > LEVELS {
+            // Only a trap accepts more than the list was made for.
+            break;
         }
     }
-    Ok(seen)
+    Ok(run.seen)
+}
+
+/// A list that is being followed.
+struct Run<'a> {
+    by: &'a dyn Calls,
+    model: Model,
+    certifier: Certifier,
+    /// All plans of as many steps as levels were accepted.
+    plans: Vec<Earned>,
+    seen: Seen,
+}
+
+impl Run<'_> {
+    fn step(&mut self, step: &Step) -> Result<(), String> {
+        match step {
+            Step::Offer(level) => self.offer(level).map(|_| ()),
+            Step::Raise(points) => {
+                let level = self.build(points)?;
+                if self.offer(&level)? {
+                    Ok(())
+                } else {
+                    Err("a built level is refused".to_string())
+                }
+            }
+            Step::Build(points) => {
+                let level = self.build(points)?;
+                let mut copy = self.certifier.clone();
+                self.by.offer(&mut copy, &level).map_err(|refusal| format!("a built level is {}", refusal))
+            }
+            Step::Totals(_) if self.seen.accepted == 0 => Ok(()),
+            Step::Totals(mixture) => self.compare(mixture),
+        }
+    }
+
+    /// A built level.
+    fn build(&self, points: &Points) -> Result<Level, String> {
+        self.by.build(&self.certifier, points).map_err(|refusal| format!("building is {}", refusal))
+    }
+
+    /// Offers a level; whether it was accepted. If so, the totals at each corner are compared.
+    fn offer(&mut self, level: &Level) -> Result<bool, String> {
+        let before = self.certifier.clone();
+        if self.by.offer(&mut self.certifier, level).is_err() {
+            if self.certifier != before {
+                return Err("a refused offer changed the certifier".to_string());
+            }
+            self.seen.refused += 1;
+            return Ok(false);
+        }
+        self.seen.accepted += 1;
+        if self.seen.accepted > LEVELS {
+            return Ok(true);
+        }
+        if self.certifier.level != self.seen.accepted {
+            return Err(format!("level {} after {} acceptances", self.certifier.level, self.seen.accepted));
+        }
+        self.seen.above_corners += u64::from(above_corners(&self.certifier, self.model.n));
+        self.plans = all_plans(&self.model, self.seen.accepted as u32);
+        for s in 0..self.model.n {
+            let mut mixture = vec![0; STATES];
+            mixture[s] = 1;
+            self.compare(&mixture)?;
+        }
+        Ok(true)
+    }
+
+    /// The totals at one mixture, against all plans.
+    fn compare(&mut self, mixture: &[u64]) -> Result<(), String> {
+        let totals = self.by.totals(&self.certifier, mixture).map_err(|refusal| format!("totals are {}", refusal))?;
+        let mixture = &mixture[..self.model.n];
+        let unit = scale(self.seen.accepted as u32);
+        let earned = best(&self.plans, mixture, None).ok_or("there is no plan")?;
+        if earned > &totals.upper * &unit {
+            return Err(format!("at {:?} a plan earns {} / {}, above {:?}", mixture, earned, unit, totals));
+        }
+        let opening = Some(totals.action as usize);
+        let opened = best(&self.plans, mixture, opening).ok_or("no plan opens with the action")?;
+        if opened < &totals.lower * &unit {
+            return Err(format!(
+                "at {:?} plans with the action earn {} / {}, below {:?}",
+                mixture, opened, unit, totals
+            ));
+        }
+        if totals.gap != &totals.upper - &totals.lower {
+            return Err(format!("the gap of {:?} is wrong", totals));
+        }
+        self.seen.compared += 1;
+        Ok(())
+    }
 }
 
 /// Whether a standing point lies above its corners, so that its G is below 0.
@@ -93,23 +139,4 @@ fn above_corners(certifier: &Certifier, n: usize) -> bool {
         let corners: BigInt = weights.iter().zip(&level.corners).map(|(&p, &c)| BigInt::from(p) * c).sum();
         BigInt::from(level.values[j]) > corners
     })
-}
-
-/// The totals at one mixture, against all plans.
-fn compare(certifier: &Certifier, plans: &[Earned], mixture: &[u64], by: &dyn Calls, n: usize) -> Result<(), String> {
-    let totals = by.totals(certifier, mixture).map_err(|refusal| format!("totals are {}", refusal))?;
-    let mixture = &mixture[..n];
-    let unit = scale(certifier.level as u32);
-    let earned = best(plans, mixture, None).ok_or("there is no plan")?;
-    if earned > &totals.upper * &unit {
-        return Err(format!("at {:?} a plan earns {} / {}, above {:?}", mixture, earned, unit, totals));
-    }
-    let opened = best(plans, mixture, Some(totals.action as usize)).ok_or("no plan opens with the action")?;
-    if opened < &totals.lower * &unit {
-        return Err(format!("at {:?} plans with the action earn {} / {}, below {:?}", mixture, opened, unit, totals));
-    }
-    if totals.gap != &totals.upper - &totals.lower {
-        return Err(format!("the gap of {:?} is wrong", totals));
-    }
-    Ok(())
 }

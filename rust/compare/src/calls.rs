@@ -143,7 +143,7 @@ fn steps_differ(ours: &Certifier, theirs: &Certifier, steps: &[Step], other: &dy
 }
 
 /// Builds, and offers what was built.
-pub fn raise(by: &dyn Calls, certifier: &mut Certifier, points: &Points) -> Result<Level, Refusal> {
+fn raise(by: &dyn Calls, certifier: &mut Certifier, points: &Points) -> Result<Level, Refusal> {
     let level = by.build(certifier, points)?;
     by.offer(certifier, &level)?;
     Ok(level)
