@@ -2,6 +2,8 @@
 --
 --   marked test v cells     v in each place that passes the test, the other cells as they were
 --   among n i test          the test holds for one of those that i stands for: all of n where i is n (a star), else i alone
+--
+-- proofs/Meaning.antt says the same cell by cell.
 use Prim.Native.Nat.{ℕ, suc, _+_}
 use mathlib.Core.Bool.{Bool, cond}
 use mathlib.Core.List.{List, [], _∷_}
