@@ -1,5 +1,5 @@
--- An offer's tests in their two stages: what the first leaves known for the second, and that the two are all of them. Assumes nothing.
-use mathlib.Core.Path.{_≡_, refl}
+-- An offer's tests in their two stages, and what the first leaves known for the second. Assumes nothing.
+use mathlib.Core.Path.{_≡_}
 use mathlib.Core.Bool.{true}
 use mathlib.Core.List.{List}
 use Prim.Native.Nat.{ℕ, suc, _<_}
@@ -13,7 +13,6 @@ use Rattle.tables.specs.declared.Verdict.{Verdict}
 use Rattle.tables.specs.declared.Verdict.the-variants.{Fine, Refused}
 use Rattle.tables.specs.Model.{Model, Valid}
 use Rattle.tables.specs.Storage.{modelOf}
-use Rattle.tables.specs.Verdicts.{_before_}
 use Rattle.tables.specs.Judged.{modelVerdict}
 use Rattle.tables.proofs.Refusals.{before-fine, unless-fine, stops, goes}
 use Rattle.tables.specs.Limits.{maxLevels}
@@ -22,35 +21,25 @@ use Rattle.plans.specs.Level.{Level as Ideal, Shaped}
 use Rattle.levels.specs.declared.Level.{Level}
 use Rattle.levels.specs.Storage.{levelOf}
 use Rattle.levels.specs.Judged.{countsHold, rangesVerdict, weightsVerdict, isFine, standingHolds, numbersVerdict}
-use Rattle.levels.specs.Judged.{floorsVerdict, cornersVerdict, pointsVerdict, offerVerdict}
+use Rattle.levels.specs.Judged.{floorsVerdict, cornersVerdict, pointsVerdict, shapeVerdict, backupsVerdict, offerVerdict}
 use Rattle.runs.specs.declared.Certifier.{Certifier}
 use Rattle.runs.specs.State.{modelIn, readBy, levelIn, verdictOn}
 use Rattle.plans.proofs.Built.{shaped-mono}
 use Rattle.runs.proofs.Judged.{Accepted, standing-true, numbers-fine, accepted}
 use Rattle.sawtooth.specs.Storage.{positive, gainIn}
 use Rattle.checks.specs.Storage.{Standing}
-use Rattle.certifier.specs.Stages.{shapeVerdict, backupsVerdict}
 use Rattle.certifier.proofs.Stages.{fine}
-
--- ---- the two stages are all the tests
-before-assoc : (u v w : Verdict) → ((u before v) before w) ≡ (u before (v before w))
-before-assoc Fine v w = refl
-before-assoc (Refused k i) v w = refl
-
-pub offer-split : (M : Model) (t : ℕ) (L W : Ideal) → offerVerdict M t L W ≡ (shapeVerdict M t L W before backupsVerdict M L W)
-unfolding offerVerdict shapeVerdict backupsVerdict
-offer-split M t L W = simp before-assoc
 
 -- ---- the stages as the code goes through them
 module _ (c : Certifier) (l : Level) where
   module _ {shape : Verdict} (e : shape ≡ shapeVerdict (modelIn c) (c .number) (levelIn c) (readBy c l)) where
     pub refused-shape : {k i : ℕ} → shape ≡ Refused k i → shape ≡ verdictOn c l
-    unfolding verdictOn
-    refused-shape f = rw offer-split (stops _ e f)
+    unfolding verdictOn offerVerdict
+    refused-shape f = stops _ e f
 
     pub left-backups : {backups : Verdict} → shape ≡ Fine → backups ≡ backupsVerdict (modelIn c) (levelIn c) (readBy c l) → backups ≡ verdictOn c l
-    unfolding verdictOn
-    left-backups f g = rw offer-split (goes e f g)
+    unfolding verdictOn offerVerdict
+    left-backups f g = goes e f g
 
   module _ {floors : Verdict} (e : floors ≡ floorsVerdict (modelIn c) (levelIn c) (readBy c l)) where
     pub refused-13 : {k i : ℕ} → floors ≡ Refused k i → floors ≡ backupsVerdict (modelIn c) (levelIn c) (readBy c l)

@@ -82,15 +82,19 @@ cornersVerdict M L W = firstOf (M .states) (λ s. unless (coversBackups M L (cor
 unfoldable pub pointsVerdict : Model → Level → Level → Verdict
 pointsVerdict M L W = firstOf (W .points) (λ i. unless (coversBackups M L (W .weight i) (W .value i)) 15 i)
 
--- 8 and 9 have a condition of their own and no place
-unfoldable pub offerVerdict : Model → ℕ → Level → Level → Verdict
-offerVerdict M t L W =
+-- 7 to 12: the standing and the offered level by themselves; 8 and 9 have a condition of their own and no place
+unfoldable pub shapeVerdict : Model → ℕ → Level → Level → Verdict
+shapeVerdict M t L W =
     unless (standingHolds M t L) 7 0
     before unless (ltb t maxLevels) 8 0
     before unless (countsHold (W .vectors) (W .points)) 9 0
     before numbersVerdict M L W
     before rangesVerdict M (suc t) W
     before weightsVerdict (M .states) (W .points) (W .weight)
-    before floorsVerdict M L W
-    before cornersVerdict M L W
-    before pointsVerdict M L W
+
+-- 13 to 15: the backup inequalities
+unfoldable pub backupsVerdict : Model → Level → Level → Verdict
+backupsVerdict M L W = floorsVerdict M L W before cornersVerdict M L W before pointsVerdict M L W
+
+unfoldable pub offerVerdict : Model → ℕ → Level → Level → Verdict
+offerVerdict M t L W = shapeVerdict M t L W before backupsVerdict M L W

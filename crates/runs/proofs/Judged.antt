@@ -18,7 +18,7 @@ use Rattle.tables.proofs.Accepted.{valid, is-valid}
 use Rattle.plans.specs.Limits.{pointTotal, range}
 use Rattle.plans.specs.Level.{Level, backupAt, corner-weight, follows, Meets, Shaped}
 use Rattle.levels.specs.Judged.{countsHold, rowsWithin, rangesVerdict, weightsVerdict, actionsExist, isFine, standingHolds}
-use Rattle.levels.specs.Judged.{numbersIn, numbersVerdict, floorsVerdict, coversBackups, cornersVerdict, pointsVerdict, offerVerdict}
+use Rattle.levels.specs.Judged.{numbersIn, numbersVerdict, floorsVerdict, coversBackups, cornersVerdict, pointsVerdict, shapeVerdict, backupsVerdict, offerVerdict}
 use Rattle.levels.proofs.Laws.{passed, fine-before, numbers-in}
 
 -- ---- one test
@@ -154,15 +154,15 @@ module _ (M : Model) (t : ℕ) (L : Level) where
     -- Each stage of a fine verdict is fine, so each of its tests passed: the tests of 9 to 12 are the limits of `Shaped`, with the actions of 10, and
     -- those of 10 and 13 to 15 are the conditions of `Meets`. Qed.
     pub accepted : offerVerdict M t L W ≡ Fine → Accepted M t L W
-    unfolding offerVerdict
-    accepted e7 =
-        let e8 = before-fine _ _ e7 in
+    unfolding offerVerdict shapeVerdict backupsVerdict
+    accepted e =
+        let stages = before-fine _ _ e in
+        let e8 = before-fine _ _ (stages .0) in
         let e9 = before-fine _ _ (e8 .1) in
         let e10 = before-fine _ _ (e9 .1) in
         let e11 = before-fine _ _ (e10 .1) in
         let e12 = before-fine _ _ (e11 .1) in
-        let e13 = before-fine _ _ (e12 .1) in
-        let e14 = before-fine _ _ (e13 .1) in
+        let e14 = before-fine _ _ (stages .1) in
         let e15 = before-fine _ _ (e14 .1) in
         let numbers = numbers-fine (e11 .0) in
         record {
@@ -172,7 +172,7 @@ module _ (M : Model) (t : ℕ) (L : Level) where
             counts = unless-fine _ _ _ (e10 .0);
             actions = at-every _ _ (λ v l. lt-ltb _ _ (numbers v l .0));
             ranges = e12 .0;
-            weights = e13 .0;
+            weights = e12 .1;
           };
           meets = record {
             vector = λ v l. record {
@@ -187,17 +187,17 @@ module _ (M : Model) (t : ℕ) (L : Level) where
 
     -- The other way round: every test of every stage passes. Qed.
     pub accepts : Accepted M t L W → offerVerdict M t L W ≡ Fine
-    unfolding offerVerdict numbersIn floorsVerdict cornersVerdict pointsVerdict
+    unfolding offerVerdict shapeVerdict backupsVerdict numbersIn floorsVerdict cornersVerdict pointsVerdict
     accepts a =
         let e = shaped-tests M (suc t) W (a .shaped) in
         let m = a .meets in
-        fine-before (passed 7 0 (standing-is (a .standing)))
+        fine-before (fine-before (passed 7 0 (standing-is (a .standing)))
         (fine-before (passed 8 0 (lt-ltb t maxLevels (a .room)))
         (fine-before (passed 9 0 (e .counts))
         (fine-before (at-fine _ (W .vectors) (λ v l. fine-before (passed 10 v (lt-ltb _ _ (m .vector v l .action-exists)))
         (at-fine _ (M .observations) (λ o b. passed 10 v (lt-ltb _ _ (m .vector v l .choice-exists o b))))))
         (fine-before (e .ranges)
-        (fine-before (e .weights)
+        (e .weights))))))
         (fine-before (at-fine _ (W .vectors) (λ v l. at-fine _ (M .states) (λ s b. passed 13 v (leZ-is _ _ (m .vector v l .entry-holds s b)))))
         (fine-before (at-fine _ (M .states) (λ s l. passed 14 s (covers-is M L (corner-weight s) (W .corner s) (m .corner s l))))
-        (at-fine _ (W .points) (λ i l. passed 15 i (covers-is M L (W .weight i) (W .value i) (m .point i l)))))))))))
+        (at-fine _ (W .points) (λ i l. passed 15 i (covers-is M L (W .weight i) (W .value i) (m .point i l))))))

@@ -13,12 +13,11 @@ use Rattle.tables.specs.Verdicts.{_before_, unless}
 use Rattle.tables.proofs.Refusals.{stops, goes, breaks, passes}
 use Rattle.plans.specs.Limits.{maxPoints}
 use Rattle.levels.specs.declared.Level.{Level}
-use Rattle.levels.specs.Judged.{countsHold, numbersVerdict, rangesVerdict}
+use Rattle.levels.specs.Judged.{countsHold, numbersVerdict, rangesVerdict, shapeVerdict}
 use Rattle.levels.proofs.Laws.{Long}
 use Rattle.runs.specs.declared.Certifier.{Certifier}
 use Rattle.runs.specs.State.{modelIn, levelIn, readBy, holds}
 use Rattle.runs.proofs.Judged.{standing-true}
-use Rattle.certifier.specs.Stages.{shapeVerdict}
 use Rattle.certifier.proofs.Stages.{counts-few}
 use borrow.Author.Needs.{needs}
 use Rattle.certifier.proofs.judge_shape.Statement.{statement}
