@@ -85,9 +85,13 @@ colon = 58 ∷ []
 abbrev pub star : List ℕ
 star = 42 ∷ []
 
+-- two words that are given
+unfoldable pub keys : List ℕ → List ℕ → Words → Answer ℕ
+keys first second ws = key first ws then λ _ ws. key second ws
+
 -- a name and a colon
-unfoldable pub named : List ℕ → Words → Answer ℕ
-named name ws = key name ws then λ _ ws. key colon ws
+abbrev pub named : List ℕ → Words → Answer ℕ
+named name = keys name colon
 
 -- a name, a colon and a number
 unfoldable pub field : List ℕ → ℕ → ℕ → ℕ → ℕ → Words → Answer ℕ

@@ -4,7 +4,7 @@ ghost use Prim.Native.Nat.{_+_, _≤_};
 ghost use lib.ListN.{length, drop};
 ghost use Rattle.words.specs.Words.{wordsIn, between};
 ghost use Rattle.numerals.specs.Numeral.{amountOf};
-ghost use Rattle.grammar.specs.Grammar.{number, magnitude, minus, same, key, named, field, index, limited, found, bytesOf, Reads};
+ghost use Rattle.grammar.specs.Grammar.{number, magnitude, minus, same, key, keys, field, index, limited, found, bytesOf, Reads};
 use numerals::Amount;
 use words::Word;
 
@@ -117,16 +117,16 @@ pub fn key_at(file: &[u8], at: usize, k: &[u8]) -> Read
     Read::Refused(2, start)
 }
 
-// A name and a colon.
-pub fn named_at(file: &[u8], at: usize, name: &[u8]) -> Read
+// The next two words, where they are the ones given.
+pub fn keys_at(file: &[u8], at: usize, first: &[u8], second: &[u8]) -> Read
     requires { ⌜ at ≤ length (now file) ⌝ }
-    ensures { λ r. ⌜ Reads (now (file .entry)) at 0 r (named (now (name .entry)) (wordsIn between (now (file .entry)) at)) ⌝ }
+    ensures { λ r. ⌜ Reads (now (file .entry)) at 0 r (keys (now (first .entry)) (now (second .entry)) (wordsIn between (now (file .entry)) at)) ⌝ }
 {
-    let x = key_at(file, at, name);
+    let x = key_at(file, at, first);
     let Read::Value(_, next) = x else {
         return x;
     };
-    key_at(file, next, b":")
+    key_at(file, next, second)
 }
 
 // A name, a colon and a number.
@@ -142,7 +142,7 @@ pub fn field_at(
     requires { ⌜ (at ≤ length (now file)) × ((digits ≤ 4) × (places ≤ 3)) ⌝ }
     ensures { λ r. ⌜ Reads (now (file .entry)) at most r (field (now (name .entry)) digits places least most (wordsIn between (now (file .entry)) at)) ⌝ }
 {
-    let x = named_at(file, at, name);
+    let x = keys_at(file, at, name, b":");
     let Read::Value(_, next) = x else {
         return x;
     };

@@ -93,13 +93,10 @@ counted fuel d ws =
     field statesName 2 0 1 maxStates ws then λ n ws. field actionsName 2 0 1 maxActions ws then λ m ws.
     field observationsName 2 0 1 maxObservations ws then λ k ws. body fuel d n m k ws
 
--- `values: reward`
-unfoldable pub valued : Words → Answer ℕ
-valued ws = named valuesName ws then λ _ ws. key rewardWord ws
-
--- `discount:` in thousandths, and all that follows
+-- `discount:` in thousandths, `values: reward`, and all that follows
 unfoldable pub headed : ℕ → Words → Answer Text
-headed fuel ws = field discountName 1 3 0 one ws then λ d ws. valued ws then λ _ ws. counted fuel d ws
+headed fuel ws =
+    field discountName 1 3 0 one ws then λ d ws. named valuesName ws then λ _ ws. key rewardWord ws then λ _ ws. counted fuel d ws
 
 -- ---- the totals, after the last statement
 

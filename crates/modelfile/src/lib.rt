@@ -4,8 +4,7 @@ ghost use Prim.Native.Nat.{_+_, _≤_};
 ghost use lib.ListN.{length};
 ghost use Rattle.words.specs.Words.{wordsIn, between};
 ghost use Rattle.tables.specs.Limits.{maxStates, maxActions, maxObservations};
-ghost use Rattle.grammar.specs.Grammar.{Reads};
-ghost use Rattle.modelfile.specs.ModelFile.{body, counted, valued, headed, placed, totalsVerdict, refusedFile, judgedFile, ended, modelFile, handed};
+ghost use Rattle.modelfile.specs.ModelFile.{body, counted, headed, placed, totalsVerdict, refusedFile, judgedFile, ended, modelFile, handed};
 use grammar::Read;
 use tables::Tables;
 use tables::Verdict;
@@ -96,7 +95,7 @@ fn body_at(file: &[u8], at: usize, discount: u64, n: usize, m: usize, k: usize) 
     requires { ⌜ ((1 ≤ n) × (n ≤ maxStates)) × (((1 ≤ m) × (m ≤ maxActions)) × ((1 ≤ k) × (k ≤ maxObservations))) ⌝ }
     ensures { λ r. ⌜ r ≡ ended (length (now (file .entry))) (body (length (now (file .entry)) + 1) discount n m k (wordsIn between (now (file .entry)) at)) ⌝ }
 {
-    let x = grammar::named_at(file, at, b"start");
+    let x = grammar::keys_at(file, at, b"start", b":");
     let Read::Value(_, p) = x else {
         return back(x);
     };
@@ -161,18 +160,6 @@ fn counted_at(file: &[u8], at: usize, discount: u64) -> ModelFile
     body_at(file, next, discount, n as usize, m as usize, k as usize)
 }
 
-// `values: reward`
-fn valued_at(file: &[u8], at: usize) -> Read
-    requires { ⌜ at ≤ length (now file) ⌝ }
-    ensures { λ r. ⌜ Reads (now (file .entry)) at 0 r (valued (wordsIn between (now (file .entry)) at)) ⌝ }
-{
-    let x = grammar::named_at(file, at, b"values");
-    let Read::Value(_, next) = x else {
-        return x;
-    };
-    grammar::key_at(file, next, b"reward")
-}
-
 // From `discount:` on.
 fn headed_at(file: &[u8]) -> ModelFile
     ensures { λ r. ⌜ r ≡ ended (length (now (file .entry))) (headed (length (now (file .entry)) + 1) (wordsIn between (now (file .entry)) 0)) ⌝ }
@@ -181,9 +168,13 @@ fn headed_at(file: &[u8]) -> ModelFile
     let Read::Value(discount, p) = x else {
         return back(x);
     };
-    let y = valued_at(file, p);
-    let Read::Value(_, next) = y else {
+    let y = grammar::keys_at(file, p, b"values", b":");
+    let Read::Value(_, q) = y else {
         return back(y);
+    };
+    let z = grammar::key_at(file, q, b"reward");
+    let Read::Value(_, next) = z else {
+        return back(z);
     };
     counted_at(file, next, discount)
 }

@@ -6,7 +6,7 @@ use lib.IntN.{ℤ}
 use Rattle.words.specs.Words.{Words, word, end}
 use Rattle.tables.specs.Limits.{maxStates, maxActions, one, maxReward}
 use Rattle.drafts.specs.Drafts.{stated, rewarded}
-use Rattle.grammar.specs.Grammar.{Answer, got, refused, _then_, choose, key, colon, star, index, number, signedNumber}
+use Rattle.grammar.specs.Grammar.{Answer, got, refused, _then_, choose, key, keys, colon, star, index, number, signedNumber}
 
 -- ---- numbers: a whole part and decimals, up to 1; a reward has up to four digits and two decimals, up to 1000.00
 
@@ -32,8 +32,8 @@ unfoldable pub indexed : ℕ → Words → Answer ℕ
 indexed n ws = key colon ws then λ _ ws. index n ws
 
 -- `: *`
-unfoldable pub starred : Words → Answer ℕ
-starred ws = key colon ws then λ _ ws. key star ws
+abbrev pub starred : Words → Answer ℕ
+starred = keys colon star
 
 -- k numbers, put one after the other at the places from x on
 unfoldable pub row : (Words → Answer ℕ) → (ℕ → ℕ → List ℕ → List ℕ) → ℕ → ℕ → List ℕ → Words → Answer (List ℕ)

@@ -7,7 +7,7 @@ ghost use Rattle.words.specs.Words.{wordsIn, between};
 ghost use Rattle.tables.specs.Limits.{maxStates, one};
 ghost use Rattle.drafts.specs.Drafts.{stated};
 ghost use Rattle.grammar.specs.Grammar.{number, Reads, Tells, answerOf};
-ghost use Rattle.statements.specs.Statements.{indexed, starred, row, entry, table, reward, rewards, draft, rewardStatement, observationOrReward, oneStatement, statements, Room};
+ghost use Rattle.statements.specs.Statements.{indexed, row, entry, table, reward, rewards, draft, rewardStatement, observationOrReward, oneStatement, statements, Room};
 use grammar::Read;
 use tables::Tables;
 use words::Word;
@@ -22,18 +22,6 @@ fn indexed_at(file: &[u8], at: usize, n: usize) -> Read
         return x;
     };
     grammar::index_at(file, next, n)
-}
-
-// `: *`
-fn starred_at(file: &[u8], at: usize) -> Read
-    requires { ⌜ at ≤ length (now file) ⌝ }
-    ensures { λ r. ⌜ Reads (now (file .entry)) at 0 r (starred (wordsIn between (now (file .entry)) at)) ⌝ }
-{
-    let x = grammar::key_at(file, at, b":");
-    let Read::Value(_, next) = x else {
-        return x;
-    };
-    grammar::key_at(file, next, b"*")
 }
 
 // A number for each place of the rows that a and s stand for.
@@ -159,11 +147,11 @@ fn rewards_at(file: &[u8], at: usize, cells: &mut [i64], m: usize, n: usize) -> 
     let Read::Value(s, q) = j else {
         return j;
     };
-    let first = starred_at(file, q);
+    let first = grammar::keys_at(file, q, b":", b"*");
     let Read::Value(_, t) = first else {
         return first;
     };
-    let second = starred_at(file, t);
+    let second = grammar::keys_at(file, t, b":", b"*");
     let Read::Value(_, next) = second else {
         return second;
     };

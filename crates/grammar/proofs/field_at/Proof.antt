@@ -1,12 +1,15 @@
-use Rattle.grammar.specs.Grammar.{number, field}
+use Rattle.grammar.specs.Grammar.{field, number}
 use Rattle.grammar.proofs.Laws.{value-next, reads-on}
 use Rattle.grammar.proofs.Arms.{reads-back}
 use borrow.Author.Needs.{needs}
 use Rattle.grammar.proofs.field_at.Statement.{statement}
 use Rattle.grammar.proofs.field_at.Tie as tie
 
-named-at-requires : tie.Need-named-at-requires
-named-at-requires c κs = search needs
+slice-aggregate-keys-at : tie.Need-slice-aggregate-keys-at
+slice-aggregate-keys-at c = search needs
+
+keys-at-requires : tie.Need-keys-at-requires
+keys-at-requires c κs = search needs
 
 enum-known-x : tie.Need-enum-known-x
 enum-known-x c = search needs
@@ -17,21 +20,27 @@ enum-told c = search needs
 returns : tie.Need-returns
 unfolding field
 returns c =
-    let a = c .before .before .before .before .before .args in
-    reads-back (λ v. v) (a .most) (λ _ ws. number (a .digits) (a .places) (a .least) (a .most) ws) (c .before .before .named-at .ensures) (c .before .match .keys2)
+    let a = c .before .before .before .before .before .before .args in
+    reads-back (λ v. v) (a .most) (λ _ ws. number (a .digits) (a .places) (a .least) (a .most) ws) (c .before .before .keys-at .ensures) (c .before .match .keys2)
 
 number-at-requires : tie.Need-number-at-requires
-number-at-requires c κs =
-    (value-next _ _ (c .before .before .before .named-at .ensures) (c .before .x .given .1) .1 .1, c .before .before .before .before .before .before .pre .1)
+number-at-requires c κs = (value-next _ _ (c .before .before .before .keys-at .ensures) (c .before .x .given .1) .1 .1, c .before .before .before .before .before .before .before .pre .1)
 
 returns-2 : tie.Need-returns-2
 unfolding field
 returns-2 c =
-    let a = c .before .before .before .before .before .before .before .args in
+    let a = c .before .before .before .before .before .before .before .before .args in
     let g = c .before .before .x .given in
-    reads-on (g .0 .0) (g .0 .1 .0) (λ _ ws. number (a .digits) (a .places) (a .least) (a .most) ws) (c .before .before .before .before .named-at .ensures) (g .1) (c .number-at .ensures)
+    reads-on (g .0 .0) (g .0 .1 .0) (λ _ ws. number (a .digits) (a .places) (a .least) (a .most) ws) (c .before .before .before .before .keys-at .ensures) (g .1) (c .number-at .ensures)
 
 pub field-at-spec : {M : Type 1} → statement M
 field-at-spec =
     tie.close
-    (tie.spec named-at-requires enum-known-x enum-told returns number-at-requires returns-2)
+    (tie.spec
+    slice-aggregate-keys-at
+    keys-at-requires
+    enum-known-x
+    enum-told
+    returns
+    number-at-requires
+    returns-2)

@@ -29,11 +29,14 @@ after-start fuel d n m k start ws = statements fuel m n k noCells ws then λ cel
 abbrev after-name : ℕ → ℕ → ℕ → ℕ → ℕ → ℕ → Words → Answer Text
 after-name fuel d n m k _ ws = row startNumber (stated 1 1 n 0 0) 0 n (replicate maxStates 0) ws then λ start ws. after-start fuel d n m k start ws
 
-slice-aggregate-named-at : tie.Need-slice-aggregate-named-at
-slice-aggregate-named-at c = search needs
+slice-aggregate-keys-at : tie.Need-slice-aggregate-keys-at
+slice-aggregate-keys-at c = search needs
 
-named-at-requires : tie.Need-named-at-requires
-named-at-requires c κs = search needs
+slice-aggregate-keys-at-2 : tie.Need-slice-aggregate-keys-at-2
+slice-aggregate-keys-at-2 c = search needs
+
+keys-at-requires : tie.Need-keys-at-requires
+keys-at-requires c κs = search needs
 
 enum-known-x : tie.Need-enum-known-x
 enum-known-x c = search needs
@@ -47,18 +50,18 @@ back-requires c κs = search needs
 returns : tie.Need-returns
 unfolding body
 returns c =
-    let a = c .before .before .before .before .before .before .args in
+    let a = c .before .before .before .before .before .before .before .args in
     let size = length (a .file .now) in
-    c .back .ensures ∙ goes-back size (after-name (size + 1) (a .discount) (a .n) (a .m) (a .k)) (c .before .before .before .named-at .ensures) (c .before .before .match .keys2)
+    c .back .ensures ∙ goes-back size (after-name (size + 1) (a .discount) (a .n) (a .m) (a .k)) (c .before .before .before .keys-at .ensures) (c .before .before .match .keys2)
 
 slice-aggregate-row-at : tie.Need-slice-aggregate-row-at
 slice-aggregate-row-at c = search needs
 
 row-at-requires : tie.Need-row-at-requires
 row-at-requires c κs =
-    let p = c .before .before .before .before .before .before .before .pre .1 .0 in (
+    let p = c .before .before .before .before .before .before .before .before .pre .1 .0 in (
       (
-        value-next _ _ (c .before .before .before .before .named-at .ensures) (c .before .before .x .given .1) .1 .1,
+        value-next _ _ (c .before .before .before .before .keys-at .ensures) (c .before .before .x .given .1) .1 .1,
         record { some-blocks = omega arith; few-blocks = omega arith; some-rows = omega arith; few-rows = omega arith; some-places = p .0; few-places = p .1; long = omega (arith, p .1) },
       ),
       (omega arith, (omega arith, (omega arith, omega arith))),
@@ -76,11 +79,11 @@ back-requires-2 c κs = search needs
 returns-2 : tie.Need-returns-2
 unfolding body
 returns-2 c =
-    let a = c .before .before .before .before .before .before .before .before .before .before .before .before .args in
+    let a = c .before .before .before .before .before .before .before .before .before .before .before .before .before .args in
     let size = length (a .file .now) in
     let g = c .before .before .before .before .before .before .before .x .given in
     c .back2 .ensures ∙ goes-back size (after-start (size + 1) (a .discount) (a .n) (a .m) (a .k)) (c .before .before .before .before .row-at .ensures) (c .before .before .match2 .keys2)
-    ∙ goes-on size (after-name (size + 1) (a .discount) (a .n) (a .m) (a .k)) (c .before .before .before .before .before .before .before .before .before .named-at .ensures) (g .0 .0) (g .0 .1 .0) (g .1)
+    ∙ goes-on size (after-name (size + 1) (a .discount) (a .n) (a .m) (a .k)) (c .before .before .before .before .before .before .before .before .before .keys-at .ensures) (g .0 .0) (g .0 .1 .0) (g .1)
 
 slice-aggregate-statements-at : tie.Need-slice-aggregate-statements-at
 slice-aggregate-statements-at c = search needs
@@ -93,7 +96,7 @@ slice-aggregate-statements-at-3 c = search needs
 
 statements-at-requires : tie.Need-statements-at-requires
 statements-at-requires c κs =
-    let p = c .before .before .before .before .before .before .before .before .before .before .before .before .before .before .before .pre .1 in
+    let p = c .before .before .before .before .before .before .before .before .before .before .before .before .before .before .before .before .pre .1 in
     let f = sizes (record { actions = p .1 .0 .1; states = p .0 .1; observations = p .1 .1 .1 }) in (
       value-next _ _ (c .before .before .before .before .before .before .before .row-at .ensures) (c .before .before .before .before .y .given .1) .1 .1,
       (room 0 2048 (p .1 .0) (p .0) (p .0) (f .transitions), (room 0 1024 (p .1 .0) (p .0) (p .1 .1 .0, omega (arith, p .1 .1)) (f .observed), room (pos 0) 128 (p .1 .0) (p .0) (omega arith, omega arith) (omega (arith, f .rows)))),
@@ -111,36 +114,37 @@ back-requires-3 c κs = search needs
 returns-3 : tie.Need-returns-3
 unfolding body
 returns-3 c =
-    let a = c .before .before .before .before .before .before .before .before .before .before .before .before .before .before .before .before .before .before .before .before .before .before .args in
+    let a = c .before .before .before .before .before .before .before .before .before .before .before .before .before .before .before .before .before .before .before .before .before .before .before .args in
     let size = length (a .file .now) in
     let g = c .before .before .before .before .before .before .before .before .before .before .before .before .before .before .before .before .before .x .given in
     let h = c .before .before .before .before .before .before .before .before .before .before .before .y .given in
     let s = c .before .before .before .before .before .before .statements-at in
     c .back3 .ensures ∙ ends-there (λ _. draft (s .last .1 .1 .0) (s .last .1 .1 .1 .0) (s .last .1 .1 .1 .1 .0)) (a .file .now) (s .result) size (λ cells ws. got (textOf (a .discount) (a .n) (a .m) (a .k) (c .before .before .before .before .before .before .before .before .before .before .before .before .before .before .row-at .last .1 .1 .0) cells) ws) (c .before .before .before .before .before .before .statements-at .ensures) (c .before .before .match3 .keys2)
-    ∙ goes-on size (after-start (size + 1) (a .discount) (a .n) (a .m) (a .k)) (c .before .before .before .before .before .before .before .before .before .before .before .before .before .before .row-at .ensures) (h .0 .0) (h .0 .1 .0) (h .1) ∙ goes-on size (after-name (size + 1) (a .discount) (a .n) (a .m) (a .k)) (c .before .before .before .before .before .before .before .before .before .before .before .before .before .before .before .before .before .before .before .named-at .ensures) (g .0 .0) (g .0 .1 .0) (g .1)
+    ∙ goes-on size (after-start (size + 1) (a .discount) (a .n) (a .m) (a .k)) (c .before .before .before .before .before .before .before .before .before .before .before .before .before .before .row-at .ensures) (h .0 .0) (h .0 .1 .0) (h .1) ∙ goes-on size (after-name (size + 1) (a .discount) (a .n) (a .m) (a .k)) (c .before .before .before .before .before .before .before .before .before .before .before .before .before .before .before .before .before .before .before .keys-at .ensures) (g .0 .0) (g .0 .1 .0) (g .1)
 
 finished-requires : tie.Need-finished-requires
 finished-requires c κs =
-    let p = c .before .before .before .before .before .before .before .before .before .before .before .before .before .before .before .before .before .before .before .before .before .pre .1 in
+    let p = c .before .before .before .before .before .before .before .before .before .before .before .before .before .before .before .before .before .before .before .before .before .before .pre .1 in
     (p .1 .0 .1, (p .0 .1, p .1 .1 .1))
 
 returns-4 : tie.Need-returns-4
 unfolding body
 returns-4 c =
-    let a = c .before .before .before .before .before .before .before .before .before .before .before .before .before .before .before .before .before .before .before .before .before .before .args in
+    let a = c .before .before .before .before .before .before .before .before .before .before .before .before .before .before .before .before .before .before .before .before .before .before .before .args in
     let size = length (a .file .now) in
     let g = c .before .before .before .before .before .before .before .before .before .before .before .before .before .before .before .before .before .x .given in
     let h = c .before .before .before .before .before .before .before .before .before .before .before .y .given in
     let z = c .before .enum-told3 .given in
     c .finished .ensures ∙ goes-further _ _ _ size (λ cells ws. got (textOf (a .discount) (a .n) (a .m) (a .k) (c .before .before .before .before .before .before .before .before .before .before .before .before .before .before .row-at .last .1 .1 .0) cells) ws) (c .before .before .before .before .before .before .statements-at .ensures) (z .0 .0) (z .0 .1 .0) (z .1)
-    ∙ goes-on size (after-start (size + 1) (a .discount) (a .n) (a .m) (a .k)) (c .before .before .before .before .before .before .before .before .before .before .before .before .before .before .row-at .ensures) (h .0 .0) (h .0 .1 .0) (h .1) ∙ goes-on size (after-name (size + 1) (a .discount) (a .n) (a .m) (a .k)) (c .before .before .before .before .before .before .before .before .before .before .before .before .before .before .before .before .before .before .before .named-at .ensures) (g .0 .0) (g .0 .1 .0) (g .1)
+    ∙ goes-on size (after-start (size + 1) (a .discount) (a .n) (a .m) (a .k)) (c .before .before .before .before .before .before .before .before .before .before .before .before .before .before .row-at .ensures) (h .0 .0) (h .0 .1 .0) (h .1) ∙ goes-on size (after-name (size + 1) (a .discount) (a .n) (a .m) (a .k)) (c .before .before .before .before .before .before .before .before .before .before .before .before .before .before .before .before .before .before .before .keys-at .ensures) (g .0 .0) (g .0 .1 .0) (g .1)
 
 pub body-at-spec : {M : Type 1} → statement M
 body-at-spec =
     tie.close
     (tie.spec
-    slice-aggregate-named-at
-    named-at-requires
+    slice-aggregate-keys-at
+    slice-aggregate-keys-at-2
+    keys-at-requires
     enum-known-x
     enum-told
     back-requires

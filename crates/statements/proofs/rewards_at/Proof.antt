@@ -49,8 +49,14 @@ returns-2 c =
     reads-on (g .0 .0) (g .0 .1 .0) (after (a .m) (a .n) (a .cells .now)) (c .before .before .before .before .before .before .indexed-at .ensures) (g .1)
     (reads-back _ 0 (stars-after (a .m) (a .n) (a .cells .now) (g .0 .0)) (c .before .before .indexed-at2 .ensures) (c .before .match2 .keys2))
 
-starred-at-requires : tie.Need-starred-at-requires
-starred-at-requires c κs = value-next _ _ (c .before .before .before .indexed-at2 .ensures) (c .before .j .given .1) .1 .1
+slice-aggregate-keys-at : tie.Need-slice-aggregate-keys-at
+slice-aggregate-keys-at c = search needs
+
+slice-aggregate-keys-at-2 : tie.Need-slice-aggregate-keys-at-2
+slice-aggregate-keys-at-2 c = search needs
+
+keys-at-requires : tie.Need-keys-at-requires
+keys-at-requires c κs = value-next _ _ (c .before .before .before .before .before .indexed-at2 .ensures) (c .before .before .before .j .given .1) .1 .1
 
 enum-known-first : tie.Need-enum-known-first
 enum-known-first c = search needs
@@ -61,15 +67,21 @@ enum-told-3 c = search needs
 returns-3 : tie.Need-returns-3
 unfolding rewards
 returns-3 c =
-    let a = c .before .before .before .before .before .before .before .before .before .before .before .before .args in
-    let g = c .before .before .before .before .before .before .before .before .i .given in
-    let h = c .before .before .before .before .j .given in
-    reads-on (g .0 .0) (g .0 .1 .0) (after (a .m) (a .n) (a .cells .now)) (c .before .before .before .before .before .before .before .before .before .before .indexed-at .ensures) (g .1)
-    (reads-on (h .0 .0) (h .0 .1 .0) (stars-after (a .m) (a .n) (a .cells .now) (g .0 .0)) (c .before .before .before .before .before .before .indexed-at2 .ensures) (h .1)
-    (reads-back _ 0 (λ _ ws. starred ws then λ _ ws. reward (a .m) (a .n) (g .0 .0) (h .0 .0) (a .cells .now) ws) (c .before .before .starred-at .ensures) (c .before .match3 .keys2)))
+    let a = c .before .before .before .before .before .before .before .before .before .before .before .before .before .before .args in
+    let g = c .before .before .before .before .before .before .before .before .before .before .i .given in
+    let h = c .before .before .before .before .before .before .j .given in
+    reads-on (g .0 .0) (g .0 .1 .0) (after (a .m) (a .n) (a .cells .now)) (c .before .before .before .before .before .before .before .before .before .before .before .before .indexed-at .ensures) (g .1)
+    (reads-on (h .0 .0) (h .0 .1 .0) (stars-after (a .m) (a .n) (a .cells .now) (g .0 .0)) (c .before .before .before .before .before .before .before .before .indexed-at2 .ensures) (h .1)
+    (reads-back _ 0 (λ _ ws. starred ws then λ _ ws. reward (a .m) (a .n) (g .0 .0) (h .0 .0) (a .cells .now) ws) (c .before .before .keys-at .ensures) (c .before .match3 .keys2)))
 
-starred-at-requires-2 : tie.Need-starred-at-requires-2
-starred-at-requires-2 c κs = value-next _ _ (c .before .before .before .starred-at .ensures) (c .before .first .given .1) .1 .1
+slice-aggregate-keys-at-3 : tie.Need-slice-aggregate-keys-at-3
+slice-aggregate-keys-at-3 c = search needs
+
+slice-aggregate-keys-at-4 : tie.Need-slice-aggregate-keys-at-4
+slice-aggregate-keys-at-4 c = search needs
+
+keys-at-requires-2 : tie.Need-keys-at-requires-2
+keys-at-requires-2 c κs = value-next _ _ (c .before .before .before .before .before .keys-at .ensures) (c .before .before .before .first .given .1) .1 .1
 
 enum-known-second : tie.Need-enum-known-second
 enum-known-second c = search needs
@@ -80,20 +92,20 @@ enum-told-4 c = search needs
 returns-4 : tie.Need-returns-4
 unfolding rewards
 returns-4 c =
-    let a = c .before .before .before .before .before .before .before .before .before .before .before .before .before .before .before .before .args in
-    let g = c .before .before .before .before .before .before .before .before .before .before .before .before .i .given in
-    let h = c .before .before .before .before .before .before .before .before .j .given in
-    let e = c .before .before .before .before .first .given in
-    reads-on (g .0 .0) (g .0 .1 .0) (after (a .m) (a .n) (a .cells .now)) (c .before .before .before .before .before .before .before .before .before .before .before .before .before .before .indexed-at .ensures) (g .1)
-    (reads-on (h .0 .0) (h .0 .1 .0) (stars-after (a .m) (a .n) (a .cells .now) (g .0 .0)) (c .before .before .before .before .before .before .before .before .before .before .indexed-at2 .ensures) (h .1)
-    (reads-on (e .0 .0) (e .0 .1 .0) (λ _ ws. starred ws then λ _ ws. reward (a .m) (a .n) (g .0 .0) (h .0 .0) (a .cells .now) ws) (c .before .before .before .before .before .before .starred-at .ensures) (e .1)
-    (reads-back _ 0 (λ _ ws. reward (a .m) (a .n) (g .0 .0) (h .0 .0) (a .cells .now) ws) (c .before .before .starred-at2 .ensures) (c .before .match4 .keys2))))
+    let a = c .before .before .before .before .before .before .before .before .before .before .before .before .before .before .before .before .before .before .before .before .args in
+    let g = c .before .before .before .before .before .before .before .before .before .before .before .before .before .before .before .before .i .given in
+    let h = c .before .before .before .before .before .before .before .before .before .before .before .before .j .given in
+    let e = c .before .before .before .before .before .before .first .given in
+    reads-on (g .0 .0) (g .0 .1 .0) (after (a .m) (a .n) (a .cells .now)) (c .before .before .before .before .before .before .before .before .before .before .before .before .before .before .before .before .before .before .indexed-at .ensures) (g .1)
+    (reads-on (h .0 .0) (h .0 .1 .0) (stars-after (a .m) (a .n) (a .cells .now) (g .0 .0)) (c .before .before .before .before .before .before .before .before .before .before .before .before .before .before .indexed-at2 .ensures) (h .1)
+    (reads-on (e .0 .0) (e .0 .1 .0) (λ _ ws. starred ws then λ _ ws. reward (a .m) (a .n) (g .0 .0) (h .0 .0) (a .cells .now) ws) (c .before .before .before .before .before .before .before .before .keys-at .ensures) (e .1)
+    (reads-back _ 0 (λ _ ws. reward (a .m) (a .n) (g .0 .0) (h .0 .0) (a .cells .now) ws) (c .before .before .keys-at2 .ensures) (c .before .match4 .keys2))))
 
 reward-at-requires : tie.Need-reward-at-requires
 reward-at-requires c κs =
-    let i = value-next _ _ (c .before .before .before .before .before .before .before .before .before .before .before .before .before .before .before .before .indexed-at .ensures) (c .before .before .before .before .before .before .before .before .before .before .before .before .before .before .i .given .1) in
-    let j = value-next _ _ (c .before .before .before .before .before .before .before .before .before .before .before .before .indexed-at2 .ensures) (c .before .before .before .before .before .before .before .before .before .before .j .given .1) in
-    ((value-next _ _ (c .before .before .before .before .starred-at2 .ensures) (c .before .before .second .given .1) .1 .1, c .before .before .before .before .before .before .before .before .before .before .before .before .before .before .before .before .before .before .pre .1), (i .0, j .0))
+    let i = value-next _ _ (c .before .before .before .before .before .before .before .before .before .before .before .before .before .before .before .before .before .before .before .before .indexed-at .ensures) (c .before .before .before .before .before .before .before .before .before .before .before .before .before .before .before .before .before .before .i .given .1) in
+    let j = value-next _ _ (c .before .before .before .before .before .before .before .before .before .before .before .before .before .before .before .before .indexed-at2 .ensures) (c .before .before .before .before .before .before .before .before .before .before .before .before .before .before .j .given .1) in
+    ((value-next _ _ (c .before .before .before .before .keys-at2 .ensures) (c .before .before .second .given .1) .1 .1, c .before .before .before .before .before .before .before .before .before .before .before .before .before .before .before .before .before .before .before .before .before .before .pre .1), (i .0, j .0))
 
 same-length : tie.Need-same-length
 same-length c = search needs
@@ -101,15 +113,15 @@ same-length c = search needs
 returns-5 : tie.Need-returns-5
 unfolding rewards
 returns-5 c =
-    let a = c .before .before .before .before .before .before .before .before .before .before .before .before .before .before .before .before .before .before .before .before .args in
-    let g = c .before .before .before .before .before .before .before .before .before .before .before .before .before .before .before .before .i .given in
-    let h = c .before .before .before .before .before .before .before .before .before .before .before .before .j .given in
-    let e = c .before .before .before .before .before .before .before .before .first .given in
+    let a = c .before .before .before .before .before .before .before .before .before .before .before .before .before .before .before .before .before .before .before .before .before .before .before .before .args in
+    let g = c .before .before .before .before .before .before .before .before .before .before .before .before .before .before .before .before .before .before .before .before .i .given in
+    let h = c .before .before .before .before .before .before .before .before .before .before .before .before .before .before .before .before .j .given in
+    let e = c .before .before .before .before .before .before .before .before .before .before .first .given in
     let f = c .before .before .before .before .second .given in
-    reads-on (g .0 .0) (g .0 .1 .0) (after (a .m) (a .n) (a .cells .now)) (c .before .before .before .before .before .before .before .before .before .before .before .before .before .before .before .before .before .before .indexed-at .ensures) (g .1)
-    (reads-on (h .0 .0) (h .0 .1 .0) (stars-after (a .m) (a .n) (a .cells .now) (g .0 .0)) (c .before .before .before .before .before .before .before .before .before .before .before .before .before .before .indexed-at2 .ensures) (h .1)
-    (reads-on (e .0 .0) (e .0 .1 .0) (λ _ ws. starred ws then λ _ ws. reward (a .m) (a .n) (g .0 .0) (h .0 .0) (a .cells .now) ws) (c .before .before .before .before .before .before .before .before .before .before .starred-at .ensures) (e .1)
-    (reads-on (f .0 .0) (f .0 .1 .0) (λ _ ws. reward (a .m) (a .n) (g .0 .0) (h .0 .0) (a .cells .now) ws) (c .before .before .before .before .before .before .starred-at2 .ensures) (f .1) (c .before .reward-at .ensures))))
+    reads-on (g .0 .0) (g .0 .1 .0) (after (a .m) (a .n) (a .cells .now)) (c .before .before .before .before .before .before .before .before .before .before .before .before .before .before .before .before .before .before .before .before .before .before .indexed-at .ensures) (g .1)
+    (reads-on (h .0 .0) (h .0 .1 .0) (stars-after (a .m) (a .n) (a .cells .now) (g .0 .0)) (c .before .before .before .before .before .before .before .before .before .before .before .before .before .before .before .before .before .before .indexed-at2 .ensures) (h .1)
+    (reads-on (e .0 .0) (e .0 .1 .0) (λ _ ws. starred ws then λ _ ws. reward (a .m) (a .n) (g .0 .0) (h .0 .0) (a .cells .now) ws) (c .before .before .before .before .before .before .before .before .before .before .before .before .keys-at .ensures) (e .1)
+    (reads-on (f .0 .0) (f .0 .1 .0) (λ _ ws. reward (a .m) (a .n) (g .0 .0) (h .0 .0) (a .cells .now) ws) (c .before .before .before .before .before .before .keys-at2 .ensures) (f .1) (c .before .reward-at .ensures))))
 
 pub rewards-at-spec : {M : Type 1} → statement M
 rewards-at-spec =
@@ -123,11 +135,15 @@ rewards-at-spec =
     enum-known-j
     enum-told-2
     returns-2
-    starred-at-requires
+    slice-aggregate-keys-at
+    slice-aggregate-keys-at-2
+    keys-at-requires
     enum-known-first
     enum-told-3
     returns-3
-    starred-at-requires-2
+    slice-aggregate-keys-at-3
+    slice-aggregate-keys-at-4
+    keys-at-requires-2
     enum-known-second
     enum-told-4
     returns-4
