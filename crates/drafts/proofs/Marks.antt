@@ -7,7 +7,7 @@ use native.Mathlib.Omega.{arith}
 use native.Mathlib.Numerals.{add-one}
 use borrow.Author.Tests.{eq-eqb, ne-eqb, eqb-false}
 use lib.Dec.{eqb}
-use lib.ListN.{length, set}
+use lib.ListN.{length, getD, set}
 use lib.IntN.{ℤ}
 use Rattle.integers.specs.Search.{some}
 use Rattle.drafts.specs.Drafts.{markedFrom, marked, lowest, spread, stated, rewarded}
@@ -54,6 +54,20 @@ module _ {A : Type 0} where
   write-marks q v l =
       let e : 0 + q ≡ q = omega arith in
       writing 0 q v l ∙ ap (λ (n : ℕ). marked (λ i. eqb i n) v l) e
+
+  marked-by : (P : A → Type 0) (t : Bool) (v x : A) → P v → P x → P (cond t v x)
+  marked-by P true v x p q = p
+  marked-by P false v x p q = q
+
+  marked-each : (P : A → Type 0) (z : A) (at : ℕ) (test : ℕ → Bool) (v : A) (l : List A) → P v → ((i : ℕ) → P (getD l i z)) → (i : ℕ) → P (getD (markedFrom at test v l) i z)
+  unfolding markedFrom
+  marked-each P z at test v [] p h i = h i
+  marked-each P z at test v (x ∷ l) p h zero = marked-by P (test at) v x p (h 0)
+  marked-each P z at test v (x ∷ l) p h (suc i) = marked-each P z (suc at) test v l p (λ j. h (suc j)) i
+
+  -- what holds of every cell and of the value holds of every cell that it leaves
+  pub marked-all : (P : A → Type 0) (z : A) (test : ℕ → Bool) (v : A) (l : List A) → P v → ((i : ℕ) → P (getD l i z)) → (i : ℕ) → P (getD (marked test v l) i z)
+  marked-all P z test v l p h i = marked-each P z 0 test v l p h i
 
   -- the tests p 0, .., p (k - 1) are marked, one after the other
   pub record Marking (p : ℕ → ℕ → Bool) (v : A) (l : List A) (k : ℕ) (l' : List A) : Type 0 where

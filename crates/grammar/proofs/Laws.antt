@@ -12,13 +12,12 @@ use lib.Dec.{eqb, leb}
 use Rattle.integers.proofs.Searches.{and-true}
 use Rattle.words.specs.declared.Word.{Word}
 use Rattle.words.specs.declared.Word.the-variants.{At}
-use Rattle.words.specs.Words.{Words, word, end, wordsIn, between, Worded}
+use Rattle.words.specs.Words.{Words, end, wordsIn, between, Worded}
 use Rattle.numerals.specs.declared.Amount.{Amount}
 use Rattle.numerals.specs.declared.Amount.the-variants.{Is, Not}
-use Rattle.numerals.specs.Numeral.{amountOf}
 use Rattle.grammar.specs.declared.Read.{Read}
 use Rattle.grammar.specs.declared.Read.the-variants.{Value, Refused}
-use Rattle.grammar.specs.Grammar.{Answer, got, refused, _then_, choose, Finding, fits, unfit, outside, answered, oneWord, limited, number, named, field, same, answerOf, Ahead, Tells, Reads, found, bytesOf}
+use Rattle.grammar.specs.Grammar.{Answer, got, refused, _then_, choose, Finding, fits, unfit, outside, answered, oneWord, limited, same, answerOf, Ahead, Tells, Reads, found, bytesOf}
 
 -- ---- one word
 
@@ -82,26 +81,6 @@ weaker outside h p = tt
 
 pub limited-below : (least most : ℕ) (a : Amount) → OfValue (λ v. v ≤ most) (limited least most a)
 limited-below least most a = weaker (limited least most a) (λ v p. p .1) (limited-within least most a)
-
-answered-value : (P : ℕ → Type 0) (at v : ℕ) (rest ws : Words) (f : Finding) → OfValue P f → got v ws ≡ answered at rest f → P v
-answered-value P at v rest ws (fits x) p e = let z : x ≡ v = cc in subst P z p
-answered-value P at v rest ws unfit p e = let z : _≡_ {A = ℕ} 0 1 = cc in absurd (omega arith)
-answered-value P at v rest ws outside p e = let z : _≡_ {A = ℕ} 0 1 = cc in absurd (omega arith)
-
--- a number that was read is at least the least
-number-low : (digits places least most v : ℕ) (rest ws : Words) → got v rest ≡ number digits places least most ws → least ≤ v
-unfolding number
-number-low digits places least most v rest (word at w after) e =
-    answered-value (λ v. (least ≤ v) × (v ≤ most)) at v after rest (limited least most (amountOf digits places w)) (limited-within least most (amountOf digits places w)) e .0
-number-low digits places least most v rest (end at) e = let z : _≡_ {A = ℕ} 0 1 = cc in absurd (omega arith)
-
-after-name : (digits places least most v : ℕ) (rest : Words) (a : Answer ℕ) → got v rest ≡ (a then λ _ ws. number digits places least most ws) → least ≤ v
-after-name digits places least most v rest (got x ws) e = number-low digits places least most v rest ws e
-after-name digits places least most v rest (refused n p) e = let z : _≡_ {A = ℕ} 0 1 = cc in absurd (omega arith)
-
-pub field-low : (name : List ℕ) (digits places least most v : ℕ) (rest ws : Words) → got v rest ≡ field name digits places least most ws → least ≤ v
-unfolding field
-field-low name digits places least most v rest ws e = after-name digits places least most v rest (named name ws) e
 
 -- ---- the same bytes
 

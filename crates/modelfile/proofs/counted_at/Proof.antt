@@ -1,16 +1,25 @@
-use Prim.Native.Nat.{_+_}
-use mathlib.Core.Path.{_∙_}
+use Prim.Native.Nat.{ℕ, _+_, _≤_}
+use mathlib.Core.Path.{_≡_, _∙_}
+use mathlib.Core.List.{List}
 use native.Mathlib.Omega.{arith}
 use borrow.Author.Needs.{needs}
 use lib.ListN.{length}
 use Rattle.tables.specs.Limits.{maxStates, maxActions, maxObservations}
 use Rattle.words.specs.Words.{wordsIn, between}
-use Rattle.grammar.specs.Grammar.{_then_, field}
-use Rattle.grammar.proofs.Laws.{value-is, value-next, field-low}
+use Rattle.grammar.specs.declared.Read.{Read}
+use Rattle.grammar.specs.declared.Read.the-variants.{Value}
+use Rattle.grammar.specs.Grammar.{_then_, field, Reads}
+use Rattle.grammar.proofs.Laws.{value-is, value-next}
+use Rattle.grammar.proofs.Gives.{given-value, field-gives}
 use Rattle.modelfile.specs.ModelFile.{statesName, actionsName, observationsName, body, counted}
 use Rattle.modelfile.proofs.Laws.{goes-back, goes-on}
 use Rattle.modelfile.proofs.counted_at.Statement.{statement}
 use Rattle.modelfile.proofs.counted_at.Tie as tie
+
+-- a count that was read
+count-within : (name : List ℕ) (most : ℕ) {file : List ℕ} {at : ℕ} {r : Read} (v next : ℕ) → Reads file at most r (field name 2 0 1 most (wordsIn between file at)) → r ≡ Value v next
+    → (1 ≤ v) × (v ≤ most)
+count-within name most {file} {at} v next t e = given-value (λ v. (1 ≤ v) × (v ≤ most)) (field-gives name 2 0 1 most (wordsIn between file at)) (value-is v next t e)
 
 slice-aggregate-field-at : tie.Need-slice-aggregate-field-at
 slice-aggregate-field-at c = search needs
@@ -86,20 +95,13 @@ returns-3 c =
 
 body-at-requires : tie.Need-body-at-requires
 body-at-requires c κs =
-    let file = c .before .before .before .before .before .before .before .before .before .before .before .before .before .before .before .before .args .file .now in
     let g = c .before .before .before .before .before .before .before .before .before .before .before .x .given in
     let h = c .before .before .before .before .before .before .y .given in
-    let e = c .before .z .given in
-    let n = value-next (g .0 .0) (g .0 .1 .0) (c .before .before .before .before .before .before .before .before .before .before .before .before .before .field-at .ensures) (g .1) in
-    let m = value-next (h .0 .0) (h .0 .1 .0) (c .before .before .before .before .before .before .before .before .field-at2 .ensures) (h .1) in
-    let k = value-next (e .0 .0) (e .0 .1 .0) (c .before .before .before .field-at3 .ensures) (e .1) in (
-      k .1 .1,
+    let e = c .before .z .given in (
+      value-next (e .0 .0) (e .0 .1 .0) (c .before .before .before .field-at3 .ensures) (e .1) .1 .1,
       (
-        (field-low statesName 2 0 1 maxStates (g .0 .0) (wordsIn between file (g .0 .1 .0)) (wordsIn between file (c .before .before .before .before .before .before .before .before .before .before .before .before .before .before .before .before .args .at)) (value-is (g .0 .0) (g .0 .1 .0) (c .before .before .before .before .before .before .before .before .before .before .before .before .before .field-at .ensures) (g .1)), n .0),
-        (
-          (field-low actionsName 2 0 1 maxActions (h .0 .0) (wordsIn between file (h .0 .1 .0)) (wordsIn between file (g .0 .1 .0)) (value-is (h .0 .0) (h .0 .1 .0) (c .before .before .before .before .before .before .before .before .field-at2 .ensures) (h .1)), m .0),
-          (field-low observationsName 2 0 1 maxObservations (e .0 .0) (wordsIn between file (e .0 .1 .0)) (wordsIn between file (h .0 .1 .0)) (value-is (e .0 .0) (e .0 .1 .0) (c .before .before .before .field-at3 .ensures) (e .1)), k .0),
-        ),
+        count-within statesName maxStates (g .0 .0) (g .0 .1 .0) (c .before .before .before .before .before .before .before .before .before .before .before .before .before .field-at .ensures) (g .1),
+        (count-within actionsName maxActions (h .0 .0) (h .0 .1 .0) (c .before .before .before .before .before .before .before .before .field-at2 .ensures) (h .1), count-within observationsName maxObservations (e .0 .0) (e .0 .1 .0) (c .before .before .before .field-at3 .ensures) (e .1)),
       ),
     )
 
