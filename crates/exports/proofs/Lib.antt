@@ -1,0 +1,5 @@
+-- What the proofs of several functions use.
+mod Laid
+mod Naturals
+mod Decoding
+mod Encoding

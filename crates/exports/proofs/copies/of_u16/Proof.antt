@@ -1,0 +1,15 @@
+use native.Mathlib.Omega.{arith}
+use lib.IntN.{pos}
+use Rattle.integers.proofs.Words.{back-small}
+use borrow.Author.Needs.{needs}
+use Rattle.exports.proofs.copies.of_u16.Statement.{statement}
+use Rattle.exports.proofs.copies.of_u16.Tie as tie
+
+cast-result : tie.Need-cast-result
+cast-result c = search needs
+
+returns : tie.Need-returns
+returns c = back-small (pos (c .args .x)) (omega arith)
+
+pub of-u16-spec : {M : Type 1} → statement M
+of-u16-spec = tie.close (tie.spec cast-result returns)

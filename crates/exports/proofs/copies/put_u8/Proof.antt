@@ -1,0 +1,73 @@
+use Prim.Native.Nat.{_-_, _≤_}
+use mathlib.Core.Path.{_≡_, refl}
+use native.Mathlib.Omega.{arith}
+use borrow.Author.Needs.{needs}
+use lib.ListN.{getD}
+use lib.IntN.{pos}
+use Rattle.integers.proofs.Words.{answer}
+use Rattle.exports.proofs.Laid.{Laying, laying-start, laying-more}
+use Rattle.exports.proofs.copies.put_u8.Statement.{statement}
+use Rattle.exports.proofs.copies.put_u8.Tie as tie
+
+abbrev Inv-loop : tie.InvT-loop
+Inv-loop words₀ at cells count i₀ words i = (i ≤ count) × Laying at i (λ j. pos (getD cells j 0)) words₀ words
+
+abbrev μ-loop : tie.MeasureT-loop
+μ-loop words₀ at cells count i₀ words i = count - i
+
+loop-holds : tie.Need-loop-holds Inv-loop μ-loop
+loop-holds c = (omega arith, laying-start _ _ _)
+
+shared-slice-read-of-u8 : tie.Need-shared-slice-read-of-u8 Inv-loop μ-loop
+shared-slice-read-of-u8 c = let e = c .before .before .loop .inv .1 .long in omega arith
+
+of-u8-requires : tie.Need-of-u8-requires Inv-loop μ-loop
+of-u8-requires c κs = search needs
+
+add-t10 : tie.Need-add-t10 Inv-loop μ-loop
+add-t10 c = let e = c .before .before .before .loop .inv .1 .long in omega arith
+
+mul-t11 : tie.Need-mul-t11 Inv-loop μ-loop
+mul-t11 c = let e = c .before .before .before .loop .inv .1 .long in omega arith
+
+slice-set-from-words : tie.Need-slice-set-from-words Inv-loop μ-loop
+slice-set-from-words c = let e = c .before .before .before .loop .inv .1 .long in omega arith
+
+add-i : tie.Need-add-i Inv-loop μ-loop
+add-i c = search needs
+
+loop-less : tie.Need-loop-less Inv-loop μ-loop
+loop-less c = search needs
+
+loop-again : tie.Need-loop-again Inv-loop μ-loop
+loop-again c = (omega arith, laying-more _ _ _ _ _ (omega arith) (omega arith) (answer (c .of-u8 .ok) (c .of-u8 .ensures)) (c .before .before .before .loop .inv .1))
+
+add-result : tie.Need-add-result Inv-loop μ-loop
+add-result c = omega arith
+
+same-length : tie.Need-same-length Inv-loop μ-loop
+same-length c = c .before .loop .inv .1 .long
+
+returns : tie.Need-returns Inv-loop μ-loop
+returns c =
+    let e : c .before .loop .i ≡ c .before .before .before .args .count = omega arith in
+    (refl, rw e at (c .before .loop .inv .1 .same))
+
+pub put-u8-spec : {M : Type 1} → statement M
+put-u8-spec =
+    tie.close
+    (tie.spec
+    Inv-loop
+    μ-loop
+    loop-holds
+    shared-slice-read-of-u8
+    of-u8-requires
+    add-t10
+    mul-t11
+    slice-set-from-words
+    add-i
+    loop-less
+    loop-again
+    add-result
+    same-length
+    returns)

@@ -1,0 +1,94 @@
+-- Objects as lists of 64-bit words, packed by their counts.
+--
+--   natural most z     a word as a number of an unsigned type with the largest value `most`: itself, or `most` where the type does not hold it
+--   given ok need ws   an object that the words ws hold, or what stands for none
+--   laid at ws xs      the list xs with ws in the places from `at` on
+--   naturals, wholes   an array that `count` words from `at` on stand for, 0 past them
+use Prim.Native.Nat.{ℕ, _+_, _*_}
+use mathlib.Core.Bool.{Bool, cond, _&&_}
+use mathlib.Core.List.{List, [], _∷_, _++_}
+use lib.Dec.{leb}
+use lib.ListN.{length, getD, take, drop}
+use lib.IntN.{ℤ, pos, negsuc}
+use Rattle.integers.specs.Cells.{listed, padded}
+use Rattle.tables.specs.declared.Tables.{Tables}
+use Rattle.tables.specs.Limits.{maxStates, maxActions, maxObservations}
+use Rattle.tables.specs.Judged.{countsWithin, noTables}
+
+-- ---- words
+
+-- the largest values of the unsigned types
+abbrev pub u8Most : ℕ
+u8Most = 255
+
+abbrev pub u16Most : ℕ
+u16Most = 65_535
+
+abbrev pub u32Most : ℕ
+u32Most = 4_294_967_295
+
+abbrev pub u64Most : ℕ
+u64Most = 18_446_744_073_709_551_615
+
+unfoldable pub natural : ℕ → ℤ → ℕ
+natural most (pos n) = cond (leb n most) n most
+natural most (negsuc n) = most
+
+abbrev pub wordAt : List ℤ → ℕ → ℤ
+wordAt words i = getD words i (pos 0)
+
+-- a count, index or discount
+abbrev pub numberAt : List ℤ → ℕ → ℕ
+numberAt words i = natural u64Most (wordAt words i)
+
+abbrev pub naturals : ℕ → ℕ → List ℤ → ℕ → ℕ → List ℕ
+naturals most size words at count = padded 0 size count (λ i. natural most (wordAt words (at + i)))
+
+abbrev pub wholes : ℕ → List ℤ → ℕ → ℕ → List ℤ
+wholes size words at count = padded (pos 0) size count (λ i. wordAt words (at + i))
+
+-- the first `count` cells of an array, as words
+abbrev pub naturalWords : ℕ → List ℕ → List ℤ
+naturalWords count cells = listed count (λ i. pos (getD cells i 0))
+
+abbrev pub wholeWords : ℕ → List ℤ → List ℤ
+wholeWords count cells = listed count (λ i. getD cells i (pos 0))
+
+module _ {A : Type 0} where
+  -- an object whose counts are within their limits, where the words that it needs are there; else what stands for none
+  unfoldable pub given : Bool → ℕ → List ℤ → A → A → A
+  given within need words x none = cond (within && leb need (length words)) x none
+
+  unfoldable pub laid : ℕ → List A → List A → List A
+  laid at ws xs = take at xs ++ (ws ++ drop (at + length ws) xs)
+
+-- ---- tables: states, actions, observations, discount, then T, O and R
+
+abbrev pub tablesSize : ℕ → ℕ → ℕ → ℕ
+tablesSize n m k = 4 + m * n * n + m * n * k + m * n
+
+unfoldable pub tablesBy : ℕ → ℕ → ℕ → List ℤ → Tables
+tablesBy n m k words = record {
+  states = n;
+  actions = m;
+  observations = k;
+  discount = numberAt words 3;
+  transition = naturals u16Most (maxActions * maxStates * maxStates) words 4 (m * n * n);
+  observation = naturals u16Most (maxActions * maxStates * maxObservations) words (4 + m * n * n) (m * n * k);
+  reward = wholes (maxActions * maxStates) words (4 + m * n * n + m * n * k) (m * n);
+}
+
+-- the tables of counts within the limits and words enough, or tables of which every part is 0
+unfoldable pub tablesIn : List ℤ → Tables
+tablesIn words =
+    let n = numberAt words 0 in
+    let m = numberAt words 1 in
+    let k = numberAt words 2 in
+    given (countsWithin n m k) (tablesSize n m k) words (tablesBy n m k words) noTables
+
+unfoldable pub tablesWords : Tables → List ℤ
+tablesWords m =
+    (pos (m .states) ∷ pos (m .actions) ∷ pos (m .observations) ∷ pos (m .discount) ∷ [])
+    ++ naturalWords (m .actions * m .states * m .states) (m .transition)
+    ++ naturalWords (m .actions * m .states * m .observations) (m .observation)
+    ++ wholeWords (m .actions * m .states) (m .reward)
