@@ -4,12 +4,16 @@ use mathlib.Core.Bool.{Bool, true, false, cond, _&&_}
 use mathlib.Core.List.{List}
 use Prim.Native.Nat.{ℕ, _+_, _*_, _≤_, _<_}
 use native.Mathlib.Omega.{arith}
-use borrow.Author.Tests.{le-leb, lt-leb}
+use borrow.Author.Tests.{leb-true, le-leb, lt-leb}
+use lib.Dec.{leb}
 use lib.ListN.{length, replicate}
 use lib.IntN.{ℤ, pos}
 use Rattle.integers.specs.Cells.{listed}
-use Rattle.tables.specs.Judged.{countsWithin, noTables}
-use Rattle.exports.specs.Words.{u16Most, natural, wordAt, numberAt, given, laid, tablesSize, tablesBy, tablesIn}
+use Rattle.integers.proofs.Searches.{and-true}
+use Rattle.tables.specs.Judged.{countWithin, countsWithin, noTables}
+use Rattle.tables.proofs.Fitting.{Few, few}
+use Rattle.worth.specs.Limits.{maxNodes}
+use Rattle.exports.specs.Words.{u8Most, u16Most, natural, wordAt, numberAt, given, laid, tablesSize, tablesBy, tablesIn, graphSize, graphBy, noGraph, graphIn}
 use Rattle.exports.proofs.Laid.{laid-padded}
 
 -- ---- given or not
@@ -29,6 +33,16 @@ module _ {A : Type 0} (within : Bool) (need : ℕ) (words : List ℤ) (x none : 
   pub given-whole : within ≡ true → need ≤ length words → x ≡ given within need words x none
   unfolding given
   given-whole e h = rw (e, le-leb need (length words) h)
+
+  -- what holds of the object and of none
+  pub given-either : (P : A → Type 0) → (within ≡ true → need ≤ length words → P x) → P none → P (given within need words x none)
+  unfolding given
+  given-either P whole empty = by within (leb need (length words)) refl refl
+    where
+      by : (a b : Bool) → within ≡ a → leb need (length words) ≡ b → P (cond (a && b) x none)
+      by true true e f = whole e (leb-true need (length words) f)
+      by true false e f = empty
+      by false b e f = empty
 
 -- ---- tables
 pub record TableCounts (words : List ℤ) (n m k : ℕ) : Type 0 where
@@ -67,3 +81,44 @@ pub tables-made : (words : List ℤ) (n m k : ℕ) {seen earned g : ℕ} {t o : 
 unfolding tablesBy
 tables-made words n m k t s o e r g =
     rw (t, o, r, g, e, s, laid-padded {A = ℕ} 0 2048 (m * n * n) _, laid-padded {A = ℕ} 0 1024 (m * n * k) _, laid-padded (pos 0) 128 (m * n) _)
+
+few-by : (words : List ℤ) {n m k : ℕ} → Few m n k → Few (tablesBy n m k words .actions) (tablesBy n m k words .states) (tablesBy n m k words .observations)
+unfolding tablesBy
+few-by words f = f
+
+-- their counts are within the limits, also of those that stand for none
+pub tables-limits : (words : List ℤ) → Few (tablesIn words .actions) (tablesIn words .states) (tablesIn words .observations)
+unfolding tablesIn
+tables-limits words =
+    given-either _ _ words _ noTables (λ t. Few (t .actions) (t .states) (t .observations)) (λ e _. few-by words (few (numberAt words 0) (numberAt words 1) (numberAt words 2) e))
+    (record { actions = omega arith; states = omega arith; observations = omega arith })
+
+-- ---- plan graphs
+pub count-few : (limit n : ℕ) → countWithin limit n ≡ true → n ≤ limit
+count-few limit n e = leb-true n limit (and-true (leb 1 n) (leb n limit) e .1)
+
+pub graph-few : (k : ℕ) (words : List ℤ) → length words < 1 → noGraph ≡ graphIn k words
+unfolding graphIn
+graph-few k words h = given-short _ _ _ _ _ (omega arith)
+
+module _ (k : ℕ) (words : List ℤ) {nodes : ℕ} (c : nodes ≡ numberAt words 0) where
+  graph-by : graphIn k words ≡ given (countWithin maxNodes nodes) (graphSize k nodes) words (graphBy k nodes words) noGraph
+  unfolding graphIn
+  graph-by = rw c
+
+  pub graph-outside : countWithin maxNodes nodes ≡ false → noGraph ≡ graphIn k words
+  graph-outside e = given-outside _ _ _ _ _ e ∙ sym graph-by
+
+  pub graph-short : length words < graphSize k nodes → noGraph ≡ graphIn k words
+  graph-short h = given-short _ _ _ _ _ h ∙ sym graph-by
+
+  pub graph-some : countWithin maxNodes nodes ≡ true → graphSize k nodes ≤ length words → graphBy k nodes words ≡ graphIn k words
+  graph-some e h = given-whole _ _ _ _ noGraph e h ∙ sym graph-by
+
+pub graph-made : (words : List ℤ) (k nodes : ℕ) {at : ℕ} {a o : List ℕ}
+    → a ≡ laid 0 (listed nodes (λ i. natural u8Most (wordAt words (1 + i)))) (replicate 32 0)
+    → at ≡ 1 + nodes
+    → o ≡ laid 0 (listed (nodes * k) (λ i. natural u16Most (wordAt words (at + i)))) (replicate 256 0)
+    → record { nodes = nodes; actions = a; next = o } ≡ graphBy k nodes words
+unfolding graphBy
+graph-made words k nodes a e o = rw (a, o, e, laid-padded {A = ℕ} 0 32 nodes _, laid-padded {A = ℕ} 0 256 (nodes * k) _)

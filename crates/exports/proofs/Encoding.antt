@@ -3,11 +3,12 @@ use mathlib.Core.Path.{_≡_, refl, _∙_}
 use mathlib.Core.List.{List, [], _∷_, append-assoc}
 use Prim.Native.Nat.{ℕ, _+_, _*_, _≤_}
 use native.Mathlib.Omega.{arith}
-use lib.ListN.{length}
+use lib.ListN.{length, length-append}
+use Rattle.integers.proofs.Lists.{length-listed}
 use lib.IntN.{ℤ, pos}
 use Rattle.integers.specs.Cells.{listed}
 use Rattle.tables.specs.declared.Tables.{Tables}
-use Rattle.exports.specs.Words.{naturalWords, wholeWords, laid, tablesWords}
+use Rattle.exports.specs.Words.{naturalWords, wholeWords, laid, tablesWords, tablesSize}
 use Rattle.exports.proofs.Laid.{lies-first, lies-next}
 
 four-words : (a b c d : ℤ) → wholeWords 4 (a ∷ b ∷ c ∷ d ∷ []) ≡ a ∷ b ∷ c ∷ d ∷ []
@@ -29,3 +30,7 @@ tables-laid t at xs h ea p eb q ec r e1 e2 e3 e4 l =
     let three = lies-next at xs (t .actions * t .states * t .observations) _ two q ec (omega arith) in
     let four = lies-next at xs (t .actions * t .states) _ three r refl l in
     rw (e1, e2, e3, e4, four-words (pos (t .states)) (pos (t .actions)) (pos (t .observations)) (pos (t .discount))) at (four .same) ∙ simp append-assoc
+
+pub tables-length : (t : Tables) → length (tablesWords t) ≡ tablesSize (t .states) (t .actions) (t .observations)
+unfolding tablesWords
+tables-length t = simp (length-append, length-listed) (omega arith)

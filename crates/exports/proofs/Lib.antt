@@ -3,3 +3,4 @@ mod Laid
 mod Naturals
 mod Decoding
 mod Encoding
+mod Calls

@@ -8,12 +8,14 @@ use Prim.Native.Nat.{ℕ, _+_, _*_}
 use mathlib.Core.Bool.{Bool, cond, _&&_}
 use mathlib.Core.List.{List, [], _∷_, _++_}
 use lib.Dec.{leb}
-use lib.ListN.{length, getD, take, drop}
+use lib.ListN.{length, getD, take, drop, replicate}
 use lib.IntN.{ℤ, pos, negsuc}
 use Rattle.integers.specs.Cells.{listed, padded}
 use Rattle.tables.specs.declared.Tables.{Tables}
 use Rattle.tables.specs.Limits.{maxStates, maxActions, maxObservations}
-use Rattle.tables.specs.Judged.{countsWithin, noTables}
+use Rattle.tables.specs.Judged.{countWithin, countsWithin, noTables}
+use Rattle.worth.specs.declared.Graph.{Graph}
+use Rattle.worth.specs.Limits.{maxNodes}
 
 -- ---- words
 
@@ -92,3 +94,24 @@ tablesWords m =
     ++ naturalWords (m .actions * m .states * m .states) (m .transition)
     ++ naturalWords (m .actions * m .states * m .observations) (m .observation)
     ++ wholeWords (m .actions * m .states) (m .reward)
+
+-- ---- a plan graph, of tables with k observations: nodes, then their actions and next nodes
+
+abbrev pub graphSize : ℕ → ℕ → ℕ
+graphSize k nodes = 1 + nodes + nodes * k
+
+unfoldable pub graphBy : ℕ → ℕ → List ℤ → Graph
+graphBy k nodes words = record {
+  nodes = nodes;
+  actions = naturals u8Most maxNodes words 1 nodes;
+  next = naturals u16Most (maxNodes * maxObservations) words (1 + nodes) (nodes * k);
+}
+
+-- a graph of which every part is 0
+abbrev pub noGraph : Graph
+noGraph = record { nodes = 0; actions = replicate maxNodes 0; next = replicate (maxNodes * maxObservations) 0 }
+
+unfoldable pub graphIn : ℕ → List ℤ → Graph
+graphIn k words =
+    let nodes = numberAt words 0 in
+    given (countWithin maxNodes nodes) (graphSize k nodes) words (graphBy k nodes words) noGraph

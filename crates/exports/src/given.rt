@@ -3,10 +3,12 @@ ghost use mathlib.Core.Path.{_≡_};
 ghost use Prim.Native.Nat.{_≤_};
 ghost use lib.ListN.{length};
 ghost use Rattle.tables.specs.Limits.{maxStates, maxActions, maxObservations};
-ghost use Rattle.exports.specs.Words.{tablesSize, tablesBy, tablesIn};
+ghost use Rattle.worth.specs.Limits.{maxNodes};
+ghost use Rattle.exports.specs.Words.{tablesSize, tablesBy, tablesIn, graphSize, graphBy, noGraph, graphIn};
 use super::copies;
 use tables::Tables;
 use tables::judge;
+use worth::Graph;
 
 pub fn tables_size(n: usize, m: usize, k: usize) -> usize
     requires { ⌜ (n ≤ maxStates) × ((m ≤ maxActions) × (k ≤ maxObservations)) ⌝ }
@@ -53,4 +55,47 @@ pub fn tables_in(words: &[i64]) -> Tables
         return Tables::none();
     }
     tables_by(words, n, m, k)
+}
+
+fn no_graph() -> Graph
+    ensures { λ r. ⌜ r ≡ noGraph ⌝ }
+{
+    Graph {
+        nodes: 0,
+        actions: [0u8; Graph::NODES],
+        next: [0u16; Graph::NODES * Tables::OBSERVATIONS],
+    }
+}
+
+fn graph_by(words: &[i64], k: usize, nodes: usize) -> Graph
+    requires { ⌜ (k ≤ maxObservations) × (nodes ≤ maxNodes) ⌝ }
+    requires { ⌜ graphSize k nodes ≤ length (now words) ⌝ }
+    ensures { λ r. ⌜ r ≡ graphBy k nodes (now (words .entry)) ⌝ }
+{
+    let mut actions = [0u8; Graph::NODES];
+    let mut next = [0u16; Graph::NODES * Tables::OBSERVATIONS];
+    let at = copies::take_u8(&mut actions, words, 1, nodes);
+    copies::take_u16(&mut next, words, at, nodes * k);
+    Graph {
+        nodes: nodes,
+        actions: actions,
+        next: next,
+    }
+}
+
+pub fn graph_in(words: &[i64], k: usize) -> Graph
+    requires { ⌜ k ≤ maxObservations ⌝ }
+    ensures { λ r. ⌜ r ≡ graphIn k (now (words .entry)) ⌝ }
+{
+    if words.len() < 1 {
+        return no_graph();
+    }
+    let nodes = copies::usize_of(words[0]);
+    if !judge::count_within(Graph::NODES, nodes) {
+        return no_graph();
+    }
+    if words.len() < 1 + nodes + nodes * k {
+        return no_graph();
+    }
+    graph_by(words, k, nodes)
 }
