@@ -1,19 +1,27 @@
 -- The objects that words stand for. Assumes nothing.
 use mathlib.Core.Path.{_≡_, refl, sym, _∙_}
 use mathlib.Core.Bool.{Bool, true, false, cond, _&&_}
-use mathlib.Core.List.{List}
-use Prim.Native.Nat.{ℕ, _+_, _*_, _≤_, _<_}
+use mathlib.Core.List.{List, [], _∷_}
+use Prim.Native.Nat.{ℕ, _+_, _*_, _-_, _≤_, _<_}
+use native.Mathlib.Nat.{mul-le-mul}
 use native.Mathlib.Omega.{arith}
 use borrow.Author.Tests.{leb-true, le-leb, lt-leb}
 use lib.Dec.{leb}
-use lib.ListN.{length, replicate}
+use lib.ListN.{length, take, drop, replicate, length-drop}
+use lib.Seq.{take-all}
 use lib.IntN.{ℤ, pos}
 use Rattle.integers.specs.Cells.{listed}
 use Rattle.integers.proofs.Searches.{and-true}
 use Rattle.tables.specs.Judged.{countWithin, countsWithin, noTables}
 use Rattle.tables.proofs.Fitting.{Few, few}
+use Rattle.tables.specs.declared.Tables.{Tables}
+use Rattle.plans.specs.Limits.{maxBuilt}
+use Rattle.levels.specs.declared.Level.{Level}
+use Rattle.levels.specs.Storage.{noLevel}
+use Rattle.levels.specs.Judged.{countsHold}
+use Rattle.runs.specs.State.{noCertifier}
 use Rattle.worth.specs.Limits.{maxNodes}
-use Rattle.exports.specs.Words.{u8Most, u16Most, natural, wordAt, numberAt, given, laid, tablesSize, tablesBy, tablesIn, graphSize, graphBy, noGraph, graphIn}
+use Rattle.exports.specs.Words.{u8Most, u16Most, u32Most, natural, wordAt, numberAt, given, laid, tablesSize, tablesBy, tablesIn, levelSize, levelBy, levelIn, certifierIn, pointsBy, noPoints, pointsIn, mixtureIn, graphSize, graphBy, noGraph, graphIn}
 use Rattle.exports.proofs.Laid.{laid-padded}
 
 -- ---- given or not
@@ -92,6 +100,123 @@ unfolding tablesIn
 tables-limits words =
     given-either _ _ words _ noTables (λ t. Few (t .actions) (t .states) (t .observations)) (λ e _. few-by words (few (numberAt words 0) (numberAt words 1) (numberAt words 2) e))
     (record { actions = omega arith; states = omega arith; observations = omega arith })
+
+pub tables-limited : (words : List ℤ) {m : Tables} → m ≡ tablesIn words → Few (m .actions) (m .states) (m .observations)
+tables-limited words e = rw e (tables-limits words)
+
+-- ---- levels
+-- their rows lie in their arrays
+pub record LevelRoom (n k vectors points : ℕ) : Type 0 where
+  pub choices : vectors * k ≤ 256
+  pub entries : vectors * n ≤ 512
+  pub weights : points * n ≤ 512
+
+pub level-room : {n k vectors points : ℕ} → n ≤ 16 → k ≤ 8 → vectors ≤ 32 → points ≤ 32 → LevelRoom n k vectors points
+level-room n k vectors points = record { choices = mul-le-mul vectors k; entries = mul-le-mul vectors n; weights = mul-le-mul points n }
+
+pub record LevelCounts (words : List ℤ) (vectors points : ℕ) : Type 0 where
+  pub vectors-at : vectors ≡ numberAt words 0
+  pub points-at : points ≡ numberAt words 1
+
+pub level-few : (n k : ℕ) (words : List ℤ) → length words < 2 → noLevel ≡ levelIn n k words
+unfolding levelIn
+level-few n k words h = given-short _ _ _ _ _ (omega arith)
+
+module _ (n k : ℕ) {words : List ℤ} {vectors points : ℕ} (c : LevelCounts words vectors points) where
+  level-by : levelIn n k words ≡ given (countsHold vectors points) (levelSize n k vectors points) words (levelBy n k vectors points words) noLevel
+  unfolding levelIn
+  level-by = rw (c .vectors-at, c .points-at)
+
+  pub level-outside : countsHold vectors points ≡ false → noLevel ≡ levelIn n k words
+  level-outside e = given-outside _ _ _ _ _ e ∙ sym level-by
+
+  pub level-short : length words < levelSize n k vectors points → noLevel ≡ levelIn n k words
+  level-short h = given-short _ _ _ _ _ h ∙ sym level-by
+
+  pub level-some : countsHold vectors points ≡ true → levelSize n k vectors points ≤ length words → levelBy n k vectors points words ≡ levelIn n k words
+  level-some e h = given-whole _ _ _ _ noLevel e h ∙ sym level-by
+
+pub level-made : (words : List ℤ) (n k vectors points : ℕ) {a b c d e : ℕ} {actions choices weights : List ℕ} {entries corners values : List ℤ}
+    → actions ≡ laid 0 (listed vectors (λ i. natural u8Most (wordAt words (2 + i)))) (replicate 32 0)
+    → a ≡ 2 + vectors
+    → choices ≡ laid 0 (listed (vectors * k) (λ i. natural u16Most (wordAt words (a + i)))) (replicate 256 0)
+    → b ≡ a + vectors * k
+    → entries ≡ laid 0 (listed (vectors * n) (λ i. wordAt words (b + i))) (replicate 512 (pos 0))
+    → c ≡ b + vectors * n
+    → corners ≡ laid 0 (listed n (λ i. wordAt words (c + i))) (replicate 16 (pos 0))
+    → d ≡ c + n
+    → weights ≡ laid 0 (listed (points * n) (λ i. natural u32Most (wordAt words (d + i)))) (replicate 512 0)
+    → e ≡ d + points * n
+    → values ≡ laid 0 (listed points (λ i. wordAt words (e + i))) (replicate 32 (pos 0))
+    → record { vectors = vectors; actions = actions; choices = choices; entries = entries; corners = corners; points = points; weights = weights; values = values }
+    ≡ levelBy n k vectors points words
+unfolding levelBy
+level-made words n k vectors points e1 a e2 b e3 c e4 d e5 e e6 =
+    rw (e1, e2, e3, e4, e5, e6, e, d, c, b, a, laid-padded {A = ℕ} 0 32 vectors _, laid-padded {A = ℕ} 0 256 (vectors * k) _, laid-padded (pos 0) 512 (vectors * n) _, laid-padded (pos 0) 16 n _, laid-padded {A = ℕ} 0 512 (points * n) _, laid-padded (pos 0) 32 points _)
+
+-- ---- certifiers
+pub certifier-none : (words : List ℤ) → length words < 1 → noCertifier ≡ certifierIn words
+unfolding certifierIn tablesIn levelIn given natural
+certifier-none [] h = refl
+certifier-none (x ∷ words) h = absurd (omega arith)
+
+-- all but the first words
+pub rest-is : (at : ℕ) (words : List ℤ) → take (length words - at) (drop at words) ≡ drop at words
+rest-is at words = take-all (length words - at) (drop at words) (omega (arith, length-drop at words))
+
+pub certifier-made : (words : List ℤ) (m : Tables) (l : Level) (at : ℕ) {number : ℕ}
+    → number ≡ numberAt words 0 → m ≡ tablesIn (drop 1 words) → at ≡ 1 + tablesSize (m .states) (m .actions) (m .observations)
+    → l ≡ levelIn (m .states) (m .observations) (drop at words)
+    → record { tables = m; number = number; level = l } ≡ certifierIn words
+unfolding certifierIn
+certifier-made words m l at e t a h = rw (e, h, a, t)
+
+-- a slice that ends before the level
+pub certifier-cut : (words : List ℤ) (m : Tables) (l : Level) {number at : ℕ}
+    → number ≡ numberAt words 0 → m ≡ tablesIn (drop 1 words) → at ≡ 1 + tablesSize (m .states) (m .actions) (m .observations)
+    → length words < at → l ≡ noLevel
+    → record { tables = m; number = number; level = l } ≡ certifierIn words
+certifier-cut words m l {at = at} e t a h none =
+    certifier-made words m l at e t a (none ∙ level-few (m .states) (m .observations) (drop at words) (omega (arith, length-drop at words)))
+
+pub certifier-limits : (words : List ℤ) → let m = certifierIn words .tables in Few (m .actions) (m .states) (m .observations)
+unfolding certifierIn
+certifier-limits words = tables-limits (drop 1 words)
+
+-- ---- points
+pub points-few : (n : ℕ) (words : List ℤ) → length words < 1 → noPoints ≡ pointsIn n words
+unfolding pointsIn
+points-few n words h = given-short _ _ _ _ _ (omega arith)
+
+module _ (n : ℕ) (words : List ℤ) {count : ℕ} (c : count ≡ numberAt words 0) where
+  points-by : pointsIn n words ≡ given (leb count maxBuilt) (1 + count * n) words (pointsBy n count words) noPoints
+  unfolding pointsIn
+  points-by = rw c
+
+  pub points-outside : maxBuilt < count → noPoints ≡ pointsIn n words
+  points-outside h = given-outside _ _ _ _ _ (lt-leb count maxBuilt h) ∙ sym points-by
+
+  pub points-short : length words < 1 + count * n → noPoints ≡ pointsIn n words
+  points-short h = given-short _ _ _ _ _ h ∙ sym points-by
+
+  pub points-some : count ≤ maxBuilt → 1 + count * n ≤ length words → pointsBy n count words ≡ pointsIn n words
+  points-some e h = given-whole _ _ _ _ noPoints (le-leb count maxBuilt e) h ∙ sym points-by
+
+pub points-made : (words : List ℤ) (n count : ℕ) {w : List ℕ}
+    → w ≡ laid 0 (listed (count * n) (λ i. natural u32Most (wordAt words (1 + i)))) (replicate 256 0)
+    → record { count = count; weights = w } ≡ pointsBy n count words
+unfolding pointsBy
+points-made words n count e = rw (e, laid-padded {A = ℕ} 0 256 (count * n) _)
+
+-- ---- mixtures
+pub mixture-short : (n : ℕ) (words : List ℤ) → length words < n → replicate 16 0 ≡ mixtureIn n words
+unfolding mixtureIn
+mixture-short n words h = given-short _ _ _ _ _ h
+
+pub mixture-made : (n : ℕ) (words : List ℤ) {w : List ℕ} → n ≤ length words
+    → w ≡ laid 0 (listed n (λ i. natural u32Most (wordAt words (0 + i)))) (replicate 16 0) → w ≡ mixtureIn n words
+unfolding mixtureIn
+mixture-made n words h e = e ∙ laid-padded {A = ℕ} 0 16 n _ ∙ given-whole true n words _ (replicate 16 0) refl h
 
 -- ---- plan graphs
 pub count-few : (limit n : ℕ) → countWithin limit n ≡ true → n ≤ limit

@@ -85,13 +85,17 @@ module _ {A : Type 0} where
   pub lies-first : (at : ℕ) (xs : List A) (n : ℕ) (f : ℕ → A) {ys : List A} {stop : ℕ} → ys ≡ laid at (listed n f) xs → stop ≡ at + n → stop ≤ length xs → Lies at (listed n f) xs ys stop
   lies-first at xs n f e s l = record { same = e; stops = omega (arith, length-listed n f); within = l }
 
-  pub lies-next : (at : ℕ) (xs : List A) (n : ℕ) (f : ℕ → A) {ws ys zs : List A} {stop next : ℕ} → Lies at ws xs ys stop → zs ≡ laid stop (listed n f) ys → next ≡ stop + n → next ≤ length xs
-      → Lies at (ws ++ listed n f) xs zs next
-  lies-next at xs n f {ws} h e s l = record {
-    same = e ∙ rw (h .same, h .stops) (laid-laid at ws (listed n f) xs (rw (h .stops) at (h .within)));
-    stops = s ∙ rw (h .stops) (omega (arith, length-append ws (listed n f), length-listed n f));
+  pub lies-then : (at : ℕ) (xs vs : List A) {ws ys zs : List A} {stop next : ℕ} → Lies at ws xs ys stop → zs ≡ laid stop vs ys → next ≡ stop + length vs → next ≤ length xs
+      → Lies at (ws ++ vs) xs zs next
+  lies-then at xs vs {ws} h e s l = record {
+    same = e ∙ rw (h .same, h .stops) (laid-laid at ws vs xs (rw (h .stops) at (h .within)));
+    stops = s ∙ rw (h .stops) (omega (arith, length-append ws vs));
     within = l;
   }
+
+  pub lies-next : (at : ℕ) (xs : List A) (n : ℕ) (f : ℕ → A) {ws ys zs : List A} {stop next : ℕ} → Lies at ws xs ys stop → zs ≡ laid stop (listed n f) ys → next ≡ stop + n → next ≤ length xs
+      → Lies at (ws ++ listed n f) xs zs next
+  lies-next at xs n f {stop = stop} h e s l = lies-then at xs (listed n f) h e (s ∙ ap (λ (k : ℕ). stop + k) (sym (length-listed n f))) l
 
   -- ---- an array that is filled from its start
   drop-same : (z : A) (n size : ℕ) → drop n (replicate size z) ≡ replicate (size - n) z

@@ -3,4 +3,6 @@ mod Laid
 mod Naturals
 mod Decoding
 mod Encoding
+mod Files
+mod Fits
 mod Calls

@@ -11,12 +11,17 @@ use lib.IntN.{ℤ}
 use Rattle.tables.specs.declared.Verdict.{Verdict}
 use Rattle.tables.specs.declared.Verdict.the-variants.{Fine, Refused}
 use Rattle.tables.specs.Verdicts.{_before_, unless}
+use Rattle.runs.specs.declared.Answer.{Answer}
+use Rattle.runs.specs.declared.Bounds.{Bounds}
+use Rattle.runs.specs.declared.Built.{Built}
+use Rattle.runs.specs.State.{opened, offered, totalsOf, builtOf}
 use Rattle.modelfile.specs.declared.ModelFile.{ModelFile}
 use Rattle.worth.specs.declared.Valued.{Valued}
 use Rattle.worth.specs.Judged.{worthAnswer}
 use Rattle.exports.specs.declared.Refusal.{Refusal}
 use Rattle.exports.specs.declared.Worth.{Worth}
-use Rattle.exports.specs.Words.{naturalWords, laid, tablesIn, tablesWords, graphIn}
+use Rattle.exports.specs.declared.Totals.{Totals}
+use Rattle.exports.specs.Words.{naturalWords, laid, tablesIn, tablesWords, graphIn, levelIn, levelWords, certifierIn, certifierWords, pointsIn, mixtureIn}
 
 abbrev pub refusalOf : Verdict → Refusal
 refusalOf Fine = record { number = 0; place = 0 }
@@ -45,3 +50,45 @@ worthOf x = record { number = refusalOf (x .verdict) .number; place = refusalOf 
 
 unfoldable pub worthCall : List ℤ → List ℤ → ℕ → ℕ → ℕ → Worth
 worthCall tables graph node state steps = worthOf (worthAnswer (tablesIn tables) (graphIn (tablesIn tables .observations) graph) node state steps)
+
+-- ---- opening and offering: the answer, written where it is fine
+
+unfoldable pub openAnswer : List ℤ → Answer
+openAnswer tables = opened (tablesIn tables)
+
+unfoldable pub offerAnswer : List ℤ → List ℤ → Answer
+offerAnswer certifier level =
+    let c = certifierIn certifier in
+    offered c (levelIn (c .tables .states) (c .tables .observations) level)
+
+unfoldable pub granted : Answer → List ℤ → Verdict
+granted a buffer = a .verdict before room (certifierWords (a .certifier)) buffer
+
+-- ---- totals
+
+abbrev pub totalsBy : Bounds → Totals
+totalsBy b = record {
+  number = refusalOf (b .verdict) .number;
+  place = refusalOf (b .verdict) .place;
+  lower = b .lower;
+  upper = b .upper;
+  gap = b .gap;
+  action = b .action .0;
+}
+
+unfoldable pub totalsCall : List ℤ → List ℤ → Totals
+totalsCall certifier mixture = let c = certifierIn certifier in totalsBy (totalsOf c (mixtureIn (c .tables .states) mixture))
+
+-- ---- building
+
+unfoldable pub buildAnswer : List ℤ → List ℤ → Built
+buildAnswer certifier points = let c = certifierIn certifier in builtOf c (pointsIn (c .tables .states) points)
+
+-- the words of a built level, of the certifier's counts
+unfoldable pub builtWords : List ℤ → List ℤ → List ℤ
+builtWords certifier points =
+    let m = certifierIn certifier .tables in
+    levelWords (m .states) (m .observations) (buildAnswer certifier points .level)
+
+unfoldable pub builtVerdict : List ℤ → List ℤ → List ℤ → Verdict
+builtVerdict certifier points buffer = buildAnswer certifier points .verdict before room (builtWords certifier points) buffer

@@ -6,8 +6,8 @@ mod answers; // the words of an object
 
 ghost use mathlib.Core.Path.{_≡_};
 ghost use Rattle.modelfile.specs.ModelFile.{modelFile};
-ghost use Rattle.exports.specs.Words.{tablesWords};
-ghost use Rattle.exports.specs.Calls.{refusalOf, left, startWords, readVerdict, worthCall};
+ghost use Rattle.exports.specs.Words.{tablesWords, certifierWords};
+ghost use Rattle.exports.specs.Calls.{refusalOf, left, startWords, readVerdict, worthCall, openAnswer, offerAnswer, granted, totalsCall, builtWords, builtVerdict};
 use tables::State;
 use tables::Verdict;
 use worth::Node;
@@ -24,6 +24,16 @@ pub struct Worth {
     pub number: u64,
     pub place: usize,
     pub ticks: i64,
+}
+
+#[repr(C)]
+pub struct Totals {
+    pub number: u64,
+    pub place: usize,
+    pub lower: i64,
+    pub upper: i64,
+    pub gap: i64,
+    pub action: usize,
 }
 
 fn refusal_of(v: Verdict) -> Refusal
@@ -97,4 +107,77 @@ pub extern "C" fn biidhaqun_worth(
         place: refusal.place,
         ticks: valued.ticks,
     }
+}
+
+// Opens a certifier on tables.
+#[no_mangle]
+pub extern "C" fn biidhaqun_open(tables: &[i64], certifier: &mut [i64]) -> Refusal
+    ensures { λ r. ⌜ r ≡ refusalOf (granted (openAnswer (now (tables .entry))) (now (certifier .entry))) ⌝ }
+    ensures { λ _. ⌜ now (certifier .exit) ≡ left (granted (openAnswer (now (tables .entry))) (now (certifier .entry))) (certifierWords (openAnswer (now (tables .entry)) .certifier)) (now (certifier .entry)) ⌝ }
+{
+    let m = given::tables_in(tables);
+    let answer = certifier::open(m);
+    let verdict = answer.verdict;
+    let Verdict::Fine = verdict else {
+        return refusal_of(verdict);
+    };
+    answers::give_certifier(certifier, answer.certifier)
+}
+
+// Offers a level to a certifier, which then stands one level higher.
+#[no_mangle]
+pub extern "C" fn biidhaqun_offer(certifier: &mut [i64], level: &[i64]) -> Refusal
+    ensures { λ r. ⌜ r ≡ refusalOf (granted (offerAnswer (now (certifier .entry)) (now (level .entry))) (now (certifier .entry))) ⌝ }
+    ensures { λ _. ⌜ now (certifier .exit) ≡ left (granted (offerAnswer (now (certifier .entry)) (now (level .entry))) (now (certifier .entry))) (certifierWords (offerAnswer (now (certifier .entry)) (now (level .entry)) .certifier)) (now (certifier .entry)) ⌝ }
+{
+    let c = given::certifier_in(certifier);
+    let m = c.tables;
+    let l = given::level_in(level, m.states, m.observations);
+    let answer = certifier::offer(c, l);
+    let verdict = answer.verdict;
+    let Verdict::Fine = verdict else {
+        return refusal_of(verdict);
+    };
+    answers::give_certifier(certifier, answer.certifier)
+}
+
+// The totals of a certifier at a mixture.
+#[no_mangle]
+pub extern "C" fn biidhaqun_totals(certifier: &[i64], mixture: &[i64]) -> Totals
+    ensures { λ r. ⌜ r ≡ totalsCall (now (certifier .entry)) (now (mixture .entry)) ⌝ }
+{
+    let c = given::certifier_in(certifier);
+    let m = c.tables;
+    let b = given::mixture_in(mixture, m.states);
+    let bounds = certifier::totals(c, b);
+    let verdict = bounds.verdict;
+    let refusal = refusal_of(verdict);
+    let action = bounds.action;
+    Totals {
+        number: refusal.number,
+        place: refusal.place,
+        lower: bounds.lower,
+        upper: bounds.upper,
+        gap: bounds.gap,
+        action: action.0,
+    }
+}
+
+// Builds the next level of a certifier from the weights of some points.
+#[no_mangle]
+pub extern "C" fn biidhaqun_build(certifier: &[i64], points: &[i64], level: &mut [i64]) -> Refusal
+    ensures { λ r. ⌜ r ≡ refusalOf (builtVerdict (now (certifier .entry)) (now (points .entry)) (now (level .entry))) ⌝ }
+    ensures { λ _. ⌜ now (level .exit) ≡ left (builtVerdict (now (certifier .entry)) (now (points .entry)) (now (level .entry))) (builtWords (now (certifier .entry)) (now (points .entry))) (now (level .entry)) ⌝ }
+{
+    let c = given::certifier_in(certifier);
+    let m = c.tables;
+    let n = m.states;
+    let p = given::points_in(points, n);
+    let built = certifier::build(c, p);
+    let verdict = built.verdict;
+    let Verdict::Fine = verdict else {
+        return refusal_of(verdict);
+    };
+    let l = built.level;
+    answers::give_level(level, l, n, m.observations)
 }

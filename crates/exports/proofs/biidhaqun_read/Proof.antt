@@ -1,7 +1,8 @@
 use mathlib.Core.Path.{refl, ap, _∙_}
 use native.Mathlib.Omega.{arith}
 use Rattle.exports.specs.Calls.{refusalOf}
-use Rattle.exports.proofs.Calls.{file-within, read-refused, read-short, read-late, read-served}
+use Rattle.exports.proofs.Files.{file-within}
+use Rattle.exports.proofs.Calls.{read-refused, read-short, read-late, read-served}
 use borrow.Author.Needs.{needs}
 use Rattle.exports.proofs.biidhaqun_read.Statement.{statement}
 use Rattle.exports.proofs.biidhaqun_read.Tie as tie
