@@ -3,6 +3,5 @@ mod Laid
 mod Naturals
 mod Decoding
 mod Encoding
-mod Files
 mod Fits
 mod Calls

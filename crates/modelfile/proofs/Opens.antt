@@ -1,6 +1,6 @@
 -- A file that is read opens: its tables are not refused, and its start numbers are the weights of a point. Assumes nothing.
 use Prim.Native.Nat.{ℕ, zero, suc, _+_, _*_, _≤_}
-use mathlib.Core.Path.{_≡_, refl}
+use mathlib.Core.Path.{_≡_, refl, sym, ap, subst, _∙_}
 use mathlib.Core.Bool.{Bool, true, false, cond}
 use mathlib.Core.List.{List}
 use native.Mathlib.Omega.{arith}
@@ -16,6 +16,8 @@ use Rattle.tables.specs.Limits.{maxStates, maxActions, maxObservations, one, ma
 use Rattle.tables.specs.Storage.{modelOf, cellIn}
 use Rattle.tables.specs.Verdicts.{_before_, unless}
 use Rattle.tables.specs.Judged.{countWithin, limitsHold, rowsTotal, modelVerdict}
+use Rattle.tables.specs.Model.{Valid}
+use Rattle.tables.proofs.Accepted.{valid}
 use Rattle.tables.proofs.Refusals.{never, before-fine, unless-fine}
 use Rattle.words.specs.Words.{Words, wordsIn, between}
 use Rattle.drafts.specs.Drafts.{stated}
@@ -135,3 +137,8 @@ short-opens file false e = never e
 pub read-opens : (file : List ℕ) → modelFile file .verdict ≡ Fine → Opens (modelFile file)
 unfolding modelFile
 read-opens file e = short-opens file (leb (length file) maxBytes) e
+
+pub read-valid : {x : ModelFile} (file : List ℕ) → x ≡ modelFile file → x .verdict ≡ Fine → Valid (modelOf (x .tables))
+read-valid file e f =
+    subst (λ (x : ModelFile). Valid (modelOf (x .tables))) (sym e)
+    (valid (modelOf (modelFile file .tables)) (read-opens file (sym (ap (λ (x : ModelFile). x .verdict) e) ∙ f) .tables-fine))

@@ -1,7 +1,7 @@
 use mathlib.Core.Path.{refl, ap, _∙_}
 use native.Mathlib.Omega.{arith}
 use Rattle.exports.specs.Calls.{refusalOf}
-use Rattle.exports.proofs.Files.{file-within}
+use Rattle.modelfile.proofs.Opens.{read-valid}
 use Rattle.exports.proofs.Calls.{read-refused, read-short, read-late, read-served}
 use borrow.Author.Needs.{needs}
 use Rattle.exports.proofs.biidhaqun_read.Statement.{statement}
@@ -23,7 +23,7 @@ returns : tie.Need-returns
 returns c = rw (← c .before .before .before .read .ensures, read-refused (c .before .before .before .read .result) (c .before .before .before .before .before .args .tables .now) (c .before .before .before .before .before .args .start .now) (c .before .enum-told2 .given .1)) (c .refusal-of .ensures ∙ ap refusalOf (c .before .enum-told2 .given .1), (refl, refl))
 
 tables-size-requires : tie.Need-tables-size-requires
-tables-size-requires c κs = let l = rw (← c .before .before .before .read .ensures) at (file-within (c .before .before .before .before .before .args .file .now)) in (l .states, (l .actions, l .observations))
+tables-size-requires c κs = let l = read-valid (c .before .before .before .before .before .args .file .now) (c .before .before .before .read .ensures) (c .before .enum-told .given .1) in (l .few-states, (l .few-actions, l .few-observations))
 
 returns-2 : tie.Need-returns-2
 returns-2 c = rw (← c .before .before .before .before .before .read .ensures, read-short (c .before .before .before .before .before .read .result) (c .before .before .before .before .before .before .before .args .tables .now) (c .before .before .before .before .before .before .before .args .start .now) (c .before .before .before .enum-told .given .1) (c .before .tables-size .ensures) (c .if1 .taken)) (refl, (refl, refl))
@@ -32,10 +32,10 @@ returns-3 : tie.Need-returns-3
 returns-3 c = rw (← c .before .before .before .before .before .before .read .ensures, read-late (c .before .before .before .before .before .before .read .result) (c .before .before .before .before .before .before .before .before .args .tables .now) (c .before .before .before .before .before .before .before .before .args .start .now) (c .before .before .before .before .enum-told .given .1) (omega (arith, c .before .before .tables-size .ensures, c .before .if1 .left)) (c .if2 .taken)) (refl, (refl, refl))
 
 put-tables-requires : tie.Need-put-tables-requires
-put-tables-requires c κs = let l = rw (← c .before .before .before .before .before .before .before .read .ensures) at (file-within (c .before .before .before .before .before .before .before .before .before .args .file .now)) in ((l .states, (l .actions, l .observations)), (omega arith, omega (arith, c .before .before .before .tables-size .ensures, c .before .before .if1 .left)))
+put-tables-requires c κs = let l = read-valid (c .before .before .before .before .before .before .before .before .before .args .file .now) (c .before .before .before .before .before .before .before .read .ensures) (c .before .before .before .before .before .enum-told .given .1) in ((l .few-states, (l .few-actions, l .few-observations)), (omega (arith, l .discount-limit), omega (arith, c .before .before .before .tables-size .ensures, c .before .before .if1 .left)))
 
 put-u16-requires : tie.Need-put-u16-requires
-put-u16-requires c κs = let l = rw (← c .before .before .before .before .before .before .before .before .before .before .before .before .before .read .ensures) at (file-within (c .before .before .before .before .before .before .before .before .before .before .before .before .before .before .before .args .file .now)) in (omega (arith, c .before .before .before .before .before .before .before .if2 .left), search needs)
+put-u16-requires c κs = let l = read-valid (c .before .before .before .before .before .before .before .before .before .before .before .before .before .before .before .args .file .now) (c .before .before .before .before .before .before .before .before .before .before .before .before .before .read .ensures) (c .before .before .before .before .before .before .before .before .before .before .before .enum-told .given .1) in (omega (arith, l .few-states, c .before .before .before .before .before .before .before .if2 .left), search needs)
 
 same-length : tie.Need-same-length
 same-length c = search needs
