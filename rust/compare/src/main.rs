@@ -11,21 +11,12 @@
 //!
 //! The command ends with 0 if nothing differs, with 1 after the first difference, with 2 if it could not run.
 
-mod bracket;
-mod calls;
-mod files;
-mod gen;
-mod options;
-mod program;
-mod rng;
-mod show;
-mod traps;
-
-use gen::DOCUMENT;
-use options::{Options, USAGE};
-use program::Answerer;
+use compare::gen::DOCUMENT;
+use compare::options::{Options, USAGE};
+use compare::program::Answerer;
+use compare::rng::Rng;
+use compare::{bracket, calls, files, show, traps};
 use reference::{ladder, Rules};
-use rng::Rng;
 use std::collections::BTreeMap;
 use std::process::ExitCode;
 use std::time::{Duration, Instant};

@@ -1,0 +1,315 @@
+//! The form that floating solvers use: probabilities and beliefs in f64, the same sums, and a tolerance.
+//!
+//! Tables are trusted once they are open, rows total 1 up to a tolerance, and nothing is rounded.
+
+/// How far a row may be from 1, or an inequality from holding, in units of the numbers compared.
+const TOLERANCE: f64 = 1e-6;
+
+#[derive(Clone, Debug, Default, PartialEq)]
+pub struct Tables {
+    pub states: usize,
+    pub actions: usize,
+    pub observations: usize,
+    pub discount: f64,
+    pub transitions: Vec<f64>,
+    pub sights: Vec<f64>,
+    pub rewards: Vec<f64>,
+}
+
+#[derive(Clone, Debug, PartialEq)]
+pub struct Vector {
+    pub action: usize,
+    pub choices: Vec<usize>,
+    pub entries: Vec<f64>,
+}
+
+#[derive(Clone, Debug, PartialEq)]
+pub struct Point {
+    pub weights: Vec<f64>,
+    pub value: f64,
+}
+
+#[derive(Clone, Debug, PartialEq)]
+pub struct Level {
+    pub vectors: Vec<Vector>,
+    pub corners: Vec<f64>,
+    pub points: Vec<Point>,
+}
+
+#[derive(Clone, Debug, PartialEq)]
+pub struct Certifier {
+    pub tables: Tables,
+    pub number: usize,
+    pub level: Level,
+}
+
+/// Lower and upper value of a belief, and the action.
+#[derive(Clone, Copy, Debug, PartialEq)]
+pub struct Totals {
+    pub lower: f64,
+    pub upper: f64,
+    pub action: usize,
+}
+
+fn dot(left: &[f64], right: &[f64]) -> f64 {
+    left.iter().zip(right).map(|(x, y)| x * y).sum()
+}
+
+impl Tables {
+    fn transitions_of(&self, a: usize) -> &[f64] {
+        &self.transitions[a * self.states * self.states..(a + 1) * self.states * self.states]
+    }
+
+    fn sights_of(&self, a: usize) -> &[f64] {
+        &self.sights[a * self.states * self.observations..(a + 1) * self.states * self.observations]
+    }
+
+    fn rewards_of(&self, a: usize) -> &[f64] {
+        &self.rewards[a * self.states..(a + 1) * self.states]
+    }
+
+    /// The belief after an action: b T.
+    fn moved(&self, b: &[f64], a: usize) -> Vec<f64> {
+        let mut u = vec![0.0; self.states];
+        for (b, row) in b.iter().zip(self.transitions_of(a).chunks_exact(self.states)) {
+            for (u, t) in u.iter_mut().zip(row) {
+                *u += b * t;
+            }
+        }
+        u
+    }
+
+    /// The same after an observation, not brought to a total of 1.
+    fn seen(&self, u: &[f64], a: usize, o: usize) -> Vec<f64> {
+        u.iter().zip(self.sights_of(a).chunks_exact(self.observations)).map(|(u, row)| u * row[o]).collect()
+    }
+
+    /// Each state's backup of the vectors chosen.
+    fn backups(&self, level: &Level, a: usize, choices: &[usize]) -> Vec<f64> {
+        let mut f = vec![0.0; self.states];
+        for (o, &choice) in choices.iter().enumerate() {
+            let rows = self.sights_of(a).chunks_exact(self.observations);
+            for ((f, row), entry) in f.iter_mut().zip(rows).zip(&level.vectors[choice].entries) {
+                *f += row[o] * entry;
+            }
+        }
+        let rows = self.transitions_of(a).chunks_exact(self.states).zip(self.rewards_of(a));
+        rows.map(|(row, reward)| reward + self.discount * dot(row, &f)).collect()
+    }
+
+    /// What an action may earn at a belief, by the ceiling.
+    fn ceiling_backup(&self, level: &Level, b: &[f64], a: usize) -> f64 {
+        let u = self.moved(b, a);
+        let ceilings: f64 = (0..self.observations).map(|o| level.ceiling(&self.seen(&u, a, o))).sum();
+        dot(b, self.rewards_of(a)) + self.discount * ceilings
+    }
+
+    fn best_ceiling(&self, level: &Level, b: &[f64]) -> f64 {
+        (0..self.actions).map(|a| self.ceiling_backup(level, b, a)).fold(f64::NEG_INFINITY, f64::max)
+    }
+}
+
+impl Level {
+    /// The sawtooth bound.
+    fn ceiling(&self, b: &[f64]) -> f64 {
+        let plain = dot(&self.corners, b);
+        let mut least = plain;
+        for point in &self.points {
+            let gain = dot(&self.corners, &point.weights) - point.value;
+            if gain <= 0.0 {
+                continue;
+            }
+            let mut ratio = f64::INFINITY;
+            for (b, p) in b.iter().zip(&point.weights) {
+                if *p > 0.0 {
+                    ratio = ratio.min(b / p);
+                }
+            }
+            least = least.min(plain - ratio * gain);
+        }
+        least
+    }
+
+    /// The first vector with the largest product.
+    fn best_vector(&self, b: &[f64]) -> (usize, f64) {
+        let mut best = (0, f64::NEG_INFINITY);
+        for (v, vector) in self.vectors.iter().enumerate() {
+            let product = dot(&vector.entries, b);
+            if product > best.1 {
+                best = (v, product);
+            }
+        }
+        best
+    }
+}
+
+/// Opens on tables whose rows total 1.
+pub fn open(tables: &Tables) -> Option<Certifier> {
+    let (n, k) = (tables.states, tables.observations);
+    let total = |row: &[f64]| (row.iter().sum::<f64>() - 1.0).abs() <= TOLERANCE && row.iter().all(|&cell| cell >= 0.0);
+    if !tables.transitions.chunks_exact(n).all(total) || !tables.sights.chunks_exact(k).all(total) {
+        return None;
+    }
+    let vector = Vector { action: 0, choices: vec![0; k], entries: vec![0.0; n] };
+    let level = Level { vectors: vec![vector], corners: vec![0.0; n], points: Vec::new() };
+    Some(Certifier { tables: tables.clone(), number: 0, level })
+}
+
+/// Offers a level; whether it was accepted.
+pub fn offer(certifier: &mut Certifier, offered: &Level) -> bool {
+    let (tables, standing) = (&certifier.tables, &certifier.level);
+    let floors = offered.vectors.iter().all(|vector| {
+        let backups = tables.backups(standing, vector.action, &vector.choices);
+        vector.entries.iter().zip(&backups).all(|(entry, backup)| *entry <= backup + TOLERANCE)
+    });
+    let corner = |s: usize| {
+        let mut b = vec![0.0; tables.states];
+        b[s] = 1.0;
+        offered.corners[s] + TOLERANCE >= tables.best_ceiling(standing, &b)
+    };
+    let point = |point: &Point| point.value + TOLERANCE >= tables.best_ceiling(standing, &point.weights);
+    let holds = floors && (0..tables.states).all(corner) && offered.points.iter().all(point);
+    if holds {
+        certifier.level = offered.clone();
+        certifier.number += 1;
+    }
+    holds
+}
+
+/// The bounds at a belief.
+pub fn totals(certifier: &Certifier, b: &[f64]) -> Totals {
+    let level = &certifier.level;
+    let (first, lower) = level.best_vector(b);
+    Totals { lower, upper: level.ceiling(b), action: level.vectors[first].action }
+}
+
+/// A point-based backup at every corner and some points.
+pub fn build(certifier: &Certifier, points: &[Vec<f64>]) -> Level {
+    let (tables, standing) = (&certifier.tables, &certifier.level);
+    let mut level = Level { vectors: Vec::new(), corners: Vec::new(), points: Vec::new() };
+    for s in 0..tables.states {
+        let mut b = vec![0.0; tables.states];
+        b[s] = 1.0;
+        level.vectors.push(best_vector(tables, standing, &b));
+        level.corners.push(tables.best_ceiling(standing, &b));
+    }
+    for b in points {
+        level.vectors.push(best_vector(tables, standing, b));
+        level.points.push(Point { weights: b.clone(), value: tables.best_ceiling(standing, b) });
+    }
+    level
+}
+
+fn best_vector(tables: &Tables, standing: &Level, b: &[f64]) -> Vector {
+    let mut best = None;
+    let mut most = f64::NEG_INFINITY;
+    for a in 0..tables.actions {
+        let u = tables.moved(b, a);
+        let choice = |o| standing.best_vector(&tables.seen(&u, a, o)).0;
+        let choices: Vec<usize> = (0..tables.observations).map(choice).collect();
+        let entries = tables.backups(standing, a, &choices);
+        let product = dot(&entries, b);
+        if product > most {
+            most = product;
+            best = Some(Vector { action: a, choices, entries });
+        }
+    }
+    best.unwrap_or(Vector { action: 0, choices: Vec::new(), entries: Vec::new() })
+}
+
+/// The words of a text in turn.
+struct Words<'a> {
+    words: std::iter::Peekable<std::vec::IntoIter<&'a str>>,
+}
+
+impl<'a> Words<'a> {
+    fn key(&mut self, key: &str) -> Option<()> {
+        self.words.next().filter(|word| *word == key).map(|_| ())
+    }
+
+    fn number<Number: std::str::FromStr>(&mut self) -> Option<Number> {
+        self.words.next()?.parse().ok()
+    }
+
+    fn header<Number: std::str::FromStr>(&mut self, key: &str) -> Option<Number> {
+        self.key(key)?;
+        self.key(":")?;
+        self.number()
+    }
+
+    fn indices(&mut self, count: usize) -> Option<std::ops::Range<usize>> {
+        self.key(":")?;
+        let word = self.words.next()?;
+        if word == "*" {
+            return Some(0..count);
+        }
+        word.parse().ok().filter(|&index: &usize| index < count).map(|index| index..index + 1)
+    }
+
+    fn statement(&mut self, kind: &str, tables: &mut Tables) -> Option<()> {
+        let n = tables.states;
+        let actions = self.indices(tables.actions)?;
+        let states = self.indices(n)?;
+        let (cells, width) = match kind {
+            "T" => (&mut tables.transitions, n),
+            "O" => (&mut tables.sights, tables.observations),
+            "R" => (&mut tables.rewards, 1),
+            _ => return None,
+        };
+        let row: Vec<(usize, f64)> = if kind == "R" {
+            for _ in 0..2 {
+                self.key(":")?;
+                self.key("*")?;
+            }
+            // Rewards are kept in hundredths, as the whole numbers are.
+            vec![(0, 100.0 * self.number::<f64>()?)]
+        } else if self.words.peek() == Some(&":") {
+            let indices = self.indices(width)?;
+            let number = self.number()?;
+            indices.map(|index| (index, number)).collect()
+        } else {
+            (0..width).map(|index| Some((index, self.number()?))).collect::<Option<_>>()?
+        };
+        for a in actions {
+            for s in states.clone() {
+                for &(index, number) in &row {
+                    cells[(a * n + s) * width + index] = number;
+                }
+            }
+        }
+        Some(())
+    }
+}
+
+/// Reads a model file.
+pub fn read(file: &[u8]) -> Option<(Tables, Vec<f64>)> {
+    let text = std::str::from_utf8(file).ok()?;
+    let lines = text.lines().map(|line| line.split('#').next().unwrap_or(""));
+    let spaced: String = lines.map(|line| line.replace(':', " : ") + "\n").collect();
+    let words: Vec<&str> = spaced.split_ascii_whitespace().collect();
+    let mut words = Words { words: words.into_iter().peekable() };
+    let discount = words.header("discount")?;
+    words.key("values")?;
+    words.key(":")?;
+    words.key("reward")?;
+    let states = words.header("states")?;
+    let actions = words.header("actions")?;
+    let observations = words.header("observations")?;
+    words.key("start")?;
+    words.key(":")?;
+    let start = (0..states).map(|_| words.number()).collect::<Option<Vec<f64>>>()?;
+    let rows = actions * states;
+    let mut tables = Tables {
+        states,
+        actions,
+        observations,
+        discount,
+        transitions: vec![0.0; rows * states],
+        sights: vec![0.0; rows * observations],
+        rewards: vec![0.0; rows],
+    };
+    while let Some(kind) = words.words.next() {
+        words.statement(kind, &mut tables)?;
+    }
+    Some((tables, start))
+}

@@ -1,0 +1,10 @@
+//! The same calls in other forms, to hold the library against: whole numbers in the obvious form ([`plain`]), whole
+//! numbers as well as we can ([`tuned`]), and the form of floating solvers ([`floating`]).
+
+pub mod convert;
+pub mod floating;
+pub mod limits;
+pub mod plain;
+pub mod plain_file;
+pub mod tuned;
+pub mod tuned_file;

@@ -1,0 +1,206 @@
+//! Reading a model file the obvious way: all words first, then the grammar over them.
+
+use crate::limits::*;
+
+type Answer<Value> = Result<Value, Refused>;
+
+/// The words of a file with the bytes before each.
+fn words(file: &[u8]) -> Vec<(usize, &[u8])> {
+    let mut words = Vec::new();
+    let mut start = None;
+    let mut comment = false;
+    for (at, byte) in file.iter().enumerate() {
+        if comment {
+            comment = *byte != b'\n';
+            continue;
+        }
+        if let b' ' | b'\t' | b'\r' | b'\n' | b':' | b'#' = byte {
+            if let Some(start) = start.take() {
+                words.push((start, &file[start..at]));
+            }
+            match byte {
+                b':' => words.push((at, &file[at..at + 1])),
+                b'#' => comment = true,
+                _ => {}
+            }
+        } else if start.is_none() {
+            start = Some(at);
+        }
+    }
+    if let Some(start) = start {
+        words.push((start, &file[start..]));
+    }
+    words
+}
+
+/// The value of digits, optionally a point and decimals, in units of the last possible decimal.
+fn amount(word: &[u8], most_digits: usize, most_decimals: usize) -> Option<i64> {
+    let text = std::str::from_utf8(word).ok()?;
+    let (whole, decimals) = match text.split_once('.') {
+        Some((whole, decimals)) if !decimals.is_empty() => (whole, decimals),
+        Some(_) => return None,
+        None => (text, ""),
+    };
+    let digits = |text: &str| text.bytes().all(|byte| byte.is_ascii_digit());
+    if whole.is_empty() || whole.len() > most_digits || decimals.len() > most_decimals {
+        return None;
+    }
+    if !digits(whole) || !digits(decimals) {
+        return None;
+    }
+    format!("{}{:0<width$}", whole, decimals, width = most_decimals).parse().ok()
+}
+
+struct Reader<'a> {
+    words: Vec<(usize, &'a [u8])>,
+    next: usize,
+    length: usize,
+}
+
+impl<'a> Reader<'a> {
+    fn word(&mut self) -> Answer<(usize, &'a [u8])> {
+        let word = self.words.get(self.next).copied().ok_or(Refused::at(2, self.length))?;
+        self.next += 1;
+        Ok(word)
+    }
+
+    fn key(&mut self, key: &str) -> Answer<()> {
+        let (place, word) = self.word()?;
+        if word == key.as_bytes() {
+            Ok(())
+        } else {
+            Err(Refused::at(2, place))
+        }
+    }
+
+    fn keys(&mut self, keys: &[&str]) -> Answer<()> {
+        keys.iter().try_for_each(|key| self.key(key))
+    }
+
+    fn count(&mut self, most: usize) -> Answer<usize> {
+        let (place, word) = self.word()?;
+        match amount(word, 2, 0) {
+            None => Err(Refused::at(2, place)),
+            Some(count) if (1..=most as i64).contains(&count) => Ok(count as usize),
+            Some(_) => Err(Refused::at(3, place)),
+        }
+    }
+
+    /// The indices that a word stands for.
+    fn indices(&mut self, count: usize) -> Answer<std::ops::Range<usize>> {
+        let (place, word) = self.word()?;
+        if word == b"*" {
+            return Ok(0..count);
+        }
+        match amount(word, 2, 0) {
+            None => Err(Refused::at(2, place)),
+            Some(index) if index < count as i64 => Ok(index as usize..index as usize + 1),
+            Some(_) => Err(Refused::at(3, place)),
+        }
+    }
+
+    /// A number up to 1.
+    fn share(&mut self, decimals: usize) -> Answer<i64> {
+        let (place, word) = self.word()?;
+        match amount(word, 1, decimals) {
+            None => Err(Refused::at(2, place)),
+            Some(share) if share <= 10_i64.pow(decimals as u32) => Ok(share),
+            Some(_) => Err(Refused::at(3, place)),
+        }
+    }
+
+    fn reward(&mut self) -> Answer<i64> {
+        let (place, word) = self.word()?;
+        let (sign, digits) = match word.strip_prefix(b"-") {
+            Some(digits) => (-1, digits),
+            None => (1, word),
+        };
+        match amount(digits, 4, 2) {
+            None => Err(Refused::at(2, place)),
+            Some(reward) if reward <= REWARD => Ok(sign * reward),
+            Some(_) => Err(Refused::at(3, place)),
+        }
+    }
+
+    /// A colon, indices and one number, or a number for each index.
+    fn shares(&mut self, count: usize) -> Answer<Vec<(usize, i64)>> {
+        let single = self.words.get(self.next).map_or(false, |(_, word)| *word == b":");
+        if single {
+            self.next += 1;
+            let indices = self.indices(count)?;
+            let share = self.share(3)?;
+            return Ok(indices.map(|index| (index, share)).collect());
+        }
+        (0..count).map(|index| Ok((index, self.share(3)?))).collect()
+    }
+
+    fn statement(&mut self, tables: &mut Tables) -> Answer<()> {
+        let (n, k) = (tables.states, tables.observations);
+        let (place, kind) = self.word()?;
+        if !matches!(kind, b"T" | b"O" | b"R") {
+            return Err(Refused::at(2, place));
+        }
+        self.key(":")?;
+        let actions = self.indices(tables.actions)?;
+        self.key(":")?;
+        let states = self.indices(n)?;
+        let (cells, width, row) = match kind {
+            b"T" => (&mut tables.transitions, n, self.shares(n)?),
+            b"O" => (&mut tables.sights, k, self.shares(k)?),
+            _ => {
+                self.keys(&[":", "*", ":", "*"])?;
+                (&mut tables.rewards, 1, vec![(0, self.reward()?)])
+            }
+        };
+        for a in actions {
+            for s in states.clone() {
+                for &(index, number) in &row {
+                    cells[(a * n + s) * width + index] = number;
+                }
+            }
+        }
+        Ok(())
+    }
+}
+
+/// Reads a model file: its tables and start numbers.
+pub fn read(file: &[u8]) -> Answer<(Tables, Vec<i64>)> {
+    if file.len() > FILE_BYTES {
+        return Err(Refused::at(1, 0));
+    }
+    let mut reader = Reader { words: words(file), next: 0, length: file.len() };
+    reader.keys(&["discount", ":"])?;
+    let discount = reader.share(3)?;
+    reader.keys(&["values", ":", "reward", "states", ":"])?;
+    let states = reader.count(STATES)?;
+    reader.keys(&["actions", ":"])?;
+    let actions = reader.count(ACTIONS)?;
+    reader.keys(&["observations", ":"])?;
+    let observations = reader.count(OBSERVATIONS)?;
+    reader.keys(&["start", ":"])?;
+    let start = (0..states).map(|_| reader.share(2)).collect::<Answer<Vec<i64>>>()?;
+    let rows = actions * states;
+    let mut tables = Tables {
+        states,
+        actions,
+        observations,
+        discount,
+        transitions: vec![0; rows * states],
+        sights: vec![0; rows * observations],
+        rewards: vec![0; rows],
+    };
+    while reader.next < reader.words.len() {
+        reader.statement(&mut tables)?;
+    }
+    let wrong = |cells: &[i64], width: usize| cells.chunks(width).any(|row| row.iter().sum::<i64>() != THOUSAND);
+    if start.iter().sum::<i64>() != TOTAL {
+        return Err(Refused::at(4, file.len()));
+    }
+    if wrong(&tables.transitions, states) {
+        return Err(Refused::at(5, file.len()));
+    }
+    if wrong(&tables.sights, observations) {
+        return Err(Refused::at(6, file.len()));
+    }
+    Ok((tables, start))
+}

@@ -1,0 +1,214 @@
+//! Reading a model file as well as we can: word by word, digits as they come, and nothing allocated but the tables.
+
+use crate::limits::*;
+
+type Answer<Value> = Result<Value, Refused>;
+
+/// The file and the offset that was reached.
+struct Reader<'a> {
+    file: &'a [u8],
+    offset: usize,
+}
+
+/// A word and the bytes before it.
+#[derive(Clone, Copy)]
+struct Word<'a> {
+    bytes: &'a [u8],
+    place: usize,
+}
+
+impl Word<'_> {
+    fn refused(&self, number: u8) -> Refused {
+        Refused::at(number, self.place)
+    }
+
+    /// Form, then limit.
+    fn within(&self, value: Option<i64>, least: i64, most: i64) -> Answer<i64> {
+        match value {
+            None => Err(self.refused(2)),
+            Some(value) if (least..=most).contains(&value) => Ok(value),
+            Some(_) => Err(self.refused(3)),
+        }
+    }
+}
+
+/// The value of digits, optionally a point and decimals, in units of the last possible decimal.
+fn amount(bytes: &[u8], most_digits: usize, most_decimals: usize) -> Option<i64> {
+    let mut value = 0;
+    let mut digits = 0;
+    let mut decimals = None;
+    for &byte in bytes {
+        match (byte, &mut decimals) {
+            (b'0'..=b'9', None) if digits < most_digits => digits += 1,
+            (b'0'..=b'9', Some(decimals)) if *decimals < most_decimals => *decimals += 1,
+            (b'.', None) if digits > 0 => {
+                decimals = Some(0);
+                continue;
+            }
+            _ => return None,
+        }
+        value = value * 10 + i64::from(byte - b'0');
+    }
+    if digits == 0 || decimals == Some(0) {
+        return None;
+    }
+    for _ in decimals.unwrap_or(0)..most_decimals {
+        value *= 10;
+    }
+    Some(value)
+}
+
+impl<'a> Reader<'a> {
+    /// The next word, if any is left.
+    fn next(&mut self) -> Option<Word<'a>> {
+        let mut rest = &self.file[self.offset..];
+        loop {
+            match rest.first()? {
+                b' ' | b'\t' | b'\r' | b'\n' => rest = &rest[1..],
+                b'#' => rest = &rest[rest.iter().position(|&byte| byte == b'\n')?..],
+                _ => break,
+            }
+        }
+        let ends = |byte: &u8| matches!(byte, b' ' | b'\t' | b'\r' | b'\n' | b':' | b'#');
+        let length = rest.iter().position(ends).unwrap_or(rest.len()).max(1);
+        let place = self.file.len() - rest.len();
+        self.offset = place + length;
+        Some(Word { bytes: &rest[..length], place })
+    }
+
+    fn word(&mut self) -> Answer<Word<'a>> {
+        self.next().ok_or_else(|| Refused::at(2, self.file.len()))
+    }
+
+    fn key(&mut self, key: &[u8]) -> Answer<()> {
+        let word = self.word()?;
+        if word.bytes == key {
+            Ok(())
+        } else {
+            Err(word.refused(2))
+        }
+    }
+
+    fn header(&mut self, key: &[u8]) -> Answer<()> {
+        self.key(key)?;
+        self.key(b":")
+    }
+
+    fn count(&mut self, most: usize) -> Answer<usize> {
+        let word = self.word()?;
+        word.within(amount(word.bytes, 2, 0), 1, most as i64).map(|count| count as usize)
+    }
+
+    /// The first of the indices that a word stands for, and the one after the last.
+    fn indices(&mut self, count: usize) -> Answer<(usize, usize)> {
+        self.key(b":")?;
+        let word = self.word()?;
+        if word.bytes == b"*" {
+            return Ok((0, count));
+        }
+        let index = word.within(amount(word.bytes, 2, 0), 0, count as i64 - 1)? as usize;
+        Ok((index, index + 1))
+    }
+
+    /// Rows of T or of O: a colon, indices and one number, or a number for each cell.
+    fn rows(&mut self, cells: &mut [i64], n: usize, width: usize, actions: usize) -> Answer<()> {
+        let (first_action, after_action) = self.indices(actions)?;
+        let (first_state, after_state) = self.indices(n)?;
+        let mut row = [0; STATES];
+        let before = self.offset;
+        let word = self.word()?;
+        let (first, after) = if word.bytes == b":" {
+            self.offset = before;
+            let (first, after) = self.indices(width)?;
+            row[first..after].fill(self.share()?);
+            (first, after)
+        } else {
+            row[0] = word.within(amount(word.bytes, 1, 3), 0, THOUSAND)?;
+            for cell in &mut row[1..width] {
+                *cell = self.share()?;
+            }
+            (0, width)
+        };
+        for a in first_action..after_action {
+            for s in first_state..after_state {
+                let at = (a * n + s) * width;
+                cells[at + first..at + after].copy_from_slice(&row[first..after]);
+            }
+        }
+        Ok(())
+    }
+
+    fn share(&mut self) -> Answer<i64> {
+        let word = self.word()?;
+        word.within(amount(word.bytes, 1, 3), 0, THOUSAND)
+    }
+
+    fn rewards(&mut self, cells: &mut [i64], n: usize, actions: usize) -> Answer<()> {
+        let (first_action, after_action) = self.indices(actions)?;
+        let (first_state, after_state) = self.indices(n)?;
+        for key in [b":", b"*", b":", b"*"] {
+            self.key(key)?;
+        }
+        let word = self.word()?;
+        let reward = match word.bytes.strip_prefix(b"-") {
+            Some(digits) => -word.within(amount(digits, 4, 2), 0, REWARD)?,
+            None => word.within(amount(word.bytes, 4, 2), 0, REWARD)?,
+        };
+        for a in first_action..after_action {
+            cells[a * n + first_state..a * n + after_state].fill(reward);
+        }
+        Ok(())
+    }
+}
+
+/// Reads a model file: its tables and start numbers.
+pub fn read(file: &[u8]) -> Answer<(Tables, Vec<i64>)> {
+    if file.len() > FILE_BYTES {
+        return Err(Refused::at(1, 0));
+    }
+    let mut reader = Reader { file, offset: 0 };
+    reader.header(b"discount")?;
+    let discount = reader.share()?;
+    reader.header(b"values")?;
+    reader.key(b"reward")?;
+    reader.header(b"states")?;
+    let states = reader.count(STATES)?;
+    reader.header(b"actions")?;
+    let actions = reader.count(ACTIONS)?;
+    reader.header(b"observations")?;
+    let observations = reader.count(OBSERVATIONS)?;
+    reader.header(b"start")?;
+    let mut start = vec![0; states];
+    for number in &mut start {
+        let word = reader.word()?;
+        *number = word.within(amount(word.bytes, 1, 2), 0, TOTAL)?;
+    }
+    let rows = actions * states;
+    let mut tables = Tables {
+        states,
+        actions,
+        observations,
+        discount,
+        transitions: vec![0; rows * states],
+        sights: vec![0; rows * observations],
+        rewards: vec![0; rows],
+    };
+    while let Some(word) = reader.next() {
+        match word.bytes {
+            b"T" => reader.rows(&mut tables.transitions, states, states, actions)?,
+            b"O" => reader.rows(&mut tables.sights, states, observations, actions)?,
+            b"R" => reader.rewards(&mut tables.rewards, states, actions)?,
+            _ => return Err(word.refused(2)),
+        }
+    }
+    let wrong = |cells: &[i64], width: usize| cells.chunks_exact(width).any(|row| row.iter().sum::<i64>() != THOUSAND);
+    let tests = [
+        (4, start.iter().sum::<i64>() != TOTAL),
+        (5, wrong(&tables.transitions, states)),
+        (6, wrong(&tables.sights, observations)),
+    ];
+    match tests.iter().find(|(_, wrong)| *wrong) {
+        Some(&(number, _)) => Err(Refused::at(number, file.len())),
+        None => Ok((tables, start)),
+    }
+}

@@ -1,0 +1,11 @@
+//! Cases for whatever answers by document 01, random and repeatable, and their comparison with the reference.
+
+pub mod bracket;
+pub mod calls;
+pub mod files;
+pub mod gen;
+pub mod options;
+pub mod program;
+pub mod rng;
+pub mod show;
+pub mod traps;
