@@ -3,6 +3,8 @@
 use crate::gen::{self, Shape};
 use crate::rng::Rng;
 use reference::{Tables, FILE_BYTES, THOUSAND};
+use std::path::Path;
+use std::{fs, io};
 
 /// The model that the document prints, 235 bytes.
 pub const DOUGH: &str = "\
@@ -106,6 +108,29 @@ impl Case {
     fn new(about: impl Into<String>, file: impl Into<Vec<u8>>) -> Case {
         Case { about: about.into(), file: file.into() }
     }
+}
+
+/// The files of a folder by name, if there is one: each whole, and cut in a few places.
+pub fn examples(folder: &Path, seed: u64) -> io::Result<Vec<(String, Case)>> {
+    let mut cases = Vec::new();
+    if !folder.is_dir() {
+        return Ok(cases);
+    }
+    let entries: io::Result<Vec<fs::DirEntry>> = fs::read_dir(folder)?.collect();
+    let mut paths: Vec<_> = entries?.iter().map(fs::DirEntry::path).filter(|path| path.is_file()).collect();
+    paths.sort();
+    for path in paths {
+        let file = fs::read(&path)?;
+        let name = path.display().to_string();
+        let mut rng = Rng::for_case(seed, &name, 0);
+        for _ in 0..10 {
+            let length = rng.index(file.len() + 1);
+            let about = format!("{} cut at {}", name, length);
+            cases.push((format!("example {}", name), Case { about, file: file[..length].to_vec() }));
+        }
+        cases.push((format!("example {}", name), Case { about: name.clone(), file }));
+    }
+    Ok(cases)
 }
 
 /// The files that are the same for every seed.

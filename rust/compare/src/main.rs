@@ -1,13 +1,16 @@
-//! Compares the program `ladder` with the reference on many model files, and the reference with all plans of small models.
+//! Compares the program `ladder` with the reference on many model files, and the reference with all plans of small models;
+//! or the linked library with both.
 //!
 //! Everything is repeatable: a random case depends on the seed, its suite and its number alone. The suites are
 //! - `fixed`: files that are the same for every seed (each word and byte of a model damaged in turn, cut at every byte, lengths at and
 //!   past the longest),
 //! - `random`: random models in random dress, half of them damaged,
 //! - `plans`: lists of offers upon small models, the totals held against the best of all plans,
-//! - `calls`: storage of any content, used with `--traps`.
+//! - `calls`: storage of any content, lists of offers up to level 100 and past it, used with `--library` and `--traps`,
+//! - `words`: one call on words of any content and length, every buffer compared whole, used with `--library`.
 //!
-//! From the root of the repository: `rust/target/release/compare target/bin/ladder`.
+//! From the root of the repository: `rust/target/release/compare target/bin/ladder`; with the feature `library`,
+//! `rust/target/release/compare --library`.
 //!
 //! The command ends with 0 if nothing differs, with 1 after the first difference, with 2 if it could not run.
 
@@ -47,6 +50,9 @@ fn main() -> ExitCode {
 
 /// Does what was asked for; whether all was well.
 fn run(options: &Options) -> io::Result<bool> {
+    if options.library {
+        return library(options);
+    }
     let answerer = match &options.program {
         Some(path) => Answerer::Program(path.clone()),
         None => Answerer::Copy(Rules::default()),
@@ -69,6 +75,17 @@ fn run(options: &Options) -> io::Result<bool> {
     Ok(well)
 }
 
+/// Compares the linked library.
+#[cfg(feature = "library")]
+fn library(options: &Options) -> io::Result<bool> {
+    compare::suites::run(options, &compare::library::Linked)
+}
+
+#[cfg(not(feature = "library"))]
+fn library(_: &Options) -> io::Result<bool> {
+    Err(io::Error::new(io::ErrorKind::Unsupported, "built without the feature `library`"))
+}
+
 /// A comparison under way.
 struct Comparison<'a> {
     options: &'a Options,
@@ -89,7 +106,7 @@ impl Comparison<'_> {
             }
         }
         println!("fixed files: {}, {} s", fixed.len(), start.elapsed().as_secs());
-        let examples = self.examples()?;
+        let examples = files::examples(&self.options.examples, self.options.seed)?;
         for (name, case) in &examples {
             if !self.file(name, case)? {
                 return Ok(false);
@@ -217,28 +234,5 @@ impl Comparison<'_> {
             None => println!("(--save PATH writes it to a file)"),
         }
         Ok(())
-    }
-
-    /// The example files by name, if there are any: each whole, and cut in a few places.
-    fn examples(&self) -> io::Result<Vec<(String, files::Case)>> {
-        let mut cases = Vec::new();
-        if !self.options.examples.is_dir() {
-            return Ok(cases);
-        }
-        let entries: io::Result<Vec<fs::DirEntry>> = fs::read_dir(&self.options.examples)?.collect();
-        let mut paths: Vec<_> = entries?.iter().map(fs::DirEntry::path).filter(|path| path.is_file()).collect();
-        paths.sort();
-        for path in paths {
-            let file = fs::read(&path)?;
-            let name = path.display().to_string();
-            let mut rng = Rng::for_case(self.options.seed, &name, 0);
-            for _ in 0..10 {
-                let length = rng.index(file.len() + 1);
-                let about = format!("{} cut at {}", name, length);
-                cases.push((format!("example {}", name), files::Case { about, file: file[..length].to_vec() }));
-            }
-            cases.push((format!("example {}", name), files::Case { about: name.clone(), file }));
-        }
-        Ok(cases)
     }
 }

@@ -5,11 +5,12 @@ use std::path::PathBuf;
 /// How the command is used.
 pub const USAGE: &str = "\
 usage: compare LADDER [OPTIONS]     compare the program at the path LADDER with the reference
+       compare --library [OPTIONS]  compare the linked library with the reference
        compare --self [OPTIONS]     compare the reference with itself
   --seed N         the seed of the random cases (default 1)
   --seconds N      go on with random cases until so many seconds have passed (default: a fixed number of cases)
   --traps          show that each trap is caught: a copy of the rules with that trap must differ
-  --only SUITE:N   one case alone: fixed:N, random:N, calls:N or plans:N
+  --only SUITE:N   one case alone: fixed:N, random:N, calls:N, plans:N or words:N
   --file PATH      one file alone
   --save PATH      where to write the case that differs (the file, or the case in words)
   --examples DIR   model files to compare as well (default: examples)";
@@ -17,8 +18,9 @@ usage: compare LADDER [OPTIONS]     compare the program at the path LADDER with 
 /// What was asked for.
 #[derive(Debug)]
 pub struct Options {
-    /// The program to compare with, or none for the reference itself.
+    /// The program to compare with, or none for the library or the reference itself.
     pub program: Option<PathBuf>,
+    pub library: bool,
     pub seed: u64,
     pub seconds: Option<u64>,
     pub traps: bool,
@@ -33,6 +35,7 @@ impl Options {
     pub fn parse(words: impl Iterator<Item = String>) -> Result<Options, String> {
         let mut options = Options {
             program: None,
+            library: false,
             seed: 1,
             seconds: None,
             traps: false,
@@ -47,6 +50,7 @@ impl Options {
             let mut value = || words.next().ok_or_else(|| format!("{} wants a value", word));
             match word.as_str() {
                 "--self" => itself = true,
+                "--library" => options.library = true,
                 "--traps" => options.traps = true,
                 "--seed" => options.seed = number(&value()?)?,
                 "--seconds" => options.seconds = Some(number(&value()?)?),
@@ -59,8 +63,8 @@ impl Options {
                 _ => options.program = Some(PathBuf::from(word)),
             }
         }
-        if options.program.is_some() == itself {
-            return Err("either a program's path or --self is wanted".to_string());
+        if usize::from(options.program.is_some()) + usize::from(options.library) + usize::from(itself) != 1 {
+            return Err("either a program's path, --library or --self is wanted".to_string());
         }
         Ok(options)
     }
