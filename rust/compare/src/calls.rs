@@ -1,10 +1,10 @@
 //! Calls on storage of any content: opening, offers, totals, building, the worth of plan graphs.
 
-use crate::gen::{self, List, Question, Step, DOCUMENT};
+use crate::gen::{self, List, Question, Shape, Step, DOCUMENT};
 use crate::rng::Rng;
 use crate::show;
 use num_bigint::BigInt;
-use reference::{Certifier, Graph, Level, Points, Refusal, Rules, Tables, Totals};
+use reference::{Certifier, Graph, Level, Points, Refusal, Rules, Tables, Totals, REWARD, STEPS};
 
 /// What can be called. A library is compared with the reference by having these functions.
 pub trait Calls {
@@ -86,6 +86,20 @@ pub fn random(rng: &mut Rng, number: u64) -> Case {
             Case::Handed(certifier, steps)
         }
     }
+}
+
+/// A random case at the ends of all ranges; now and then with all counts at their limits.
+pub fn at_ends(rng: &mut Rng, number: u64) -> Case {
+    let shape = if number % 250 == 0 { Shape::LARGEST } else { gen::shape(rng) };
+    if number % 6 == 5 {
+        let mut tables = gen::tables(rng, shape);
+        gen::at_ends(rng, &mut tables.rewards, REWARD);
+        let graph = gen::graph(rng, shape);
+        let asked = Question { steps: STEPS, ..gen::question(rng, &graph, shape) };
+        return Case::Worth(tables, graph, asked);
+    }
+    let (certifier, steps) = gen::ends(rng, shape);
+    Case::Handed(certifier, steps)
 }
 
 impl Case {
@@ -195,6 +209,16 @@ mod tests {
         }
         let all: BTreeSet<u8> = [0, 3].into_iter().chain(5..=18).collect();
         assert_eq!(seen, all);
+    }
+
+    #[test]
+    fn cases_at_the_ends_are_served_and_refused() {
+        let mut seen = BTreeSet::new();
+        for at in 1..200 {
+            seen.extend(numbers(&at_ends(&mut Rng::for_case(1, "ends", at), at)));
+        }
+        assert!(seen.is_superset(&BTreeSet::from([0, 8, 13, 14, 15, 16])));
+        assert!(!seen.contains(&7));
     }
 
     #[test]

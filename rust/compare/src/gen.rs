@@ -568,3 +568,74 @@ pub fn handed(rng: &mut Rng, shape: Shape) -> (Certifier, Vec<Step>) {
     steps.push(Step::Offer(offered));
     (certifier, steps)
 }
+
+/// Cells at one end of a range or the other: all at the upper, all at the lower, or each at either.
+pub fn at_ends(rng: &mut Rng, cells: &mut [i64], end: i64) {
+    let style = rng.below(4);
+    for cell in cells {
+        let up = match style {
+            0 => true,
+            1 => false,
+            _ => rng.once_in(2),
+        };
+        *cell = if up { end } else { -end };
+    }
+}
+
+/// A level for t whose every number is at an end of its range; where all counts are at their limits, so are its own.
+fn level_at_ends(rng: &mut Rng, shape: Shape, t: u64) -> Level {
+    let Shape { n, m, .. } = shape;
+    let (ticks, values) = ranges(t);
+    let (vectors, points) = match shape {
+        Shape::LARGEST => (VECTORS, POINTS),
+        _ => (rng.pick(&[1, 2, VECTORS]), rng.pick(&[0, 1, 2, POINTS])),
+    };
+    let mut level = Level { vectors: vectors as u64, points: points as u64, ..Level::zero() };
+    for action in &mut level.actions[..vectors] {
+        *action = rng.below(m as u64);
+    }
+    at_ends(rng, &mut level.entries[..vectors * n], ticks);
+    at_ends(rng, &mut level.corners[..n], ticks);
+    for j in 0..points {
+        level.weights[j * n..(j + 1) * n].copy_from_slice(&shares(rng, n, POINT_TOTAL));
+    }
+    at_ends(rng, &mut level.values[..points], values);
+    // Choices stay at 0: the level below has at least one vector.
+    level
+}
+
+/// A certifier whose rewards and standing level are at the ends of their ranges, and calls on it with such levels: the
+/// largest sums that can occur.
+pub fn ends(rng: &mut Rng, shape: Shape) -> (Certifier, Vec<Step>) {
+    let n = shape.n;
+    let mut tables = tables(rng, shape);
+    tables.discount = rng.pick(&[THOUSAND, THOUSAND, THOUSAND - 1]);
+    at_ends(rng, &mut tables.rewards[..shape.m * n], REWARD);
+    let level = rng.pick(&[0, 1, 50, LEVELS - 2, LEVELS - 1, LEVELS - 1, LEVELS - 1, LEVELS]);
+    let standing = level_at_ends(rng, shape, level);
+    let certifier = Certifier { tables, standing, level };
+    let mut most = vec![WEIGHT; STATES];
+    most[rng.index(STATES)] = 0;
+    let count = match shape {
+        Shape::LARGEST => BUILT_POINTS,
+        _ if n > 4 => 1,
+        _ => rng.pick(&[0, 1, 3, BUILT_POINTS]),
+    };
+    let mut lowest = level_at_ends(rng, shape, level + 1);
+    let (ticks, values) = ranges(level + 1);
+    let (vectors, points) = (lowest.vectors as usize, lowest.points as usize);
+    let any = lowest.clone();
+    // The loosest level of all passes.
+    lowest.entries[..vectors * n].fill(-ticks);
+    lowest.corners[..n].fill(ticks);
+    lowest.values[..points].fill(values);
+    let steps = vec![
+        Step::Totals(vec![WEIGHT; STATES]),
+        Step::Totals(most),
+        Step::Build(self::points(rng, n, count)),
+        Step::Offer(any),
+        if rng.once_in(2) { Step::Offer(lowest) } else { Step::Raise(self::points(rng, n, count)) },
+        Step::Totals(vec![WEIGHT; STATES]),
+    ];
+    (certifier, steps)
+}

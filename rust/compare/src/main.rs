@@ -7,6 +7,7 @@
 //! - `random`: random models in random dress, half of them damaged,
 //! - `plans`: lists of offers upon small models, the totals held against the best of all plans,
 //! - `calls`: storage of any content, lists of offers up to level 100 and past it, used with `--library` and `--traps`,
+//! - `ends`: storage with every number at an end of its range, for the largest sums, used with `--library`,
 //! - `words`: one call on words of any content and length, every buffer compared whole, used with `--library`.
 //!
 //! From the root of the repository: `rust/target/release/compare target/bin/ladder`; with the feature `library`,

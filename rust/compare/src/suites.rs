@@ -10,10 +10,11 @@ use std::time::{Duration, Instant};
 use std::{fs, io};
 
 /// How many random cases there are unless a time is given.
-const FILES: u64 = 8_000;
-const CALLS: u64 = 3_000;
-const WORDS: u64 = 8_000;
-const PLANS: u64 = 600;
+const FILES: u64 = 10_000;
+const CALLS: u64 = 5_000;
+const ENDS: u64 = 1_500;
+const WORDS: u64 = 15_000;
+const PLANS: u64 = 1_000;
 
 /// How many calls on words each slip is looked for in.
 const HUNTED: u64 = 3_000;
@@ -67,8 +68,9 @@ impl Suites<'_> {
         println!("fixed files: {}, examples: {}, {} s", fixed.len(), examples.len(), start.elapsed().as_secs());
 
         let limit = self.options.seconds.map(Duration::from_secs);
-        let all = FILES + CALLS + WORDS + PLANS;
-        let mut done = [("random", FILES, 0), ("calls", CALLS, 0), ("words", WORDS, 0), ("plans", PLANS, 0)];
+        let shares = [("random", FILES), ("calls", CALLS), ("ends", ENDS), ("words", WORDS), ("plans", PLANS)];
+        let all: u64 = shares.iter().map(|(_, share)| share).sum();
+        let mut done = shares.map(|(suite, share)| (suite, share, 0));
         let mut turn = 0;
         while limit.map_or(turn < all, |limit| start.elapsed() < limit) {
             for (suite, share, count) in &mut done {
@@ -106,6 +108,7 @@ impl Suites<'_> {
             }
             "random" => println!("{}", files::escaped(&files::random(&mut rng).file)),
             "calls" => print!("{}", calls::random(&mut rng, number).show()),
+            "ends" => print!("{}", calls::at_ends(&mut rng, number).show()),
             "plans" => print!("{}", show::list(&bracket::random(&mut rng))),
             "words" => print!("{}", library::random(&mut rng)),
             _ => return Err(unknown("there is no such suite")),
@@ -120,8 +123,9 @@ impl Suites<'_> {
         match suite {
             "random" => self.call(&name, &library::reading(&files::random(&mut rng).file)),
             "words" => self.call(&name, &library::random(&mut rng)),
-            "calls" => {
-                let case = calls::random(&mut rng, number);
+            "calls" | "ends" => {
+                let case =
+                    if suite == "calls" { calls::random(&mut rng, number) } else { calls::at_ends(&mut rng, number) };
                 let found = case.difference(&self.through).or_else(|| self.through.wrong());
                 self.told(&name, found, || case.show())
             }
@@ -194,7 +198,7 @@ mod tests {
         let words = ["--library", "--examples", "nowhere"].iter().map(|word| word.to_string());
         let mut options = Options::parse(words).unwrap();
         let copy = Copied::default();
-        for only in [("fixed", 3), ("random", 5), ("calls", 7), ("plans", 2), ("words", 11)] {
+        for only in [("fixed", 3), ("random", 5), ("calls", 7), ("ends", 1), ("plans", 2), ("words", 11)] {
             options.only = Some((only.0.to_string(), only.1));
             assert!(run(&options, &copy).unwrap());
         }
