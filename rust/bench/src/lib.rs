@@ -3,6 +3,7 @@
 
 pub mod convert;
 pub mod floating;
+pub mod inputs;
 pub mod limits;
 pub mod plain;
 pub mod plain_file;
