@@ -11,9 +11,9 @@ use bench::limits::{Tables, Totals, FILE_BYTES, POINTS, TOTAL, VECTORS};
 use bench::{convert, floating, plain, plain_file, tuned, tuned_file};
 use biidhaqun::words;
 use compare::rng::Rng;
-use std::env;
-use std::process::ExitCode;
+use std::process::{Command, ExitCode, Stdio};
 use std::time::{Duration, Instant};
+use std::{env, thread};
 
 /// As many rounds as are run if no number is given.
 const ROUNDS: usize = 41;
@@ -339,21 +339,83 @@ fn run(rounds: usize) -> Result<(), String> {
         inputs::offer(&mut rng(), LARGEST, VECTORS, points, false)
     })?;
 
-    let bytes = |words: usize| words * std::mem::size_of::<i64>();
     let words = convert::certifier_words(&certifier).len();
-    println!("\nthe words of the largest certifier: {}, {} bytes", words, bytes(words));
+    println!("\nthe words of the largest certifier: {}, {} bytes", words, words * std::mem::size_of::<i64>());
+    println!("\nthe stack that a thread needs for a call, in kilobytes");
+    for call in CALLS {
+        println!("{:<44} {:>9}", call, stack(call)?);
+    }
     Ok(())
 }
 
+/// The calls whose stack is measured.
+const CALLS: [&str; 6] = ["no call", "reading", "opening", "offering", "totals", "building"];
+/// The option by which this command calls itself to make one call on a small stack.
+const ON_STACK: &str = "--on-stack";
+
+/// The least stack on which a call ends, in kilobytes: tried in a process of its own, which a stack that is too small ends.
+fn stack(call: &str) -> Result<usize, String> {
+    let program = env::current_exe().map_err(|error| error.to_string())?;
+    let ends = |kilobytes: usize| -> Result<bool, String> {
+        let mut command = Command::new(&program);
+        let child = command.args([ON_STACK, call, &kilobytes.to_string()]).stdout(Stdio::null()).stderr(Stdio::null());
+        child.status().map(|status| status.success()).map_err(|error| error.to_string())
+    };
+    let (mut few, mut enough) = (0, 4_096);
+    if !ends(enough)? {
+        return Err(format!("{} does not end on a stack of {} kilobytes", call, enough));
+    }
+    while enough - few > 4 {
+        let middle = (few + enough) / 2;
+        if ends(middle)? {
+            enough = middle;
+        } else {
+            few = middle;
+        }
+    }
+    Ok(enough)
+}
+
+/// Makes one call of the library in a thread with so large a stack.
+fn on_stack(call: &str, kilobytes: usize) -> Result<(), String> {
+    let mut rng = Rng::for_case(1, "bench", 0);
+    let (certifier, level) = inputs::offer(&mut rng, LARGEST, VECTORS, POINTS, false);
+    let text = inputs::file(&certifier.tables, &inputs::shares(&mut rng, 16, TOTAL), FILE_BYTES);
+    let points = convert::points_words(&inputs::points(&mut rng, 16, 16));
+    let mixture = inputs::shares(&mut rng, 16, 1_000);
+    let (tables, level) = (convert::tables_words(&certifier.tables), convert::level_words(&level));
+    let mut standing = convert::certifier_words(&certifier);
+    let (mut buffer, mut start) = (vec![0; ROOM], vec![0; 16]);
+    let call = call.to_string();
+    let made = move || match call.as_str() {
+        "reading" => words::read(text.as_bytes(), &mut buffer, &mut start).number,
+        "opening" => words::open(&tables, &mut buffer).number,
+        "offering" => words::offer(&mut standing, &level).number,
+        "totals" => words::totals(&standing, &mixture).number,
+        "building" => words::build(&standing, &points, &mut buffer).number,
+        _ => 0,
+    };
+    let thread = thread::Builder::new().stack_size(kilobytes << 10).spawn(made).map_err(|error| error.to_string())?;
+    match thread.join() {
+        Ok(0) => Ok(()),
+        Ok(number) => Err(format!("refused by {}", number)),
+        Err(_) => Err("the thread did not end".to_string()),
+    }
+}
+
 fn main() -> ExitCode {
-    let rounds = match env::args().nth(1).map_or(Ok(ROUNDS), |word| word.parse()) {
-        Ok(rounds) if rounds > 0 => rounds,
+    let words: Vec<String> = env::args().skip(1).collect();
+    let words: Vec<&str> = words.iter().map(String::as_str).collect();
+    let done = match (&words[..], words.last().map(|word| word.parse())) {
+        ([], _) => run(ROUNDS),
+        ([_], Some(Ok(rounds))) if rounds > 0 => run(rounds),
+        ([ON_STACK, call, _], Some(Ok(kilobytes))) => on_stack(call, kilobytes),
         _ => {
             eprintln!("usage: bench [ROUNDS]");
             return ExitCode::from(2);
         }
     };
-    match run(rounds) {
+    match done {
         Ok(()) => ExitCode::SUCCESS,
         Err(message) => {
             eprintln!("bench: {}", message);

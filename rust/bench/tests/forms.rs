@@ -202,6 +202,15 @@ fn calls_answer_as_the_reference() {
 }
 
 #[test]
+fn the_largest_sums_fit() {
+    for number in 0..120 {
+        let case = calls::at_ends(&mut Rng::for_case(11, "ends", number), number);
+        assert_eq!(case.difference(&Plain), None, "plain, ends:{}", number);
+        assert_eq!(case.difference(&Tuned), None, "tuned, ends:{}", number);
+    }
+}
+
+#[test]
 fn totals_bracket_all_plans() {
     for number in 0..60 {
         let list = bracket::random(&mut Rng::for_case(11, "plans", number));
