@@ -1,6 +1,6 @@
 //! How the library compares with other forms of the same calls: ratios from one run, on the same inputs.
 //!
-//! `bench [ROUNDS]`. A ratio below 1 means that the library takes less time. Each is the median over rounds in which all
+//! `bench [ROUNDS]`, or from this workspace's folder `cargo run --release -p bench --features library`. A ratio below 1 means that the library takes less time. Each is the median over rounds in which all
 //! forms take turns. The library is handed words and reads them anew in each call; the other forms hold their objects in
 //! structures of their own. The forms in whole numbers, like the library, test all that they are handed in each call; the
 //! floating form trusts its tables and tests no range. Where the forms in whole numbers do not answer alike, the command
@@ -349,7 +349,7 @@ fn run(rounds: usize) -> Result<(), String> {
 }
 
 /// The calls whose stack is measured.
-const CALLS: [&str; 6] = ["no call", "reading", "opening", "offering", "totals", "building"];
+const CALLS: [&str; 5] = ["reading", "opening", "offering", "totals", "building"];
 /// The option by which this command calls itself to make one call on a small stack.
 const ON_STACK: &str = "--on-stack";
 

@@ -20,24 +20,48 @@ mod linked {
     use crate::words::{Ended, EndedTotals, EndedWorth, WordCalls};
     use biidhaqun::words as library;
 
+    /// The number of a call that wrote outside of the buffer lent to it: none ends with it.
+    const OUTSIDE: u64 = u64::MAX;
+    /// What lies on both sides of a lent buffer, and how many words of it.
+    const EDGE: (i64, usize) = (0x5ee5_5ee5_5ee5, 64);
+
     fn ended(number: u64, place: usize) -> Ended {
         Ended { number, place: place as u64 }
     }
 
+    /// Lends a copy of a buffer that lies between edges, and takes over what was written into it.
+    fn lend(buffer: &mut [i64], call: impl FnOnce(&mut [i64]) -> library::Ended) -> Ended {
+        let (edge, width) = EDGE;
+        let end = width + buffer.len();
+        let mut room = vec![edge; end + width];
+        room[width..end].copy_from_slice(buffer);
+        let x = call(&mut room[width..end]);
+        buffer.copy_from_slice(&room[width..end]);
+        let kept = room[..width].iter().chain(&room[end..]).all(|&word| word == edge);
+        ended(if kept { x.number } else { OUTSIDE }, x.place)
+    }
+
     impl WordCalls for Linked {
         fn read(&self, file: &[u8], tables: &mut [i64], start: &mut [i64]) -> Ended {
-            let x = library::read(file, tables, start);
-            ended(x.number, x.place)
+            let mut outside = false;
+            let x = lend(tables, |tables| {
+                let mut answer = library::Ended { number: 0, place: 0 };
+                let x = lend(start, |start| {
+                    answer = library::read(file, tables, start);
+                    answer
+                });
+                outside = x.number == OUTSIDE;
+                answer
+            });
+            ended(if outside { OUTSIDE } else { x.number }, x.place as usize)
         }
 
         fn open(&self, tables: &[i64], certifier: &mut [i64]) -> Ended {
-            let x = library::open(tables, certifier);
-            ended(x.number, x.place)
+            lend(certifier, |certifier| library::open(tables, certifier))
         }
 
         fn offer(&self, certifier: &mut [i64], level: &[i64]) -> Ended {
-            let x = library::offer(certifier, level);
-            ended(x.number, x.place)
+            lend(certifier, |certifier| library::offer(certifier, level))
         }
 
         fn totals(&self, certifier: &[i64], mixture: &[i64]) -> EndedTotals {
@@ -47,8 +71,7 @@ mod linked {
         }
 
         fn build(&self, certifier: &[i64], points: &[i64], level: &mut [i64]) -> Ended {
-            let x = library::build(certifier, points, level);
-            ended(x.number, x.place)
+            lend(level, |level| library::build(certifier, points, level))
         }
 
         fn worth(&self, tables: &[i64], graph: &[i64], asked: Question) -> EndedWorth {
