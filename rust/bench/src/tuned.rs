@@ -105,26 +105,12 @@ impl Level {
 
     /// The ceiling at q.
     fn ceiling(&self, gains: &Gains, q: &[i64]) -> i64 {
-        let mut best = 0;
-        for (p, &gain) in self.weights.chunks_exact(q.len()).zip(gains) {
-            if gain <= 0 {
-                continue;
-            }
-            let least = best + 1;
-            if q.iter().zip(p).any(|(q, p)| q * gain < least * p) {
-                continue;
-            }
-            // Any state with weight takes the place of the first ratio, which is over nothing.
-            let (mut top, mut under) = (1, 0);
-            for (&q, &p) in q.iter().zip(p) {
-                if q * under < top * p {
-                    top = q;
-                    under = p;
-                }
-            }
-            best = top * gain / under;
-        }
-        dot(&self.corners, q) - best
+        // With the largest number of states, the loops over them have a length that the compiler knows.
+        let drop = match <&[i64; STATES]>::try_from(q) {
+            Ok(q) => largest_drop(&self.weights, gains, q, STATES),
+            Err(_) => largest_drop(&self.weights, gains, q, q.len()),
+        };
+        dot(&self.corners, q) - drop
     }
 
     /// The first vector with the largest product with q, and that product.
@@ -138,6 +124,37 @@ impl Level {
         }
         best
     }
+}
+
+/// The largest drop of a point at q, or 0.
+#[inline(always)]
+fn largest_drop(weights: &[i64], gains: &Gains, q: &[i64], n: usize) -> i64 {
+    let mut best = 0;
+    for (p, &gain) in weights.chunks_exact(n).zip(gains) {
+        if gain <= 0 {
+            continue;
+        }
+        let least = best + 1;
+        if q.iter().zip(p).any(|(q, p)| q * gain < least * p) {
+            continue;
+        }
+        best = drop_of(q, p, gain);
+    }
+    best
+}
+
+/// The drop of a point: the smallest ratio by cross-multiplication, and one division.
+#[inline(never)]
+fn drop_of(q: &[i64], p: &[i64], gain: i64) -> i64 {
+    // Any state with weight takes the place of the first ratio, which is over nothing.
+    let (mut top, mut under) = (1, 0);
+    for (&q, &p) in q.iter().zip(p) {
+        if q * under < top * p {
+            top = q;
+            under = p;
+        }
+    }
+    top * gain / under
 }
 
 /// Opens a certifier on tables.
