@@ -61,7 +61,7 @@ pub fn give_level(words: &mut [i64], l: Level, n: usize, k: usize) -> Refusal
     let size = given::level_size(n, k, l.vectors, l.points);
     if words.len() < size {
         return Refusal {
-            number: 100,
+            number: Refusal::SHORT,
             place: size,
         };
     }
@@ -88,7 +88,7 @@ pub fn give_certifier(words: &mut [i64], c: Certifier) -> Refusal
         + given::level_size(n, k, l.vectors, l.points);
     if words.len() < size {
         return Refusal {
-            number: 100,
+            number: Refusal::SHORT,
             place: size,
         };
     }

@@ -19,6 +19,10 @@ pub struct Refusal {
     pub place: usize,
 }
 
+impl Refusal {
+    pub const SHORT: u64 = 100; // the buffer lent for the answer is too short
+}
+
 #[repr(C)]
 pub struct Worth {
     pub number: u64,
@@ -68,13 +72,13 @@ pub extern "C" fn biidhaqun_read(file: &[u8], tables: &mut [i64], start: &mut [i
     let size = given::tables_size(n, m.actions, m.observations);
     if tables.len() < size {
         return Refusal {
-            number: 100,
+            number: Refusal::SHORT,
             place: size,
         };
     }
     if start.len() < n {
         return Refusal {
-            number: 100,
+            number: Refusal::SHORT,
             place: n,
         };
     }

@@ -111,7 +111,7 @@ struct Measured {
     /// The library's time over that of the obvious, the tuned and the floating form.
     ratios: [f64; 3],
     /// The library's time, for growth alone.
-    library: f64,
+    ours: f64,
 }
 
 fn measure(mut forms: Forms, rounds: usize) -> Measured {
@@ -128,7 +128,7 @@ fn measure(mut forms: Forms, rounds: usize) -> Measured {
         println!();
     }
     let ratio = |other: &[f64]| median(times[0].iter().zip(other).map(|(library, other)| library / other).collect());
-    Measured { ratios: [ratio(&times[1]), ratio(&times[2]), ratio(&times[3])], library: median(times[0].clone()) }
+    Measured { ratios: [ratio(&times[1]), ratio(&times[2]), ratio(&times[3])], ours: median(times[0].clone()) }
 }
 
 /// How many calls of a form fill a slice.
@@ -289,7 +289,7 @@ fn head(title: &str, last: &str) {
 
 fn line(name: &str, measured: &Measured, first: Option<f64>) {
     let [obvious, tuned, floating] = measured.ratios;
-    let growth = first.map_or(String::new(), |first| format!("{:>6.2}", measured.library / first));
+    let growth = first.map_or(String::new(), |first| format!("{:>6.2}", measured.ours / first));
     println!("{:<44} {:>9.2} {:>9.2} {:>9.2}  {}", name, obvious, tuned, floating, growth);
 }
 
@@ -305,7 +305,7 @@ fn growth(
     for &size in sizes {
         let (certifier, level) = input(size);
         let measured = measure(offering(&certifier, &level)?, rounds);
-        let least = *first.get_or_insert(measured.library);
+        let least = *first.get_or_insert(measured.ours);
         line(&size.to_string(), &measured, Some(least));
     }
     Ok(())

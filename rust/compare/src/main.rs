@@ -51,7 +51,7 @@ fn main() -> ExitCode {
 
 /// Does what was asked for; whether all was well.
 fn run(options: &Options) -> io::Result<bool> {
-    if options.library {
+    if options.linked {
         return library(options);
     }
     let answerer = match &options.program {

@@ -20,7 +20,7 @@ usage: compare LADDER [OPTIONS]     compare the program at the path LADDER with 
 pub struct Options {
     /// The program to compare with, or none for the library or the reference itself.
     pub program: Option<PathBuf>,
-    pub library: bool,
+    pub linked: bool,
     pub seed: u64,
     pub seconds: Option<u64>,
     pub traps: bool,
@@ -35,7 +35,7 @@ impl Options {
     pub fn parse(words: impl Iterator<Item = String>) -> Result<Options, String> {
         let mut options = Options {
             program: None,
-            library: false,
+            linked: false,
             seed: 1,
             seconds: None,
             traps: false,
@@ -50,7 +50,7 @@ impl Options {
             let mut value = || words.next().ok_or_else(|| format!("{} wants a value", word));
             match word.as_str() {
                 "--self" => itself = true,
-                "--library" => options.library = true,
+                "--library" => options.linked = true,
                 "--traps" => options.traps = true,
                 "--seed" => options.seed = number(&value()?)?,
                 "--seconds" => options.seconds = Some(number(&value()?)?),
@@ -63,7 +63,7 @@ impl Options {
                 _ => options.program = Some(PathBuf::from(word)),
             }
         }
-        if usize::from(options.program.is_some()) + usize::from(options.library) + usize::from(itself) != 1 {
+        if usize::from(options.program.is_some()) + usize::from(options.linked) + usize::from(itself) != 1 {
             return Err("either a program's path, --library or --self is wanted".to_string());
         }
         Ok(options)

@@ -21,7 +21,7 @@ const HUNTED: u64 = 3_000;
 
 /// Does what was asked for; whether all was well.
 pub fn run(options: &Options, library: &dyn WordCalls) -> io::Result<bool> {
-    let mut suites = Suites { options, library, through: ByWords::new(library), tally: BTreeMap::new() };
+    let mut suites = Suites { options, linked: library, through: ByWords::new(library), tally: BTreeMap::new() };
     let well = if options.traps {
         suites.slips()
     } else if let Some(path) = &options.file {
@@ -39,7 +39,7 @@ pub fn run(options: &Options, library: &dyn WordCalls) -> io::Result<bool> {
 
 struct Suites<'a> {
     options: &'a Options,
-    library: &'a dyn WordCalls,
+    linked: &'a dyn WordCalls,
     through: ByWords<'a>,
     /// How many calls on words ended in which way.
     tally: BTreeMap<u64, u64>,
@@ -140,7 +140,7 @@ impl Suites<'_> {
     /// Whether a call on words ends as by the reference, and leaves the same in every buffer.
     fn call(&mut self, name: &str, call: &Call) -> io::Result<bool> {
         *self.tally.entry(call.number()).or_insert(0) += 1;
-        self.told(name, call.difference(self.library), || call.to_string())
+        self.told(name, call.difference(self.linked), || call.to_string())
     }
 
     /// Tells a difference, if there is one.
@@ -164,7 +164,7 @@ impl Suites<'_> {
         let mut left: Vec<Slip> = Slip::ALL.to_vec();
         for number in 0..HUNTED {
             let call = library::random(&mut self.rng("words", number));
-            let answer = call.made(self.library);
+            let answer = call.made(self.linked);
             if answer != call.made(&Copied::default()) {
                 println!("DIFFERENCE between the library and the reference in words:{}; run without --traps", number);
                 return false;
