@@ -2,3 +2,4 @@
 pub mod Candidates
 pub mod Actions
 pub mod Levels
+pub mod Prelude

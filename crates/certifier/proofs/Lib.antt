@@ -3,3 +3,4 @@ pub mod Stages
 pub mod Offers
 pub mod Bounds
 pub mod Building
+pub mod Prelude

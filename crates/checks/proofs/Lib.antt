@@ -1,3 +1,4 @@
 -- Laws of the backup inequalities, of vectors and of the ceiling.
 pub mod Floors
 pub mod Roofs
+pub mod Prelude

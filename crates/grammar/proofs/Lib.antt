@@ -2,3 +2,4 @@
 pub mod Laws
 pub mod Arms
 pub mod Gives
+pub mod Prelude

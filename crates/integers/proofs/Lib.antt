@@ -9,3 +9,4 @@ pub mod Lists
 pub mod Words
 pub mod Terms
 pub mod Quotients
+pub mod Prelude

@@ -1,3 +1,4 @@
 -- Laws about the definitions of this crate.
 pub mod Laws
 pub mod Small
+pub mod Prelude

@@ -4,3 +4,4 @@ pub mod Accepted
 pub mod Fitting
 pub mod Regroup
 pub mod Same
+pub mod Prelude

@@ -1,11 +1,4 @@
-use Prim.Native.Nat.{_-_, _≤_}
-use mathlib.Core.Path.{ap}
-use mathlib.Core.Logic.{⊎-elim}
-use native.Mathlib.Omega.{arith}
-use borrow.Author.Needs.{needs}
-use mir.Syntax.{w64}
-use mir.Val.{toZ}
-use Rattle.integers.proofs.Words.{answer}
+use Rattle.builder.proofs.Prelude.{_-_, _≤_, ap, ⊎-elim, arith, needs, w64, toZ, answer}
 use Rattle.builder.proofs.Actions.{Asked, vector-fits, vector-product, Best-of, best-first, best-larger, best-not-larger, best-found}
 use Rattle.builder.proofs.best_candidate.Statement.{statement}
 use Rattle.builder.proofs.best_candidate.Tie as tie
@@ -25,9 +18,6 @@ vector-for-requires c κs =
     let s = c .before .before .before .before .before .before .before in
     vector-fits (asked s) 0 (s .pre .0 .valid .some-actions)
 
-slice-aggregate-product : tie.Need-slice-aggregate-product Inv-loop μ-loop
-slice-aggregate-product c = search needs
-
 product-requires : tie.Need-product-requires Inv-loop μ-loop
 product-requires c κs =
     let s = c .before .before .before .before .before .before .before .before .before .before .before in
@@ -45,20 +35,11 @@ vector-for-requires-2 c κs =
     let l = c .before .before .before .before .before .before .before .before in
     vector-fits (l .loop .inv .1 .asked) (l .loop .a) (c .before .before .before .before .before .before .before .loop-test .taken)
 
-slice-aggregate-product-2 : tie.Need-slice-aggregate-product-2 Inv-loop μ-loop
-slice-aggregate-product-2 c = search needs
-
 product-requires-2 : tie.Need-product-requires-2 Inv-loop μ-loop
 product-requires-2 c κs =
     let l = c .before .before .before .before .before .before .before .before .before .before .before .before in
     vector-product (l .loop .inv .1 .asked) (l .loop .a) (c .before .before .before .vector-for2 .ensures)
     (c .before .before .before .before .before .before .before .before .before .before .before .loop-test .taken)
-
-add-a : tie.Need-add-a Inv-loop μ-loop
-add-a c = search needs
-
-loop-less : tie.Need-loop-less Inv-loop μ-loop
-loop-less c = search needs
 
 loop-again : tie.Need-loop-again Inv-loop μ-loop
 loop-again c =
@@ -78,18 +59,5 @@ returns c = best-found (c .before .loop .inv .1) (omega arith)
 
 pub best-candidate-spec : {M : Type 1} → statement M
 best-candidate-spec =
-    tie.close
-    (tie.spec
-    Inv-loop
-    μ-loop
-    vector-for-requires
-    slice-aggregate-product
-    product-requires
-    loop-holds
-    vector-for-requires-2
-    slice-aggregate-product-2
-    product-requires-2
-    add-a
-    loop-less
-    loop-again
-    returns)
+    tie.close (tie.spec Inv-loop μ-loop vector-for-requires (λ c. search needs) product-requires loop-holds vector-for-requires-2 (λ c. search needs)
+    product-requires-2 (λ c. search needs) (λ c. search needs) loop-again returns)

@@ -1,16 +1,7 @@
-use Prim.Native.Nat.{_-_, _≤_, _<_}
-use mathlib.Core.Path.{_≡_, sym}
-use native.Mathlib.Omega.{arith}
-use lib.IntN.{pos}
-use Rattle.integers.specs.Cells.{padded}
-use Rattle.integers.proofs.Lists.{padded-none, padded-turn}
-use Rattle.tables.specs.Limits.{maxStates}
-use Rattle.tables.specs.Storage.{modelOf}
+use Rattle.builder.proofs.Prelude.{_-_, _≤_, _<_, _≡_, sym, arith, pos, padded, padded-none, padded-turn, maxStates, modelOf, leastValue}
+use Rattle.builder.proofs.Prelude.{levelOf, corner-at, value-at}
 use Rattle.plans.specs.Level.{corner-weight}
-use Rattle.plans.specs.Build.{leastValue}
-use Rattle.levels.specs.Storage.{levelOf}
-use Rattle.checks.proofs.Roofs.{corner-at, corner-light}
-use Rattle.builder.proofs.Levels.{value-at}
+use Rattle.checks.proofs.Roofs.{corner-light}
 use Rattle.builder.proofs.build_corners.Statement.{statement}
 use Rattle.builder.proofs.build_corners.Tie as tie
 
@@ -66,16 +57,5 @@ returns c =
 
 pub build-corners-spec : {M : Type 1} → statement M
 build-corners-spec =
-    tie.close
-    (tie.spec
-    Inv-loop
-    μ-loop
-    loop-holds
-    corner-weights-requires
-    least-value-requires
-    mul-corners
-    array-set-from-corners
-    add-s
-    loop-less
-    loop-again
-    returns)
+    tie.close (tie.spec Inv-loop μ-loop loop-holds corner-weights-requires least-value-requires mul-corners array-set-from-corners add-s loop-less
+    loop-again returns)

@@ -1,5 +1,4 @@
-use native.Mathlib.Omega.{arith}
-use Rattle.levels.specs.Storage.{pointIn}
+use Rattle.builder.proofs.Prelude.{arith, pointIn}
 use Rattle.checks.specs.Storage.{Standing}
 use Rattle.checks.proofs.Roofs.{corners-fit, points-fit, values-fit}
 use Rattle.builder.proofs.Levels.{built-upon, standing, level-made}
@@ -51,12 +50,4 @@ returns c =
 
 pub build-level-spec : {M : Type 1} → statement M
 build-level-spec =
-    tie.close
-    (tie.spec
-    gains-requires
-    build-vectors-requires
-    build-corners-requires
-    build-values-requires
-    keep-points-requires
-    add-t18
-    returns)
+    tie.close (tie.spec gains-requires build-vectors-requires build-corners-requires build-values-requires keep-points-requires add-t18 returns)

@@ -1,15 +1,6 @@
-use Prim.Native.Nat.{_-_, _≤_, _<_}
-use mathlib.Core.Path.{_≡_, sym}
-use native.Mathlib.Omega.{arith}
-use lib.IntN.{pos}
-use Rattle.integers.specs.Cells.{padded}
-use Rattle.integers.proofs.Lists.{padded-none, padded-turn}
-use Rattle.tables.specs.Storage.{modelOf}
-use Rattle.plans.specs.Limits.{maxPoints, maxBuilt}
-use Rattle.plans.specs.Build.{leastValue}
-use Rattle.levels.specs.Storage.{levelOf, pointIn}
-use Rattle.checks.proofs.Roofs.{point-at, point-light}
-use Rattle.builder.proofs.Levels.{value-at}
+use Rattle.builder.proofs.Prelude.{_-_, _≤_, _<_, _≡_, sym, arith, pos, padded, padded-none, padded-turn, modelOf, maxPoints, maxBuilt}
+use Rattle.builder.proofs.Prelude.{leastValue, levelOf, pointIn, point-at, value-at}
+use Rattle.checks.proofs.Roofs.{point-light}
 use Rattle.builder.proofs.build_values.Statement.{statement}
 use Rattle.builder.proofs.build_values.Tie as tie
 
@@ -67,16 +58,5 @@ returns c =
 
 pub build-values-spec : {M : Type 1} → statement M
 build-values-spec =
-    tie.close
-    (tie.spec
-    Inv-loop
-    μ-loop
-    loop-holds
-    given-weights-requires
-    least-value-requires
-    mul-values
-    array-set-from-values
-    add-i
-    loop-less
-    loop-again
-    returns)
+    tie.close (tie.spec Inv-loop μ-loop loop-holds given-weights-requires least-value-requires mul-values array-set-from-values add-i loop-less
+    loop-again returns)

@@ -1,14 +1,8 @@
-use Prim.Native.Nat.{_+_, _-_, _≤_, _<_}
-use mathlib.Core.Path.{_≡_, sym}
-use native.Mathlib.Omega.{arith}
+use Rattle.builder.proofs.Prelude.{_+_, _-_, _≤_, _<_, _≡_, sym, arith, Tables, modelOf, Level, levelOf, pointIn}
 use Rattle.integers.proofs.Sums.{total-cong}
-use Rattle.tables.specs.declared.Tables.{Tables}
 use Rattle.tables.specs.Limits.{maxVectors}
-use Rattle.tables.specs.Storage.{modelOf}
 use Rattle.plans.specs.Level.{Level as Ideal}
 use Rattle.plans.specs.Build.{built}
-use Rattle.levels.specs.declared.Level.{Level}
-use Rattle.levels.specs.Storage.{levelOf, pointIn}
 use Rattle.runs.specs.declared.Points.{Points}
 use Rattle.builder.proofs.Levels.{seed-light, Made, vector-made, Filled, filled-none, Room, rows-room, filled-more, filled-all}
 use Rattle.builder.proofs.build_vectors.Statement.{statement}
@@ -142,25 +136,6 @@ returns c =
 
 pub build-vectors-spec : {M : Type 1} → statement M
 build-vectors-spec =
-    tie.close
-    (tie.spec
-    Inv-loop
-    μ-loop
-    add-count
-    loop-holds
-    seed-weights-requires
-    best-candidate-requires
-    number-requires
-    array-write-actions
-    slice-aggregate-paste-u16
-    mul-paste-u16
-    slice-aggregate-paste-u16-2
-    paste-u16-requires
-    slice-aggregate-paste-i64
-    mul-paste-i64
-    slice-aggregate-paste-i64-2
-    paste-i64-requires
-    add-v
-    loop-less
-    loop-again
-    returns)
+    tie.close (tie.spec Inv-loop μ-loop add-count loop-holds seed-weights-requires best-candidate-requires number-requires array-write-actions
+    slice-aggregate-paste-u16 mul-paste-u16 slice-aggregate-paste-u16-2 paste-u16-requires slice-aggregate-paste-i64 mul-paste-i64
+    slice-aggregate-paste-i64-2 paste-i64-requires add-v loop-less loop-again returns)

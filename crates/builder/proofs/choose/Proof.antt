@@ -1,10 +1,5 @@
-use Prim.Native.Nat.{_-_, _≤_}
-use mathlib.Core.Path.{_≡_, sym}
-use native.Mathlib.Omega.{arith}
-use borrow.Author.Needs.{needs}
-use Rattle.integers.specs.Cells.{padded}
-use Rattle.integers.proofs.Lists.{padded-none, padded-turn}
-use Rattle.tables.specs.Limits.{maxStates, maxObservations}
+use Rattle.builder.proofs.Prelude.{_-_, _≤_, _≡_, sym, arith, needs, padded, padded-none, padded-turn, maxStates}
+use Rattle.tables.specs.Limits.{maxObservations}
 use Rattle.tables.specs.Storage.{seenIn}
 use Rattle.builder.proofs.Candidates.{picked, found-in, picked-from}
 use Rattle.integers.proofs.Lists.{filled-below}
@@ -20,9 +15,6 @@ abbrev μ-loop : tie.MeasureT-loop
 
 loop-holds : tie.Need-loop-holds Inv-loop μ-loop
 loop-holds c = (search needs, sym (padded-none _ _ _))
-
-successors-requires : tie.Need-successors-requires Inv-loop μ-loop
-successors-requires c κs = search needs
 
 best-vector-requires : tie.Need-best-vector-requires Inv-loop μ-loop
 best-vector-requires c κs =
@@ -42,18 +34,6 @@ narrow-requires c κs =
     let p = c .before .before .before .before .before .pre .0 .1 .1 .1 in
     found-in _ _ (c .best-vector .ensures) (p .0) (p .1)
 
-mul-chosen : tie.Need-mul-chosen Inv-loop μ-loop
-mul-chosen c = search needs
-
-array-write-chosen : tie.Need-array-write-chosen Inv-loop μ-loop
-array-write-chosen c = search needs
-
-add-o : tie.Need-add-o Inv-loop μ-loop
-add-o c = search needs
-
-loop-less : tie.Need-loop-less Inv-loop μ-loop
-loop-less c = search needs
-
 loop-again : tie.Need-loop-again Inv-loop μ-loop
 loop-again c =
     let l = c .before .before .before .before .before in
@@ -70,17 +50,5 @@ returns c = let e : c .before .loop .o ≡ c .before .before .args .k = omega ar
 
 pub choose-spec : {M : Type 1} → statement M
 choose-spec =
-    tie.close
-    (tie.spec
-    Inv-loop
-    μ-loop
-    loop-holds
-    successors-requires
-    best-vector-requires
-    narrow-requires
-    mul-chosen
-    array-write-chosen
-    add-o
-    loop-less
-    loop-again
-    returns)
+    tie.close (tie.spec Inv-loop μ-loop loop-holds (λ c κs. search needs) best-vector-requires narrow-requires (λ c. search needs) (λ c. search needs)
+    (λ c. search needs) (λ c. search needs) loop-again returns)

@@ -1,12 +1,4 @@
-use Prim.Native.Nat.{_+_, _*_, _-_, _≤_}
-use mathlib.Core.Path.{_≡_, sym}
-use native.Mathlib.Omega.{arith}
-use borrow.Author.Needs.{needs}
-use Rattle.integers.specs.Cells.{padded}
-use Rattle.integers.proofs.Lists.{padded-none, padded-turn}
-use Rattle.tables.specs.Limits.{maxStates}
-use Rattle.plans.specs.Limits.{maxBuilt}
-use Rattle.levels.specs.Storage.{pointIn}
+use Rattle.builder.proofs.Prelude.{_+_, _*_, _-_, _≤_, _≡_, sym, arith, needs, padded, padded-none, padded-turn, maxStates, maxBuilt, pointIn}
 use Rattle.levels.proofs.Laws.{row-fits}
 use Rattle.builder.proofs.given_weights.Statement.{statement}
 use Rattle.builder.proofs.given_weights.Tie as tie
@@ -36,21 +28,6 @@ mul-weight c = omega (arith, inside (c .before .before .before))
 array-read-weight : tie.Need-array-read-weight Inv-loop μ-loop
 array-read-weight c = omega (arith, inside (c .before .before .before))
 
-weight-requires : tie.Need-weight-requires Inv-loop μ-loop
-weight-requires c κs = search needs
-
-mul-w : tie.Need-mul-w Inv-loop μ-loop
-mul-w c = search needs
-
-array-write-w : tie.Need-array-write-w Inv-loop μ-loop
-array-write-w c = search needs
-
-add-s : tie.Need-add-s Inv-loop μ-loop
-add-s c = search needs
-
-loop-less : tie.Need-loop-less Inv-loop μ-loop
-loop-less c = search needs
-
 loop-again : tie.Need-loop-again Inv-loop μ-loop
 loop-again c = (search needs, padded-turn _ _ _ _ (c .before .before .loop .inv .1) (c .weight .ensures) (omega arith))
 
@@ -59,19 +36,5 @@ returns c = let e : c .before .loop .s ≡ c .before .before .before .args .n = 
 
 pub given-weights-spec : {M : Type 1} → statement M
 given-weights-spec =
-    tie.close
-    (tie.spec
-    Inv-loop
-    μ-loop
-    mul-at
-    loop-holds
-    add-weight
-    mul-weight
-    array-read-weight
-    weight-requires
-    mul-w
-    array-write-w
-    add-s
-    loop-less
-    loop-again
-    returns)
+    tie.close (tie.spec Inv-loop μ-loop mul-at loop-holds add-weight mul-weight array-read-weight (λ c κs. search needs) (λ c. search needs)
+    (λ c. search needs) (λ c. search needs) (λ c. search needs) loop-again returns)

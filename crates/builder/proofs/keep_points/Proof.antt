@@ -1,13 +1,8 @@
-use Prim.Native.Nat.{_*_, _-_, _/_, _%_, _≤_}
-use mathlib.Core.Path.{_≡_, sym}
+use Rattle.builder.proofs.Prelude.{_*_, _-_, _≤_, _≡_, sym, arith, needs, padded, padded-none, padded-turn, maxStates, maxBuilt, maxPoints}
+use Rattle.builder.proofs.Prelude.{pointIn}
+use Prim.Native.Nat.{_/_, _%_}
 use native.Mathlib.Nat.{mul-le-mul}
-use native.Mathlib.Omega.{arith}
-use borrow.Author.Needs.{needs}
-use Rattle.integers.specs.Cells.{padded, grid}
-use Rattle.integers.proofs.Lists.{padded-none, padded-turn}
-use Rattle.tables.specs.Limits.{maxStates}
-use Rattle.plans.specs.Limits.{maxBuilt, maxPoints}
-use Rattle.levels.specs.Storage.{pointIn}
+use Rattle.integers.specs.Cells.{grid}
 use Rattle.builder.proofs.Candidates.{cell-is}
 use Rattle.builder.proofs.keep_points.Statement.{statement}
 use Rattle.builder.proofs.keep_points.Tie as tie
@@ -43,9 +38,6 @@ array-write-weights c = omega (arith, inside (c .before .before .before .before)
 add-i : tie.Need-add-i Inv-loop μ-loop
 add-i c = omega (arith, inside (c .before .before .before .before))
 
-loop-less : tie.Need-loop-less Inv-loop μ-loop
-loop-less c = search needs
-
 loop-again : tie.Need-loop-again Inv-loop μ-loop
 loop-again c =
     let l = c .before in
@@ -61,17 +53,5 @@ returns c =
 
 pub keep-points-spec : {M : Type 1} → statement M
 keep-points-spec =
-    tie.close
-    (tie.spec
-    Inv-loop
-    μ-loop
-    mul-used
-    loop-holds
-    mul-weights
-    array-read-weights
-    mul-weights-2
-    array-write-weights
-    add-i
-    loop-less
-    loop-again
-    returns)
+    tie.close (tie.spec Inv-loop μ-loop mul-used loop-holds mul-weights array-read-weights mul-weights-2 array-write-weights add-i (λ c. search needs)
+    loop-again returns)

@@ -1,20 +1,14 @@
-use Prim.Native.Nat.{ℕ, _-_, _≤_}
-use mathlib.Core.Logic.{⊎-elim}
-use mathlib.Core.Path.{_≡_, sym, _∙_, ap}
+use Rattle.builder.proofs.Prelude.{_-_, _≤_, ⊎-elim, _≡_, sym, ap, arith, w64, toZ, Tables, K, modelOf, leastValue, Level, levelOf}
+use Prim.Native.Nat.{ℕ}
+use mathlib.Core.Path.{_∙_}
 use mathlib.Core.List.{List}
-use native.Mathlib.Omega.{arith}
 use lib.Dec.{lit<}
 use lib.IntN.{ℤ}
-use mir.Syntax.{w64}
-use mir.Val.{toZ, ofZ}
+use mir.Val.{ofZ}
 use Rattle.integers.specs.Search.{firstLargest}
 use Rattle.integers.proofs.Searches.{largest-first}
-use Rattle.tables.specs.declared.Tables.{Tables}
-use Rattle.tables.specs.Limits.{K}
-use Rattle.tables.specs.Storage.{weightIn, modelOf}
-use Rattle.plans.specs.Build.{leastFor, leastValue}
-use Rattle.levels.specs.declared.Level.{Level}
-use Rattle.levels.specs.Storage.{levelOf}
+use Rattle.tables.specs.Storage.{weightIn}
+use Rattle.plans.specs.Build.{leastFor}
 use Rattle.builder.proofs.Levels.{more-here, no-more-here, backup-fits, least-made}
 use Rattle.builder.proofs.least_value.Statement.{statement}
 use Rattle.builder.proofs.least_value.Tie as tie
@@ -117,16 +111,5 @@ returns c =
 
 pub least-value-spec : {M : Type 1} → statement M
 least-value-spec =
-    tie.close
-    (tie.spec
-    Inv-loop
-    μ-loop
-    backup-at-requires
-    ceil-div-requires
-    loop-holds
-    backup-at-requires-2
-    ceil-div-requires-2
-    add-a
-    loop-less
-    loop-again
-    returns)
+    tie.close (tie.spec Inv-loop μ-loop backup-at-requires ceil-div-requires loop-holds backup-at-requires-2 ceil-div-requires-2 add-a loop-less
+    loop-again returns)

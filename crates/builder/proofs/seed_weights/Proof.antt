@@ -1,23 +1,13 @@
-use Prim.Native.Nat.{_-_}
-use native.Mathlib.Omega.{arith}
-use borrow.Author.Needs.{needs}
-use Rattle.levels.specs.Storage.{pointIn}
-use Rattle.checks.proofs.Roofs.{corner-at, point-at}
+use Rattle.builder.proofs.Prelude.{_-_, arith, needs, pointIn, corner-at, point-at}
 use Rattle.builder.proofs.Levels.{seed-corner, seed-point}
 use Rattle.builder.proofs.seed_weights.Statement.{statement}
 use Rattle.builder.proofs.seed_weights.Tie as tie
-
-corner-weights-requires : tie.Need-corner-weights-requires
-corner-weights-requires c κs = search needs
 
 returns : tie.Need-returns
 returns c s l =
     let a = c .before .before .args in
     rw (seed-corner (a .n) (pointIn (a .n) (a .p .weights)) (a .v .0) (c .before .if1 .taken))
     (corner-at (c .corner-weights .ensures) (omega (arith, c .before .if1 .taken, c .before .before .pre .0)) s)
-
-given-weights-requires : tie.Need-given-weights-requires
-given-weights-requires c κs = search needs
 
 returns-2 : tie.Need-returns-2
 returns-2 c s l =
@@ -27,4 +17,4 @@ returns-2 c s l =
 
 pub seed-weights-spec : {M : Type 1} → statement M
 seed-weights-spec =
-    tie.close (tie.spec corner-weights-requires returns given-weights-requires returns-2)
+    tie.close (tie.spec (λ c κs. search needs) returns (λ c κs. search needs) returns-2)

@@ -1,5 +1,4 @@
-use borrow.Author.Needs.{needs}
-use Rattle.tables.specs.Limits.{maxStates}
+use Rattle.builder.proofs.Prelude.{needs, maxStates}
 use Rattle.tables.specs.Storage.{foreseenIn, ChosenFit}
 use Rattle.tables.proofs.Regroup.{foreseen-limit}
 use Rattle.builder.proofs.Candidates.{chosen-fit, candidate-made}
@@ -24,9 +23,6 @@ choose-requires c κs =
         (fits .1 .0, (rw moved (p .1 .1 .1 .1 .0), p .1 .1 .1 .1 .1)),
       ),
     )
-
-slice-aggregate-foreseen : tie.Need-slice-aggregate-foreseen
-slice-aggregate-foreseen c = search needs
 
 -- the vectors chosen are within the limits
 chosen-within : (c : tie.After-choose) → let a = c .before .before .before .args in ChosenFit (a .n) (a .k) (a .entries .now) (c .choose .result)
@@ -70,11 +66,4 @@ returns c =
 
 pub vector-for-spec : {M : Type 1} → statement M
 vector-for-spec =
-    tie.close
-    (tie.spec
-    moved-requires
-    choose-requires
-    slice-aggregate-foreseen
-    foreseen-requires
-    rounded-requires
-    returns)
+    tie.close (tie.spec moved-requires choose-requires (λ c. search needs) foreseen-requires rounded-requires returns)

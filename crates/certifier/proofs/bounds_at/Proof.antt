@@ -1,13 +1,10 @@
-use Prim.Native.Nat.{_+_, _*_, _≤_, _<_}
-use mathlib.Core.Path.{_≡_, _∙_}
-use native.Mathlib.Omega.{arith}
+use Rattle.certifier.proofs.Prelude.{_*_, _≤_, _≡_, _∙_, arith, weightIn, modelIn, levelIn, few-states}
+use Prim.Native.Nat.{_+_, _<_}
 use mir.Syntax.{w64}
 use mir.Val.{toZ, ofZ}
 use Rattle.integers.proofs.Words.{answer}
-use Rattle.tables.specs.Storage.{weightIn}
 use Rattle.plans.specs.Totals.{best, lower, upper}
-use Rattle.runs.specs.State.{modelIn, levelIn}
-use Rattle.certifier.proofs.Bounds.{below-reached, few-states, some-vectors, few-vectors, entries-fit, corners-fit, points-fit, values-fit}
+use Rattle.certifier.proofs.Bounds.{below-reached, some-vectors, few-vectors, entries-fit, corners-fit, points-fit, values-fit}
 use Rattle.certifier.proofs.Bounds.{best-below, best-in, best-row, lower-is, gains-below, upper-is, totals-fit, bounds-are}
 use Rattle.certifier.proofs.bounds_at.Statement.{statement}
 use Rattle.certifier.proofs.bounds_at.Tie as tie
@@ -93,9 +90,6 @@ minus-requires c κs =
 array-read-action : tie.Need-array-read-action
 array-read-action c = let v = chosen (multiplied (gained (c .before .before))) in best-in (start v .args .c) (start v .pre .0) (start v .args .t2) (at-best v)
 
-action-requires : tie.Need-action-requires
-action-requires c κs = tt
-
 returns : tie.Need-returns
 returns c =
     let u = c .before .before .before in
@@ -107,14 +101,5 @@ returns c =
 
 pub bounds-at-spec : {M : Type 1} → statement M
 bounds-at-spec =
-    tie.close
-    (tie.spec
-    best-vector-requires
-    mul-product
-    product-requires
-    gains-requires
-    ceiling-requires
-    minus-requires
-    array-read-action
-    action-requires
-    returns)
+    tie.close (tie.spec best-vector-requires mul-product product-requires gains-requires ceiling-requires minus-requires array-read-action
+    (λ c κs. tt) returns)

@@ -1,40 +1,20 @@
-use mathlib.Core.Path.{_≡_, sym, _∙_}
-use mathlib.Core.Bool.{true}
-use borrow.Author.Tests.{not-true, not-false}
-use native.Mathlib.Omega.{arith}
-use Prim.Native.Nat.{_*_}
+use Rattle.certifier.proofs.Prelude.{_≡_, sym, _∙_, true, not-true, not-false, arith, _*_, maxStates, holds, few-states, needs}
 use lib.ListN.{length}
-use Rattle.tables.specs.Limits.{maxStates}
 use Rattle.plans.specs.Limits.{maxBuilt}
-use Rattle.runs.specs.State.{holds}
 use Rattle.runs.proofs.Judged.{weights-fine}
-use Rattle.certifier.proofs.Bounds.{few-states}
 use Rattle.runs.proofs.Demand3.{build-demand}
 use Rattle.certifier.proofs.Building.{refused-7, refused-8, refused-9, refused-12, level-built, points-room, buildable}
-use borrow.Author.Needs.{needs}
 use Rattle.certifier.proofs.build.Statement.{statement}
 use Rattle.certifier.proofs.build.Tie as tie
 
 held : (c : tie.Else1) → holds (c .before .before .args .c) ≡ true
 held c = sym (c .before .standing-holds .ensures) ∙ not-false _ (c .if1 .left)
 
-standing-holds-requires : tie.Need-standing-holds-requires
-standing-holds-requires c κs = search needs
-
-no-level-requires : tie.Need-no-level-requires
-no-level-requires c κs = search needs
-
 returns : tie.Need-returns
 returns c = let a = c .before .before .before .args in let e = refused-7 (a .c) (a .t2) (sym (c .before .before .standing-holds .ensures) ∙ not-true _ (c .before .if1 .taken)) (c .no-level .ensures) in (e, build-demand (a .c) (a .t2) _ e)
 
-no-level-requires-2 : tie.Need-no-level-requires-2
-no-level-requires-2 c κs = search needs
-
 returns-2 : tie.Need-returns-2
 returns-2 c = let a = c .before .before .before .before .before .args in let e = refused-8 (a .c) (a .t2) (held (c .before .before .before)) (c .before .if2 .taken) (c .no-level2 .ensures) in (e, build-demand (a .c) (a .t2) _ e)
-
-no-level-requires-3 : tie.Need-no-level-requires-3
-no-level-requires-3 c κs = search needs
 
 returns-3 : tie.Need-returns-3
 returns-3 c = let a = c .before .before .before .before .before .before .args in let e = refused-9 (a .c) (a .t2) (held (c .before .before .before .before)) (c .before .before .if2 .left) (c .before .if3 .taken) (c .no-level3 .ensures) in (e, build-demand (a .c) (a .t2) _ e)
@@ -47,20 +27,11 @@ weights-hold-requires c κs =
     let long : length (a .t2 .weights) ≡ maxBuilt * maxStates = search (needs, c .before .before .before .before .before .before .before .before .before .before .good .1) in
     ((few-states (a .c) h, omega (arith, c .before .before .before .before .before .if3 .left)), omega (arith, room, long))
 
-enum-told : tie.Need-enum-told
-enum-told c = search needs
-
 build-level-requires : tie.Need-build-level-requires
 build-level-requires c κs =
     let a = c .before .before .before .before .before .before .before .before .before .before .before .before .before .args in
     let fine = sym (c .before .before .weights-hold .ensures) ∙ c .enum-told .given .1 in
     (buildable (a .c) (a .t2) (held (c .before .before .before .before .before .before .before .before .before .before .before)) (c .before .before .before .before .before .before .before .before .before .if2 .left), (c .before .before .before .before .before .before .before .before .if3 .left, weights-fine _ _ _ fine))
-
-enum-known-number : tie.Need-enum-known-number
-enum-known-number c = search needs
-
-no-level-requires-4 : tie.Need-no-level-requires-4
-no-level-requires-4 c κs = search needs
 
 returns-4 : tie.Need-returns-4
 returns-4 c =
@@ -80,19 +51,5 @@ returns-5 c =
 
 pub build-spec : {M : Type 1} → statement M
 build-spec =
-    tie.close
-    (tie.spec
-    standing-holds-requires
-    no-level-requires
-    returns
-    no-level-requires-2
-    returns-2
-    no-level-requires-3
-    returns-3
-    weights-hold-requires
-    enum-told
-    build-level-requires
-    enum-known-number
-    no-level-requires-4
-    returns-4
-    returns-5)
+    tie.close (tie.spec (λ c κs. search needs) (λ c κs. search needs) returns (λ c κs. search needs) returns-2 (λ c κs. search needs) returns-3
+    weights-hold-requires (λ c. search needs) build-level-requires (λ c. search needs) (λ c κs. search needs) returns-4 returns-5)

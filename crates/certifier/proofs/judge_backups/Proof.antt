@@ -1,8 +1,7 @@
-use Rattle.runs.specs.State.{modelIn, levelIn, readBy}
+use Rattle.certifier.proofs.Prelude.{modelIn, levelIn, readBy, needs}
 use Rattle.checks.specs.Storage.{Standing}
 use Rattle.checks.proofs.Roofs.{corners-fit, points-fit, values-fit}
 use Rattle.certifier.proofs.Offers.{Fitting, fitting, standing-gains, refused-13, refused-14, left-15}
-use borrow.Author.Needs.{needs}
 use Rattle.certifier.proofs.judge_backups.Statement.{statement}
 use Rattle.certifier.proofs.judge_backups.Tie as tie
 
@@ -26,12 +25,6 @@ stands c =
 floors-hold-requires : tie.Need-floors-hold-requires
 floors-hold-requires c κs = let f = fits (c .before .before) in (f .valid, (f .standing, (f .shaped, f .chosen)))
 
-enum-told : tie.Need-enum-told
-enum-told c = search needs
-
-enum-told-2 : tie.Need-enum-told-2
-enum-told-2 c = search needs
-
 returns : tie.Need-returns
 returns c =
     let a = c .before .before .before .before .before .args in
@@ -46,12 +39,6 @@ gains-requires c κs =
 
 corners-hold-requires : tie.Need-corners-hold-requires
 corners-hold-requires c κs = (stands c, fits (of-told (of-gains c)) .shaped)
-
-enum-told-3 : tie.Need-enum-told-3
-enum-told-3 c = search needs
-
-enum-told-4 : tie.Need-enum-told-4
-enum-told-4 c = search needs
 
 returns-2 : tie.Need-returns-2
 returns-2 c =
@@ -73,16 +60,5 @@ returns-3 c =
 
 pub judge-backups-spec : {M : Type 1} → statement M
 judge-backups-spec =
-    tie.close
-    (tie.spec
-    floors-hold-requires
-    enum-told
-    enum-told-2
-    returns
-    gains-requires
-    corners-hold-requires
-    enum-told-3
-    enum-told-4
-    returns-2
-    points-hold-requires
-    returns-3)
+    tie.close (tie.spec floors-hold-requires (λ c. search needs) (λ c. search needs) returns gains-requires corners-hold-requires (λ c. search needs)
+    (λ c. search needs) returns-2 points-hold-requires returns-3)

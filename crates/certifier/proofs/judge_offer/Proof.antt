@@ -1,17 +1,7 @@
-use mathlib.Core.Path.{sym, _∙_}
+use Rattle.certifier.proofs.Prelude.{sym, _∙_, needs}
 use Rattle.certifier.proofs.Offers.{refused-shape, left-backups}
-use borrow.Author.Needs.{needs}
 use Rattle.certifier.proofs.judge_offer.Statement.{statement}
 use Rattle.certifier.proofs.judge_offer.Tie as tie
-
-judge-shape-requires : tie.Need-judge-shape-requires
-judge-shape-requires c κs = search needs
-
-enum-told : tie.Need-enum-told
-enum-told c = search needs
-
-enum-told-2 : tie.Need-enum-told-2
-enum-told-2 c = search needs
 
 returns : tie.Need-returns
 returns c =
@@ -28,5 +18,4 @@ returns-2 c =
 
 pub judge-offer-spec : {M : Type 1} → statement M
 judge-offer-spec =
-    tie.close
-    (tie.spec judge-shape-requires enum-told enum-told-2 returns judge-backups-requires returns-2)
+    tie.close (tie.spec (λ c κs. search needs) (λ c. search needs) (λ c. search needs) returns judge-backups-requires returns-2)

@@ -1,25 +1,16 @@
-use mathlib.Core.Path.{_≡_, sym, _∙_}
-use mathlib.Core.Bool.{true}
-use Prim.Native.Nat.{suc, _≤_}
-use native.Mathlib.Nat.{mul-le-mul}
+use Rattle.certifier.proofs.Prelude.{_≡_, sym, _∙_, true, _≤_, mul-le-mul, arith, not-true, not-false, maxVectors, maxLevels, maxPoints}
+use Rattle.certifier.proofs.Prelude.{countsHold, rangesVerdict, Long, Certifier, modelIn, levelIn, readBy, holds, counts-few, needs}
+use Prim.Native.Nat.{suc}
 use native.Mathlib.Numerals.{add-one}
-use native.Mathlib.Omega.{arith}
 use lib.Dec.{ltb}
-use borrow.Author.Tests.{le-ltb, lt-ltb, not-true, not-false}
+use borrow.Author.Tests.{le-ltb, lt-ltb}
 use Rattle.tables.specs.declared.Verdict.{Verdict}
-use Rattle.tables.specs.Limits.{maxVectors, maxLevels}
 use Rattle.tables.specs.Model.{Valid}
 use Rattle.tables.specs.Verdicts.{_before_, unless}
 use Rattle.tables.proofs.Refusals.{stops, goes, breaks, passes}
-use Rattle.plans.specs.Limits.{maxPoints}
 use Rattle.levels.specs.declared.Level.{Level}
-use Rattle.levels.specs.Judged.{countsHold, numbersVerdict, rangesVerdict, shapeVerdict}
-use Rattle.levels.proofs.Laws.{Long}
-use Rattle.runs.specs.declared.Certifier.{Certifier}
-use Rattle.runs.specs.State.{modelIn, levelIn, readBy, holds}
+use Rattle.levels.specs.Judged.{numbersVerdict, shapeVerdict}
 use Rattle.runs.proofs.Judged.{standing-true}
-use Rattle.certifier.proofs.Stages.{counts-few}
-use borrow.Author.Needs.{needs}
 use Rattle.certifier.proofs.judge_shape.Statement.{statement}
 use Rattle.certifier.proofs.judge_shape.Tie as tie
 
@@ -81,9 +72,6 @@ ranges : (c : tie.After-ranges-hold)
     → c .ranges-hold .result ≡ rangesVerdict (modelIn (C (of-ranges c))) (suc (C (of-ranges c) .number)) (readBy (C (of-ranges c)) (L (of-ranges c)))
 ranges c = rw add-one at (c .ranges-hold .ensures)
 
-standing-holds-requires : tie.Need-standing-holds-requires
-standing-holds-requires c κs = search needs
-
 returns : tie.Need-returns
 unfolding shapeVerdict
 returns c = breaks _ (sym (c .before .standing-holds .ensures) ∙ not-true _ (c .if1 .taken))
@@ -91,9 +79,6 @@ returns c = breaks _ (sym (c .before .standing-holds .ensures) ∙ not-true _ (c
 returns-2 : tie.Need-returns-2
 unfolding shapeVerdict
 returns-2 c = passes 7 0 (stands (c .before)) (breaks _ (le-ltb _ maxLevels (c .if2 .taken)))
-
-counts-hold-requires : tie.Need-counts-hold-requires
-counts-hold-requires c κs = search needs
 
 returns-3 : tie.Need-returns-3
 unfolding shapeVerdict
@@ -108,29 +93,14 @@ numbers-exist-requires c κs =
     let l = long (of-counts e .before .before) in
     ((few e .0, k), (omega (arith, few e .0, l .actions), omega (arith, mul-le-mul (few e .0) k, l .choices)))
 
-enum-told : tie.Need-enum-told
-enum-told c = search needs
-
-enum-told-2 : tie.Need-enum-told-2
-enum-told-2 c = search needs
-
 returns-4 : tie.Need-returns-4
 unfolding shapeVerdict
 returns-4 c = let n = c .before .before in on (of-numbers n) (stops _ (numbers n) (c .enum-told2 .given .1))
-
-add-ranges-hold : tie.Need-add-ranges-hold
-add-ranges-hold c = search needs
 
 ranges-hold-requires : tie.Need-ranges-hold-requires
 ranges-hold-requires c κs =
     let e = of-numbers (c .before .before) in
     ((tables (of-counts e) .few-states, omega (arith, e .before .before .if2 .left)), few e)
-
-enum-told-3 : tie.Need-enum-told-3
-enum-told-3 c = search needs
-
-enum-told-4 : tie.Need-enum-told-4
-enum-told-4 c = search needs
 
 returns-5 : tie.Need-returns-5
 unfolding shapeVerdict
@@ -155,21 +125,6 @@ returns-6 c =
 
 pub judge-shape-spec : {M : Type 1} → statement M
 judge-shape-spec =
-    tie.close
-    (tie.spec
-    standing-holds-requires
-    returns
-    returns-2
-    counts-hold-requires
-    returns-3
-    numbers-exist-requires
-    enum-told
-    enum-told-2
-    returns-4
-    add-ranges-hold
-    ranges-hold-requires
-    enum-told-3
-    enum-told-4
-    returns-5
-    weights-hold-requires
+    tie.close (tie.spec (λ c κs. search needs) returns returns-2 (λ c κs. search needs) returns-3 numbers-exist-requires (λ c. search needs)
+    (λ c. search needs) returns-4 (λ c. search needs) ranges-hold-requires (λ c. search needs) (λ c. search needs) returns-5 weights-hold-requires
     returns-6)

@@ -1,16 +1,9 @@
-use Prim.Native.Nat.{_-_, _*_, _≤_}
-use mathlib.Core.Path.{_≡_, sym}
-use mathlib.Core.Bool.{true}
-use native.Mathlib.Omega.{arith}
-use borrow.Author.Needs.{needs}
-use borrow.Author.Tests.{le-leb, lt-leb}
-use lib.Dec.{leb}
+use Rattle.certifier.proofs.Prelude.{_-_, _*_, _≤_, _≡_, sym, true, arith, needs, le-leb, lt-leb, leb, weightIn}
 use Rattle.integers.specs.Whole.{totalTo}
 use Rattle.integers.specs.Search.{every}
 use Rattle.integers.proofs.Sums.{total-none, total-step}
 use Rattle.integers.proofs.Searches.{every-none, every-more, every-not}
 use Rattle.tables.specs.Limits.{maxWeight}
-use Rattle.tables.specs.Storage.{weightIn}
 use Rattle.certifier.proofs.mixture_holds.Statement.{statement}
 use Rattle.certifier.proofs.mixture_holds.Tie as tie
 
@@ -24,29 +17,11 @@ abbrev μ-loop : tie.MeasureT-loop
 loop-holds : tie.Need-loop-holds Inv-loop μ-loop
 loop-holds c = (omega arith, (every-none _, (sym (total-none _), omega arith)))
 
-mul-weight : tie.Need-mul-weight Inv-loop μ-loop
-mul-weight c = search needs
-
-array-read-weight : tie.Need-array-read-weight Inv-loop μ-loop
-array-read-weight c = search needs
-
-weight-requires : tie.Need-weight-requires Inv-loop μ-loop
-weight-requires c κs = search needs
-
 returns : tie.Need-returns Inv-loop μ-loop
 returns c =
     let l = c .before .before .before in
     rw (every-not (l .before .args .n) (λ x. leb (weightIn (l .before .args .t1) x) maxWeight) (l .loop .s) (omega arith)
     (lt-leb _ maxWeight (rw (c .before .weight .ensures) at (c .if1 .taken))))
-
-add-total : tie.Need-add-total Inv-loop μ-loop
-add-total c = omega arith
-
-add-s : tie.Need-add-s Inv-loop μ-loop
-add-s c = search needs
-
-loop-less : tie.Need-loop-less Inv-loop μ-loop
-loop-less c = search needs
 
 loop-again : tie.Need-loop-again Inv-loop μ-loop
 loop-again c =
@@ -66,17 +41,5 @@ returns-2 c =
 
 pub mixture-holds-spec : {M : Type 1} → statement M
 mixture-holds-spec =
-    tie.close
-    (tie.spec
-    Inv-loop
-    μ-loop
-    loop-holds
-    mul-weight
-    array-read-weight
-    weight-requires
-    returns
-    add-total
-    add-s
-    loop-less
-    loop-again
-    returns-2)
+    tie.close (tie.spec Inv-loop μ-loop loop-holds (λ c. search needs) (λ c. search needs) (λ c κs. search needs) returns (λ c. omega arith)
+    (λ c. search needs) (λ c. search needs) loop-again returns-2)

@@ -1,10 +1,7 @@
-use mathlib.Core.Path.{_≡_, sym, _∙_}
-use native.Mathlib.Omega.{arith}
-use Rattle.tables.specs.declared.Verdict.the-variants.{Fine}
-use Rattle.runs.specs.State.{modelIn, levelIn, readBy, verdictOn, offered}
+use Rattle.certifier.proofs.Prelude.{_≡_, sym, _∙_, arith, Fine, modelIn, levelIn, readBy, needs}
+use Rattle.runs.specs.State.{verdictOn, offered}
 use Rattle.runs.proofs.Judged.{Accepted}
 use Rattle.certifier.proofs.Offers.{offer-accepted}
-use borrow.Author.Needs.{needs}
 use Rattle.certifier.proofs.offer.Statement.{statement}
 use Rattle.certifier.proofs.offer.Tie as tie
 
@@ -15,12 +12,6 @@ taken : (c : tie.After-enum-told)
     → let a = c .before .before .before .args in Accepted (modelIn (a .c)) (a .c .number) (levelIn (a .c)) (readBy (a .c) (a .l))
 taken c = offer-accepted (c .before .before .before .args .c) (c .before .before .before .args .l) (fine-here c)
 
-judge-offer-requires : tie.Need-judge-offer-requires
-judge-offer-requires c κs = search needs
-
-enum-told : tie.Need-enum-told
-enum-told c = search needs
-
 keep-level-requires : tie.Need-keep-level-requires
 keep-level-requires c κs =
     let a = taken (c .before) in
@@ -28,9 +19,6 @@ keep-level-requires c κs =
 
 add-t11 : tie.Need-add-t11
 add-t11 c = omega (arith, taken (c .before .before) .room)
-
-enum-known-number : tie.Need-enum-known-number
-enum-known-number c = search needs
 
 returns : tie.Need-returns
 unfolding offered
@@ -42,12 +30,4 @@ returns-2 c = rw (sym (c .before .before .before .judge-offer .ensures) ∙ c .b
 
 pub offer-spec : {M : Type 1} → statement M
 offer-spec =
-    tie.close
-    (tie.spec
-    judge-offer-requires
-    enum-told
-    keep-level-requires
-    add-t11
-    enum-known-number
-    returns
-    returns-2)
+    tie.close (tie.spec (λ c κs. search needs) (λ c. search needs) keep-level-requires add-t11 (λ c. search needs) returns returns-2)

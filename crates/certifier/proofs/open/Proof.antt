@@ -1,22 +1,7 @@
+use Rattle.certifier.proofs.Prelude.{needs}
 use Rattle.certifier.proofs.Stages.{opened-fine, opened-refused}
-use borrow.Author.Needs.{needs}
 use Rattle.certifier.proofs.open.Statement.{statement}
 use Rattle.certifier.proofs.open.Tie as tie
-
-open-tables-requires : tie.Need-open-tables-requires
-open-tables-requires c κs = search needs
-
-enum-told : tie.Need-enum-told
-enum-told c = search needs
-
-fresh-requires : tie.Need-fresh-requires
-fresh-requires c κs = search needs
-
-enum-known-verdict : tie.Need-enum-known-verdict
-enum-known-verdict c = search needs
-
-none-requires : tie.Need-none-requires
-none-requires c κs = search needs
 
 returns : tie.Need-returns
 returns c =
@@ -30,12 +15,4 @@ returns-2 c =
 
 pub open-spec : {M : Type 1} → statement M
 open-spec =
-    tie.close
-    (tie.spec
-    open-tables-requires
-    enum-told
-    fresh-requires
-    enum-known-verdict
-    none-requires
-    returns
-    returns-2)
+    tie.close (tie.spec (λ c κs. search needs) (λ c. search needs) (λ c κs. search needs) (λ c. search needs) (λ c κs. search needs) returns returns-2)

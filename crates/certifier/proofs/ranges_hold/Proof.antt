@@ -1,11 +1,7 @@
-use Prim.Native.Nat.{_≤_}
-use native.Mathlib.Nat.{mul-le-mul}
-use native.Mathlib.Omega.{arith}
+use Rattle.certifier.proofs.Prelude.{_≤_, mul-le-mul, arith, Long, needs}
 use Rattle.tables.specs.Limits.{maxEntry}
-use Rattle.levels.proofs.Laws.{Long}
 use Rattle.plans.proofs.Built.{range-limit}
 use Rattle.certifier.proofs.Stages.{entries-refused, corners-refused, values-left}
-use borrow.Author.Needs.{needs}
 use Rattle.certifier.proofs.ranges_hold.Statement.{statement}
 use Rattle.certifier.proofs.ranges_hold.Tie as tie
 
@@ -22,21 +18,12 @@ of-entries c = c .before .before .before .before
 abbrev of-corners : tie.After-rows-within2 → tie.After-rows-within
 of-corners c = c .before .before .before .before .before .before
 
-range-of-requires : tie.Need-range-of-requires
-range-of-requires c κs = search needs
-
 rows-within-requires : tie.Need-rows-within-requires
 rows-within-requires c κs =
     let s = c .before .before .before .before in
     let size = mul-le-mul (s .pre .1 .0) (s .pre .0 .0) in
     let limit = small (c .before .before .before) in
     ((s .pre .1 .0, (s .pre .0 .0, omega (arith, limit))), omega (arith, size, long s .entries))
-
-enum-told : tie.Need-enum-told
-enum-told c = search needs
-
-enum-told-2 : tie.Need-enum-told-2
-enum-told-2 c = search needs
 
 returns : tie.Need-returns
 returns c =
@@ -49,12 +36,6 @@ rows-within-requires-2 c κs =
     let r = of-entries (c .before .before .before .before .before) in
     let s = r .before in
     ((omega (arith, s .pre .0 .0), (omega arith, omega (arith, small r))), omega (arith, s .pre .0 .0, long s .corners))
-
-enum-told-3 : tie.Need-enum-told-3
-enum-told-3 c = search needs
-
-enum-told-4 : tie.Need-enum-told-4
-enum-told-4 c = search needs
 
 returns-2 : tie.Need-returns-2
 returns-2 c =
@@ -84,17 +65,5 @@ returns-3 c =
 
 pub ranges-hold-spec : {M : Type 1} → statement M
 ranges-hold-spec =
-    tie.close
-    (tie.spec
-    range-of-requires
-    rows-within-requires
-    enum-told
-    enum-told-2
-    returns
-    rows-within-requires-2
-    enum-told-3
-    enum-told-4
-    returns-2
-    mul-rows-within
-    rows-within-requires-3
-    returns-3)
+    tie.close (tie.spec (λ c κs. search needs) rows-within-requires (λ c. search needs) (λ c. search needs) returns rows-within-requires-2
+    (λ c. search needs) (λ c. search needs) returns-2 mul-rows-within rows-within-requires-3 returns-3)

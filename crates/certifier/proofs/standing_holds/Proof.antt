@@ -1,21 +1,11 @@
-use mathlib.Core.Path.{_≡_, sym, _∙_}
-use mathlib.Core.Bool.{Bool, true, _&&_}
-use Prim.Native.Nat.{_≤_}
-use native.Mathlib.Nat.{mul-le-mul}
-use native.Mathlib.Omega.{arith}
-use lib.Dec.{leb}
-use borrow.Author.Tests.{le-leb, lt-leb, not-true, not-false}
-use Rattle.tables.specs.declared.Verdict.the-variants.{Fine}
-use Rattle.tables.specs.Limits.{maxStates, maxVectors, maxLevels}
+use Rattle.certifier.proofs.Prelude.{_≡_, sym, _∙_, true, _≤_, mul-le-mul, arith, leb, le-leb, lt-leb, not-true, not-false, Fine, maxStates}
+use Rattle.certifier.proofs.Prelude.{maxVectors, maxLevels, maxPoints, countsHold, rangesVerdict, Long, Certifier, modelIn, levelIn, counts-few}
+use Rattle.certifier.proofs.Prelude.{needs}
+use mathlib.Core.Bool.{Bool, _&&_}
 use Rattle.tables.specs.Judged.{modelVerdict}
 use Rattle.tables.proofs.Accepted.{valid}
-use Rattle.plans.specs.Limits.{maxPoints}
-use Rattle.levels.specs.Judged.{countsHold, rangesVerdict, actionsExist, isFine, standingHolds}
-use Rattle.levels.proofs.Laws.{Long}
-use Rattle.runs.specs.declared.Certifier.{Certifier}
-use Rattle.runs.specs.State.{modelIn, levelIn}
-use Rattle.certifier.proofs.Stages.{fails, holds-on, fine, not-fine, counts-few}
-use borrow.Author.Needs.{needs}
+use Rattle.levels.specs.Judged.{actionsExist, isFine, standingHolds}
+use Rattle.certifier.proofs.Stages.{fails, holds-on, fine, not-fine}
 use Rattle.certifier.proofs.standing_holds.Statement.{statement}
 use Rattle.certifier.proofs.standing_holds.Tie as tie
 
@@ -72,15 +62,6 @@ ranges : (c : tie.After-enum-told3)
     → rangesVerdict (modelIn (state-actions (of-ranges c))) (state-actions (of-ranges c) .number) (levelIn (state-actions (of-ranges c))) ≡ Fine
 ranges c = sym (c .before .before .ranges-hold .ensures) ∙ c .enum-told3 .given .1
 
-judge-tables-requires : tie.Need-judge-tables-requires
-judge-tables-requires c κs = search needs
-
-enum-told : tie.Need-enum-told
-enum-told c = search needs
-
-enum-told-2 : tie.Need-enum-told-2
-enum-told-2 c = search needs
-
 returns : tie.Need-returns
 unfolding standingHolds
 returns c = fails _ (not-fine (sym (c .before .before .judge-tables .ensures) ∙ c .enum-told2 .given .1))
@@ -88,9 +69,6 @@ returns c = fails _ (not-fine (sym (c .before .before .judge-tables .ensures) �
 returns-2 : tie.Need-returns-2
 unfolding standingHolds
 returns-2 c = holds-on (fine (tables (c .before))) (fails _ (lt-leb _ maxLevels (c .if1 .taken)))
-
-counts-hold-requires : tie.Need-counts-hold-requires
-counts-hold-requires c κs = search needs
 
 returns-3 : tie.Need-returns-3
 unfolding standingHolds
@@ -110,12 +88,6 @@ ranges-hold-requires c κs =
     let e = of-actions c in
     ((few-states e, of-counts e .if1 .left), few e)
 
-enum-told-3 : tie.Need-enum-told-3
-enum-told-3 c = search needs
-
-enum-told-4 : tie.Need-enum-told-4
-enum-told-4 c = search needs
-
 returns-5 : tie.Need-returns-5
 unfolding standingHolds
 returns-5 c =
@@ -127,12 +99,6 @@ weights-hold-requires c κs =
     let e = of-actions (of-ranges (c .before .before .before)) in
     let start = of-counts e .before .before .before .before .before .before in
     ((few-states e, few e .1), omega (arith, mul-le-mul (few e .1) (few-states e), long start .weights))
-
-enum-told-5 : tie.Need-enum-told-5
-enum-told-5 c = search needs
-
-enum-told-6 : tie.Need-enum-told-6
-enum-told-6 c = search needs
 
 returns-6 : tie.Need-returns-6
 unfolding standingHolds
@@ -152,23 +118,6 @@ returns-7 c =
 
 pub standing-holds-spec : {M : Type 1} → statement M
 standing-holds-spec =
-    tie.close
-    (tie.spec
-    judge-tables-requires
-    enum-told
-    enum-told-2
-    returns
-    returns-2
-    counts-hold-requires
-    returns-3
-    actions-exist-requires
-    returns-4
-    ranges-hold-requires
-    enum-told-3
-    enum-told-4
-    returns-5
-    weights-hold-requires
-    enum-told-5
-    enum-told-6
-    returns-6
-    returns-7)
+    tie.close (tie.spec (λ c κs. search needs) (λ c. search needs) (λ c. search needs) returns returns-2 (λ c κs. search needs) returns-3
+    actions-exist-requires returns-4 ranges-hold-requires (λ c. search needs) (λ c. search needs) returns-5 weights-hold-requires (λ c. search needs)
+    (λ c. search needs) returns-6 returns-7)

@@ -1,10 +1,7 @@
-use mathlib.Core.Path.{_≡_, sym, _∙_}
-use mathlib.Core.Bool.{true}
-use borrow.Author.Tests.{not-true, not-false}
-use Rattle.tables.specs.Storage.{weightIn}
-use Rattle.runs.specs.State.{holds, mixtureHolds}
+use Rattle.certifier.proofs.Prelude.{_≡_, sym, _∙_, true, not-true, not-false, weightIn, holds, few-states}
+use Rattle.runs.specs.State.{mixtureHolds}
 use Rattle.runs.proofs.Demand3.{totals-demand}
-use Rattle.certifier.proofs.Bounds.{mixture-below, few-states, refused-7, refused-16, refused-17, bounds-given}
+use Rattle.certifier.proofs.Bounds.{mixture-below, refused-7, refused-16, refused-17, bounds-given}
 use Rattle.certifier.proofs.totals.Statement.{statement}
 use Rattle.certifier.proofs.totals.Tie as tie
 
@@ -19,20 +16,11 @@ mixed : (c : tie.Else3)
     → let a = c .before .before .before .before .before .before .before .args in mixtureHolds (a .c .tables .states) (weightIn (a .b)) ≡ true
 mixed c = sym (c .before .mixture-holds .ensures) ∙ not-false _ (c .if3 .left)
 
-standing-holds-requires : tie.Need-standing-holds-requires
-standing-holds-requires c κs = tt
-
-no-bounds-requires : tie.Need-no-bounds-requires
-no-bounds-requires c κs = tt
-
 returns : tie.Need-returns
 returns c =
     let a = c .before .before .before .args in
     let e = refused-7 (a .c) (a .b) (sym (c .before .before .standing-holds .ensures) ∙ not-true _ (c .before .if1 .taken)) (c .no-bounds .ensures) in
     (e, totals-demand (a .c) (a .b) _ e)
-
-no-bounds-requires-2 : tie.Need-no-bounds-requires-2
-no-bounds-requires-2 c κs = tt
 
 returns-2 : tie.Need-returns-2
 returns-2 c =
@@ -43,9 +31,6 @@ returns-2 c =
 
 mixture-holds-requires : tie.Need-mixture-holds-requires
 mixture-holds-requires c κs = let k = c .before .before .before in few-states (k .before .before .args .c) (held k)
-
-no-bounds-requires-3 : tie.Need-no-bounds-requires-3
-no-bounds-requires-3 c κs = tt
 
 returns-3 : tie.Need-returns-3
 returns-3 c =
@@ -74,16 +59,5 @@ returns-4 c =
 
 pub totals-spec : {M : Type 1} → statement M
 totals-spec =
-    tie.close
-    (tie.spec
-    standing-holds-requires
-    no-bounds-requires
-    returns
-    no-bounds-requires-2
-    returns-2
-    mixture-holds-requires
-    no-bounds-requires-3
-    returns-3
-    widened-requires
-    bounds-at-requires
-    returns-4)
+    tie.close (tie.spec (λ c κs. tt) (λ c κs. tt) returns (λ c κs. tt) returns-2 mixture-holds-requires (λ c κs. tt) returns-3 widened-requires
+    bounds-at-requires returns-4)

@@ -1,16 +1,7 @@
-use mathlib.Core.Path.{_≡_, _∙_}
-use native.Mathlib.Omega.{arith}
-use lib.Dec.{lit<}
-use mir.Syntax.{w64}
-use mir.Val.{toZ, ofZ}
-use Rattle.integers.specs.Whole.{_·_, sumTo}
-use Rattle.integers.specs.Cells.{padded}
-use Rattle.integers.proofs.Words.{answer}
-use Rattle.tables.specs.Limits.{maxStates, K}
+use Rattle.checks.proofs.Prelude.{_≡_, _∙_, arith, lit<, w64, toZ, ofZ, _·_, sumTo, padded, answer, maxStates, K, ceilingIn, aheadAt}
 use Rattle.tables.specs.Storage.{movedIn, expectedIn}
-use Rattle.sawtooth.specs.Storage.{ceilingIn}
 use Rattle.checks.specs.Storage.{backupAtIn}
-use Rattle.checks.proofs.Roofs.{aheadAt, weights-below, moved-below, expected-fits, parts-fit}
+use Rattle.checks.proofs.Roofs.{weights-below, moved-below, expected-fits, parts-fit}
 use Rattle.checks.proofs.backup_at.Statement.{statement}
 use Rattle.checks.proofs.backup_at.Tie as tie
 
@@ -69,11 +60,4 @@ returns c = answer (c .add-scaled .ok) (c .add-scaled .ensures ∙ rw (now (c .b
 
 pub backup-at-spec : {M : Type 1} → statement M
 backup-at-spec =
-    tie.close
-    (tie.spec
-    moved-requires
-    expected-reward-requires
-    scaled-requires
-    ceilings-requires
-    add-scaled-requires
-    returns)
+    tie.close (tie.spec moved-requires expected-reward-requires scaled-requires ceilings-requires add-scaled-requires returns)

@@ -1,14 +1,6 @@
-use Prim.Native.Nat.{_≤_, _-_}
-use mathlib.Core.Path.{_≡_, sym, _∙_}
-use native.Mathlib.Omega.{arith}
-use borrow.Author.Needs.{needs}
-use mir.Syntax.{w64}
-use mir.Val.{toZ, ofZ}
-use Rattle.integers.specs.Whole.{sumTo}
+use Rattle.checks.proofs.Prelude.{_≤_, _-_, _≡_, sym, _∙_, arith, needs, w64, toZ, ofZ, sumTo, answer, ceilingIn, aheadAt}
 use Rattle.integers.proofs.Sums.{sum-none, sum-step}
-use Rattle.integers.proofs.Words.{answer}
-use Rattle.sawtooth.specs.Storage.{ceilingIn}
-use Rattle.checks.proofs.Roofs.{aheadAt, ahead-below, ahead-fits}
+use Rattle.checks.proofs.Roofs.{ahead-below, ahead-fits}
 use Rattle.checks.proofs.ceilings.Statement.{statement}
 use Rattle.checks.proofs.ceilings.Tie as tie
 
@@ -51,12 +43,6 @@ plus-requires c κs =
     let l = c .before .before .before .before in
     ahead-fits (l .before .pre .1 .1 .1 .1 .1 .1) _ (c .before .before .before .loop-test .taken) (l .loop .inv .1) (here c)
 
-add-o : tie.Need-add-o Inv-loop μ-loop
-add-o c = search needs
-
-loop-less : tie.Need-loop-less Inv-loop μ-loop
-loop-less c = search needs
-
 loop-again : tie.Need-loop-again Inv-loop μ-loop
 loop-again c =
     let l = c .before .before .before .before .before in
@@ -67,15 +53,5 @@ returns c = let e : c .before .loop .o ≡ c .before .before .args .k = omega ar
 
 pub ceilings-spec : {M : Type 1} → statement M
 ceilings-spec =
-    tie.close
-    (tie.spec
-    Inv-loop
-    μ-loop
-    loop-holds
-    successors-requires
-    ceiling-requires
-    plus-requires
-    add-o
-    loop-less
-    loop-again
-    returns)
+    tie.close (tie.spec Inv-loop μ-loop loop-holds successors-requires ceiling-requires plus-requires (λ c. search needs) (λ c. search needs)
+    loop-again returns)

@@ -1,8 +1,5 @@
-use Prim.Native.Nat.{_+_, _*_, _≤_, _-_}
-use mathlib.Core.Path.{_≡_, refl, sym}
-use native.Mathlib.Omega.{arith}
-use lib.ListN.{getD}
-use Rattle.integers.specs.Cells.{padded}
+use Rattle.checks.proofs.Prelude.{_≤_, _-_, _≡_, refl, sym, arith, getD, padded}
+use Prim.Native.Nat.{_+_, _*_}
 use Rattle.integers.proofs.Lists.{padded-none, padded-turn}
 use Rattle.tables.specs.Limits.{maxObservations, maxVectors}
 use Rattle.levels.proofs.Laws.{row-fits}
@@ -34,18 +31,6 @@ mul-chosen c = omega (arith, row-here (c .before .before))
 element-copy-out-chosen : tie.Need-element-copy-out-chosen Inv-loop μ-loop
 element-copy-out-chosen c = omega (arith, row-here (c .before .before))
 
-mul-chosen-2 : tie.Need-mul-chosen-2 Inv-loop μ-loop
-mul-chosen-2 c = omega arith
-
-array-write-chosen : tie.Need-array-write-chosen Inv-loop μ-loop
-array-write-chosen c = omega arith
-
-add-o : tie.Need-add-o Inv-loop μ-loop
-add-o c = omega arith
-
-loop-less : tie.Need-loop-less Inv-loop μ-loop
-loop-less c = omega arith
-
 loop-again : tie.Need-loop-again Inv-loop μ-loop
 loop-again c = (omega arith, padded-turn _ _ _ _ (c .before .before .loop .inv .1) refl (omega arith))
 
@@ -56,18 +41,5 @@ returns c =
 
 pub choices-of-spec : {M : Type 1} → statement M
 choices-of-spec =
-    tie.close
-    (tie.spec
-    Inv-loop
-    μ-loop
-    mul-at
-    loop-holds
-    add-chosen
-    mul-chosen
-    element-copy-out-chosen
-    mul-chosen-2
-    array-write-chosen
-    add-o
-    loop-less
-    loop-again
-    returns)
+    tie.close (tie.spec Inv-loop μ-loop mul-at loop-holds add-chosen mul-chosen element-copy-out-chosen (λ c. omega arith) (λ c. omega arith)
+    (λ c. omega arith) (λ c. omega arith) loop-again returns)

@@ -1,24 +1,10 @@
-use Prim.Native.Nat.{ℕ, _≤_, _<_, _-_}
-use mathlib.Core.Path.{_≡_, sym, _∙_}
-use mathlib.Core.List.{List}
-use native.Mathlib.Omega.{arith}
-use borrow.Author.Tests.{not-true, not-false}
-use lib.IntN.{ℤ, pos}
-use lib.ListN.{getD}
-use Rattle.integers.proofs.Words.{back}
-use Rattle.tables.specs.declared.Tables.{Tables}
-use Rattle.tables.specs.declared.Verdict.{Verdict}
-use Rattle.tables.specs.declared.Verdict.the-variants.{Fine}
-use Rattle.tables.specs.Limits.{maxStates}
-use Rattle.tables.specs.Storage.{modelOf}
-use Rattle.tables.specs.Verdicts.{unless, firstOf}
-use Rattle.tables.proofs.Refusals.{first-none, first-more, first-here}
+use Rattle.checks.proofs.Prelude.{ℕ, _≤_, _<_, _-_, _≡_, sym, _∙_, List, arith, not-true, not-false, ℤ, pos, getD, back, Tables, Verdict, Fine}
+use Rattle.checks.proofs.Prelude.{maxStates, modelOf, unless, firstOf, first-none, first-more, first-here, Level, levelOf, coversBackups}
+use Rattle.checks.proofs.Prelude.{passed, failed, corners-fit, covers-by}
 use Rattle.plans.specs.Level.{corner-weight}
-use Rattle.levels.specs.declared.Level.{Level}
-use Rattle.levels.specs.Storage.{cornerIn, levelOf}
-use Rattle.levels.specs.Judged.{coversBackups, cornersVerdict}
-use Rattle.levels.proofs.Laws.{passed, failed}
-use Rattle.checks.proofs.Roofs.{corners-fit, corner-at, corner-light, covers-by}
+use Rattle.levels.specs.Storage.{cornerIn}
+use Rattle.levels.specs.Judged.{cornersVerdict}
+use Rattle.checks.proofs.Roofs.{corner-at, corner-light}
 use Rattle.checks.proofs.corners_hold.Statement.{statement}
 use Rattle.checks.proofs.corners_hold.Tie as tie
 
@@ -99,17 +85,5 @@ returns-2 c =
 
 pub corners-hold-spec : {M : Type 1} → statement M
 corners-hold-spec =
-    tie.close
-    (tie.spec
-    Inv-loop
-    μ-loop
-    loop-holds
-    corner-weights-requires
-    mul-covers-backups
-    array-copy-out-covers-backups
-    covers-backups-requires
-    returns
-    add-s
-    loop-less
-    loop-again
-    returns-2)
+    tie.close (tie.spec Inv-loop μ-loop loop-holds corner-weights-requires mul-covers-backups array-copy-out-covers-backups covers-backups-requires
+    returns add-s loop-less loop-again returns-2)

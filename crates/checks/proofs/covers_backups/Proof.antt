@@ -1,22 +1,13 @@
-use Prim.Native.Nat.{_≤_, _-_}
-use mathlib.Core.Path.{_≡_, refl, sym, _∙_}
+use Rattle.checks.proofs.Prelude.{_≤_, _-_, _≡_, refl, sym, _∙_, arith, lit<, w64, toZ, ofZ, toZ-ofZ, _·_, answer, K, modelOf, levelOf}
+use Rattle.checks.proofs.Prelude.{corners-fit}
 use mathlib.Core.Bool.{true}
-use native.Mathlib.Omega.{arith}
-use lib.Dec.{lit<}
 use lib.Signed.{leZ}
-use mir.Syntax.{w64}
-use mir.Val.{toZ, ofZ}
-use mir.Facts.{toZ-ofZ}
-use Rattle.integers.specs.Whole.{_·_}
 use Rattle.integers.specs.Search.{every}
-use Rattle.integers.proofs.Words.{answer}
 use Rattle.integers.proofs.Searches.{every-none, every-more, every-not}
-use Rattle.tables.specs.Limits.{K}
-use Rattle.tables.specs.Storage.{weightIn, modelOf}
+use Rattle.tables.specs.Storage.{weightIn}
 use Rattle.tables.proofs.Regroup.{transitions-fit, observations-fit, rewards-fit}
 use Rattle.plans.specs.Level.{backupAt}
-use Rattle.levels.specs.Storage.{levelOf}
-use Rattle.checks.proofs.Roofs.{not-below, is-below, corners-fit, points-fit, gains-below, light-below, backup-at-is, roof-fits}
+use Rattle.checks.proofs.Roofs.{not-below, is-below, points-fit, gains-below, light-below, backup-at-is, roof-fits}
 use Rattle.checks.proofs.covers_backups.Statement.{statement}
 use Rattle.checks.proofs.covers_backups.Tie as tie
 
@@ -78,12 +69,6 @@ returns c =
     let t = c .before .before .before .before .before .before .before .before .before .before .before in
     sym (every-not _ _ (t .before .loop .a) (t .loop-test .taken) (is-below (most (t .before .before)) (here (c .before)) (c .if1 .taken)))
 
-add-a : tie.Need-add-a Inv-loop μ-loop
-add-a c = omega arith
-
-loop-less : tie.Need-loop-less Inv-loop μ-loop
-loop-less c = omega arith
-
 loop-again : tie.Need-loop-again Inv-loop μ-loop
 loop-again c =
     let t = c .before .before .before .before .before .before .before .before .before .before .before in
@@ -96,15 +81,5 @@ returns-2 c =
 
 pub covers-backups-spec : {M : Type 1} → statement M
 covers-backups-spec =
-    tie.close
-    (tie.spec
-    Inv-loop
-    μ-loop
-    scaled-requires
-    loop-holds
-    backup-at-requires
-    returns
-    add-a
-    loop-less
-    loop-again
+    tie.close (tie.spec Inv-loop μ-loop scaled-requires loop-holds backup-at-requires returns (λ c. omega arith) (λ c. omega arith) loop-again
     returns-2)

@@ -1,18 +1,6 @@
-use mathlib.Core.Path.{_≡_, _∙_}
-use native.Mathlib.Omega.{arith}
-use borrow.Author.Needs.{needs}
-use lib.Dec.{lit<}
-use mir.Syntax.{w64}
-use mir.Val.{toZ, ofZ}
-use mir.Facts.{toZ-ofZ}
-use Rattle.integers.specs.Whole.{_·_}
-use Rattle.integers.proofs.Words.{answer}
-use Rattle.tables.specs.Limits.{K}
+use Rattle.checks.proofs.Prelude.{_≡_, _∙_, arith, needs, lit<, w64, toZ, ofZ, toZ-ofZ, _·_, answer, K}
 use Rattle.checks.proofs.entry_holds.Statement.{statement}
 use Rattle.checks.proofs.entry_holds.Tie as tie
-
-backup-requires : tie.Need-backup-requires
-backup-requires c κs = search needs
 
 -- the entry, from its bits
 entry : (c : tie.Start) → toZ w64 (ofZ w64 (c .args .entry)) ≡ c .args .entry
@@ -30,4 +18,5 @@ returns : tie.Need-returns
 returns c = rw (times c, answer (c .before .backup .ok) (c .before .backup .ensures))
 
 pub entry-holds-spec : {M : Type 1} → statement M
-entry-holds-spec = tie.close (tie.spec backup-requires scaled-requires returns)
+entry-holds-spec =
+    tie.close (tie.spec (λ c κs. search needs) scaled-requires returns)

@@ -1,14 +1,6 @@
-use Prim.Native.Nat.{_≤_, _-_}
-use mathlib.Core.Path.{_≡_, refl, sym, _∙_}
-use native.Mathlib.Omega.{arith}
-use borrow.Author.Tests.{not-true, not-false}
-use mir.Syntax.{w64}
-use mir.Val.{toZ, ofZ}
-use Rattle.integers.proofs.Words.{answer}
+use Rattle.checks.proofs.Prelude.{_≤_, _-_, _≡_, refl, sym, _∙_, arith, not-true, not-false, w64, toZ, ofZ, answer, Fine, firstOf, first-none}
+use Rattle.checks.proofs.Prelude.{first-more, first-here}
 use Rattle.tables.specs.Storage.{entryIn}
-use Rattle.tables.specs.declared.Verdict.the-variants.{Fine}
-use Rattle.tables.specs.Verdicts.{firstOf}
-use Rattle.tables.proofs.Refusals.{first-none, first-more, first-here}
 use Rattle.checks.proofs.Floors.{Judging, vector-below, entryVerdict, floors-are, Taken, Ready}
 use Rattle.checks.proofs.Floors.{action-below, observations-here, chosen-long, chosen-fit, ready, entry-limit, entry-passes, entry-fails}
 use Rattle.checks.proofs.floors_hold.Statement.{statement}
@@ -44,9 +36,6 @@ vectors-holds c = (omega arith, (refl, first-none _))
 
 array-read-action : tie.Need-array-read-action Inv-loop μ-loop Inv-vectors μ-vectors
 array-read-action c = vector-below (judging (c .before .before .before)) (c .vectors-test .taken)
-
-action-requires : tie.Need-action-requires Inv-loop μ-loop Inv-vectors μ-vectors
-action-requires c κs = tt
 
 choices-of-requires : tie.Need-choices-of-requires Inv-loop μ-loop Inv-vectors μ-vectors
 choices-of-requires c κs =
@@ -150,26 +139,6 @@ returns-2 c =
 
 pub floors-hold-spec : {M : Type 1} → statement M
 floors-hold-spec =
-    tie.close
-    (tie.spec
-    Inv-loop
-    μ-loop
-    Inv-vectors
-    μ-vectors
-    vectors-holds
-    array-read-action
-    action-requires
-    choices-of-requires
-    slice-aggregate-foreseen
-    foreseen-requires
-    loop-holds
-    entry-at-requires
-    entry-holds-requires
-    add-s
-    loop-less
-    loop-again
-    add-v
-    vectors-less
-    vectors-again
-    returns
-    returns-2)
+    tie.close (tie.spec Inv-loop μ-loop Inv-vectors μ-vectors vectors-holds array-read-action (λ c κs. tt) choices-of-requires
+    slice-aggregate-foreseen foreseen-requires loop-holds entry-at-requires entry-holds-requires add-s loop-less loop-again add-v vectors-less
+    vectors-again returns returns-2)

@@ -1,23 +1,10 @@
-use Prim.Native.Nat.{ℕ, _≤_, _<_, _-_}
-use mathlib.Core.Path.{_≡_, sym, _∙_}
-use mathlib.Core.List.{List}
-use native.Mathlib.Omega.{arith}
-use borrow.Author.Tests.{not-true, not-false}
-use lib.IntN.{ℤ, pos}
-use lib.ListN.{getD}
-use Rattle.integers.proofs.Words.{back}
-use Rattle.tables.specs.declared.Tables.{Tables}
-use Rattle.tables.specs.declared.Verdict.{Verdict}
-use Rattle.tables.specs.declared.Verdict.the-variants.{Fine}
-use Rattle.tables.specs.Storage.{modelOf}
-use Rattle.tables.specs.Verdicts.{unless, firstOf}
-use Rattle.tables.proofs.Refusals.{first-none, first-more, first-here}
+use Rattle.checks.proofs.Prelude.{ℕ, _≤_, _<_, _-_, _≡_, sym, _∙_, List, arith, not-true, not-false, ℤ, pos, getD, back, Tables, Verdict, Fine}
+use Rattle.checks.proofs.Prelude.{modelOf, unless, firstOf, first-none, first-more, first-here, Level, levelOf, coversBackups, passed, failed}
+use Rattle.checks.proofs.Prelude.{covers-by}
 use Rattle.plans.specs.Limits.{maxPoints}
-use Rattle.levels.specs.declared.Level.{Level}
-use Rattle.levels.specs.Storage.{pointIn, levelOf}
-use Rattle.levels.specs.Judged.{coversBackups, pointsVerdict}
-use Rattle.levels.proofs.Laws.{passed, failed}
-use Rattle.checks.proofs.Roofs.{values-fit, point-at, point-light, covers-by}
+use Rattle.levels.specs.Storage.{pointIn}
+use Rattle.levels.specs.Judged.{pointsVerdict}
+use Rattle.checks.proofs.Roofs.{values-fit, point-at, point-light}
 use Rattle.checks.proofs.points_hold.Statement.{statement}
 use Rattle.checks.proofs.points_hold.Tie as tie
 
@@ -102,17 +89,5 @@ returns-2 c =
 
 pub points-hold-spec : {M : Type 1} → statement M
 points-hold-spec =
-    tie.close
-    (tie.spec
-    Inv-loop
-    μ-loop
-    loop-holds
-    point-weights-requires
-    mul-covers-backups
-    array-copy-out-covers-backups
-    covers-backups-requires
-    returns
-    add-i
-    loop-less
-    loop-again
-    returns-2)
+    tie.close (tie.spec Inv-loop μ-loop loop-holds point-weights-requires mul-covers-backups array-copy-out-covers-backups covers-backups-requires
+    returns add-i loop-less loop-again returns-2)

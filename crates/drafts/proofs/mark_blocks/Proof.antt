@@ -1,12 +1,6 @@
-use Prim.Native.Nat.{ℕ, _+_, _-_, _*_, _≤_, _<_}
-use native.Mathlib.Nat.{mul-le-mul, mul-le-mul-right}
-use native.Mathlib.Omega.{arith}
-use borrow.Author.Needs.{needs}
-use lib.Dec.{eqb}
-use Rattle.integers.specs.Search.{some}
-use Rattle.integers.proofs.Lists.{row-below}
-use Rattle.tables.specs.Limits.{maxStates, maxActions}
-use Rattle.drafts.proofs.Marks.{Marking, marking-start, marking-more, marking-end}
+use Rattle.drafts.proofs.Prelude.{_+_, _-_, _*_, _≤_, mul-le-mul, mul-le-mul-right, arith, needs, eqb, some, row-below, maxStates, maxActions}
+use Rattle.drafts.proofs.Prelude.{Marking, marking-start, marking-more, marking-end}
+use Prim.Native.Nat.{ℕ, _<_}
 use Rattle.drafts.proofs.mark_blocks.Statement.{statement}
 use Rattle.drafts.proofs.mark_blocks.Tie as tie
 
@@ -25,9 +19,6 @@ abbrev μ-loop : tie.MeasureT-loop
 loop-holds : tie.Need-loop-holds Inv-loop μ-loop
 loop-holds c = (omega arith, marking-start _ _ _)
 
-add-mark-rows : tie.Need-add-mark-rows Inv-loop μ-loop
-add-mark-rows c = omega arith
-
 mul-mark-rows : tie.Need-mul-mark-rows Inv-loop μ-loop
 mul-mark-rows c =
     let a = c .before .before .before .before in
@@ -41,12 +32,6 @@ mark-rows-requires c κs =
     let under = below (g .a) (g .blocks) (g .n) (g .s) (g .rows) (c .before .before .loop .b) (omega arith) (a .pre .1 .0 .0) (a .pre .0 .0) (a .pre .0 .1 .0) in
     ((omega (arith, under), (a .pre .0 .1 .1, a .pre .1 .0 .1)), omega (arith, c .before .before .loop .inv .1 .long, a .pre .1 .1, mul-le-mul-right (a .args .w) (under .0)))
 
-add-b : tie.Need-add-b Inv-loop μ-loop
-add-b c = search needs
-
-loop-less : tie.Need-loop-less Inv-loop μ-loop
-loop-less c = search needs
-
 loop-again : tie.Need-loop-again Inv-loop μ-loop
 loop-again c = (omega arith, marking-more (c .before .before .before .before .before .loop .inv .1) (c .before .before .mark-rows .ensures))
 
@@ -58,16 +43,5 @@ returns c = marking-end _ (c .before .loop .inv .1) (omega arith)
 
 pub mark-blocks-spec : {M : Type 1} → statement M
 mark-blocks-spec =
-    tie.close
-    (tie.spec
-    Inv-loop
-    μ-loop
-    loop-holds
-    add-mark-rows
-    mul-mark-rows
-    mark-rows-requires
-    add-b
-    loop-less
-    loop-again
-    same-length
-    returns)
+    tie.close (tie.spec Inv-loop μ-loop loop-holds (λ c. omega arith) mul-mark-rows mark-rows-requires (λ c. search needs) (λ c. search needs)
+    loop-again same-length returns)

@@ -1,11 +1,5 @@
-use Prim.Native.Nat.{_+_, _-_, _≤_}
-use native.Mathlib.Omega.{arith}
-use borrow.Author.Needs.{needs}
-use lib.Dec.{eqb}
-use mir.Syntax.{w64}
-use mir.Val.{toZ}
-use mir.Facts.{toZ-ofZ}
-use Rattle.drafts.proofs.Marks.{write-marks, Marking, marking-start, marking-more, marking-end}
+use Rattle.drafts.proofs.Prelude.{_+_, _-_, _≤_, arith, needs, eqb, w64, toZ, toZ-ofZ, write-marks, Marking, marking-start, marking-more}
+use Rattle.drafts.proofs.Prelude.{marking-end}
 use Rattle.drafts.proofs.mark_i64.Statement.{statement}
 use Rattle.drafts.proofs.mark_i64.Tie as tie
 
@@ -30,12 +24,6 @@ mul-v c = omega (arith, c .before .loop .inv .1 .long)
 slice-set-from-v : tie.Need-slice-set-from-v Inv-loop μ-loop
 slice-set-from-v c = omega (arith, c .before .loop .inv .1 .long)
 
-add-j : tie.Need-add-j Inv-loop μ-loop
-add-j c = search needs
-
-loop-less : tie.Need-loop-less Inv-loop μ-loop
-loop-less c = search needs
-
 loop-again : tie.Need-loop-again Inv-loop μ-loop
 loop-again c = (omega arith, marking-more (c .before .loop .inv .1) (write-marks _ _ _))
 
@@ -47,17 +35,5 @@ returns c = rw (toZ-ofZ (c .before .before .fits .v)) at (marking-end (c .before
 
 pub mark-i64-spec : {M : Type 1} → statement M
 mark-i64-spec =
-    tie.close
-    (tie.spec
-    Inv-loop
-    μ-loop
-    loop-holds
-    add-v
-    add-v-2
-    mul-v
-    slice-set-from-v
-    add-j
-    loop-less
-    loop-again
-    same-length
+    tie.close (tie.spec Inv-loop μ-loop loop-holds add-v add-v-2 mul-v slice-set-from-v (λ c. search needs) (λ c. search needs) loop-again same-length
     returns)

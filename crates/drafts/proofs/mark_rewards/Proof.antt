@@ -1,15 +1,5 @@
-use Prim.Native.Nat.{_+_, _-_, _*_, _≤_}
-use native.Mathlib.Nat.{mul-le-mul}
-use native.Mathlib.Omega.{arith}
-use borrow.Author.Needs.{needs}
-use lib.Dec.{eqb}
-use mir.Syntax.{w64}
-use mir.Val.{toZ}
-use mir.Facts.{toZ-ofZ}
-use Rattle.integers.specs.Search.{some}
-use Rattle.integers.proofs.Lists.{row-below}
-use Rattle.tables.specs.Limits.{maxActions}
-use Rattle.drafts.proofs.Marks.{Marking, marking-start, marking-more, marking-end}
+use Rattle.drafts.proofs.Prelude.{_+_, _-_, _*_, _≤_, mul-le-mul, arith, needs, eqb, w64, toZ, toZ-ofZ, some, row-below, maxActions, Marking}
+use Rattle.drafts.proofs.Prelude.{marking-start, marking-more, marking-end}
 use Rattle.drafts.proofs.mark_rewards.Statement.{statement}
 use Rattle.drafts.proofs.mark_rewards.Tie as tie
 
@@ -23,9 +13,6 @@ abbrev μ-loop : tie.MeasureT-loop
 loop-holds : tie.Need-loop-holds Inv-loop μ-loop
 loop-holds c = (omega arith, marking-start _ _ _)
 
-add-mark-i64 : tie.Need-add-mark-i64 Inv-loop μ-loop
-add-mark-i64 c = omega arith
-
 mul-mark-i64 : tie.Need-mul-mark-i64 Inv-loop μ-loop
 mul-mark-i64 c =
     let a = c .before .before .before in
@@ -36,12 +23,6 @@ mark-i64-requires : tie.Need-mark-i64-requires Inv-loop μ-loop
 mark-i64-requires c κs =
     let a = c .before .before .before .args in
     omega (arith, c .before .before .loop .inv .1 .long, row-below (a .a + c .before .before .loop .r) (a .a + a .rows) (a .n) (omega arith))
-
-add-r : tie.Need-add-r Inv-loop μ-loop
-add-r c = search needs
-
-loop-less : tie.Need-loop-less Inv-loop μ-loop
-loop-less c = search needs
 
 loop-again : tie.Need-loop-again Inv-loop μ-loop
 loop-again c = (omega arith, marking-more (c .before .before .before .before .loop .inv .1) (c .before .mark-i64 .ensures))
@@ -54,16 +35,5 @@ returns c = rw (toZ-ofZ (c .before .before .fits .v)) at (marking-end (c .before
 
 pub mark-rewards-spec : {M : Type 1} → statement M
 mark-rewards-spec =
-    tie.close
-    (tie.spec
-    Inv-loop
-    μ-loop
-    loop-holds
-    add-mark-i64
-    mul-mark-i64
-    mark-i64-requires
-    add-r
-    loop-less
-    loop-again
-    same-length
-    returns)
+    tie.close (tie.spec Inv-loop μ-loop loop-holds (λ c. omega arith) mul-mark-i64 mark-i64-requires (λ c. search needs) (λ c. search needs)
+    loop-again same-length returns)

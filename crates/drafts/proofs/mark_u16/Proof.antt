@@ -1,8 +1,4 @@
-use Prim.Native.Nat.{_+_, _-_, _≤_}
-use native.Mathlib.Omega.{arith}
-use borrow.Author.Needs.{needs}
-use lib.Dec.{eqb}
-use Rattle.drafts.proofs.Marks.{write-marks, Marking, marking-start, marking-more, marking-end}
+use Rattle.drafts.proofs.Prelude.{_+_, _-_, _≤_, arith, needs, eqb, write-marks, Marking, marking-start, marking-more, marking-end}
 use Rattle.drafts.proofs.mark_u16.Statement.{statement}
 use Rattle.drafts.proofs.mark_u16.Tie as tie
 
@@ -27,12 +23,6 @@ mul-cells c = omega (arith, c .before .loop .inv .1 .long)
 slice-write-cells : tie.Need-slice-write-cells Inv-loop μ-loop
 slice-write-cells c = omega (arith, c .before .loop .inv .1 .long)
 
-add-j : tie.Need-add-j Inv-loop μ-loop
-add-j c = search needs
-
-loop-less : tie.Need-loop-less Inv-loop μ-loop
-loop-less c = search needs
-
 loop-again : tie.Need-loop-again Inv-loop μ-loop
 loop-again c = (omega arith, marking-more (c .before .loop .inv .1) (write-marks _ _ _))
 
@@ -44,17 +34,5 @@ returns c = marking-end _ (c .before .loop .inv .1) (omega arith)
 
 pub mark-u16-spec : {M : Type 1} → statement M
 mark-u16-spec =
-    tie.close
-    (tie.spec
-    Inv-loop
-    μ-loop
-    loop-holds
-    add-cells
-    add-cells-2
-    mul-cells
-    slice-write-cells
-    add-j
-    loop-less
-    loop-again
-    same-length
-    returns)
+    tie.close (tie.spec Inv-loop μ-loop loop-holds add-cells add-cells-2 mul-cells slice-write-cells (λ c. search needs) (λ c. search needs)
+    loop-again same-length returns)

@@ -1,5 +1,4 @@
-use mathlib.Core.Path.{sym}
-use borrow.Author.Tests.{eq-eqb, ne-eqb}
+use Rattle.drafts.proofs.Prelude.{sym, eq-eqb, ne-eqb}
 use Rattle.drafts.proofs.spread_of.Statement.{statement}
 use Rattle.drafts.proofs.spread_of.Tie as tie
 
@@ -10,4 +9,5 @@ returns-2 : tie.Need-returns-2
 returns-2 c = sym (simp (ne-eqb (c .before .args .i) (c .before .args .n) (c .if1 .left)))
 
 pub spread-of-spec : {M : Type 1} → statement M
-spread-of-spec = tie.close (tie.spec returns returns-2)
+spread-of-spec =
+    tie.close (tie.spec returns returns-2)

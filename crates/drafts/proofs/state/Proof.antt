@@ -1,28 +1,7 @@
-use mathlib.Core.Path.{_∙_}
-use native.Mathlib.Nat.{mul-le-mul-right}
-use native.Mathlib.Omega.{arith}
-use Rattle.drafts.proofs.Marks.{stands-within, stated-by}
-use borrow.Author.Needs.{needs}
+use Rattle.drafts.proofs.Prelude.{_∙_, mul-le-mul-right, arith, stands-within, needs}
+use Rattle.drafts.proofs.Marks.{stated-by}
 use Rattle.drafts.proofs.state.Statement.{statement}
 use Rattle.drafts.proofs.state.Tie as tie
-
-lowest-of-requires : tie.Need-lowest-of-requires
-lowest-of-requires c κs = search needs
-
-spread-of-requires : tie.Need-spread-of-requires
-spread-of-requires c κs = search needs
-
-lowest-of-requires-2 : tie.Need-lowest-of-requires-2
-lowest-of-requires-2 c κs = search needs
-
-spread-of-requires-2 : tie.Need-spread-of-requires-2
-spread-of-requires-2 c κs = search needs
-
-lowest-of-requires-3 : tie.Need-lowest-of-requires-3
-lowest-of-requires-3 c κs = search needs
-
-spread-of-requires-3 : tie.Need-spread-of-requires-3
-spread-of-requires-3 c κs = search needs
 
 mark-blocks-requires : tie.Need-mark-blocks-requires
 mark-blocks-requires c κs =
@@ -31,9 +10,6 @@ mark-blocks-requires c κs =
     let rows = stands-within (a .args .n) (a .args .s) (c .before .before .before .before .lowest-of2 .ensures) (c .before .before .before .spread-of2 .ensures) (a .pre .1 .0 .1 .0) in
     let places = stands-within (a .args .w) (a .args .x) (c .before .before .lowest-of3 .ensures) (c .before .spread-of3 .ensures) (a .pre .1 .0 .1 .1) in
     ((omega (arith, a .pre .0 .0, blocks), a .pre .0 .1), ((rows, places), omega (arith, a .pre .1 .1, mul-le-mul-right (a .args .w) (mul-le-mul-right (a .args .n) blocks))))
-
-same-length : tie.Need-same-length
-same-length c = search needs
 
 returns : tie.Need-returns
 returns c =
@@ -46,14 +22,5 @@ returns c =
 
 pub state-spec : {M : Type 1} → statement M
 state-spec =
-    tie.close
-    (tie.spec
-    lowest-of-requires
-    spread-of-requires
-    lowest-of-requires-2
-    spread-of-requires-2
-    lowest-of-requires-3
-    spread-of-requires-3
-    mark-blocks-requires
-    same-length
-    returns)
+    tie.close (tie.spec (λ c κs. search needs) (λ c κs. search needs) (λ c κs. search needs) (λ c κs. search needs) (λ c κs. search needs)
+    (λ c κs. search needs) mark-blocks-requires (λ c. search needs) returns)

@@ -1,23 +1,7 @@
-use mathlib.Core.Path.{_∙_}
-use native.Mathlib.Nat.{mul-le-mul-right}
-use native.Mathlib.Omega.{arith}
-use mir.Facts.{toZ-ofZ}
-use Rattle.drafts.proofs.Marks.{stands-within, rewarded-by}
-use borrow.Author.Needs.{needs}
+use Rattle.drafts.proofs.Prelude.{_∙_, mul-le-mul-right, arith, toZ-ofZ, stands-within, needs}
+use Rattle.drafts.proofs.Marks.{rewarded-by}
 use Rattle.drafts.proofs.state_reward.Statement.{statement}
 use Rattle.drafts.proofs.state_reward.Tie as tie
-
-lowest-of-requires : tie.Need-lowest-of-requires
-lowest-of-requires c κs = search needs
-
-spread-of-requires : tie.Need-spread-of-requires
-spread-of-requires c κs = search needs
-
-lowest-of-requires-2 : tie.Need-lowest-of-requires-2
-lowest-of-requires-2 c κs = search needs
-
-spread-of-requires-2 : tie.Need-spread-of-requires-2
-spread-of-requires-2 c κs = search needs
 
 mark-rewards-requires : tie.Need-mark-rewards-requires
 mark-rewards-requires c κs =
@@ -25,9 +9,6 @@ mark-rewards-requires c κs =
     let rows = stands-within (a .args .m) (a .args .a) (c .before .before .before .before .lowest-of .ensures) (c .before .before .before .spread-of .ensures) (a .pre .1 .0 .0) in
     let places = stands-within (a .args .n) (a .args .s) (c .before .before .lowest-of2 .ensures) (c .before .spread-of2 .ensures) (a .pre .1 .0 .1) in
     ((omega (arith, a .pre .0 .0, rows), (a .pre .0 .1, places)), omega (arith, a .pre .1 .1, mul-le-mul-right (a .args .n) rows))
-
-same-length : tie.Need-same-length
-same-length c = search needs
 
 returns : tie.Need-returns
 returns c =
@@ -39,12 +20,5 @@ returns c =
 
 pub state-reward-spec : {M : Type 1} → statement M
 state-reward-spec =
-    tie.close
-    (tie.spec
-    lowest-of-requires
-    spread-of-requires
-    lowest-of-requires-2
-    spread-of-requires-2
-    mark-rewards-requires
-    same-length
-    returns)
+    tie.close (tie.spec (λ c κs. search needs) (λ c κs. search needs) (λ c κs. search needs) (λ c κs. search needs) mark-rewards-requires
+    (λ c. search needs) returns)

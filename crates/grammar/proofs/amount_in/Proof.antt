@@ -1,28 +1,9 @@
-use mathlib.Core.Path.{sym, ap, _∙_}
-use Rattle.grammar.specs.Grammar.{Finding, limited, found}
+use Rattle.grammar.proofs.Prelude.{sym, ap, _∙_, limited, found, needs}
+use Rattle.grammar.specs.Grammar.{Finding}
 use Rattle.grammar.proofs.Laws.{limit-under, limit-over, limit-in}
 use Rattle.grammar.proofs.Arms.{is-not}
-use borrow.Author.Needs.{needs}
 use Rattle.grammar.proofs.amount_in.Statement.{statement}
 use Rattle.grammar.proofs.amount_in.Tie as tie
-
-sub-amount-of : tie.Need-sub-amount-of
-sub-amount-of c = search needs
-
-part-amount-of-start : tie.Need-part-amount-of-start
-part-amount-of-start c = search needs
-
-part-amount-of-end : tie.Need-part-amount-of-end
-part-amount-of-end c = search needs
-
-amount-of-requires : tie.Need-amount-of-requires
-amount-of-requires c κs = search needs
-
-enum-known-a : tie.Need-enum-known-a
-enum-known-a c = search needs
-
-enum-told : tie.Need-enum-told
-enum-told c = search needs
 
 returns : tie.Need-returns
 returns c =
@@ -50,15 +31,5 @@ returns-4 c =
 
 pub amount-in-spec : {M : Type 1} → statement M
 amount-in-spec =
-    tie.close
-    (tie.spec
-    sub-amount-of
-    part-amount-of-start
-    part-amount-of-end
-    amount-of-requires
-    enum-known-a
-    enum-told
-    returns
-    returns-2
-    returns-3
-    returns-4)
+    tie.close (tie.spec (λ c. search needs) (λ c. search needs) (λ c. search needs) (λ c κs. search needs) (λ c. search needs) (λ c. search needs)
+    returns returns-2 returns-3 returns-4)

@@ -1,21 +1,7 @@
-use Rattle.grammar.specs.Grammar.{field, number}
-use Rattle.grammar.proofs.Laws.{value-next, reads-on}
-use Rattle.grammar.proofs.Arms.{reads-back}
-use borrow.Author.Needs.{needs}
+use Rattle.grammar.proofs.Prelude.{number, value-next, reads-on, reads-back, needs}
+use Rattle.grammar.specs.Grammar.{field}
 use Rattle.grammar.proofs.field_at.Statement.{statement}
 use Rattle.grammar.proofs.field_at.Tie as tie
-
-slice-aggregate-keys-at : tie.Need-slice-aggregate-keys-at
-slice-aggregate-keys-at c = search needs
-
-keys-at-requires : tie.Need-keys-at-requires
-keys-at-requires c κs = search needs
-
-enum-known-x : tie.Need-enum-known-x
-enum-known-x c = search needs
-
-enum-told : tie.Need-enum-told
-enum-told c = search needs
 
 returns : tie.Need-returns
 unfolding field
@@ -35,12 +21,4 @@ returns-2 c =
 
 pub field-at-spec : {M : Type 1} → statement M
 field-at-spec =
-    tie.close
-    (tie.spec
-    slice-aggregate-keys-at
-    keys-at-requires
-    enum-known-x
-    enum-told
-    returns
-    number-at-requires
-    returns-2)
+    tie.close (tie.spec (λ c. search needs) (λ c κs. search needs) (λ c. search needs) (λ c. search needs) returns number-at-requires returns-2)

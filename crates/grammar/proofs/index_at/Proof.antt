@@ -1,31 +1,9 @@
-use Prim.Native.Nat.{ℕ, _-_}
-use mathlib.Core.Path.{ap}
-use native.Mathlib.Omega.{arith}
-use Rattle.words.specs.Words.{wordsIn, between}
-use Rattle.grammar.specs.Grammar.{choose, Answer, got, number, index}
-use Rattle.grammar.proofs.Laws.{ahead-most, value-is, value-next}
+use Rattle.grammar.proofs.Prelude.{ℕ, _-_, ap, arith, wordsIn, between, number, value-next, needs}
+use Rattle.grammar.specs.Grammar.{choose, Answer, got, index}
+use Rattle.grammar.proofs.Laws.{ahead-most, value-is}
 use Rattle.grammar.proofs.Arms.{choose-back}
-use borrow.Author.Needs.{needs}
 use Rattle.grammar.proofs.index_at.Statement.{statement}
 use Rattle.grammar.proofs.index_at.Tie as tie
-
-slice-aggregate-key-at : tie.Need-slice-aggregate-key-at
-slice-aggregate-key-at c = search needs
-
-key-at-requires : tie.Need-key-at-requires
-key-at-requires c κs = search needs
-
-enum-known-x : tie.Need-enum-known-x
-enum-known-x c = search needs
-
-enum-told : tie.Need-enum-told
-enum-told c = search needs
-
-sub-number-at : tie.Need-sub-number-at
-sub-number-at c = search needs
-
-number-at-requires : tie.Need-number-at-requires
-number-at-requires c κs = search needs
 
 returns : tie.Need-returns
 unfolding index
@@ -48,13 +26,5 @@ returns-2 c =
 
 pub index-at-spec : {M : Type 1} → statement M
 index-at-spec =
-    tie.close
-    (tie.spec
-    slice-aggregate-key-at
-    key-at-requires
-    enum-known-x
-    enum-told
-    sub-number-at
-    number-at-requires
-    returns
-    returns-2)
+    tie.close (tie.spec (λ c. search needs) (λ c κs. search needs) (λ c. search needs) (λ c. search needs) (λ c. search needs) (λ c κs. search needs)
+    returns returns-2)

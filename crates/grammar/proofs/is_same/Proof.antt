@@ -1,10 +1,8 @@
-use Prim.Native.Nat.{_+_, _-_, _≤_}
-use mathlib.Core.Path.{_≡_, refl, sym, ap, _∙_}
-use mathlib.Core.Bool.{Bool, _&&_}
-use native.Mathlib.Omega.{arith}
+use Rattle.grammar.proofs.Prelude.{_-_, _≤_, _≡_, refl, sym, ap, _∙_, Bool, arith, drop, same}
+use Prim.Native.Nat.{_+_}
+use mathlib.Core.Bool.{_&&_}
 use borrow.Author.Tests.{eq-eqb, ne-eqb}
-use lib.ListN.{length, drop}
-use Rattle.grammar.specs.Grammar.{same}
+use lib.ListN.{length}
 use Rattle.grammar.proofs.Laws.{same-length, same-end, same-in}
 use Rattle.grammar.proofs.is_same.Statement.{statement}
 use Rattle.grammar.proofs.is_same.Tie as tie
@@ -21,24 +19,12 @@ returns c = sym (same-length (c .before .args .a .now) (c .before .args .b .now)
 loop-holds : tie.Need-loop-holds Inv-loop μ-loop
 loop-holds c = (omega arith, (omega arith, refl))
 
-shared-slice-read-if2 : tie.Need-shared-slice-read-if2 Inv-loop μ-loop
-shared-slice-read-if2 c = omega arith
-
-shared-slice-read-if2-2 : tie.Need-shared-slice-read-if2-2 Inv-loop μ-loop
-shared-slice-read-if2-2 c = omega arith
-
 returns-2 : tie.Need-returns-2 Inv-loop μ-loop
 returns-2 c =
     let l = c .before .before .before .before .loop in
     let a = c .before .before .before .before .before .before .args .a .now in
     let b = c .before .before .before .before .before .before .args .b .now in
     sym (ap (λ (t : Bool). t && same (drop (l .i + 1) a) (drop (l .i + 1) b)) (ne-eqb _ _ (c .if2 .taken))) ∙ sym (same-in a b (l .i) (omega arith) (omega arith)) ∙ l .inv .1 .1
-
-add-i : tie.Need-add-i Inv-loop μ-loop
-add-i c = omega arith
-
-loop-less : tie.Need-loop-less Inv-loop μ-loop
-loop-less c = omega arith
 
 loop-again : tie.Need-loop-again Inv-loop μ-loop
 loop-again c =
@@ -60,16 +46,5 @@ returns-3 c =
 
 pub is-same-spec : {M : Type 1} → statement M
 is-same-spec =
-    tie.close
-    (tie.spec
-    Inv-loop
-    μ-loop
-    returns
-    loop-holds
-    shared-slice-read-if2
-    shared-slice-read-if2-2
-    returns-2
-    add-i
-    loop-less
-    loop-again
-    returns-3)
+    tie.close (tie.spec Inv-loop μ-loop returns loop-holds (λ c. omega arith) (λ c. omega arith) returns-2 (λ c. omega arith) (λ c. omega arith)
+    loop-again returns-3)

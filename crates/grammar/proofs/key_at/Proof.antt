@@ -1,14 +1,9 @@
-use Prim.Native.Nat.{ℕ, _≤_}
-use mathlib.Core.Path.{_≡_, sym, ap, _∙_}
-use mathlib.Core.Bool.{Bool, true, false, cond}
-use mathlib.Core.List.{List}
-use native.Mathlib.Omega.{arith}
+use Rattle.grammar.proofs.Prelude.{ℕ, _≤_, _≡_, sym, ap, _∙_, Bool, true, false, cond, List, arith, wordsIn, between, same, key, found, bytesOf}
+use Rattle.grammar.proofs.Prelude.{one-end, worded-at, one-word, no-word, needs}
 use Rattle.words.specs.declared.Word.the-variants.{At}
-use Rattle.words.specs.Words.{wordsIn, between, Worded}
-use Rattle.grammar.specs.Grammar.{Reads, fits, unfit, oneWord, same, key, found, bytesOf}
-use Rattle.grammar.proofs.Laws.{OfValue, one-end, worded-at, one-word}
-use Rattle.grammar.proofs.Arms.{no-word}
-use borrow.Author.Needs.{needs}
+use Rattle.words.specs.Words.{Worded}
+use Rattle.grammar.specs.Grammar.{Reads, fits, unfit, oneWord}
+use Rattle.grammar.proofs.Laws.{OfValue}
 use Rattle.grammar.proofs.key_at.Statement.{statement}
 use Rattle.grammar.proofs.key_at.Tie as tie
 
@@ -21,15 +16,6 @@ key-found k s at start stop t w e =
     no-value : (t : Bool) → OfValue (λ v. v ≤ 0) (cond t (fits 0) unfit)
     no-value true = omega arith
     no-value false = tt
-
-word-from-requires : tie.Need-word-from-requires
-word-from-requires c κs = search needs
-
-enum-known-x : tie.Need-enum-known-x
-enum-known-x c = search needs
-
-enum-told : tie.Need-enum-told
-enum-told c = search needs
 
 returns : tie.Need-returns
 unfolding key
@@ -46,9 +32,6 @@ part-is-same-start c = omega (arith, worded-at _ _ (c .before .before .before .w
 
 part-is-same-end : tie.Need-part-is-same-end
 part-is-same-end c = omega (arith, worded-at _ _ (c .before .before .before .word-from .ensures (omega arith)) (c .before .x .given .1) .lies)
-
-is-same-requires : tie.Need-is-same-requires
-is-same-requires c κs = search needs
 
 returns-2 : tie.Need-returns-2
 unfolding key
@@ -68,15 +51,5 @@ returns-3 c =
 
 pub key-at-spec : {M : Type 1} → statement M
 key-at-spec =
-    tie.close
-    (tie.spec
-    word-from-requires
-    enum-known-x
-    enum-told
-    returns
-    sub-is-same
-    part-is-same-start
-    part-is-same-end
-    is-same-requires
-    returns-2
-    returns-3)
+    tie.close (tie.spec (λ c κs. search needs) (λ c. search needs) (λ c. search needs) returns sub-is-same part-is-same-start part-is-same-end
+    (λ c κs. search needs) returns-2 returns-3)

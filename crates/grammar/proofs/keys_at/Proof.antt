@@ -1,18 +1,7 @@
-use Rattle.grammar.specs.Grammar.{key, keys}
-use Rattle.grammar.proofs.Laws.{value-next, reads-on}
-use Rattle.grammar.proofs.Arms.{reads-back}
-use borrow.Author.Needs.{needs}
+use Rattle.grammar.proofs.Prelude.{key, value-next, reads-on, reads-back, needs}
+use Rattle.grammar.specs.Grammar.{keys}
 use Rattle.grammar.proofs.keys_at.Statement.{statement}
 use Rattle.grammar.proofs.keys_at.Tie as tie
-
-key-at-requires : tie.Need-key-at-requires
-key-at-requires c κs = search needs
-
-enum-known-x : tie.Need-enum-known-x
-enum-known-x c = search needs
-
-enum-told : tie.Need-enum-told
-enum-told c = search needs
 
 returns : tie.Need-returns
 unfolding keys
@@ -29,4 +18,4 @@ returns-2 c =
 
 pub keys-at-spec : {M : Type 1} → statement M
 keys-at-spec =
-    tie.close (tie.spec key-at-requires enum-known-x enum-told returns key-at-requires-2 returns-2)
+    tie.close (tie.spec (λ c κs. search needs) (λ c. search needs) (λ c. search needs) returns key-at-requires-2 returns-2)

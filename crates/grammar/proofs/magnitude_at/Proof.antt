@@ -1,15 +1,8 @@
-use Prim.Native.Nat.{ℕ, _≤_}
-use mathlib.Core.Path.{_≡_, refl, ap, _∙_}
-use mathlib.Core.Bool.{Bool, true, false, cond}
-use mathlib.Core.List.{List}
-use native.Mathlib.Omega.{arith}
-use lib.ListN.{drop}
+use Rattle.grammar.proofs.Prelude.{ℕ, _≤_, _≡_, refl, ap, _∙_, Bool, true, false, cond, List, arith, drop, amountOf, limited, found, bytesOf}
+use Rattle.grammar.proofs.Prelude.{one-end, worded-at, one-word, limited-below, no-word, needs}
 use mir.Val.{boolByte}
-use Rattle.numerals.specs.Numeral.{amountOf, negative, unsigned}
-use Rattle.grammar.specs.Grammar.{limited, magnitude, found, bytesOf}
-use Rattle.grammar.proofs.Laws.{one-end, worded-at, one-word, limited-below}
-use Rattle.grammar.proofs.Arms.{no-word}
-use borrow.Author.Needs.{needs}
+use Rattle.numerals.specs.Numeral.{negative, unsigned}
+use Rattle.grammar.specs.Grammar.{magnitude}
 use Rattle.grammar.proofs.magnitude_at.Statement.{statement}
 use Rattle.grammar.proofs.magnitude_at.Tie as tie
 
@@ -20,15 +13,6 @@ byte-small false = omega arith
 past-minus : (t : Bool) (w : List ℕ) → drop (boolByte t) w ≡ cond t (drop 1 w) w
 past-minus true w = refl
 past-minus false w = refl
-
-word-from-requires : tie.Need-word-from-requires
-word-from-requires c κs = search needs
-
-enum-known-x : tie.Need-enum-known-x
-enum-known-x c = search needs
-
-enum-told : tie.Need-enum-told
-enum-told c = search needs
 
 returns : tie.Need-returns
 unfolding magnitude
@@ -45,12 +29,6 @@ part-is-negative-start c = omega (arith, worded-at _ _ (c .before .before .befor
 
 part-is-negative-end : tie.Need-part-is-negative-end
 part-is-negative-end c = omega (arith, worded-at _ _ (c .before .before .before .word-from .ensures (omega arith)) (c .before .x .given .1) .lies)
-
-is-negative-requires : tie.Need-is-negative-requires
-is-negative-requires c κs = search needs
-
-cast-from : tie.Need-cast-from
-cast-from c = search needs
 
 amount-in-requires : tie.Need-amount-in-requires
 amount-in-requires c κs =
@@ -69,16 +47,5 @@ returns-2 c =
 
 pub magnitude-at-spec : {M : Type 1} → statement M
 magnitude-at-spec =
-    tie.close
-    (tie.spec
-    word-from-requires
-    enum-known-x
-    enum-told
-    returns
-    sub-is-negative
-    part-is-negative-start
-    part-is-negative-end
-    is-negative-requires
-    cast-from
-    amount-in-requires
-    returns-2)
+    tie.close (tie.spec (λ c κs. search needs) (λ c. search needs) (λ c. search needs) returns sub-is-negative part-is-negative-start
+    part-is-negative-end (λ c κs. search needs) (λ c. search needs) amount-in-requires returns-2)

@@ -1,20 +1,7 @@
-use mathlib.Core.Path.{sym, ap, _∙_}
-use native.Mathlib.Omega.{arith}
+use Rattle.grammar.proofs.Prelude.{sym, ap, _∙_, arith, worded-at, no-word, needs}
 use Rattle.grammar.specs.Grammar.{minus}
-use Rattle.grammar.proofs.Laws.{worded-at}
-use Rattle.grammar.proofs.Arms.{no-word}
-use borrow.Author.Needs.{needs}
 use Rattle.grammar.proofs.minus_at.Statement.{statement}
 use Rattle.grammar.proofs.minus_at.Tie as tie
-
-word-from-requires : tie.Need-word-from-requires
-word-from-requires c κs = search needs
-
-enum-known-x : tie.Need-enum-known-x
-enum-known-x c = search needs
-
-enum-told : tie.Need-enum-told
-enum-told c = search needs
 
 returns : tie.Need-returns
 returns c =
@@ -31,9 +18,6 @@ part-is-negative-start c = omega (arith, worded-at _ _ (c .before .before .befor
 part-is-negative-end : tie.Need-part-is-negative-end
 part-is-negative-end c = omega (arith, worded-at _ _ (c .before .before .before .word-from .ensures (omega arith)) (c .before .x .given .1) .lies)
 
-is-negative-requires : tie.Need-is-negative-requires
-is-negative-requires c κs = search needs
-
 returns-2 : tie.Need-returns-2
 returns-2 c =
     let g = c .before .before .before .x .given in
@@ -41,14 +25,5 @@ returns-2 c =
 
 pub minus-at-spec : {M : Type 1} → statement M
 minus-at-spec =
-    tie.close
-    (tie.spec
-    word-from-requires
-    enum-known-x
-    enum-told
-    returns
-    sub-is-negative
-    part-is-negative-start
-    part-is-negative-end
-    is-negative-requires
-    returns-2)
+    tie.close (tie.spec (λ c κs. search needs) (λ c. search needs) (λ c. search needs) returns sub-is-negative part-is-negative-start
+    part-is-negative-end (λ c κs. search needs) returns-2)

@@ -1,20 +1,6 @@
-use native.Mathlib.Omega.{arith}
-use Rattle.numerals.specs.Numeral.{amountOf}
-use Rattle.grammar.specs.Grammar.{limited, number, bytesOf}
-use Rattle.grammar.proofs.Laws.{one-end, worded-at, one-word, limited-below}
-use Rattle.grammar.proofs.Arms.{no-word}
-use borrow.Author.Needs.{needs}
+use Rattle.grammar.proofs.Prelude.{arith, amountOf, limited, number, bytesOf, one-end, worded-at, one-word, limited-below, no-word, needs}
 use Rattle.grammar.proofs.number_at.Statement.{statement}
 use Rattle.grammar.proofs.number_at.Tie as tie
-
-word-from-requires : tie.Need-word-from-requires
-word-from-requires c κs = search needs
-
-enum-known-x : tie.Need-enum-known-x
-enum-known-x c = search needs
-
-enum-told : tie.Need-enum-told
-enum-told c = search needs
 
 returns : tie.Need-returns
 unfolding number
@@ -37,5 +23,4 @@ returns-2 c =
 
 pub number-at-spec : {M : Type 1} → statement M
 number-at-spec =
-    tie.close
-    (tie.spec word-from-requires enum-known-x enum-told returns amount-in-requires returns-2)
+    tie.close (tie.spec (λ c κs. search needs) (λ c. search needs) (λ c. search needs) returns amount-in-requires returns-2)

@@ -1,12 +1,7 @@
-use borrow.Author.Needs.{needs}
-use native.Mathlib.Omega.{arith}
-use mir.Facts.{toZ-ofZ}
-use Rattle.integers.proofs.Terms.{product, product-fits, sum-of, sum-fits}
+use Rattle.integers.proofs.Prelude.{needs, arith, toZ-ofZ, product, product-fits}
+use Rattle.integers.proofs.Terms.{sum-of, sum-fits}
 use Rattle.integers.proofs.add_scaled.Statement.{statement}
 use Rattle.integers.proofs.add_scaled.Tie as tie
-
-cast-result : tie.Need-cast-result
-cast-result c = search needs
 
 mul-result : tie.Need-mul-result
 mul-result c = rw (product (c .args .k) (c .args .a) (c .pre .0) (c .fits .a)) (product-fits (c .args .k) (c .args .a) (c .pre .0) (c .fits .a) (omega arith))
@@ -22,4 +17,5 @@ returns c =
     (toZ-ofZ (sum-fits (c .args .k) (c .args .a) (c .pre .0) (c .fits .a) (c .args .sum) (c .fits .sum) (c .pre .1)))
 
 pub add-scaled-spec : {M : Type 1} → statement M
-add-scaled-spec = tie.close (tie.spec cast-result mul-result add-result returns)
+add-scaled-spec =
+    tie.close (tie.spec (λ c. search needs) mul-result add-result returns)

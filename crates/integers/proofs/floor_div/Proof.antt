@@ -1,13 +1,6 @@
-use mathlib.Core.Path.{_≡_}
-use borrow.Author.Needs.{needs}
-use lib.IntN.{pos, _-ℤ_}
-use lib.Signed.{quotZ}
-use mir.Syntax.{w64}
-use mir.Val.{SFits}
-use mir.Facts.{toZ-ofZ}
-use mir.ValLaws.{sfits-le}
+use Rattle.integers.proofs.Prelude.{_≡_, needs, pos, _-ℤ_, quotZ, w64, SFits, toZ-ofZ, sfits-le, quotient-fits, quotient, remainder}
 use Rattle.integers.specs.Whole.{floorDiv}
-use Rattle.integers.proofs.Quotients.{floor-less, floor-same, floor-small, quotient-fits, quotient, remainder}
+use Rattle.integers.proofs.Quotients.{floor-less, floor-same, floor-small}
 use Rattle.integers.proofs.floor_div.Statement.{statement}
 use Rattle.integers.proofs.floor_div.Tie as tie
 
@@ -18,9 +11,6 @@ rounded : (c : tie.Then1) → let s = c .before in quotZ (s .args .x) (pos (s .a
 rounded c =
     let s = c .before in
     floor-less (s .args .k) (s .pre .0) (s .args .x) (rw (remainder (s .args .x) (s .args .k) (s .fits .x) (s .pre .0) (s .pre .1)) at (c .if1 .taken))
-
-cast-d : tie.Need-cast-d
-cast-d c = search needs
 
 div-q : tie.Need-div-q
 div-q c = (c .pre .0, quotient-fits (c .args .x) (c .args .k) (c .fits .x) (c .pre .0) (c .pre .1))
@@ -45,4 +35,5 @@ returns-2 c =
     (floor-same (s .args .k) (s .pre .0) (s .args .x) (rw (remainder (s .args .x) (s .args .k) (s .fits .x) (s .pre .0) (s .pre .1)) at (c .if1 .left)))
 
 pub floor-div-spec : {M : Type 1} → statement M
-floor-div-spec = tie.close (tie.spec cast-d div-q rem-if1 sub-result returns returns-2)
+floor-div-spec =
+    tie.close (tie.spec (λ c. search needs) div-q rem-if1 sub-result returns returns-2)

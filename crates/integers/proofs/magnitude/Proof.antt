@@ -1,15 +1,11 @@
-use mathlib.Core.Path.{_≡_}
+use Rattle.integers.proofs.Prelude.{_≡_, _-_, _≤_, arith, ℤ, pos, negℤ, _+ℤ_, _-ℤ_, w64, SFits, toZ, toZ-ofZ, neg-parts, abs-parts, fits}
 use mathlib.Core.Bool.{true}
-use Prim.Native.Nat.{suc, _-_, _^_, _≤_, _<_}
-use native.Mathlib.Omega.{arith}
+use Prim.Native.Nat.{suc, _^_, _<_}
 use lib.Dec.{T}
-use lib.IntN.{ℤ, pos, negsuc, negℤ, natAbs, _+ℤ_, _-ℤ_}
+use lib.IntN.{negsuc, natAbs}
 use lib.Signed.{ltZ, nonNeg, natAbs-le, yes-nonNeg}
-use mir.Syntax.{w64}
-use mir.Val.{SFits, toZ, ofZ}
-use mir.Facts.{toZ-ofZ}
-use Rattle.integers.proofs.Parts.{add-parts, sub-parts-ℤ, neg-parts, abs-parts, eq-by, le-by, ltZ-true, ltZ-false}
-use Rattle.integers.proofs.Words.{fits}
+use mir.Val.{ofZ}
+use Rattle.integers.proofs.Parts.{add-parts, sub-parts-ℤ, eq-by, le-by, ltZ-true, ltZ-false}
 use Rattle.integers.proofs.magnitude.Statement.{statement}
 use Rattle.integers.proofs.magnitude.Tie as tie
 
@@ -73,4 +69,5 @@ returns-2 : tie.Need-returns-2
 returns-2 c = rw (toZ-ofZ (c .before .fits .x))
 
 pub magnitude-spec : {M : Type 1} → statement M
-magnitude-spec = tie.close (tie.spec add-above sub-result cast-result add-result returns cast-result-2 returns-2)
+magnitude-spec =
+    tie.close (tie.spec add-above sub-result cast-result add-result returns cast-result-2 returns-2)

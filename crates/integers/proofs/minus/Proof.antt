@@ -1,10 +1,5 @@
-use native.Mathlib.Omega.{arith}
-use lib.IntN.{_-ℤ_}
-use mir.Syntax.{w64}
-use mir.Val.{SFits}
-use mir.Facts.{toZ-ofZ}
+use Rattle.integers.proofs.Prelude.{arith, _-ℤ_, w64, SFits, toZ-ofZ, fits}
 use Rattle.integers.proofs.Sizes.{abs-sub}
-use Rattle.integers.proofs.Words.{fits}
 use Rattle.integers.proofs.minus.Statement.{statement}
 use Rattle.integers.proofs.minus.Tie as tie
 
@@ -18,4 +13,5 @@ returns : tie.Need-returns
 returns c = rw (toZ-ofZ (c .fits .a), toZ-ofZ (c .fits .b)) (toZ-ofZ (result-fits c))
 
 pub minus-spec : {M : Type 1} → statement M
-minus-spec = tie.close (tie.spec sub-result returns)
+minus-spec =
+    tie.close (tie.spec sub-result returns)

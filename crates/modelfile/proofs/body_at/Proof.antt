@@ -1,19 +1,14 @@
-use Prim.Native.Nat.{ℕ, _+_, _*_, _≤_}
-use mathlib.Core.Path.{_∙_}
-use mathlib.Core.List.{List}
-use native.Mathlib.Omega.{arith}
-use borrow.Author.Needs.{needs}
-use lib.ListN.{length, replicate, length-replicate}
+use Rattle.modelfile.proofs.Prelude.{ℕ, _+_, _≤_, _∙_, List, arith, needs, length, replicate, maxStates, maxActions, _then_, value-next, body}
+use Rattle.modelfile.proofs.Prelude.{goes-back, goes-on, sizes}
+use Prim.Native.Nat.{_*_}
+use lib.ListN.{length-replicate}
 use lib.IntN.{pos}
-use Rattle.tables.specs.Limits.{maxStates, maxActions}
 use Rattle.words.specs.Words.{Words}
 use Rattle.drafts.specs.Drafts.{stated}
-use Rattle.grammar.specs.Grammar.{Answer, got, _then_}
-use Rattle.grammar.proofs.Laws.{value-next}
+use Rattle.grammar.specs.Grammar.{Answer, got}
 use Rattle.statements.specs.Statements.{startNumber, row, draft, statements, Room}
-use Rattle.modelfile.specs.ModelFile.{Text, textOf, noCells, body}
-use Rattle.modelfile.proofs.Laws.{ends-there, goes-further, goes-back, goes-on}
-use Rattle.tables.proofs.Fitting.{sizes}
+use Rattle.modelfile.specs.ModelFile.{Text, textOf, noCells}
+use Rattle.modelfile.proofs.Laws.{ends-there, goes-further}
 use Rattle.modelfile.proofs.body_at.Statement.{statement}
 use Rattle.modelfile.proofs.body_at.Tie as tie
 
@@ -29,33 +24,12 @@ after-start fuel d n m k start ws = statements fuel m n k noCells ws then λ cel
 abbrev after-name : ℕ → ℕ → ℕ → ℕ → ℕ → ℕ → Words → Answer Text
 after-name fuel d n m k _ ws = row startNumber (stated 1 1 n 0 0) 0 n (replicate maxStates 0) ws then λ start ws. after-start fuel d n m k start ws
 
-slice-aggregate-keys-at : tie.Need-slice-aggregate-keys-at
-slice-aggregate-keys-at c = search needs
-
-slice-aggregate-keys-at-2 : tie.Need-slice-aggregate-keys-at-2
-slice-aggregate-keys-at-2 c = search needs
-
-keys-at-requires : tie.Need-keys-at-requires
-keys-at-requires c κs = search needs
-
-enum-known-x : tie.Need-enum-known-x
-enum-known-x c = search needs
-
-enum-told : tie.Need-enum-told
-enum-told c = search needs
-
-back-requires : tie.Need-back-requires
-back-requires c κs = search needs
-
 returns : tie.Need-returns
 unfolding body
 returns c =
     let a = c .before .before .before .before .before .before .before .args in
     let size = length (a .file .now) in
     c .back .ensures ∙ goes-back size (after-name (size + 1) (a .discount) (a .n) (a .m) (a .k)) (c .before .before .before .keys-at .ensures) (c .before .before .match .keys2)
-
-slice-aggregate-row-at : tie.Need-slice-aggregate-row-at
-slice-aggregate-row-at c = search needs
 
 row-at-requires : tie.Need-row-at-requires
 row-at-requires c κs =
@@ -67,15 +41,6 @@ row-at-requires c κs =
       (omega arith, (omega arith, (omega arith, omega arith))),
     )
 
-enum-known-y : tie.Need-enum-known-y
-enum-known-y c = search needs
-
-enum-told-2 : tie.Need-enum-told-2
-enum-told-2 c = search needs
-
-back-requires-2 : tie.Need-back-requires-2
-back-requires-2 c κs = search needs
-
 returns-2 : tie.Need-returns-2
 unfolding body
 returns-2 c =
@@ -85,15 +50,6 @@ returns-2 c =
     c .back2 .ensures ∙ goes-back size (after-start (size + 1) (a .discount) (a .n) (a .m) (a .k)) (c .before .before .before .before .row-at .ensures) (c .before .before .match2 .keys2)
     ∙ goes-on size (after-name (size + 1) (a .discount) (a .n) (a .m) (a .k)) (c .before .before .before .before .before .before .before .before .before .keys-at .ensures) (g .0 .0) (g .0 .1 .0) (g .1)
 
-slice-aggregate-statements-at : tie.Need-slice-aggregate-statements-at
-slice-aggregate-statements-at c = search needs
-
-slice-aggregate-statements-at-2 : tie.Need-slice-aggregate-statements-at-2
-slice-aggregate-statements-at-2 c = search needs
-
-slice-aggregate-statements-at-3 : tie.Need-slice-aggregate-statements-at-3
-slice-aggregate-statements-at-3 c = search needs
-
 statements-at-requires : tie.Need-statements-at-requires
 statements-at-requires c κs =
     let p = c .before .before .before .before .before .before .before .before .before .before .before .before .before .before .before .before .pre .1 in
@@ -101,15 +57,6 @@ statements-at-requires c κs =
       value-next _ _ (c .before .before .before .before .before .before .before .row-at .ensures) (c .before .before .before .before .y .given .1) .1 .1,
       (room 0 2048 (p .1 .0) (p .0) (p .0) (f .transitions), (room 0 1024 (p .1 .0) (p .0) (p .1 .1 .0, omega (arith, p .1 .1)) (f .observed), room (pos 0) 128 (p .1 .0) (p .0) (omega arith, omega arith) (omega (arith, f .rows)))),
     )
-
-enum-told-3 : tie.Need-enum-told-3
-enum-told-3 c = search needs
-
-enum-told-4 : tie.Need-enum-told-4
-enum-told-4 c = search needs
-
-back-requires-3 : tie.Need-back-requires-3
-back-requires-3 c κs = search needs
 
 returns-3 : tie.Need-returns-3
 unfolding body
@@ -140,28 +87,7 @@ returns-4 c =
 
 pub body-at-spec : {M : Type 1} → statement M
 body-at-spec =
-    tie.close
-    (tie.spec
-    slice-aggregate-keys-at
-    slice-aggregate-keys-at-2
-    keys-at-requires
-    enum-known-x
-    enum-told
-    back-requires
-    returns
-    slice-aggregate-row-at
-    row-at-requires
-    enum-known-y
-    enum-told-2
-    back-requires-2
-    returns-2
-    slice-aggregate-statements-at
-    slice-aggregate-statements-at-2
-    slice-aggregate-statements-at-3
-    statements-at-requires
-    enum-told-3
-    enum-told-4
-    back-requires-3
-    returns-3
-    finished-requires
-    returns-4)
+    tie.close (tie.spec (λ c. search needs) (λ c. search needs) (λ c κs. search needs) (λ c. search needs) (λ c. search needs) (λ c κs. search needs)
+    returns (λ c. search needs) row-at-requires (λ c. search needs) (λ c. search needs) (λ c κs. search needs) returns-2 (λ c. search needs)
+    (λ c. search needs) (λ c. search needs) statements-at-requires (λ c. search needs) (λ c. search needs) (λ c κs. search needs) returns-3
+    finished-requires returns-4)

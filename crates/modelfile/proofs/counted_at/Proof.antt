@@ -1,18 +1,12 @@
-use Prim.Native.Nat.{ℕ, _+_, _≤_}
-use mathlib.Core.Path.{_≡_, _∙_}
-use mathlib.Core.List.{List}
-use native.Mathlib.Omega.{arith}
-use borrow.Author.Needs.{needs}
-use lib.ListN.{length}
-use Rattle.tables.specs.Limits.{maxStates, maxActions, maxObservations}
-use Rattle.words.specs.Words.{wordsIn, between}
+use Rattle.modelfile.proofs.Prelude.{ℕ, _+_, _≤_, _≡_, _∙_, List, arith, needs, length, maxStates, maxActions, wordsIn, between, _then_}
+use Rattle.modelfile.proofs.Prelude.{value-next, body, counted, goes-back, goes-on}
+use Rattle.tables.specs.Limits.{maxObservations}
 use Rattle.grammar.specs.declared.Read.{Read}
 use Rattle.grammar.specs.declared.Read.the-variants.{Value}
-use Rattle.grammar.specs.Grammar.{_then_, field, Reads}
-use Rattle.grammar.proofs.Laws.{value-is, value-next}
+use Rattle.grammar.specs.Grammar.{field, Reads}
+use Rattle.grammar.proofs.Laws.{value-is}
 use Rattle.grammar.proofs.Gives.{given-value, field-gives}
-use Rattle.modelfile.specs.ModelFile.{statesName, actionsName, observationsName, body, counted}
-use Rattle.modelfile.proofs.Laws.{goes-back, goes-on}
+use Rattle.modelfile.specs.ModelFile.{statesName, actionsName, observationsName}
 use Rattle.modelfile.proofs.counted_at.Statement.{statement}
 use Rattle.modelfile.proofs.counted_at.Tie as tie
 
@@ -21,21 +15,6 @@ count-within : (name : List ℕ) (most : ℕ) {file : List ℕ} {at : ℕ} {r : 
     → (1 ≤ v) × (v ≤ most)
 count-within name most {file} {at} v next t e = given-value (λ v. (1 ≤ v) × (v ≤ most)) (field-gives name 2 0 1 most (wordsIn between file at)) (value-is v next t e)
 
-slice-aggregate-field-at : tie.Need-slice-aggregate-field-at
-slice-aggregate-field-at c = search needs
-
-field-at-requires : tie.Need-field-at-requires
-field-at-requires c κs = search needs
-
-enum-known-x : tie.Need-enum-known-x
-enum-known-x c = search needs
-
-enum-told : tie.Need-enum-told
-enum-told c = search needs
-
-back-requires : tie.Need-back-requires
-back-requires c κs = search needs
-
 returns : tie.Need-returns
 unfolding counted
 returns c =
@@ -43,20 +22,8 @@ returns c =
     let d = c .before .before .before .before .before .before .args .discount in
     c .back .ensures ∙ goes-back size (λ n ws. field actionsName 2 0 1 maxActions ws then λ m ws. field observationsName 2 0 1 maxObservations ws then λ k ws. body (size + 1) d n m k ws) (c .before .before .before .field-at .ensures) (c .before .before .match .keys2)
 
-slice-aggregate-field-at-2 : tie.Need-slice-aggregate-field-at-2
-slice-aggregate-field-at-2 c = search needs
-
 field-at-requires-2 : tie.Need-field-at-requires-2
 field-at-requires-2 c κs = (value-next _ _ (c .before .before .before .before .field-at .ensures) (c .before .before .x .given .1) .1 .1, (omega arith, omega arith))
-
-enum-known-y : tie.Need-enum-known-y
-enum-known-y c = search needs
-
-enum-told-2 : tie.Need-enum-told-2
-enum-told-2 c = search needs
-
-back-requires-2 : tie.Need-back-requires-2
-back-requires-2 c κs = search needs
 
 returns-2 : tie.Need-returns-2
 unfolding counted
@@ -67,20 +34,8 @@ returns-2 c =
     c .back2 .ensures ∙ goes-back size (λ m ws. field observationsName 2 0 1 maxObservations ws then λ k ws. body (size + 1) d (g .0 .0) m k ws) (c .before .before .before .field-at2 .ensures) (c .before .before .match2 .keys2)
     ∙ goes-on size (λ n ws. field actionsName 2 0 1 maxActions ws then λ m ws. field observationsName 2 0 1 maxObservations ws then λ k ws. body (size + 1) d n m k ws) (c .before .before .before .before .before .before .before .before .field-at .ensures) (g .0 .0) (g .0 .1 .0) (g .1)
 
-slice-aggregate-field-at-3 : tie.Need-slice-aggregate-field-at-3
-slice-aggregate-field-at-3 c = search needs
-
 field-at-requires-3 : tie.Need-field-at-requires-3
 field-at-requires-3 c κs = (value-next _ _ (c .before .before .before .before .field-at2 .ensures) (c .before .before .y .given .1) .1 .1, (omega arith, omega arith))
-
-enum-known-z : tie.Need-enum-known-z
-enum-known-z c = search needs
-
-enum-told-3 : tie.Need-enum-told-3
-enum-told-3 c = search needs
-
-back-requires-3 : tie.Need-back-requires-3
-back-requires-3 c κs = search needs
 
 returns-3 : tie.Need-returns-3
 unfolding counted
@@ -119,25 +74,6 @@ returns-4 c =
 
 pub counted-at-spec : {M : Type 1} → statement M
 counted-at-spec =
-    tie.close
-    (tie.spec
-    slice-aggregate-field-at
-    field-at-requires
-    enum-known-x
-    enum-told
-    back-requires
-    returns
-    slice-aggregate-field-at-2
-    field-at-requires-2
-    enum-known-y
-    enum-told-2
-    back-requires-2
-    returns-2
-    slice-aggregate-field-at-3
-    field-at-requires-3
-    enum-known-z
-    enum-told-3
-    back-requires-3
-    returns-3
-    body-at-requires
-    returns-4)
+    tie.close (tie.spec (λ c. search needs) (λ c κs. search needs) (λ c. search needs) (λ c. search needs) (λ c κs. search needs) returns
+    (λ c. search needs) field-at-requires-2 (λ c. search needs) (λ c. search needs) (λ c κs. search needs) returns-2 (λ c. search needs)
+    field-at-requires-3 (λ c. search needs) (λ c. search needs) (λ c κs. search needs) returns-3 body-at-requires returns-4)

@@ -1,21 +1,8 @@
-use mathlib.Core.Path.{sym, ap, _∙_}
-use borrow.Author.Needs.{needs}
+use Rattle.modelfile.proofs.Prelude.{sym, ap, _∙_, needs}
 use Rattle.tables.specs.declared.Verdict.{Verdict}
 use Rattle.modelfile.specs.ModelFile.{judgedFile}
 use Rattle.modelfile.proofs.finished.Statement.{statement}
 use Rattle.modelfile.proofs.finished.Tie as tie
-
-totals-of-requires : tie.Need-totals-of-requires
-totals-of-requires c κs = search needs
-
-enum-told : tie.Need-enum-told
-enum-told c = search needs
-
-enum-known-number : tie.Need-enum-known-number
-enum-known-number c = search needs
-
-refusal-requires : tie.Need-refusal-requires
-refusal-requires c κs = search needs
 
 returns : tie.Need-returns
 returns c = sym (ap (λ (v : Verdict). judgedFile v (record { tables = c .before .before .before .args .m; start = c .before .before .before .args .start })) (sym (c .before .before .totals-of .ensures) ∙ c .enum-told .given .1))
@@ -25,5 +12,4 @@ returns-2 c = c .refusal .ensures ∙ sym (ap (λ (v : Verdict). judgedFile v (r
 
 pub finished-spec : {M : Type 1} → statement M
 finished-spec =
-    tie.close
-    (tie.spec totals-of-requires enum-told enum-known-number refusal-requires returns returns-2)
+    tie.close (tie.spec (λ c κs. search needs) (λ c. search needs) (λ c. search needs) (λ c κs. search needs) returns returns-2)

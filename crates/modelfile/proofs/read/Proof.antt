@@ -1,13 +1,8 @@
-use Prim.Native.Nat.{ℕ, _+_}
-use mathlib.Core.Path.{sym, ap, _∙_}
+use Rattle.modelfile.proofs.Prelude.{ℕ, _+_, sym, ap, _∙_, List, needs, length, wordsIn, between, headed}
 use mathlib.Core.Bool.{Bool, cond}
-use mathlib.Core.List.{List}
-use borrow.Author.Needs.{needs}
 use borrow.Author.Tests.{le-leb, lt-leb}
-use lib.ListN.{length}
-use Rattle.words.specs.Words.{wordsIn, between}
 use Rattle.modelfile.specs.declared.ModelFile.{ModelFile}
-use Rattle.modelfile.specs.ModelFile.{maxBytes, headed, refusedFile, ended, modelFile}
+use Rattle.modelfile.specs.ModelFile.{maxBytes, refusedFile, ended, modelFile}
 use Rattle.modelfile.proofs.read.Statement.{statement}
 use Rattle.modelfile.proofs.read.Tie as tie
 
@@ -15,19 +10,14 @@ use Rattle.modelfile.proofs.read.Tie as tie
 abbrev chosen : List ℕ → Bool → ModelFile
 chosen file short = cond short (ended (length file) (headed (length file + 1) (wordsIn between file 0))) (refusedFile 1 0)
 
-headed-at-requires : tie.Need-headed-at-requires
-headed-at-requires c κs = search needs
-
 returns : tie.Need-returns
 unfolding modelFile
 returns c = c .headed-at .ensures ∙ sym (ap (chosen (c .before .before .before .args .file .now)) (le-leb _ maxBytes (c .before .if1 .taken)))
-
-refusal-requires : tie.Need-refusal-requires
-refusal-requires c κs = search needs
 
 returns-2 : tie.Need-returns-2
 unfolding modelFile
 returns-2 c = c .refusal .ensures ∙ sym (ap (chosen (c .before .before .before .args .file .now)) (lt-leb _ maxBytes (c .before .if1 .left)))
 
 pub read-spec : {M : Type 1} → statement M
-read-spec = tie.close (tie.spec headed-at-requires returns refusal-requires returns-2)
+read-spec =
+    tie.close (tie.spec (λ c κs. search needs) returns (λ c κs. search needs) returns-2)

@@ -1,17 +1,12 @@
-use mathlib.Core.Path.{ap}
-use borrow.Author.Needs.{needs}
-use lib.ListN.{replicate}
+use Rattle.modelfile.proofs.Prelude.{ap, needs, replicate, maxStates}
 use Rattle.tables.specs.declared.Verdict.the-variants.{Refused}
-use Rattle.tables.specs.Limits.{maxStates}
 use Rattle.tables.specs.declared.Tables.{Tables}
 use Rattle.modelfile.proofs.refusal.Statement.{statement}
 use Rattle.modelfile.proofs.refusal.Tie as tie
-
-none-requires : tie.Need-none-requires
-none-requires c κs = search needs
 
 returns : tie.Need-returns
 returns c = ap (λ (t : Tables). record { verdict = Refused (c .before .args .number) (c .before .args .place); tables = t; start = replicate maxStates 0 }) (c .none .ensures)
 
 pub refusal-spec : {M : Type 1} → statement M
-refusal-spec = tie.close (tie.spec none-requires returns)
+refusal-spec =
+    tie.close (tie.spec (λ c κs. search needs) returns)

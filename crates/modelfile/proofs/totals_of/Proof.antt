@@ -1,16 +1,12 @@
-use Prim.Native.Nat.{ℕ, _+_}
-use mathlib.Core.Path.{_≡_, sym, ap, _∙_}
-use mathlib.Core.List.{List}
-use native.Mathlib.Omega.{arith}
-use borrow.Author.Needs.{needs}
+use Rattle.modelfile.proofs.Prelude.{ℕ, _+_, _≡_, sym, ap, _∙_, List, arith, needs, placed, sizes}
 use borrow.Author.Tests.{eq-eqb, ne-eqb}
 use Rattle.statements.specs.Statements.{startTotal}
-use Rattle.modelfile.specs.ModelFile.{placed, totalsVerdict}
+use Rattle.modelfile.specs.ModelFile.{totalsVerdict}
 use lib.ListN.{getD}
 use Rattle.integers.specs.Whole.{totalTo}
 use Rattle.integers.proofs.Sums.{total-cong}
 use Rattle.tables.proofs.Refusals.{stops, goes, breaks, passes}
-use Rattle.tables.proofs.Fitting.{Long, Few, sizes}
+use Rattle.tables.proofs.Fitting.{Long, Few}
 use Rattle.modelfile.proofs.totals_of.Statement.{statement}
 use Rattle.modelfile.proofs.totals_of.Tie as tie
 
@@ -25,12 +21,6 @@ long c = record { transition = search (needs, c .good); observation = search (ne
 total : (start : List ℕ) (n : ℕ) → totalTo n (λ s. getD start (0 + s) 0) ≡ totalTo n (λ s. getD start s 0)
 total start n = total-cong n _ _ (λ s l. let e : 0 + s ≡ s = omega arith in ap (λ (j : ℕ). getD start j 0) e)
 
-slice-aggregate-row-total : tie.Need-slice-aggregate-row-total
-slice-aggregate-row-total c = search needs
-
-row-total-requires : tie.Need-row-total-requires
-row-total-requires c κs = search needs
-
 returns : tie.Need-returns
 unfolding totalsVerdict
 returns c =
@@ -42,15 +32,6 @@ rows-total-requires : tie.Need-rows-total-requires
 rows-total-requires c κs =
     let f = few (c .before .before .before .before .before .before) in
     ((f .actions, (f .states, f .states)), omega (arith, sizes f, long (c .before .before .before .before .before .before)))
-
-enum-told : tie.Need-enum-told
-enum-told c = search needs
-
-enum-told-2 : tie.Need-enum-told-2
-enum-told-2 c = search needs
-
-placed-at-requires : tie.Need-placed-at-requires
-placed-at-requires c κs = search needs
 
 returns-2 : tie.Need-returns-2
 unfolding totalsVerdict
@@ -64,9 +45,6 @@ rows-total-requires-2 c κs =
     let f = few (c .before .before .before .before .before .before .before .before .before .before .before .before) in
     ((f .actions, (f .states, omega (arith, f .observations))), omega (arith, sizes f, long (c .before .before .before .before .before .before .before .before .before .before .before .before)))
 
-placed-at-requires-2 : tie.Need-placed-at-requires-2
-placed-at-requires-2 c κs = search needs
-
 returns-3 : tie.Need-returns-3
 unfolding totalsVerdict
 returns-3 c =
@@ -76,16 +54,5 @@ returns-3 c =
 
 pub totals-of-spec : {M : Type 1} → statement M
 totals-of-spec =
-    tie.close
-    (tie.spec
-    slice-aggregate-row-total
-    row-total-requires
-    returns
-    rows-total-requires
-    enum-told
-    enum-told-2
-    placed-at-requires
-    returns-2
-    rows-total-requires-2
-    placed-at-requires-2
-    returns-3)
+    tie.close (tie.spec (λ c. search needs) (λ c κs. search needs) returns rows-total-requires (λ c. search needs) (λ c. search needs)
+    (λ c κs. search needs) returns-2 rows-total-requires-2 (λ c κs. search needs) returns-3)

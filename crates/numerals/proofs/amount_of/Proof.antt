@@ -1,19 +1,8 @@
-use Prim.Native.Nat.{ℕ, _*_, _^_}
-use mathlib.Core.Path.{_≡_, sym, ap, _∙_}
-use native.Mathlib.Omega.{arith}
-use borrow.Author.Needs.{needs}
-use lib.ListN.{drop}
+use Rattle.numerals.proofs.Prelude.{ℕ, _*_, _^_, _≡_, sym, ap, _∙_, arith, needs, drop, digits, value, product}
 use lib.Seq.{drop-drop}
-use Rattle.numerals.specs.Numeral.{digits, value}
-use Rattle.numerals.proofs.Laws.{product, amount-is, amount-not}
+use Rattle.numerals.proofs.Laws.{amount-is, amount-not}
 use Rattle.numerals.proofs.amount_of.Statement.{statement}
 use Rattle.numerals.proofs.amount_of.Tie as tie
-
-digits-end-requires : tie.Need-digits-end-requires
-digits-end-requires c κs = search needs
-
-sub-n : tie.Need-sub-n
-sub-n c = search needs
 
 returns : tie.Need-returns
 returns c =
@@ -24,12 +13,6 @@ returns-2 : tie.Need-returns-2
 returns-2 c =
     let a = c .before .before .before .before .args in
     sym (amount-not (a .most) (a .places) (drop (a .from) (a .w .now)) (λ some few. omega arith))
-
-value-of-requires : tie.Need-value-of-requires
-value-of-requires c κs = search needs
-
-scale-requires : tie.Need-scale-requires
-scale-requires c κs = search needs
 
 mul-fraction-of : tie.Need-mul-fraction-of
 mul-fraction-of c = omega (arith, product _ 4 (c .before .value-of .ensures .1) (omega arith) (c .scale .ensures .1))
@@ -50,14 +33,5 @@ returns-3 c =
 
 pub amount-of-spec : {M : Type 1} → statement M
 amount-of-spec =
-    tie.close
-    (tie.spec
-    digits-end-requires
-    sub-n
-    returns
-    returns-2
-    value-of-requires
-    scale-requires
-    mul-fraction-of
-    fraction-of-requires
-    returns-3)
+    tie.close (tie.spec (λ c κs. search needs) (λ c. search needs) returns returns-2 (λ c κs. search needs) (λ c κs. search needs) mul-fraction-of
+    fraction-of-requires returns-3)

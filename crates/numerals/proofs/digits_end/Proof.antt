@@ -1,13 +1,10 @@
-use Prim.Native.Nat.{_+_, _-_, _≤_}
-use mathlib.Core.Path.{_≡_, refl}
+use Rattle.numerals.proofs.Prelude.{_+_, _-_, _≤_, _≡_, refl, arith, needs, drop, digits}
 use mathlib.Core.Bool.{true, false}
 use mathlib.Core.List.{[], _∷_}
-use native.Mathlib.Omega.{arith}
-use borrow.Author.Needs.{needs}
-use lib.ListN.{length, drop}
+use lib.ListN.{length}
 use Rattle.words.specs.declared.Class.{Class}
 use Rattle.words.proofs.Keys.{by-keys}
-use Rattle.numerals.specs.Numeral.{isDigit, digits}
+use Rattle.numerals.specs.Numeral.{isDigit}
 use Rattle.numerals.proofs.Laws.{digits-end, digits-stop, digits-more}
 use Rattle.numerals.proofs.digits_end.Statement.{statement}
 use Rattle.numerals.proofs.digits_end.Tie as tie
@@ -21,12 +18,6 @@ abbrev μ-loop : tie.MeasureT-loop
 loop-holds : tie.Need-loop-holds Inv-loop μ-loop
 loop-holds c = (omega arith, refl)
 
-shared-slice-read-class-of : tie.Need-shared-slice-read-class-of Inv-loop μ-loop
-shared-slice-read-class-of c = omega arith
-
-class-of-requires : tie.Need-class-of-requires Inv-loop μ-loop
-class-of-requires c κs = search needs
-
 enum-told : tie.Need-enum-told Inv-loop μ-loop
 enum-told c = c .match .keys1
 
@@ -38,12 +29,6 @@ returns c =
     let d = by-keys (λ (k : Class). isDigit k ≡ false) (0 ∷ 1 ∷ 2 ∷ 4 ∷ 5 ∷ 6 ∷ 7 ∷ []) (k .ensures) (search needs) (c .match .keys2) in
     let e = digits-stop w at (omega arith) d in
     (omega arith, omega arith)
-
-add-at : tie.Need-add-at Inv-loop μ-loop
-add-at c = omega arith
-
-loop-less : tie.Need-loop-less Inv-loop μ-loop
-loop-less c = omega arith
 
 loop-again : tie.Need-loop-again Inv-loop μ-loop
 loop-again c =
@@ -61,16 +46,5 @@ returns-2 c =
 
 pub digits-end-spec : {M : Type 1} → statement M
 digits-end-spec =
-    tie.close
-    (tie.spec
-    Inv-loop
-    μ-loop
-    loop-holds
-    shared-slice-read-class-of
-    class-of-requires
-    enum-told
-    returns
-    add-at
-    loop-less
-    loop-again
-    returns-2)
+    tie.close (tie.spec Inv-loop μ-loop loop-holds (λ c. omega arith) (λ c κs. search needs) enum-told returns (λ c. omega arith) (λ c. omega arith)
+    loop-again returns-2)

@@ -1,30 +1,17 @@
-use Prim.Native.Nat.{ℕ, _+_, _-_, _*_, _^_}
-use mathlib.Core.Path.{_≡_, sym, ap, _∙_}
-use native.Mathlib.Omega.{arith}
-use borrow.Author.Needs.{needs}
-use lib.ListN.{drop, length-drop}
+use Rattle.numerals.proofs.Prelude.{ℕ, _+_, _-_, _*_, _^_, _≡_, sym, ap, _∙_, arith, needs, drop, digits, value, product}
+use lib.ListN.{length-drop}
 use Rattle.numerals.specs.declared.Amount.the-variants.{Is}
-use Rattle.numerals.specs.Numeral.{digits, value}
-use Rattle.numerals.proofs.Laws.{product, fraction-end, Decimals, fraction-is, fraction-not}
+use Rattle.numerals.proofs.Laws.{fraction-end, Decimals, fraction-is, fraction-not}
 use Rattle.numerals.proofs.fraction_of.Statement.{statement}
 use Rattle.numerals.proofs.fraction_of.Tie as tie
 
 returns : tie.Need-returns
 returns c = sym (fraction-end _ _ _ _ (c .if1 .taken))
 
-shared-slice-read-if2 : tie.Need-shared-slice-read-if2
-shared-slice-read-if2 c = search needs
-
 returns-2 : tie.Need-returns-2
 returns-2 c =
     let a = c .before .before .before .before .args in
     sym (fraction-not (a .places) (a .whole) (a .w .now) (a .from) (omega arith) (λ d. c .if2 .taken (d .point)))
-
-add-first : tie.Need-add-first
-add-first c = search needs
-
-digits-end-requires : tie.Need-digits-end-requires
-digits-end-requires c κs = search needs
 
 returns-3 : tie.Need-returns-3
 returns-3 c =
@@ -37,19 +24,10 @@ returns-4 c =
     let a = c .before .before .before .before .before .before .before .args in
     sym (fraction-not (a .places) (a .whole) (a .w .now) (a .from) (omega arith) (λ d. omega (arith, d .some, c .before .before .digits-end .ensures .0)))
 
-sub-n : tie.Need-sub-n
-sub-n c = search needs
-
 returns-5 : tie.Need-returns-5
 returns-5 c =
     let a = c .before .before .before .before .before .before .before .before .args in
     sym (fraction-not (a .places) (a .whole) (a .w .now) (a .from) (omega arith) (λ d. omega (arith, d .few, c .before .before .before .digits-end .ensures .0)))
-
-value-of-requires : tie.Need-value-of-requires
-value-of-requires c κs = search needs
-
-scale-requires : tie.Need-scale-requires
-scale-requires c κs = search needs
 
 mul-t14 : tie.Need-mul-t14
 mul-t14 c = omega (arith, product _ 3 (c .before .value-of .ensures .1) (omega arith) (c .scale .ensures .1))
@@ -71,19 +49,5 @@ returns-6 c =
 
 pub fraction-of-spec : {M : Type 1} → statement M
 fraction-of-spec =
-    tie.close
-    (tie.spec
-    returns
-    shared-slice-read-if2
-    returns-2
-    add-first
-    digits-end-requires
-    returns-3
-    returns-4
-    sub-n
-    returns-5
-    value-of-requires
-    scale-requires
-    mul-t14
-    add-t15
-    returns-6)
+    tie.close (tie.spec returns (λ c. search needs) returns-2 (λ c. search needs) (λ c κs. search needs) returns-3 returns-4 (λ c. search needs)
+    returns-5 (λ c κs. search needs) (λ c κs. search needs) mul-t14 add-t15 returns-6)

@@ -1,5 +1,4 @@
-use mathlib.Core.Path.{sym}
-use native.Mathlib.Omega.{arith}
+use Rattle.numerals.proofs.Prelude.{sym, arith}
 use Rattle.numerals.proofs.Laws.{negative-none, negative-first}
 use Rattle.numerals.proofs.is_negative.Statement.{statement}
 use Rattle.numerals.proofs.is_negative.Tie as tie
@@ -7,11 +6,9 @@ use Rattle.numerals.proofs.is_negative.Tie as tie
 returns : tie.Need-returns
 returns c = sym (negative-none (c .before .args .w .now) (c .if1 .taken))
 
-shared-slice-read-result : tie.Need-shared-slice-read-result
-shared-slice-read-result c = omega arith
-
 returns-2 : tie.Need-returns-2
 returns-2 c = sym (negative-first (c .before .before .args .w .now) (omega arith))
 
 pub is-negative-spec : {M : Type 1} → statement M
-is-negative-spec = tie.close (tie.spec returns shared-slice-read-result returns-2)
+is-negative-spec =
+    tie.close (tie.spec returns (λ c. omega arith) returns-2)

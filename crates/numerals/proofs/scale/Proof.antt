@@ -1,6 +1,4 @@
-use Prim.Native.Nat.{ℕ, _^_}
-use mathlib.Core.Path.{_≡_, sym, ap}
-use native.Mathlib.Omega.{arith}
+use Rattle.numerals.proofs.Prelude.{ℕ, _^_, _≡_, sym, ap, arith}
 use Rattle.numerals.proofs.scale.Statement.{statement}
 use Rattle.numerals.proofs.scale.Tie as tie
 
@@ -22,4 +20,5 @@ returns-4 c =
     (power e, omega arith)
 
 pub scale-spec : {M : Type 1} → statement M
-scale-spec = tie.close (tie.spec returns returns-2 returns-3 returns-4)
+scale-spec =
+    tie.close (tie.spec returns returns-2 returns-3 returns-4)

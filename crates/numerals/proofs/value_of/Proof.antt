@@ -1,9 +1,6 @@
-use Prim.Native.Nat.{ℕ, suc, _+_, _-_, _*_, _^_, _≤_, _<_}
-use mathlib.Core.Path.{_≡_, refl, sym, _∙_}
-use native.Mathlib.Omega.{arith}
+use Rattle.numerals.proofs.Prelude.{ℕ, suc, _+_, _-_, _*_, _^_, _≤_, _<_, _≡_, refl, sym, _∙_, arith, drop, digits, value}
 use native.Mathlib.Nat.{pow-suc, pow-zero, pow-le-pow-right}
-use lib.ListN.{getD, drop}
-use Rattle.numerals.specs.Numeral.{digits, value}
+use lib.ListN.{getD}
 use Rattle.numerals.proofs.Laws.{turn, value-end}
 use Rattle.numerals.proofs.value_of.Statement.{statement}
 use Rattle.numerals.proofs.value_of.Tie as tie
@@ -26,9 +23,6 @@ loop-holds c =
     let e : c .args .from - c .args .from ≡ 0 = omega arith in
     (omega arith, (omega arith, (refl, rw (e, pow-zero) (omega arith))))
 
-shared-slice-read-b : tie.Need-shared-slice-read-b Inv-loop μ-loop
-shared-slice-read-b c = omega arith
-
 mul-v : tie.Need-mul-v Inv-loop μ-loop
 mul-v c = omega (arith, small _ _ (c .before .before .loop .inv .1 .1 .1) (omega arith))
 
@@ -40,12 +34,6 @@ cast-v c = omega (arith, c .shared-slice-known .given (c .before .before .loop .
 
 add-v : tie.Need-add-v Inv-loop μ-loop
 add-v c = omega (arith, small _ _ (c .before .before .loop .inv .1 .1 .1) (omega arith), c .shared-slice-known .given (c .before .before .loop .at))
-
-add-at : tie.Need-add-at Inv-loop μ-loop
-add-at c = omega arith
-
-loop-less : tie.Need-loop-less Inv-loop μ-loop
-loop-less c = omega arith
 
 loop-again : tie.Need-loop-again Inv-loop μ-loop
 loop-again c =
@@ -65,17 +53,5 @@ returns c =
 
 pub value-of-spec : {M : Type 1} → statement M
 value-of-spec =
-    tie.close
-    (tie.spec
-    Inv-loop
-    μ-loop
-    loop-holds
-    shared-slice-read-b
-    mul-v
-    sub-v
-    cast-v
-    add-v
-    add-at
-    loop-less
-    loop-again
+    tie.close (tie.spec Inv-loop μ-loop loop-holds (λ c. omega arith) mul-v sub-v cast-v add-v (λ c. omega arith) (λ c. omega arith) loop-again
     returns)

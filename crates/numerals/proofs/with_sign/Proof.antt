@@ -1,8 +1,6 @@
-use Prim.Native.Nat.{ℕ, zero, suc, _^_, _<_}
-use mathlib.Core.Path.{sym, ap, _∙_}
+use Rattle.numerals.proofs.Prelude.{ℕ, suc, _^_, _<_, sym, ap, _∙_, arith, needs}
+use Prim.Native.Nat.{zero}
 use mathlib.Core.Bool.{Bool}
-use native.Mathlib.Omega.{arith}
-use borrow.Author.Needs.{needs}
 use lib.IntN.{pos, negℤ, +ℤ-idl}
 use mir.Syntax.{w64}
 use mir.Val.{SFits}
@@ -15,9 +13,6 @@ small : (v : ℕ) → v < 2 ^ 63 → SFits w64 (negℤ (pos v))
 small zero h = record { sfits = omega arith }
 small (suc n) h = record { sfits = omega arith }
 
-cast-result : tie.Need-cast-result
-cast-result c = search needs
-
 sub-result : tie.Need-sub-result
 sub-result c =
     let v = c .before .args .v in
@@ -28,13 +23,11 @@ returns c =
     let v = c .before .args .v in
     rw (toZ-pos w64 {n = v} (omega arith), +ℤ-idl (negℤ (pos v))) (toZ-ofZ (small v (omega arith)) ∙ sym (ap (λ (t : Bool). signed t v) (c .if1 .taken)))
 
-cast-result-2 : tie.Need-cast-result-2
-cast-result-2 c = search needs
-
 returns-2 : tie.Need-returns-2
 returns-2 c =
     let v = c .before .args .v in
     toZ-pos w64 {n = v} (omega arith) ∙ sym (ap (λ (t : Bool). signed t v) (c .if1 .left))
 
 pub with-sign-spec : {M : Type 1} → statement M
-with-sign-spec = tie.close (tie.spec cast-result sub-result returns cast-result-2 returns-2)
+with-sign-spec =
+    tie.close (tie.spec (λ c. search needs) sub-result returns (λ c. search needs) returns-2)

@@ -6,11 +6,6 @@ use Rattle.reader.proofs.word_past.Tie as tie
 returns : tie.Need-returns
 returns c h = absurd (omega arith)
 
-word-at-requires : tie.Need-word-at-requires
-word-at-requires c κs = search needs
-
-returns-2 : tie.Need-returns-2
-returns-2 c = search needs
-
 pub word-past-spec : {M : Type 1} → statement M
-word-past-spec = tie.close (tie.spec returns word-at-requires returns-2)
+word-past-spec =
+    tie.close (tie.spec returns (λ c κs. search needs) (λ c. search needs))

@@ -1,23 +1,11 @@
-use Prim.Native.Nat.{_*_, _≤_}
-use mathlib.Core.Path.{_≡_, _∙_}
-use native.Mathlib.Omega.{arith}
-use borrow.Author.Needs.{needs}
-use lib.IntN.{pos}
-use mir.Syntax.{w64}
-use mir.Val.{toZ, ofZ}
+use Rattle.sawtooth.proofs.Prelude.{_*_, _≤_, _≡_, _∙_, arith, needs, pos, w64, toZ, ofZ, answer, weightIn, product, maxReached, cornerIn}
+use Rattle.sawtooth.proofs.Prelude.{first-cells, first-fit}
 use mir.Facts.{toZ-pos}
-use Rattle.integers.proofs.Words.{fits, answer}
-use Rattle.tables.specs.Storage.{weightIn}
-use Rattle.plans.specs.Level.{product}
-use Rattle.plans.specs.Limits.{maxReached}
-use Rattle.levels.specs.Storage.{cornerIn}
+use Rattle.integers.proofs.Words.{fits}
 use Rattle.sawtooth.specs.Storage.{ceilingIn, maxGain}
-use Rattle.sawtooth.proofs.Laws.{product-limit, first-cells, first-fit, largest-limit}
+use Rattle.sawtooth.proofs.Laws.{product-limit, largest-limit}
 use Rattle.sawtooth.proofs.ceiling.Statement.{statement}
 use Rattle.sawtooth.proofs.ceiling.Tie as tie
-
-largest-drop-requires : tie.Need-largest-drop-requires
-largest-drop-requires c κs = search needs
 
 product-requires : tie.Need-product-requires
 product-requires c κs = let a = c .before .before .pre in ((search needs, search needs), (a .1 .0, first-fit (a .1 .1 .0)))
@@ -53,4 +41,4 @@ returns c =
 
 pub ceiling-spec : {M : Type 1} → statement M
 ceiling-spec =
-    tie.close (tie.spec largest-drop-requires product-requires cast-minus minus-requires returns)
+    tie.close (tie.spec (λ c κs. search needs) product-requires cast-minus minus-requires returns)

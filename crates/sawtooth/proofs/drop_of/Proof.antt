@@ -1,12 +1,6 @@
-use Prim.Native.Nat.{_+_, _-_, _≤_}
-use mathlib.Core.Path.{_≡_, sym, _∙_}
-use mathlib.Core.Logic.{⊎-elim}
-use native.Mathlib.Omega.{arith}
-use borrow.Author.Needs.{needs}
+use Rattle.sawtooth.proofs.Prelude.{_+_, _-_, _≤_, _≡_, sym, _∙_, ⊎-elim, arith, needs, getD, weightIn, maxReached}
 use lib.Dec.{lit≤}
-use lib.ListN.{getD}
-use Rattle.tables.specs.Storage.{weightIn}
-use Rattle.plans.specs.Limits.{pointTotal, maxReached}
+use Rattle.plans.specs.Limits.{pointTotal}
 use Rattle.sawtooth.proofs.Laws.{Least, least-start, least-taken, least-left, least-limits, least-none, least-drop}
 use Rattle.sawtooth.proofs.drop_of.Statement.{statement}
 use Rattle.sawtooth.proofs.drop_of.Tie as tie
@@ -23,24 +17,6 @@ limits c = let a = c .before in least-limits _ _ (c .loop .inv .1) (c .loop .inv
 loop-holds : tie.Need-loop-holds Inv-loop μ-loop
 loop-holds c = (omega arith, least-start _ _)
 
-add-weight : tie.Need-add-weight Inv-loop μ-loop
-add-weight c = search needs
-
-mul-weight : tie.Need-mul-weight Inv-loop μ-loop
-mul-weight c = search needs
-
-element-copy-out-weight : tie.Need-element-copy-out-weight Inv-loop μ-loop
-element-copy-out-weight c = search needs
-
-weight-requires : tie.Need-weight-requires Inv-loop μ-loop
-weight-requires c κs = search needs
-
-mul-x : tie.Need-mul-x Inv-loop μ-loop
-mul-x c = search needs
-
-element-copy-out-x : tie.Need-element-copy-out-x Inv-loop μ-loop
-element-copy-out-x c = search needs
-
 cross-requires : tie.Need-cross-requires Inv-loop μ-loop
 cross-requires c κs =
     let l = c .before .before .before .before in (l .before .pre .1 .0 .below (l .loop .s) (omega arith), limits l .1)
@@ -49,12 +25,6 @@ cross-requires-2 : tie.Need-cross-requires-2 Inv-loop μ-loop
 cross-requires-2 c κs =
     let l = c .before .before .before .before .before in
     (limits l .0, rw (c .before .before .weight .ensures) (l .before .pre .1 .1 (l .loop .s) (omega arith)))
-
-add-s : tie.Need-add-s Inv-loop μ-loop
-add-s c = search needs
-
-loop-less : tie.Need-loop-less Inv-loop μ-loop
-loop-less c = search needs
 
 loop-again : tie.Need-loop-again Inv-loop μ-loop
 loop-again c =
@@ -77,9 +47,6 @@ returns c =
 reach-requires : tie.Need-reach-requires Inv-loop μ-loop
 reach-requires c κs = (limits (c .before .before) .0, c .before .before .before .pre .0 .1 .1)
 
-div-result : tie.Need-div-result Inv-loop μ-loop
-div-result c = omega arith
-
 returns-2 : tie.Need-returns-2 Inv-loop μ-loop
 returns-2 c =
     let l = c .before .before .before in
@@ -88,23 +55,6 @@ returns-2 c =
 
 pub drop-of-spec : {M : Type 1} → statement M
 drop-of-spec =
-    tie.close
-    (tie.spec
-    Inv-loop
-    μ-loop
-    loop-holds
-    add-weight
-    mul-weight
-    element-copy-out-weight
-    weight-requires
-    mul-x
-    element-copy-out-x
-    cross-requires
-    cross-requires-2
-    add-s
-    loop-less
-    loop-again
-    returns
-    reach-requires
-    div-result
-    returns-2)
+    tie.close (tie.spec Inv-loop μ-loop loop-holds (λ c. search needs) (λ c. search needs) (λ c. search needs) (λ c κs. search needs)
+    (λ c. search needs) (λ c. search needs) cross-requires cross-requires-2 (λ c. search needs) (λ c. search needs) loop-again returns reach-requires
+    (λ c. omega arith) returns-2)

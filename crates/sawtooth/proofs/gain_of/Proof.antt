@@ -1,15 +1,7 @@
-use mathlib.Core.Path.{_≡_, _∙_}
-use native.Mathlib.Omega.{arith}
-use borrow.Author.Needs.{needs}
+use Rattle.sawtooth.proofs.Prelude.{_≡_, _∙_, arith, needs, w64, toZ, ofZ, answer, weightIn, product, cornerIn, first-cells, first-fit}
 use lib.IntN.{ℤ, _-ℤ_}
-use mir.Syntax.{w64}
-use mir.Val.{toZ, ofZ}
 use mir.Facts.{toZ-ofZ}
-use Rattle.integers.proofs.Words.{answer}
-use Rattle.tables.specs.Storage.{weightIn}
-use Rattle.plans.specs.Level.{product}
-use Rattle.levels.specs.Storage.{cornerIn}
-use Rattle.sawtooth.proofs.Laws.{gain-parts, gain-limit, first-cells, first-fit, positive-below, positive-from}
+use Rattle.sawtooth.proofs.Laws.{gain-parts, gain-limit, positive-below, positive-from}
 use Rattle.sawtooth.proofs.gain_of.Statement.{statement}
 use Rattle.sawtooth.proofs.gain_of.Tie as tie
 
@@ -52,4 +44,5 @@ returns-2 c =
     rw (gain (c .before)) (positive-from (gained a) (rw (gain (c .before)) at (c .if1 .left)) .1)
 
 pub gain-of-spec : {M : Type 1} → statement M
-gain-of-spec = tie.close (tie.spec product-requires minus-requires returns cast-result returns-2)
+gain-of-spec =
+    tie.close (tie.spec product-requires minus-requires returns cast-result returns-2)

@@ -1,13 +1,5 @@
-use Prim.Native.Nat.{_-_, _≤_}
-use mathlib.Core.Path.{_≡_, sym}
-use native.Mathlib.Omega.{arith}
-use borrow.Author.Needs.{needs}
-use lib.ListN.{getD}
-use lib.IntN.{pos}
-use Rattle.integers.specs.Cells.{padded}
-use Rattle.integers.proofs.Lists.{padded-none, padded-turn}
+use Rattle.sawtooth.proofs.Prelude.{_-_, _≤_, _≡_, sym, arith, needs, getD, pos, padded, padded-none, padded-turn, maxPoints}
 use Rattle.integers.proofs.Words.{back}
-use Rattle.plans.specs.Limits.{maxPoints}
 use Rattle.sawtooth.specs.Storage.{positive, gainIn}
 use Rattle.sawtooth.proofs.Laws.{filled-below, filled-gain}
 use Rattle.sawtooth.proofs.gains.Statement.{statement}
@@ -22,15 +14,6 @@ abbrev μ-loop : tie.MeasureT-loop
 loop-holds : tie.Need-loop-holds Inv-loop μ-loop
 loop-holds c = (search needs, sym (padded-none _ _ _))
 
-point-weights-requires : tie.Need-point-weights-requires Inv-loop μ-loop
-point-weights-requires c κs = search needs
-
-mul-gain-of : tie.Need-mul-gain-of Inv-loop μ-loop
-mul-gain-of c = search needs
-
-element-copy-out-gain-of : tie.Need-element-copy-out-gain-of Inv-loop μ-loop
-element-copy-out-gain-of c = search needs
-
 gain-of-requires : tie.Need-gain-of-requires Inv-loop μ-loop
 gain-of-requires c κs =
     let a = c .before .before .before .before .before in
@@ -44,18 +27,6 @@ gain-of-requires c κs =
         ),
       ),
     )
-
-mul-g : tie.Need-mul-g Inv-loop μ-loop
-mul-g c = search needs
-
-array-write-g : tie.Need-array-write-g Inv-loop μ-loop
-array-write-g c = search needs
-
-add-i : tie.Need-add-i Inv-loop μ-loop
-add-i c = search needs
-
-loop-less : tie.Need-loop-less Inv-loop μ-loop
-loop-less c = search needs
 
 loop-again : tie.Need-loop-again Inv-loop μ-loop
 loop-again c =
@@ -72,18 +43,5 @@ returns c = let e : c .before .loop .i ≡ c .before .before .args .points = ome
 
 pub gains-spec : {M : Type 1} → statement M
 gains-spec =
-    tie.close
-    (tie.spec
-    Inv-loop
-    μ-loop
-    loop-holds
-    point-weights-requires
-    mul-gain-of
-    element-copy-out-gain-of
-    gain-of-requires
-    mul-g
-    array-write-g
-    add-i
-    loop-less
-    loop-again
-    returns)
+    tie.close (tie.spec Inv-loop μ-loop loop-holds (λ c κs. search needs) (λ c. search needs) (λ c. search needs) gain-of-requires (λ c. search needs)
+    (λ c. search needs) (λ c. search needs) (λ c. search needs) loop-again returns)

@@ -1,15 +1,9 @@
-use Prim.Native.Nat.{_+_, _*_, _-_, _≤_}
-use mathlib.Core.Path.{_≡_, sym}
+use Rattle.sawtooth.proofs.Prelude.{_+_, _*_, _-_, _≤_, _≡_, sym, ⊎-elim, arith, needs, maxStates, maxPoints, row-fits}
 use mathlib.Core.Bool.{false}
-use mathlib.Core.Logic.{⊎-elim}
-use native.Mathlib.Omega.{arith}
-use borrow.Author.Needs.{needs}
 use Rattle.integers.specs.Whole.{largestTo}
 use Rattle.integers.proofs.Sums.{largest-none}
-use Rattle.tables.specs.Limits.{maxStates}
-use Rattle.plans.specs.Limits.{maxPoints}
 use Rattle.sawtooth.specs.Storage.{dropIn}
-use Rattle.sawtooth.proofs.Laws.{row-fits, drop-beaten, largest-kept, largest-new}
+use Rattle.sawtooth.proofs.Laws.{drop-beaten, largest-kept, largest-new}
 use Rattle.sawtooth.proofs.largest_drop.Statement.{statement}
 use Rattle.sawtooth.proofs.largest_drop.Tie as tie
 
@@ -29,15 +23,6 @@ loop-holds c = (search needs, sym (largest-none _))
 mul-at : tie.Need-mul-at Inv-loop μ-loop
 mul-at c = omega (arith, inside c)
 
-mul-gain : tie.Need-mul-gain Inv-loop μ-loop
-mul-gain c = search needs
-
-element-copy-out-gain : tie.Need-element-copy-out-gain Inv-loop μ-loop
-element-copy-out-gain c = search needs
-
-least-above-requires : tie.Need-least-above-requires Inv-loop μ-loop
-least-above-requires c κs = search needs
-
 reaches-requires : tie.Need-reaches-requires Inv-loop μ-loop
 reaches-requires c κs =
     let t = c .before .before in
@@ -51,12 +36,6 @@ drop-of-requires c κs =
     let a = t .before .before .pre in
     let i = t .before .loop .i in
     ((a .0, (inside t, a .1 .1 .1 .below i (omega arith))), (a .1 .0, a .1 .1 .0 .weight i (omega arith)))
-
-add-i : tie.Need-add-i Inv-loop μ-loop
-add-i c = search needs
-
-loop-less : tie.Need-loop-less Inv-loop μ-loop
-loop-less c = search needs
 
 -- a point that does not reach is not above the best
 left-out : (c : tie.After-reaches Inv-loop μ-loop)
@@ -84,18 +63,5 @@ returns c = let e : c .before .loop .i ≡ c .before .before .args .points = ome
 
 pub largest-drop-spec : {M : Type 1} → statement M
 largest-drop-spec =
-    tie.close
-    (tie.spec
-    Inv-loop
-    μ-loop
-    loop-holds
-    mul-at
-    mul-gain
-    element-copy-out-gain
-    least-above-requires
-    reaches-requires
-    drop-of-requires
-    add-i
-    loop-less
-    loop-again
-    returns)
+    tie.close (tie.spec Inv-loop μ-loop loop-holds mul-at (λ c. search needs) (λ c. search needs) (λ c κs. search needs) reaches-requires
+    drop-of-requires (λ c. search needs) (λ c. search needs) loop-again returns)

@@ -1,13 +1,6 @@
-use Prim.Native.Nat.{_+_, _*_, _-_, _≤_}
-use mathlib.Core.Path.{_≡_, sym}
-use native.Mathlib.Omega.{arith}
-use borrow.Author.Needs.{needs}
-use Rattle.integers.specs.Cells.{padded}
-use Rattle.integers.proofs.Lists.{padded-none, padded-turn}
-use Rattle.tables.specs.Limits.{maxStates}
-use Rattle.plans.specs.Limits.{maxPoints}
+use Rattle.sawtooth.proofs.Prelude.{_+_, _*_, _-_, _≤_, _≡_, sym, arith, needs, padded, padded-none, padded-turn, maxStates, maxPoints}
+use Rattle.sawtooth.proofs.Prelude.{row-fits}
 use Rattle.levels.specs.Storage.{pointIn}
-use Rattle.sawtooth.proofs.Laws.{row-fits}
 use Rattle.sawtooth.proofs.point_weights.Statement.{statement}
 use Rattle.sawtooth.proofs.point_weights.Tie as tie
 
@@ -36,21 +29,6 @@ mul-weight c = omega (arith, inside (c .before .before))
 element-copy-out-weight : tie.Need-element-copy-out-weight Inv-loop μ-loop
 element-copy-out-weight c = omega (arith, inside (c .before .before))
 
-weight-requires : tie.Need-weight-requires Inv-loop μ-loop
-weight-requires c κs = search needs
-
-mul-p : tie.Need-mul-p Inv-loop μ-loop
-mul-p c = search needs
-
-array-write-p : tie.Need-array-write-p Inv-loop μ-loop
-array-write-p c = search needs
-
-add-s : tie.Need-add-s Inv-loop μ-loop
-add-s c = search needs
-
-loop-less : tie.Need-loop-less Inv-loop μ-loop
-loop-less c = search needs
-
 loop-again : tie.Need-loop-again Inv-loop μ-loop
 loop-again c = (search needs, padded-turn _ _ _ _ (c .before .before .before .loop .inv .1) (c .weight .ensures) (omega arith))
 
@@ -59,19 +37,5 @@ returns c = let e : c .before .loop .s ≡ c .before .before .args .n = omega ar
 
 pub point-weights-spec : {M : Type 1} → statement M
 point-weights-spec =
-    tie.close
-    (tie.spec
-    Inv-loop
-    μ-loop
-    mul-at
-    loop-holds
-    add-weight
-    mul-weight
-    element-copy-out-weight
-    weight-requires
-    mul-p
-    array-write-p
-    add-s
-    loop-less
-    loop-again
-    returns)
+    tie.close (tie.spec Inv-loop μ-loop mul-at loop-holds add-weight mul-weight element-copy-out-weight (λ c κs. search needs) (λ c. search needs)
+    (λ c. search needs) (λ c. search needs) (λ c. search needs) loop-again returns)

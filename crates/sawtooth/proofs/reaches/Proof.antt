@@ -1,11 +1,7 @@
-use Prim.Native.Nat.{_+_, _*_, _-_, _≤_}
-use mathlib.Core.Path.{_≡_, sym}
+use Rattle.sawtooth.proofs.Prelude.{_+_, _*_, _-_, _≤_, _≡_, sym, arith, needs, getD}
 use mathlib.Core.Bool.{true}
-use native.Mathlib.Omega.{arith}
-use borrow.Author.Needs.{needs}
 use borrow.Author.Tests.{le-leb, lt-leb}
 use lib.Dec.{leb}
-use lib.ListN.{getD}
 use Rattle.integers.specs.Search.{every}
 use Rattle.integers.proofs.Searches.{every-none, every-more, every-not}
 use Rattle.sawtooth.proofs.reaches.Statement.{statement}
@@ -20,24 +16,6 @@ abbrev μ-loop : tie.MeasureT-loop
 
 loop-holds : tie.Need-loop-holds Inv-loop μ-loop
 loop-holds c = (omega arith, every-none _)
-
-add-weight : tie.Need-add-weight Inv-loop μ-loop
-add-weight c = search needs
-
-mul-weight : tie.Need-mul-weight Inv-loop μ-loop
-mul-weight c = search needs
-
-element-copy-out-weight : tie.Need-element-copy-out-weight Inv-loop μ-loop
-element-copy-out-weight c = search needs
-
-weight-requires : tie.Need-weight-requires Inv-loop μ-loop
-weight-requires c κs = search needs
-
-mul-reach : tie.Need-mul-reach Inv-loop μ-loop
-mul-reach c = search needs
-
-element-copy-out-reach : tie.Need-element-copy-out-reach Inv-loop μ-loop
-element-copy-out-reach c = search needs
 
 reach-requires : tie.Need-reach-requires Inv-loop μ-loop
 reach-requires c κs =
@@ -54,12 +32,6 @@ returns c =
     let t = rw (c .before .before .reach .ensures, c .before .wanted .ensures, c .before .before .before .before .weight .ensures) at (c .if1 .taken) in
     sym (every-not _ _ (c .before .before .before .before .before .before .before .loop .s) (omega arith) (lt-leb _ _ t))
 
-add-s : tie.Need-add-s Inv-loop μ-loop
-add-s c = search needs
-
-loop-less : tie.Need-loop-less Inv-loop μ-loop
-loop-less c = search needs
-
 loop-again : tie.Need-loop-again Inv-loop μ-loop
 loop-again c =
     let t = rw (c .before .before .reach .ensures, c .before .wanted .ensures, c .before .before .before .before .weight .ensures) at (c .if1 .left) in
@@ -70,21 +42,5 @@ returns-2 c = let e : c .before .loop .s ≡ c .before .before .args .n = omega 
 
 pub reaches-spec : {M : Type 1} → statement M
 reaches-spec =
-    tie.close
-    (tie.spec
-    Inv-loop
-    μ-loop
-    loop-holds
-    add-weight
-    mul-weight
-    element-copy-out-weight
-    weight-requires
-    mul-reach
-    element-copy-out-reach
-    reach-requires
-    wanted-requires
-    returns
-    add-s
-    loop-less
-    loop-again
-    returns-2)
+    tie.close (tie.spec Inv-loop μ-loop loop-holds (λ c. search needs) (λ c. search needs) (λ c. search needs) (λ c κs. search needs)
+    (λ c. search needs) (λ c. search needs) reach-requires wanted-requires returns (λ c. search needs) (λ c. search needs) loop-again returns-2)

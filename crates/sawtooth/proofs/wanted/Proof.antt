@@ -1,14 +1,11 @@
+use Rattle.sawtooth.proofs.Prelude.{arith, needs}
 use native.Mathlib.Nat as NatL
-use native.Mathlib.Omega.{arith}
-use borrow.Author.Needs.{needs}
 use Rattle.sawtooth.proofs.wanted.Statement.{statement}
 use Rattle.sawtooth.proofs.wanted.Tie as tie
 
 mul-result : tie.Need-mul-result
 mul-result c = omega (arith, NatL.mul-le-mul (c .pre .0) (c .pre .1))
 
-returns : tie.Need-returns
-returns c = search needs
-
 pub wanted-spec : {M : Type 1} → statement M
-wanted-spec = tie.close (tie.spec mul-result returns)
+wanted-spec =
+    tie.close (tie.spec mul-result (λ c. search needs))

@@ -1,21 +1,6 @@
-use native.Mathlib.Omega.{arith}
-use borrow.Author.Needs.{needs}
-use Rattle.drafts.specs.Drafts.{stated}
-use Rattle.grammar.specs.Grammar.{got, _then_}
-use Rattle.grammar.proofs.Laws.{value-next, reads-on, reads-done}
-use Rattle.grammar.proofs.Arms.{reads-back}
-use Rattle.statements.specs.Statements.{probability, entry}
+use Rattle.statements.proofs.Prelude.{arith, needs, stated, got, _then_, value-next, reads-on, reads-done, reads-back, probability, entry}
 use Rattle.statements.proofs.entry_at.Statement.{statement}
 use Rattle.statements.proofs.entry_at.Tie as tie
-
-index-at-requires : tie.Need-index-at-requires
-index-at-requires c κs = search needs
-
-enum-known-i : tie.Need-enum-known-i
-enum-known-i c = search needs
-
-enum-told : tie.Need-enum-told
-enum-told c = search needs
 
 returns : tie.Need-returns
 unfolding entry
@@ -25,12 +10,6 @@ returns c =
 
 number-at-requires : tie.Need-number-at-requires
 number-at-requires c κs = (value-next _ _ (c .before .before .before .index-at .ensures) (c .before .i .given .1) .1 .1, (omega arith, omega arith))
-
-enum-known-p : tie.Need-enum-known-p
-enum-known-p c = search needs
-
-enum-told-2 : tie.Need-enum-told-2
-enum-told-2 c = search needs
 
 returns-2 : tie.Need-returns-2
 unfolding entry
@@ -48,9 +27,6 @@ state-requires c κs =
     let r = c .before .before .before .before .before .before .before .before .before .before .before .pre .0 .1 in
     ((r .few-blocks, (r .few-rows, r .few-places)), ((c .before .before .before .before .before .before .before .before .before .before .before .pre .1 .0, (c .before .before .before .before .before .before .before .before .before .before .before .pre .1 .1, value-next _ _ (c .before .before .before .before .before .before .before .before .index-at .ensures) (c .before .before .before .before .before .before .i .given .1) .0)), r .long))
 
-same-length : tie.Need-same-length
-same-length c = search needs
-
 returns-3 : tie.Need-returns-3
 unfolding entry
 returns-3 c =
@@ -62,17 +38,5 @@ returns-3 c =
 
 pub entry-at-spec : {M : Type 1} → statement M
 entry-at-spec =
-    tie.close
-    (tie.spec
-    index-at-requires
-    enum-known-i
-    enum-told
-    returns
-    number-at-requires
-    enum-known-p
-    enum-told-2
-    returns-2
-    cast-state
-    state-requires
-    same-length
-    returns-3)
+    tie.close (tie.spec (λ c κs. search needs) (λ c. search needs) (λ c. search needs) returns number-at-requires (λ c. search needs)
+    (λ c. search needs) returns-2 cast-state state-requires (λ c. search needs) returns-3)

@@ -1,23 +1,7 @@
-use native.Mathlib.Omega.{arith}
-use borrow.Author.Needs.{needs}
+use Rattle.statements.proofs.Prelude.{arith, needs, value-next, reads-on, reads-back, indexed}
 use Rattle.grammar.specs.Grammar.{index}
-use Rattle.grammar.proofs.Laws.{value-next, reads-on}
-use Rattle.grammar.proofs.Arms.{reads-back}
-use Rattle.statements.specs.Statements.{indexed}
 use Rattle.statements.proofs.indexed_at.Statement.{statement}
 use Rattle.statements.proofs.indexed_at.Tie as tie
-
-slice-aggregate-key-at : tie.Need-slice-aggregate-key-at
-slice-aggregate-key-at c = search needs
-
-key-at-requires : tie.Need-key-at-requires
-key-at-requires c κs = search needs
-
-enum-known-x : tie.Need-enum-known-x
-enum-known-x c = search needs
-
-enum-told : tie.Need-enum-told
-enum-told c = search needs
 
 returns : tie.Need-returns
 unfolding indexed
@@ -34,12 +18,4 @@ returns-2 c =
 
 pub indexed-at-spec : {M : Type 1} → statement M
 indexed-at-spec =
-    tie.close
-    (tie.spec
-    slice-aggregate-key-at
-    key-at-requires
-    enum-known-x
-    enum-told
-    returns
-    index-at-requires
-    returns-2)
+    tie.close (tie.spec (λ c. search needs) (λ c κs. search needs) (λ c. search needs) (λ c. search needs) returns index-at-requires returns-2)

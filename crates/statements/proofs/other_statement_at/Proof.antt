@@ -1,29 +1,7 @@
-use borrow.Author.Needs.{needs}
-use Rattle.words.specs.Words.{wordsIn, between}
-use Rattle.grammar.specs.Grammar.{got, _then_}
-use Rattle.grammar.proofs.Laws.{value-next, reads-made, choose-on}
-use Rattle.grammar.proofs.Arms.{choose-back}
-use Rattle.statements.specs.Statements.{table, reward, draft, rewardStatement, observationOrReward}
+use Rattle.statements.proofs.Prelude.{needs, wordsIn, between, got, _then_, value-next, reads-made, choose-on, choose-back, table, reward}
+use Rattle.statements.proofs.Prelude.{draft, rewardStatement, observationOrReward}
 use Rattle.statements.proofs.other_statement_at.Statement.{statement}
 use Rattle.statements.proofs.other_statement_at.Tie as tie
-
-slice-aggregate-key-at : tie.Need-slice-aggregate-key-at
-slice-aggregate-key-at c = search needs
-
-key-at-requires : tie.Need-key-at-requires
-key-at-requires c κs = search needs
-
-enum-known-x : tie.Need-enum-known-x
-enum-known-x c = search needs
-
-enum-told : tie.Need-enum-told
-enum-told c = search needs
-
-reward-statement-at-requires : tie.Need-reward-statement-at-requires
-reward-statement-at-requires c κs = search needs
-
-same-length : tie.Need-same-length
-same-length c = search needs
 
 returns : tie.Need-returns
 unfolding observationOrReward
@@ -35,9 +13,6 @@ returns c =
 
 table-at-requires : tie.Need-table-at-requires
 table-at-requires c κs = (value-next _ _ (c .before .before .before .before .key-at .ensures) (c .before .before .x .given .1) .1 .1, c .before .before .before .before .before .before .before .before .pre .1 .0)
-
-same-length-2 : tie.Need-same-length-2
-same-length-2 c = search needs
 
 returns-2 : tie.Need-returns-2
 unfolding observationOrReward
@@ -51,15 +26,5 @@ returns-2 c =
 
 pub other-statement-at-spec : {M : Type 1} → statement M
 other-statement-at-spec =
-    tie.close
-    (tie.spec
-    slice-aggregate-key-at
-    key-at-requires
-    enum-known-x
-    enum-told
-    reward-statement-at-requires
-    same-length
-    returns
-    table-at-requires
-    same-length-2
-    returns-2)
+    tie.close (tie.spec (λ c. search needs) (λ c κs. search needs) (λ c. search needs) (λ c. search needs) (λ c κs. search needs) (λ c. search needs)
+    returns table-at-requires (λ c. search needs) returns-2)

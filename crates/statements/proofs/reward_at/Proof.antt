@@ -1,44 +1,22 @@
-use mathlib.Core.Path.{ap, _∙_}
+use Rattle.statements.proofs.Prelude.{_∙_, arith, needs, ℤ, wordsIn, between, got, value-next, reads-done, reads-back}
+use mathlib.Core.Path.{ap}
 use mathlib.Core.Bool.{Bool}
-use native.Mathlib.Omega.{arith}
-use borrow.Author.Needs.{needs}
-use lib.IntN.{ℤ}
-use Rattle.words.specs.Words.{wordsIn, between}
 use Rattle.drafts.specs.Drafts.{rewarded}
 use Rattle.numerals.specs.Numeral.{signed}
-use Rattle.grammar.specs.Grammar.{got, minus}
-use Rattle.grammar.proofs.Laws.{value-next, earlier, reads-done}
-use Rattle.grammar.proofs.Arms.{reads-back}
+use Rattle.grammar.specs.Grammar.{minus}
+use Rattle.grammar.proofs.Laws.{earlier}
 use Rattle.statements.proofs.Laws.{reward-by}
 use Rattle.integers.proofs.Words.{answer}
 use Rattle.statements.proofs.reward_at.Statement.{statement}
 use Rattle.statements.proofs.reward_at.Tie as tie
-
-magnitude-at-requires : tie.Need-magnitude-at-requires
-magnitude-at-requires c κs = search needs
-
-enum-known-x : tie.Need-enum-known-x
-enum-known-x c = search needs
-
-enum-told : tie.Need-enum-told
-enum-told c = search needs
 
 returns : tie.Need-returns
 returns c =
     let a = c .before .before .before .before .args in
     earlier (a .at) (reads-back _ 0 (λ v rest. got (rewarded (a .m) (a .n) (a .a) (a .s) (signed (minus (wordsIn between (a .file .now) (a .at))) v) (a .cells .now)) rest) (c .before .before .magnitude-at .ensures) (c .before .match .keys2)) (omega arith) (reward-by (a .m) (a .n) (a .a) (a .s) (a .cells .now) (wordsIn between (a .file .now) (a .at)))
 
-minus-at-requires : tie.Need-minus-at-requires
-minus-at-requires c κs = search needs
-
 with-sign-requires : tie.Need-with-sign-requires
 with-sign-requires c κs = omega (arith, value-next _ _ (c .before .before .before .before .magnitude-at .ensures) (c .before .before .x .given .1) .0)
-
-state-reward-requires : tie.Need-state-reward-requires
-state-reward-requires c κs = search needs
-
-same-length : tie.Need-same-length
-same-length c = search needs
 
 returns-2 : tie.Need-returns-2
 returns-2 c =
@@ -54,14 +32,5 @@ returns-2 c =
 
 pub reward-at-spec : {M : Type 1} → statement M
 reward-at-spec =
-    tie.close
-    (tie.spec
-    magnitude-at-requires
-    enum-known-x
-    enum-told
-    returns
-    minus-at-requires
-    with-sign-requires
-    state-reward-requires
-    same-length
-    returns-2)
+    tie.close (tie.spec (λ c κs. search needs) (λ c. search needs) (λ c. search needs) returns (λ c κs. search needs) with-sign-requires
+    (λ c κs. search needs) (λ c. search needs) returns-2)

@@ -1,22 +1,6 @@
-use borrow.Author.Needs.{needs}
-use Rattle.grammar.specs.Grammar.{got, _then_}
-use Rattle.grammar.proofs.Laws.{value-next, reads-on, reads-made}
-use Rattle.grammar.proofs.Arms.{reads-back}
-use Rattle.statements.specs.Statements.{reward, rewards, draft, rewardStatement}
+use Rattle.statements.proofs.Prelude.{needs, got, _then_, value-next, reads-on, reads-made, reads-back, reward, rewards, draft, rewardStatement}
 use Rattle.statements.proofs.reward_statement_at.Statement.{statement}
 use Rattle.statements.proofs.reward_statement_at.Tie as tie
-
-slice-aggregate-key-at : tie.Need-slice-aggregate-key-at
-slice-aggregate-key-at c = search needs
-
-key-at-requires : tie.Need-key-at-requires
-key-at-requires c κs = search needs
-
-enum-known-x : tie.Need-enum-known-x
-enum-known-x c = search needs
-
-enum-told : tie.Need-enum-told
-enum-told c = search needs
 
 returns : tie.Need-returns
 unfolding rewardStatement
@@ -24,9 +8,6 @@ returns c = λ t o. reads-back _ 0 (λ _ ws. rewards (c .before .before .before 
 
 rewards-at-requires : tie.Need-rewards-at-requires
 rewards-at-requires c κs = (value-next _ _ (c .before .before .before .before .key-at .ensures) (c .before .before .x .given .1) .1 .1, c .before .before .before .before .before .before .before .pre .1)
-
-same-length : tie.Need-same-length
-same-length c = search needs
 
 returns-2 : tie.Need-returns-2
 unfolding rewardStatement
@@ -38,13 +19,5 @@ returns-2 c =
 
 pub reward-statement-at-spec : {M : Type 1} → statement M
 reward-statement-at-spec =
-    tie.close
-    (tie.spec
-    slice-aggregate-key-at
-    key-at-requires
-    enum-known-x
-    enum-told
-    returns
-    rewards-at-requires
-    same-length
-    returns-2)
+    tie.close (tie.spec (λ c. search needs) (λ c κs. search needs) (λ c. search needs) (λ c. search needs) returns rewards-at-requires
+    (λ c. search needs) returns-2)

@@ -1,12 +1,5 @@
-use Prim.Native.Nat.{ℕ}
-use mathlib.Core.List.{List}
-use borrow.Author.Needs.{needs}
-use lib.IntN.{ℤ}
-use Rattle.words.specs.Words.{Words}
-use Rattle.grammar.specs.Grammar.{Answer, _then_}
-use Rattle.grammar.proofs.Laws.{value-next, reads-on}
-use Rattle.grammar.proofs.Arms.{reads-back}
-use Rattle.statements.specs.Statements.{indexed, starred, reward, rewards}
+use Rattle.statements.proofs.Prelude.{ℕ, List, needs, ℤ, Words, Answer, _then_, value-next, reads-on, reads-back, indexed, reward, rewards}
+use Rattle.statements.specs.Statements.{starred}
 use Rattle.statements.proofs.rewards_at.Statement.{statement}
 use Rattle.statements.proofs.rewards_at.Tie as tie
 
@@ -17,15 +10,6 @@ stars-after m n cells a s ws = starred ws then λ _ ws. starred ws then λ _ ws.
 abbrev after : ℕ → ℕ → List ℤ → ℕ → Words → Answer (List ℤ)
 after m n cells a ws = indexed n ws then λ s ws. stars-after m n cells a s ws
 
-indexed-at-requires : tie.Need-indexed-at-requires
-indexed-at-requires c κs = search needs
-
-enum-known-i : tie.Need-enum-known-i
-enum-known-i c = search needs
-
-enum-told : tie.Need-enum-told
-enum-told c = search needs
-
 returns : tie.Need-returns
 unfolding rewards
 returns c =
@@ -35,12 +19,6 @@ returns c =
 indexed-at-requires-2 : tie.Need-indexed-at-requires-2
 indexed-at-requires-2 c κs = (value-next _ _ (c .before .before .before .indexed-at .ensures) (c .before .i .given .1) .1 .1, (c .before .before .before .before .before .pre .1 .some-rows, c .before .before .before .before .before .pre .1 .few-rows))
 
-enum-known-j : tie.Need-enum-known-j
-enum-known-j c = search needs
-
-enum-told-2 : tie.Need-enum-told-2
-enum-told-2 c = search needs
-
 returns-2 : tie.Need-returns-2
 unfolding rewards
 returns-2 c =
@@ -49,20 +27,8 @@ returns-2 c =
     reads-on (g .0 .0) (g .0 .1 .0) (after (a .m) (a .n) (a .cells .now)) (c .before .before .before .before .before .before .indexed-at .ensures) (g .1)
     (reads-back _ 0 (stars-after (a .m) (a .n) (a .cells .now) (g .0 .0)) (c .before .before .indexed-at2 .ensures) (c .before .match2 .keys2))
 
-slice-aggregate-keys-at : tie.Need-slice-aggregate-keys-at
-slice-aggregate-keys-at c = search needs
-
-slice-aggregate-keys-at-2 : tie.Need-slice-aggregate-keys-at-2
-slice-aggregate-keys-at-2 c = search needs
-
 keys-at-requires : tie.Need-keys-at-requires
 keys-at-requires c κs = value-next _ _ (c .before .before .before .before .before .indexed-at2 .ensures) (c .before .before .before .j .given .1) .1 .1
-
-enum-known-first : tie.Need-enum-known-first
-enum-known-first c = search needs
-
-enum-told-3 : tie.Need-enum-told-3
-enum-told-3 c = search needs
 
 returns-3 : tie.Need-returns-3
 unfolding rewards
@@ -74,20 +40,8 @@ returns-3 c =
     (reads-on (h .0 .0) (h .0 .1 .0) (stars-after (a .m) (a .n) (a .cells .now) (g .0 .0)) (c .before .before .before .before .before .before .before .before .indexed-at2 .ensures) (h .1)
     (reads-back _ 0 (λ _ ws. starred ws then λ _ ws. reward (a .m) (a .n) (g .0 .0) (h .0 .0) (a .cells .now) ws) (c .before .before .keys-at .ensures) (c .before .match3 .keys2)))
 
-slice-aggregate-keys-at-3 : tie.Need-slice-aggregate-keys-at-3
-slice-aggregate-keys-at-3 c = search needs
-
-slice-aggregate-keys-at-4 : tie.Need-slice-aggregate-keys-at-4
-slice-aggregate-keys-at-4 c = search needs
-
 keys-at-requires-2 : tie.Need-keys-at-requires-2
 keys-at-requires-2 c κs = value-next _ _ (c .before .before .before .before .before .keys-at .ensures) (c .before .before .before .first .given .1) .1 .1
-
-enum-known-second : tie.Need-enum-known-second
-enum-known-second c = search needs
-
-enum-told-4 : tie.Need-enum-told-4
-enum-told-4 c = search needs
 
 returns-4 : tie.Need-returns-4
 unfolding rewards
@@ -107,9 +61,6 @@ reward-at-requires c κs =
     let j = value-next _ _ (c .before .before .before .before .before .before .before .before .before .before .before .before .before .before .before .before .indexed-at2 .ensures) (c .before .before .before .before .before .before .before .before .before .before .before .before .before .before .j .given .1) in
     ((value-next _ _ (c .before .before .before .before .keys-at2 .ensures) (c .before .before .second .given .1) .1 .1, c .before .before .before .before .before .before .before .before .before .before .before .before .before .before .before .before .before .before .before .before .before .before .pre .1), (i .0, j .0))
 
-same-length : tie.Need-same-length
-same-length c = search needs
-
 returns-5 : tie.Need-returns-5
 unfolding rewards
 returns-5 c =
@@ -125,28 +76,7 @@ returns-5 c =
 
 pub rewards-at-spec : {M : Type 1} → statement M
 rewards-at-spec =
-    tie.close
-    (tie.spec
-    indexed-at-requires
-    enum-known-i
-    enum-told
-    returns
-    indexed-at-requires-2
-    enum-known-j
-    enum-told-2
-    returns-2
-    slice-aggregate-keys-at
-    slice-aggregate-keys-at-2
-    keys-at-requires
-    enum-known-first
-    enum-told-3
-    returns-3
-    slice-aggregate-keys-at-3
-    slice-aggregate-keys-at-4
-    keys-at-requires-2
-    enum-known-second
-    enum-told-4
-    returns-4
-    reward-at-requires
-    same-length
-    returns-5)
+    tie.close (tie.spec (λ c κs. search needs) (λ c. search needs) (λ c. search needs) returns indexed-at-requires-2 (λ c. search needs)
+    (λ c. search needs) returns-2 (λ c. search needs) (λ c. search needs) keys-at-requires (λ c. search needs) (λ c. search needs) returns-3
+    (λ c. search needs) (λ c. search needs) keys-at-requires-2 (λ c. search needs) (λ c. search needs) returns-4 reward-at-requires
+    (λ c. search needs) returns-5)

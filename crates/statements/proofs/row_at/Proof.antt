@@ -1,9 +1,6 @@
-use Prim.Native.Nat.{_-_, _≤_}
-use native.Mathlib.Omega.{arith}
-use borrow.Author.Needs.{needs}
-use Rattle.drafts.specs.Drafts.{stated}
+use Rattle.statements.proofs.Prelude.{_-_, arith, needs, stated, value-next}
+use Prim.Native.Nat.{_≤_}
 use Rattle.grammar.specs.Grammar.{number}
-use Rattle.grammar.proofs.Laws.{value-next}
 use Rattle.statements.proofs.Laws.{RowLeft, row-start, row-back, row-on, row-end}
 use Rattle.statements.proofs.row_at.Statement.{statement}
 use Rattle.statements.proofs.row_at.Tie as tie
@@ -21,12 +18,6 @@ loop-holds c = (omega arith, row-start _ _ _ _ _ _ (c .before .before .pre .0 .0
 number-at-requires : tie.Need-number-at-requires Inv-loop μ-loop
 number-at-requires c κs = (c .before .loop .inv .1 .inside, (omega arith, c .before .before .before .before .pre .1 .1 .1 .0))
 
-enum-known-p : tie.Need-enum-known-p Inv-loop μ-loop
-enum-known-p c = search needs
-
-enum-told : tie.Need-enum-told Inv-loop μ-loop
-enum-told c = search needs
-
 same-length : tie.Need-same-length Inv-loop μ-loop
 same-length c = c .before .before .before .before .loop .inv .1 .long
 
@@ -41,12 +32,6 @@ state-requires c κs =
     let r = c .before .before .before .before .before .before .before .before .before .pre .0 .1 in
     ((r .few-blocks, (r .few-rows, r .few-places)), ((c .before .before .before .before .before .before .before .before .before .pre .1 .0, (c .before .before .before .before .before .before .before .before .before .pre .1 .1 .0, omega arith)), omega (arith, r .long, c .before .before .before .before .before .before .loop .inv .1 .long)))
 
-add-x : tie.Need-add-x Inv-loop μ-loop
-add-x c = search needs
-
-loop-less : tie.Need-loop-less Inv-loop μ-loop
-loop-less c = search needs
-
 loop-again : tie.Need-loop-again Inv-loop μ-loop
 loop-again c =
     let g = c .before .before .before .before .before .p .given in
@@ -60,20 +45,5 @@ returns-2 c = row-end _ _ _ _ _ _ (c .before .loop .inv .1) (omega arith) (c .be
 
 pub row-at-spec : {M : Type 1} → statement M
 row-at-spec =
-    tie.close
-    (tie.spec
-    Inv-loop
-    μ-loop
-    loop-holds
-    number-at-requires
-    enum-known-p
-    enum-told
-    same-length
-    returns
-    cast-state
-    state-requires
-    add-x
-    loop-less
-    loop-again
-    same-length-2
-    returns-2)
+    tie.close (tie.spec Inv-loop μ-loop loop-holds number-at-requires (λ c. search needs) (λ c. search needs) same-length returns cast-state
+    state-requires (λ c. search needs) (λ c. search needs) loop-again same-length-2 returns-2)

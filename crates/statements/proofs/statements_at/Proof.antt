@@ -1,14 +1,8 @@
-use Prim.Native.Nat.{ℕ, _-_}
-use mathlib.Core.Path.{_≡_, refl, _∙_}
-use mathlib.Core.List.{List}
-use native.Mathlib.Omega.{arith}
-use borrow.Author.Needs.{needs}
+use Rattle.statements.proofs.Prelude.{ℕ, _-_, _∙_, List, arith, needs, ℤ, value-next, reward, draft, reward, draft}
+use mathlib.Core.Path.{_≡_, refl}
 use lib.ListN.{length}
-use lib.IntN.{ℤ}
-use Rattle.grammar.proofs.Laws.{value-next}
-use Rattle.statements.specs.Statements.{reward, draft}
 use Rattle.statements.proofs.Laws.{room-kept, Left, left-start, left-end, left-back, left-on}
-use Rattle.statements.specs.Statements.{reward, draft, Room}
+use Rattle.statements.specs.Statements.{Room}
 use Rattle.statements.proofs.statements_at.Statement.{statement}
 use Rattle.statements.proofs.statements_at.Tie as tie
 
@@ -33,15 +27,6 @@ loop-holds c =
     let p = c .before .before .before .pre .1 in
     record { transition-room = p .0; observation-room = p .1 .0; reward-room = p .1 .1; transition-long = refl; observation-long = refl; reward-long = refl; left = left-start _ _ _ _ _ _ (c .before .before .before .pre .0) }
 
-word-from-requires : tie.Need-word-from-requires Inv-loop μ-loop
-word-from-requires c κs = search needs
-
-enum-told : tie.Need-enum-told Inv-loop μ-loop
-enum-told c = search needs
-
-enum-told-2 : tie.Need-enum-told-2 Inv-loop μ-loop
-enum-told-2 c = search needs
-
 same-length : tie.Need-same-length Inv-loop μ-loop
 same-length c = c .before .before .before .loop .inv .transition-long
 
@@ -60,12 +45,6 @@ statement-at-requires : tie.Need-statement-at-requires Inv-loop μ-loop
 statement-at-requires c κs =
     let i = c .before .before .before .before .before .before .loop .inv in
     (i .left .inside, (i .transition-room, (i .observation-room, i .reward-room)))
-
-enum-known-x : tie.Need-enum-known-x Inv-loop μ-loop
-enum-known-x c = search needs
-
-enum-told-3 : tie.Need-enum-told-3 Inv-loop μ-loop
-enum-told-3 c = search needs
 
 same-length-4 : tie.Need-same-length-4 Inv-loop μ-loop
 same-length-4 c = c .before .before .before .before .before .before .before .statement-at .kept .1 .1 .0 ∙ c .before .before .before .before .before .before .before .before .before .before .before .before .before .before .loop .inv .transition-long
@@ -103,24 +82,6 @@ loop-again c =
 
 pub statements-at-spec : {M : Type 1} → statement M
 statements-at-spec =
-    tie.close
-    (tie.spec
-    Inv-loop
-    μ-loop
-    loop-holds
-    word-from-requires
-    enum-told
-    enum-told-2
-    same-length
-    same-length-2
-    same-length-3
-    returns
-    statement-at-requires
-    enum-known-x
-    enum-told-3
-    same-length-4
-    same-length-5
-    same-length-6
-    returns-2
-    loop-less
+    tie.close (tie.spec Inv-loop μ-loop loop-holds (λ c κs. search needs) (λ c. search needs) (λ c. search needs) same-length same-length-2
+    same-length-3 returns statement-at-requires (λ c. search needs) (λ c. search needs) same-length-4 same-length-5 same-length-6 returns-2 loop-less
     loop-again)

@@ -1,9 +1,8 @@
-use Prim.Native.Nat.{ℕ, _≤_, _<_}
-use mathlib.Core.Path.{_≡_, sym, ap}
+use Rattle.words.proofs.Prelude.{ℕ, _≤_, _<_, _≡_, sym, arith}
+use mathlib.Core.Path.{ap}
 use mathlib.Core.Bool.{false, _&&_}
 use mathlib.Core.Logic.{inl, inr, ⊎-elim}
 use native.Mathlib.Decide.{decLe}
-use native.Mathlib.Omega.{arith}
 use borrow.Author.Tests.{ne-eqb, le-leb, lt-leb}
 use lib.Dec.{leb}
 use Rattle.words.specs.declared.Class.the-variants.{Digit, Rest}

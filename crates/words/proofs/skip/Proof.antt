@@ -1,12 +1,5 @@
-use Prim.Native.Nat.{_-_, _≤_}
-use mathlib.Core.Path.{_≡_, refl, _∙_}
-use mathlib.Core.List.{[], _∷_}
-use native.Mathlib.Omega.{arith}
-use borrow.Author.Needs.{needs}
-use lib.ListN.{length}
-use Rattle.words.specs.declared.Class.{Class}
-use Rattle.words.specs.Words.{parts, opens, roleOf, between, wordsIn, Begins}
-use Rattle.words.proofs.Keys.{by-keys}
+use Rattle.words.proofs.Prelude.{_-_, _≤_, _≡_, refl, _∙_, [], _∷_, arith, needs, length, Class, roleOf, between, wordsIn, Begins, by-keys}
+use Rattle.words.specs.Words.{parts, opens}
 use Rattle.words.proofs.Laws.{step-by}
 use Rattle.words.proofs.skip.Statement.{statement}
 use Rattle.words.proofs.skip.Tie as tie
@@ -20,20 +13,8 @@ abbrev μ-loop : tie.MeasureT-loop
 loop-holds : tie.Need-loop-holds Inv-loop μ-loop
 loop-holds c = (omega arith, (omega arith, refl))
 
-shared-slice-read-class-of : tie.Need-shared-slice-read-class-of Inv-loop μ-loop
-shared-slice-read-class-of c = omega arith
-
-class-of-requires : tie.Need-class-of-requires Inv-loop μ-loop
-class-of-requires c κs = search needs
-
 enum-told : tie.Need-enum-told Inv-loop μ-loop
 enum-told c = c .match .keys1
-
-add-at : tie.Need-add-at Inv-loop μ-loop
-add-at c = omega arith
-
-loop-less : tie.Need-loop-less Inv-loop μ-loop
-loop-less c = omega arith
 
 loop-again : tie.Need-loop-again Inv-loop μ-loop
 loop-again c =
@@ -45,15 +26,6 @@ loop-again c =
 
 enum-told-2 : tie.Need-enum-told-2 Inv-loop μ-loop
 enum-told-2 c = c .match .keys2
-
-add-line-end : tie.Need-add-line-end Inv-loop μ-loop
-add-line-end c = omega arith
-
-line-end-requires : tie.Need-line-end-requires Inv-loop μ-loop
-line-end-requires c κs = omega arith
-
-loop-less-2 : tie.Need-loop-less-2 Inv-loop μ-loop
-loop-less-2 c = omega arith
 
 loop-again-2 : tie.Need-loop-again-2 Inv-loop μ-loop
 loop-again-2 c =
@@ -77,21 +49,5 @@ returns-2 c =
 
 pub skip-spec : {M : Type 1} → statement M
 skip-spec =
-    tie.close
-    (tie.spec
-    Inv-loop
-    μ-loop
-    loop-holds
-    shared-slice-read-class-of
-    class-of-requires
-    enum-told
-    add-at
-    loop-less
-    loop-again
-    enum-told-2
-    add-line-end
-    line-end-requires
-    loop-less-2
-    loop-again-2
-    returns
-    returns-2)
+    tie.close (tie.spec Inv-loop μ-loop loop-holds (λ c. omega arith) (λ c κs. search needs) enum-told (λ c. omega arith) (λ c. omega arith)
+    loop-again enum-told-2 (λ c. omega arith) (λ c κs. omega arith) (λ c. omega arith) loop-again-2 returns returns-2)

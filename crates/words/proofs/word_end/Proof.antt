@@ -1,12 +1,5 @@
-use Prim.Native.Nat.{ℕ, _-_, _≤_}
-use mathlib.Core.Path.{_≡_}
-use mathlib.Core.List.{[], _∷_}
-use native.Mathlib.Omega.{arith}
-use borrow.Author.Needs.{needs}
-use lib.ListN.{length}
-use Rattle.words.specs.declared.Class.{Class}
-use Rattle.words.specs.Words.{belongs, roleOf, Run}
-use Rattle.words.proofs.Keys.{by-keys}
+use Rattle.words.proofs.Prelude.{ℕ, _-_, _≤_, _≡_, [], _∷_, arith, needs, length, Class, belongs, roleOf, by-keys}
+use Rattle.words.specs.Words.{Run}
 use Rattle.words.proofs.Laws.{Ends, end-run, run-more, run-ends}
 use Rattle.words.proofs.word_end.Statement.{statement}
 use Rattle.words.proofs.word_end.Tie as tie
@@ -21,12 +14,6 @@ abbrev μ-loop : tie.MeasureT-loop
 loop-holds : tie.Need-loop-holds Inv-loop μ-loop
 loop-holds c = (omega arith, λ r w. w)
 
-shared-slice-read-class-of : tie.Need-shared-slice-read-class-of Inv-loop μ-loop
-shared-slice-read-class-of c = omega arith
-
-class-of-requires : tie.Need-class-of-requires Inv-loop μ-loop
-class-of-requires c κs = search needs
-
 returns : tie.Need-returns Inv-loop μ-loop
 returns c =
     let s = c .before .before .before .before .before .before .args .s .now in
@@ -34,12 +21,6 @@ returns c =
     let k = c .before .class-of in
     l .inv .1 (l .at)
     (run-ends s (l .at) (omega arith) (by-keys (λ (k : Class). Ends (roleOf k)) (0 ∷ 1 ∷ 2 ∷ []) (k .ensures) (search needs) (c .match .keys1)))
-
-add-at : tie.Need-add-at Inv-loop μ-loop
-add-at c = omega arith
-
-loop-less : tie.Need-loop-less Inv-loop μ-loop
-loop-less c = omega arith
 
 loop-again : tie.Need-loop-again Inv-loop μ-loop
 loop-again c =
@@ -56,4 +37,5 @@ returns-2 c =
 
 pub word-end-spec : {M : Type 1} → statement M
 word-end-spec =
-    tie.close (tie.spec Inv-loop μ-loop loop-holds shared-slice-read-class-of class-of-requires returns add-at loop-less loop-again returns-2)
+    tie.close (tie.spec Inv-loop μ-loop loop-holds (λ c. omega arith) (λ c κs. search needs) returns (λ c. omega arith) (λ c. omega arith) loop-again
+    returns-2)

@@ -1,7 +1,6 @@
-use Prim.Native.Nat.{ℕ, _+_, _-_, _*_, _≤_, _<_}
-use mathlib.Core.Path.{_≡_, sym, ap, _∙_}
-use native.Mathlib.Omega.{arith}
-use borrow.Author.Needs.{needs}
+use Rattle.worth.proofs.Prelude.{_+_, _*_, _≤_, _<_, _≡_, sym, _∙_, arith, needs, answer, maxNodes}
+use Prim.Native.Nat.{ℕ, _-_}
+use mathlib.Core.Path.{ap}
 use borrow.Fn.Kinds.{In}
 use borrow.Fn.PlainCycle.{Measures, is, falls, and}
 use lib.Dec.{lit<}
@@ -13,14 +12,12 @@ use Rattle.integers.specs.Cells.{padded}
 use Rattle.integers.proofs.Lists.{padded-none, padded-turn, filled-within}
 use Rattle.integers.proofs.Sums.{sum-none}
 use Rattle.integers.proofs.Terms.{Terms, term-fits, term-added}
-use Rattle.integers.proofs.Words.{answer}
 use Rattle.integers.proofs.add_scaled.Reads as add-scaled
 use Rattle.tables.specs.Limits.{maxStates, maxActions, one, maxEntry, K}
 use Rattle.tables.specs.Model.{Model}
 use Rattle.tables.specs.Storage.{backupIn}
 use Rattle.tables.proofs.read.observation_at.Reads as observation-at
 use Rattle.tables.proofs.sums.backed_up.Reads as backed-up
-use Rattle.worth.specs.Limits.{maxNodes}
 use Rattle.worth.specs.Graph.{PlanGraph, worthOf, observedOf}
 use Rattle.worth.specs.Storage.{modelIn, graphIn}
 use Rattle.worth.proofs.Laws.{observed-terms, observed-limit, worth-none, worth-from}

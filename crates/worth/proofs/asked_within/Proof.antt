@@ -12,4 +12,5 @@ returns-3 : tie.Need-returns-3
 returns-3 c = rw (lt-ltb _ _ (c .before .before .if1 .left), lt-ltb _ _ (c .if2 .left))
 
 pub asked-within-spec : {M : Type 1} → statement M
-asked-within-spec = tie.close (tie.spec returns returns-2 returns-3)
+asked-within-spec =
+    tie.close (tie.spec returns returns-2 returns-3)

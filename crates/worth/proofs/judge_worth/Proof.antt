@@ -1,21 +1,15 @@
-use Prim.Native.Nat.{_≤_}
-use mathlib.Core.Path.{_≡_, sym, _∙_}
+use Rattle.worth.proofs.Prelude.{_≤_, _≡_, sym, _∙_, arith, needs, modelOf, maxNodes, worthVerdict}
 use mathlib.Core.Bool.{true}
 use native.Mathlib.Nat.{mul-le-mul}
-use native.Mathlib.Omega.{arith}
 use lib.ListN.{length}
 use borrow.Author.Tests.{not-true, not-false}
-use borrow.Author.Needs.{needs}
 use Rattle.tables.specs.declared.Verdict.{Verdict}
 use Rattle.tables.specs.Model.{Valid}
-use Rattle.tables.specs.Storage.{modelOf}
 use Rattle.tables.specs.Verdicts.{_before_, unless}
 use Rattle.tables.specs.Judged.{countWithin, modelVerdict}
 use Rattle.tables.proofs.Accepted.{valid, count-true}
 use Rattle.tables.proofs.Refusals.{stops, goes, breaks, passes}
 use Rattle.levels.proofs.Laws.{passed, failed}
-use Rattle.worth.specs.Limits.{maxNodes}
-use Rattle.worth.specs.Judged.{worthVerdict}
 use Rattle.worth.proofs.judge_worth.Statement.{statement}
 use Rattle.worth.proofs.judge_worth.Tie as tie
 
@@ -40,21 +34,9 @@ on : (c : tie.Else1) {u w : Verdict} → u ≡ w
     → u ≡ (modelVerdict (modelOf (of-count c .args .m)) before unless (countWithin maxNodes (of-count c .args .t2 .nodes)) 18 0 before w)
 on c e = let t = c .before .before in goes (t .before .before .judge-tables .ensures) (t .enum-told .given .1) (passes 18 0 (count c) e)
 
-judge-tables-requires : tie.Need-judge-tables-requires
-judge-tables-requires c κs = search needs
-
-enum-told : tie.Need-enum-told
-enum-told c = search needs
-
-enum-told-2 : tie.Need-enum-told-2
-enum-told-2 c = search needs
-
 returns : tie.Need-returns
 unfolding worthVerdict
 returns c = stops _ (c .before .before .judge-tables .ensures) (c .enum-told2 .given .1)
-
-count-within-requires : tie.Need-count-within-requires
-count-within-requires c κs = search needs
 
 returns-2 : tie.Need-returns-2
 unfolding worthVerdict
@@ -72,18 +54,9 @@ numbers-exist-requires c κs =
     let next : length (g .next) ≡ 256 = search (needs, of-count e .good .1 .0) in
     ((few, k), (omega (arith, few, actions), omega (arith, mul-le-mul few k, next)))
 
-enum-told-3 : tie.Need-enum-told-3
-enum-told-3 c = search needs
-
-enum-told-4 : tie.Need-enum-told-4
-enum-told-4 c = search needs
-
 returns-3 : tie.Need-returns-3
 unfolding worthVerdict
 returns-3 c = let n = c .before .before in on (of-numbers n) (stops _ (n .numbers-exist .ensures) (c .enum-told4 .given .1))
-
-asked-within-requires : tie.Need-asked-within-requires
-asked-within-requires c κs = search needs
 
 returns-4 : tie.Need-returns-4
 unfolding worthVerdict
@@ -101,18 +74,5 @@ returns-5 c =
 
 pub judge-worth-spec : {M : Type 1} → statement M
 judge-worth-spec =
-    tie.close
-    (tie.spec
-    judge-tables-requires
-    enum-told
-    enum-told-2
-    returns
-    count-within-requires
-    returns-2
-    numbers-exist-requires
-    enum-told-3
-    enum-told-4
-    returns-3
-    asked-within-requires
-    returns-4
-    returns-5)
+    tie.close (tie.spec (λ c κs. search needs) (λ c. search needs) (λ c. search needs) returns (λ c κs. search needs) returns-2 numbers-exist-requires
+    (λ c. search needs) (λ c. search needs) returns-3 (λ c κs. search needs) returns-4 returns-5)

@@ -1,9 +1,6 @@
-use Prim.Native.Nat.{_+_, _*_, _<_}
-use native.Mathlib.Omega.{arith}
-use borrow.Author.Needs.{needs}
+use Rattle.worth.proofs.Prelude.{_+_, _*_, _<_, arith, needs, maxNodes}
 use Rattle.levels.proofs.Laws.{row-fits}
 use Rattle.tables.specs.Limits.{maxObservations}
-use Rattle.worth.specs.Limits.{maxNodes}
 use Rattle.worth.proofs.next_at.Statement.{statement}
 use Rattle.worth.proofs.next_at.Tie as tie
 
@@ -23,11 +20,6 @@ mul-choice c = omega (arith, in-row (c .before .before))
 element-copy-out-choice : tie.Need-element-copy-out-choice
 element-copy-out-choice c = omega (arith, in-row (c .before .before))
 
-choice-requires : tie.Need-choice-requires
-choice-requires c κs = search needs
-
-returns : tie.Need-returns
-returns c = search needs
-
 pub next-at-spec : {M : Type 1} → statement M
-next-at-spec = tie.close (tie.spec mul-at add-at mul-choice element-copy-out-choice choice-requires returns)
+next-at-spec =
+    tie.close (tie.spec mul-at add-at mul-choice element-copy-out-choice (λ c κs. search needs) (λ c. search needs))

@@ -1,11 +1,8 @@
-use mathlib.Core.Path.{_≡_, sym, _∙_}
-use borrow.Author.Needs.{needs}
-use Rattle.integers.proofs.Words.{answer}
+use Rattle.worth.proofs.Prelude.{_≡_, sym, _∙_, needs, answer, modelOf, worthVerdict}
 use Rattle.tables.specs.declared.Verdict.the-variants.{Fine}
-use Rattle.tables.specs.Storage.{modelOf}
 use Rattle.worth.specs.Graph.{Accepted}
 use Rattle.worth.specs.Storage.{graphOf}
-use Rattle.worth.specs.Judged.{worthVerdict, worthAnswer}
+use Rattle.worth.specs.Judged.{worthAnswer}
 use Rattle.worth.proofs.Laws.{accepted}
 use Rattle.worth.proofs.worth.Statement.{statement}
 use Rattle.worth.proofs.worth.Tie as tie
@@ -18,17 +15,8 @@ taken : (c : tie.After-enum-told)
     → let a = c .before .before .before .args in Accepted (modelOf (a .t1)) (graphOf (a .t1 .observations) (a .t2)) (a .v .0) (a .s .0) (a .d)
 taken c = accepted _ _ _ _ _ (fine-here c)
 
-judge-worth-requires : tie.Need-judge-worth-requires
-judge-worth-requires c κs = search needs
-
-enum-told : tie.Need-enum-told
-enum-told c = search needs
-
 worth-at-requires : tie.Need-worth-at-requires
 worth-at-requires c κs = taken (c .before .before .before .before .before .before .before)
-
-enum-known-number : tie.Need-enum-known-number
-enum-known-number c = search needs
 
 returns : tie.Need-returns
 unfolding worthAnswer
@@ -40,4 +28,5 @@ unfolding worthAnswer
 returns-2 c = rw (sym (c .before .before .before .judge-worth .ensures) ∙ c .before .number .given .1)
 
 pub worth-spec : {M : Type 1} → statement M
-worth-spec = tie.close (tie.spec judge-worth-requires enum-told worth-at-requires enum-known-number returns returns-2)
+worth-spec =
+    tie.close (tie.spec (λ c κs. search needs) (λ c. search needs) worth-at-requires (λ c. search needs) returns returns-2)

@@ -1,10 +1,4 @@
-use Prim.Native.Nat.{_≤_, _-_}
-use mathlib.Core.Path.{_≡_}
-use native.Mathlib.Omega.{arith}
-use borrow.Author.Needs.{needs}
-use lib.ListN.{length}
-use lib.IntN.{pos}
-use Rattle.integers.proofs.Lists.{Cutting, cutting-start, cutting-more, cutting-end}
+use Rattle.integers.proofs.Prelude.{_≤_, _-_, _≡_, arith, needs, length, pos, Cutting, cutting-start, cutting-more, cutting-end}
 use Rattle.integers.proofs.cells.clear_i64.Statement.{statement}
 use Rattle.integers.proofs.cells.clear_i64.Tie as tie
 
@@ -23,12 +17,6 @@ mul-cells c = let e = c .before .loop .inv .1 .1 .long in omega arith
 slice-set-of-cells : tie.Need-slice-set-of-cells Inv-loop μ-loop
 slice-set-of-cells c = let e = c .before .loop .inv .1 .1 .long in omega arith
 
-add-i : tie.Need-add-i Inv-loop μ-loop
-add-i c = search needs
-
-loop-less : tie.Need-loop-less Inv-loop μ-loop
-loop-less c = search needs
-
 loop-again : tie.Need-loop-again Inv-loop μ-loop
 loop-again c = (omega arith, (omega arith, cutting-more _ _ _ _ _ (omega arith) (c .before .loop .inv .1 .1)))
 
@@ -40,4 +28,4 @@ returns c = cutting-end _ _ _ _ _ (omega arith) (c .before .loop .inv .1 .1)
 
 pub clear-i64-spec : {M : Type 1} → statement M
 clear-i64-spec =
-    tie.close (tie.spec Inv-loop μ-loop loop-holds mul-cells slice-set-of-cells add-i loop-less loop-again same-length returns)
+    tie.close (tie.spec Inv-loop μ-loop loop-holds mul-cells slice-set-of-cells (λ c. search needs) (λ c. search needs) loop-again same-length returns)

@@ -1,9 +1,4 @@
-use Prim.Native.Nat.{_≤_, _-_}
-use mathlib.Core.Path.{_≡_}
-use native.Mathlib.Omega.{arith}
-use borrow.Author.Needs.{needs}
-use lib.ListN.{length}
-use Rattle.integers.proofs.Lists.{Cutting, cutting-start, cutting-more, cutting-end}
+use Rattle.integers.proofs.Prelude.{_≤_, _-_, _≡_, arith, needs, length, Cutting, cutting-start, cutting-more, cutting-end}
 use Rattle.integers.proofs.cells.clear_u16.Statement.{statement}
 use Rattle.integers.proofs.cells.clear_u16.Tie as tie
 
@@ -22,12 +17,6 @@ mul-cells c = let e = c .before .loop .inv .1 .1 .long in omega arith
 slice-write-cells : tie.Need-slice-write-cells Inv-loop μ-loop
 slice-write-cells c = let e = c .before .loop .inv .1 .1 .long in omega arith
 
-add-i : tie.Need-add-i Inv-loop μ-loop
-add-i c = search needs
-
-loop-less : tie.Need-loop-less Inv-loop μ-loop
-loop-less c = search needs
-
 loop-again : tie.Need-loop-again Inv-loop μ-loop
 loop-again c = (omega arith, (omega arith, cutting-more _ _ _ _ _ (omega arith) (c .before .loop .inv .1 .1)))
 
@@ -39,4 +28,4 @@ returns c = cutting-end _ _ _ _ _ (omega arith) (c .before .loop .inv .1 .1)
 
 pub clear-u16-spec : {M : Type 1} → statement M
 clear-u16-spec =
-    tie.close (tie.spec Inv-loop μ-loop loop-holds mul-cells slice-write-cells add-i loop-less loop-again same-length returns)
+    tie.close (tie.spec Inv-loop μ-loop loop-holds mul-cells slice-write-cells (λ c. search needs) (λ c. search needs) loop-again same-length returns)

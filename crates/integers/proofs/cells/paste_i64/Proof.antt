@@ -1,10 +1,5 @@
-use Prim.Native.Nat.{_≤_, _-_}
-use mathlib.Core.Path.{_≡_}
-use native.Mathlib.Omega.{arith}
-use borrow.Author.Needs.{needs}
-use lib.IntN.{pos}
+use Rattle.integers.proofs.Prelude.{_≤_, _-_, _≡_, arith, needs, pos, Pasting, pasting-start, pasting-more}
 use Rattle.integers.proofs.Words.{back}
-use Rattle.integers.proofs.Lists.{Pasting, pasting-start, pasting-more}
 use Rattle.integers.proofs.cells.paste_i64.Statement.{statement}
 use Rattle.integers.proofs.cells.paste_i64.Tie as tie
 
@@ -17,12 +12,6 @@ abbrev μ-loop : tie.MeasureT-loop
 loop-holds : tie.Need-loop-holds Inv-loop μ-loop
 loop-holds c = (omega arith, pasting-start _ _ _)
 
-mul-cells : tie.Need-mul-cells Inv-loop μ-loop
-mul-cells c = omega arith
-
-shared-slice-copy-out-cells : tie.Need-shared-slice-copy-out-cells Inv-loop μ-loop
-shared-slice-copy-out-cells c = omega arith
-
 add-t10 : tie.Need-add-t10 Inv-loop μ-loop
 add-t10 c = let e = c .before .before .loop .inv .1 .long in omega arith
 
@@ -31,12 +20,6 @@ mul-t11 c = let e = c .before .before .loop .inv .1 .long in omega arith
 
 slice-set-from-cells : tie.Need-slice-set-from-cells Inv-loop μ-loop
 slice-set-from-cells c = let e = c .before .before .loop .inv .1 .long in omega arith
-
-add-x : tie.Need-add-x Inv-loop μ-loop
-add-x c = search needs
-
-loop-less : tie.Need-loop-less Inv-loop μ-loop
-loop-less c = search needs
 
 loop-again : tie.Need-loop-again Inv-loop μ-loop
 loop-again c = (omega arith, pasting-more _ _ _ _ _ (pos 0) (omega arith) (omega arith) (back _ (c .cells .given)) (c .before .before .loop .inv .1))
@@ -51,18 +34,5 @@ returns c =
 
 pub paste-i64-spec : {M : Type 1} → statement M
 paste-i64-spec =
-    tie.close
-    (tie.spec
-    Inv-loop
-    μ-loop
-    loop-holds
-    mul-cells
-    shared-slice-copy-out-cells
-    add-t10
-    mul-t11
-    slice-set-from-cells
-    add-x
-    loop-less
-    loop-again
-    same-length
-    returns)
+    tie.close (tie.spec Inv-loop μ-loop loop-holds (λ c. omega arith) (λ c. omega arith) add-t10 mul-t11 slice-set-from-cells (λ c. search needs)
+    (λ c. search needs) loop-again same-length returns)

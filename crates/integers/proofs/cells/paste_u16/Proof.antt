@@ -1,8 +1,5 @@
-use Prim.Native.Nat.{_≤_, _-_}
-use mathlib.Core.Path.{_≡_, refl}
-use native.Mathlib.Omega.{arith}
-use borrow.Author.Needs.{needs}
-use Rattle.integers.proofs.Lists.{Pasting, pasting-start, pasting-more}
+use Rattle.integers.proofs.Prelude.{_≤_, _-_, _≡_, arith, needs, Pasting, pasting-start, pasting-more}
+use mathlib.Core.Path.{refl}
 use Rattle.integers.proofs.cells.paste_u16.Statement.{statement}
 use Rattle.integers.proofs.cells.paste_u16.Tie as tie
 
@@ -15,12 +12,6 @@ abbrev μ-loop : tie.MeasureT-loop
 loop-holds : tie.Need-loop-holds Inv-loop μ-loop
 loop-holds c = (omega arith, pasting-start _ _ _)
 
-mul-cells : tie.Need-mul-cells Inv-loop μ-loop
-mul-cells c = omega arith
-
-shared-slice-read-cells : tie.Need-shared-slice-read-cells Inv-loop μ-loop
-shared-slice-read-cells c = omega arith
-
 add-cells : tie.Need-add-cells Inv-loop μ-loop
 add-cells c = let e = c .before .before .loop .inv .1 .long in omega arith
 
@@ -29,12 +20,6 @@ mul-cells-2 c = let e = c .before .before .loop .inv .1 .long in omega arith
 
 slice-write-cells : tie.Need-slice-write-cells Inv-loop μ-loop
 slice-write-cells c = let e = c .before .before .loop .inv .1 .long in omega arith
-
-add-x : tie.Need-add-x Inv-loop μ-loop
-add-x c = search needs
-
-loop-less : tie.Need-loop-less Inv-loop μ-loop
-loop-less c = search needs
 
 loop-again : tie.Need-loop-again Inv-loop μ-loop
 loop-again c = (omega arith, pasting-more _ _ _ _ _ 0 (omega arith) (omega arith) refl (c .before .before .loop .inv .1))
@@ -49,18 +34,5 @@ returns c =
 
 pub paste-u16-spec : {M : Type 1} → statement M
 paste-u16-spec =
-    tie.close
-    (tie.spec
-    Inv-loop
-    μ-loop
-    loop-holds
-    mul-cells
-    shared-slice-read-cells
-    add-cells
-    mul-cells-2
-    slice-write-cells
-    add-x
-    loop-less
-    loop-again
-    same-length
-    returns)
+    tie.close (tie.spec Inv-loop μ-loop loop-holds (λ c. omega arith) (λ c. omega arith) add-cells mul-cells-2 slice-write-cells (λ c. search needs)
+    (λ c. search needs) loop-again same-length returns)

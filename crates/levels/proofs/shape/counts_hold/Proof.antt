@@ -16,4 +16,5 @@ returns-3 c =
     rw (le-leb 1 (a .vectors) (c .before .if1 .left), le-leb (a .vectors) 32 (c .if2 .left))
 
 pub counts-hold-spec : {M : Type 1} → statement M
-counts-hold-spec = tie.close (tie.spec returns returns-2 returns-3)
+counts-hold-spec =
+    tie.close (tie.spec returns returns-2 returns-3)

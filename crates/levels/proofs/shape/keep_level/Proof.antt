@@ -1,5 +1,4 @@
-use native.Mathlib.Omega.{arith}
-use borrow.Author.Needs.{needs}
+use Rattle.levels.proofs.Prelude.{arith, needs}
 use Rattle.levels.specs.Storage.{keptLevel}
 use Rattle.levels.proofs.Laws.{Long, Sizes, sizes}
 use Rattle.levels.proofs.shape.keep_level.Statement.{statement}
@@ -30,14 +29,8 @@ of-weights c = of-corners (c .before .before .before)
 abbrev of-values : tie.After-values2 → tie.Start
 of-values c = of-weights (c .before .before .before)
 
-slice-aggregate-clear-u8 : tie.Need-slice-aggregate-clear-u8
-slice-aggregate-clear-u8 c = search needs
-
 clear-u8-requires : tie.Need-clear-u8-requires
 clear-u8-requires c κs = omega (arith, here (of-actions c), long (of-actions c))
-
-slice-aggregate-clear-u16 : tie.Need-slice-aggregate-clear-u16
-slice-aggregate-clear-u16 c = search needs
 
 mul-clear-u16 : tie.Need-mul-clear-u16
 mul-clear-u16 c = omega (arith, here (of-choices c), long (of-choices c))
@@ -45,32 +38,20 @@ mul-clear-u16 c = omega (arith, here (of-choices c), long (of-choices c))
 clear-u16-requires : tie.Need-clear-u16-requires
 clear-u16-requires c κs = omega (arith, here (of-choices c), long (of-choices c))
 
-slice-aggregate-clear-i64 : tie.Need-slice-aggregate-clear-i64
-slice-aggregate-clear-i64 c = search needs
-
 mul-clear-i64 : tie.Need-mul-clear-i64
 mul-clear-i64 c = omega (arith, here (of-entries c), long (of-entries c))
 
 clear-i64-requires : tie.Need-clear-i64-requires
 clear-i64-requires c κs = omega (arith, here (of-entries c), long (of-entries c))
 
-slice-aggregate-clear-i64-2 : tie.Need-slice-aggregate-clear-i64-2
-slice-aggregate-clear-i64-2 c = search needs
-
 clear-i64-requires-2 : tie.Need-clear-i64-requires-2
 clear-i64-requires-2 c κs = omega (arith, here (of-corners c), long (of-corners c))
-
-slice-aggregate-clear-u32 : tie.Need-slice-aggregate-clear-u32
-slice-aggregate-clear-u32 c = search needs
 
 mul-clear-u32 : tie.Need-mul-clear-u32
 mul-clear-u32 c = omega (arith, here (of-weights c), long (of-weights c))
 
 clear-u32-requires : tie.Need-clear-u32-requires
 clear-u32-requires c κs = omega (arith, here (of-weights c), long (of-weights c))
-
-slice-aggregate-clear-i64-3 : tie.Need-slice-aggregate-clear-i64-3
-slice-aggregate-clear-i64-3 c = search needs
 
 clear-i64-requires-3 : tie.Need-clear-i64-requires-3
 clear-i64-requires-3 c κs = omega (arith, here (of-values c), long (of-values c))
@@ -91,21 +72,6 @@ returns c =
 
 pub keep-level-spec : {M : Type 1} → statement M
 keep-level-spec =
-    tie.close
-    (tie.spec
-    slice-aggregate-clear-u8
-    clear-u8-requires
-    slice-aggregate-clear-u16
-    mul-clear-u16
-    clear-u16-requires
-    slice-aggregate-clear-i64
-    mul-clear-i64
-    clear-i64-requires
-    slice-aggregate-clear-i64-2
-    clear-i64-requires-2
-    slice-aggregate-clear-u32
-    mul-clear-u32
-    clear-u32-requires
-    slice-aggregate-clear-i64-3
-    clear-i64-requires-3
-    returns)
+    tie.close (tie.spec (λ c. search needs) clear-u8-requires (λ c. search needs) mul-clear-u16 clear-u16-requires (λ c. search needs) mul-clear-i64
+    clear-i64-requires (λ c. search needs) clear-i64-requires-2 (λ c. search needs) mul-clear-u32 clear-u32-requires (λ c. search needs)
+    clear-i64-requires-3 returns)

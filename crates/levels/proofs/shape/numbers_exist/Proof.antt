@@ -1,19 +1,10 @@
-use Prim.Native.Nat.{ℕ, _+_, _*_, _≤_, _-_}
-use mathlib.Core.Path.{_≡_, refl, sym, _∙_}
-use native.Mathlib.Omega.{arith}
-use borrow.Author.Tests.{lt-ltb, le-ltb}
-use mathlib.Core.Bool.{true}
-use mathlib.Core.List.{List}
-use lib.Dec.{ltb}
-use lib.ListN.{length, getD}
-use Rattle.integers.proofs.Lists.{row-below}
-use Rattle.tables.specs.declared.Verdict.{Verdict}
-use Rattle.tables.specs.declared.Verdict.the-variants.{Fine}
-use Rattle.tables.specs.Verdicts.{_before_, unless, firstOf}
-use Rattle.tables.proofs.Refusals.{first-none, first-more, first-here, refused-before}
+use Rattle.levels.proofs.Prelude.{ℕ, _+_, _*_, _≤_, _-_, _≡_, refl, sym, _∙_, arith, lt-ltb, le-ltb, true, List, ltb, length, getD, row-below}
+use Rattle.levels.proofs.Prelude.{Verdict, Fine, unless, firstOf, first-none, first-more, first-here, passed, failed}
+use Rattle.tables.specs.Verdicts.{_before_}
+use Rattle.tables.proofs.Refusals.{refused-before}
 use Rattle.levels.specs.Storage.{choiceIn}
 use Rattle.levels.specs.Judged.{numbersIn}
-use Rattle.levels.proofs.Laws.{passed, failed, fine-before}
+use Rattle.levels.proofs.Laws.{fine-before}
 use Rattle.levels.proofs.shape.numbers_exist.Statement.{statement}
 use Rattle.levels.proofs.shape.numbers_exist.Tie as tie
 
@@ -45,9 +36,6 @@ vectors-holds c = (omega arith, (refl, first-none _))
 shared-slice-read-action : tie.Need-shared-slice-read-action Inv-loop μ-loop Inv-vectors μ-vectors
 shared-slice-read-action c = omega (arith, c .before .before .before .before .before .pre)
 
-action-requires : tie.Need-action-requires Inv-loop μ-loop Inv-vectors μ-vectors
-action-requires c κs = tt
-
 -- the vector's choices lie in the array
 row-here : (c : tie.Else1 Inv-loop μ-loop Inv-vectors μ-vectors) →
     let a = c .before .before .before .before .before .before .before .args in
@@ -77,15 +65,6 @@ mul-choice c = omega (arith, row-here (c .before .before))
 shared-slice-read-choice : tie.Need-shared-slice-read-choice Inv-loop μ-loop Inv-vectors μ-vectors
 shared-slice-read-choice c = omega (arith, row-here (c .before .before .before))
 
-choice-requires : tie.Need-choice-requires Inv-loop μ-loop Inv-vectors μ-vectors
-choice-requires c κs = tt
-
-add-o : tie.Need-add-o Inv-loop μ-loop Inv-vectors μ-vectors
-add-o c = omega arith
-
-loop-less : tie.Need-loop-less Inv-loop μ-loop Inv-vectors μ-vectors
-loop-less c = omega arith
-
 loop-again : tie.Need-loop-again Inv-loop μ-loop Inv-vectors μ-vectors
 loop-again c = (
   omega arith,
@@ -94,12 +73,6 @@ loop-again c = (
     first-more _ _ (c .before .before .before .before .loop .inv .1 .1) (passed _ _ (lt-ltb _ _ (rw (c .before .choice .ensures) at (c .if2 .left)))),
   ),
 )
-
-add-v : tie.Need-add-v Inv-loop μ-loop Inv-vectors μ-vectors
-add-v c = omega arith
-
-vectors-less : tie.Need-vectors-less Inv-loop μ-loop Inv-vectors μ-vectors
-vectors-less c = omega arith
 
 vectors-again : tie.Need-vectors-again Inv-loop μ-loop Inv-vectors μ-vectors
 vectors-again c =
@@ -137,27 +110,6 @@ returns-3 c =
 
 pub numbers-exist-spec : {M : Type 1} → statement M
 numbers-exist-spec =
-    tie.close
-    (tie.spec
-    Inv-loop
-    μ-loop
-    Inv-vectors
-    μ-vectors
-    vectors-holds
-    shared-slice-read-action
-    action-requires
-    mul-at
-    loop-holds
-    add-choice
-    mul-choice
-    shared-slice-read-choice
-    choice-requires
-    add-o
-    loop-less
-    loop-again
-    add-v
-    vectors-less
-    vectors-again
-    returns
-    returns-2
-    returns-3)
+    tie.close (tie.spec Inv-loop μ-loop Inv-vectors μ-vectors vectors-holds shared-slice-read-action (λ c κs. tt) mul-at loop-holds add-choice
+    mul-choice shared-slice-read-choice (λ c κs. tt) (λ c. omega arith) (λ c. omega arith) loop-again (λ c. omega arith) (λ c. omega arith)
+    vectors-again returns returns-2 returns-3)

@@ -1,19 +1,9 @@
-use Prim.Native.Nat.{ℕ, _+_, _*_, _≤_, _-_}
-use mathlib.Core.Path.{_≡_, refl, sym, _∙_}
-use native.Mathlib.Omega.{arith}
+use Rattle.levels.proofs.Prelude.{ℕ, _+_, _*_, _≤_, _-_, _≡_, refl, sym, _∙_, arith, List, length, getD, ℤ, pos, row-below, back, Verdict, Fine}
+use Rattle.levels.proofs.Prelude.{unless, firstOf, first-none, first-more, first-here, passed, failed}
 use borrow.Author.Tests.{not-true, not-false}
-use mathlib.Core.List.{List}
 use lib.Dec.{leb}
-use lib.ListN.{length, getD}
-use lib.IntN.{ℤ, pos, natAbs}
-use Rattle.integers.proofs.Lists.{row-below}
-use Rattle.integers.proofs.Words.{back}
-use Rattle.tables.specs.declared.Verdict.{Verdict}
-use Rattle.tables.specs.declared.Verdict.the-variants.{Fine}
-use Rattle.tables.specs.Verdicts.{unless, firstOf}
-use Rattle.tables.proofs.Refusals.{first-none, first-more, first-here}
+use lib.IntN.{natAbs}
 use Rattle.levels.specs.Judged.{rowsWithin}
-use Rattle.levels.proofs.Laws.{passed, failed}
 use Rattle.levels.proofs.shape.rows_within.Statement.{statement}
 use Rattle.levels.proofs.shape.rows_within.Tie as tie
 
@@ -68,12 +58,6 @@ said : (c : tie.After-within Inv-loop μ-loop Inv-rows μ-rows) →
     c .within .result ≡ leb (natAbs (getD (a .cells .now) (i * a .w + c .before .before .before .loop .x) (pos 0))) (a .limit)
 said c = c .within .ensures ∙ rw (back _ (c .before .within-arg .given))
 
-add-x : tie.Need-add-x Inv-loop μ-loop Inv-rows μ-rows
-add-x c = omega arith
-
-loop-less : tie.Need-loop-less Inv-loop μ-loop Inv-rows μ-rows
-loop-less c = omega arith
-
 loop-again : tie.Need-loop-again Inv-loop μ-loop Inv-rows μ-rows
 loop-again c = (
   omega arith,
@@ -82,12 +66,6 @@ loop-again c = (
     first-more _ _ (c .before .before .before .before .loop .inv .1 .1) (passed _ _ (sym (said (c .before)) ∙ not-false _ (c .if1 .left))),
   ),
 )
-
-add-i : tie.Need-add-i Inv-loop μ-loop Inv-rows μ-rows
-add-i c = omega arith
-
-rows-less : tie.Need-rows-less Inv-loop μ-loop Inv-rows μ-rows
-rows-less c = omega arith
 
 rows-again : tie.Need-rows-again Inv-loop μ-loop Inv-rows μ-rows
 rows-again c =
@@ -111,24 +89,5 @@ returns-2 c =
 
 pub rows-within-spec : {M : Type 1} → statement M
 rows-within-spec =
-    tie.close
-    (tie.spec
-    Inv-loop
-    μ-loop
-    Inv-rows
-    μ-rows
-    rows-holds
-    mul-at
-    loop-holds
-    add-within
-    mul-within
-    shared-slice-copy-out-within
-    within-requires
-    add-x
-    loop-less
-    loop-again
-    add-i
-    rows-less
-    rows-again
-    returns
-    returns-2)
+    tie.close (tie.spec Inv-loop μ-loop Inv-rows μ-rows rows-holds mul-at loop-holds add-within mul-within shared-slice-copy-out-within
+    within-requires (λ c. omega arith) (λ c. omega arith) loop-again (λ c. omega arith) (λ c. omega arith) rows-again returns returns-2)

@@ -1,20 +1,10 @@
-use Prim.Native.Nat.{ℕ, _+_, _*_, _≤_, _-_}
-use mathlib.Core.Path.{_≡_, sym, _∙_}
-use native.Mathlib.Omega.{arith}
+use Rattle.levels.proofs.Prelude.{ℕ, _+_, _*_, _≤_, _-_, _≡_, sym, _∙_, arith, List, length, totalTo, row-below, Verdict, Fine, unless, firstOf}
+use Rattle.levels.proofs.Prelude.{first-none, first-more, first-here, passed, failed}
 use borrow.Author.Tests.{eq-eqb, ne-eqb}
-use mathlib.Core.List.{List}
 use lib.Dec.{eqb}
-use lib.ListN.{length}
-use Rattle.integers.specs.Whole.{totalTo}
-use Rattle.integers.proofs.Lists.{row-below}
-use Rattle.tables.specs.declared.Verdict.{Verdict}
-use Rattle.tables.specs.declared.Verdict.the-variants.{Fine}
-use Rattle.tables.specs.Verdicts.{unless, firstOf}
-use Rattle.tables.proofs.Refusals.{first-none, first-more, first-here}
 use Rattle.plans.specs.Limits.{pointTotal}
 use Rattle.levels.specs.Storage.{pointIn}
 use Rattle.levels.specs.Judged.{weightsVerdict}
-use Rattle.levels.proofs.Laws.{passed, failed}
 use Rattle.levels.proofs.shape.weights_hold.Statement.{statement}
 use Rattle.levels.proofs.shape.weights_hold.Tie as tie
 
@@ -49,12 +39,6 @@ returns c =
     sym (first-here _ _ (c .before .before .before .loop .i) (omega arith) (c .before .before .before .loop .inv .1)
     (failed _ _ (ne-eqb _ _ (λ e. c .if1 .taken (c .before .weights-total .ensures ∙ e)))))
 
-add-i : tie.Need-add-i Inv-loop μ-loop
-add-i c = omega arith
-
-loop-less : tie.Need-loop-less Inv-loop μ-loop
-loop-less c = omega arith
-
 loop-again : tie.Need-loop-again Inv-loop μ-loop
 loop-again c = (
   omega arith,
@@ -69,15 +53,5 @@ returns-2 c =
 
 pub weights-hold-spec : {M : Type 1} → statement M
 weights-hold-spec =
-    tie.close
-    (tie.spec
-    Inv-loop
-    μ-loop
-    loop-holds
-    mul-weights-total
-    weights-total-requires
-    returns
-    add-i
-    loop-less
-    loop-again
+    tie.close (tie.spec Inv-loop μ-loop loop-holds mul-weights-total weights-total-requires returns (λ c. omega arith) (λ c. omega arith) loop-again
     returns-2)

@@ -1,9 +1,4 @@
-use Prim.Native.Nat.{_+_, _*_, _≤_, _-_}
-use mathlib.Core.Path.{_≡_, sym}
-use native.Mathlib.Omega.{arith}
-use borrow.Author.Needs.{needs}
-use lib.ListN.{getD}
-use Rattle.integers.specs.Whole.{totalTo}
+use Rattle.levels.proofs.Prelude.{_+_, _*_, _≤_, _-_, _≡_, sym, arith, needs, getD, totalTo}
 use Rattle.integers.proofs.Sums.{total-none, total-step}
 use Rattle.levels.proofs.shape.weights_total.Statement.{statement}
 use Rattle.levels.proofs.shape.weights_total.Tie as tie
@@ -23,26 +18,8 @@ more c =
 loop-holds : tie.Need-loop-holds Inv-loop μ-loop
 loop-holds c = (omega arith, (sym (total-none _), omega arith))
 
-add-weight : tie.Need-add-weight Inv-loop μ-loop
-add-weight c = search needs
-
-mul-weight : tie.Need-mul-weight Inv-loop μ-loop
-mul-weight c = search needs
-
-shared-slice-read-weight : tie.Need-shared-slice-read-weight Inv-loop μ-loop
-shared-slice-read-weight c = search needs
-
-weight-requires : tie.Need-weight-requires Inv-loop μ-loop
-weight-requires c κs = search needs
-
 add-sum : tie.Need-add-sum Inv-loop μ-loop
 add-sum c = omega (arith, more c)
-
-add-s : tie.Need-add-s Inv-loop μ-loop
-add-s c = search needs
-
-loop-less : tie.Need-loop-less Inv-loop μ-loop
-loop-less c = search needs
 
 loop-again : tie.Need-loop-again Inv-loop μ-loop
 loop-again c =
@@ -55,17 +32,5 @@ returns c =
 
 pub weights-total-spec : {M : Type 1} → statement M
 weights-total-spec =
-    tie.close
-    (tie.spec
-    Inv-loop
-    μ-loop
-    loop-holds
-    add-weight
-    mul-weight
-    shared-slice-read-weight
-    weight-requires
-    add-sum
-    add-s
-    loop-less
-    loop-again
-    returns)
+    tie.close (tie.spec Inv-loop μ-loop loop-holds (λ c. search needs) (λ c. search needs) (λ c. search needs) (λ c κs. search needs) add-sum
+    (λ c. search needs) (λ c. search needs) loop-again returns)

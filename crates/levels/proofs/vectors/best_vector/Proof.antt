@@ -1,19 +1,12 @@
-use Prim.Native.Nat.{ℕ, _+_, _*_, _≤_, _-_}
-use mathlib.Core.Path.{_≡_, refl, sym, ap, _∙_}
+use Rattle.levels.proofs.Prelude.{ℕ, _+_, _*_, _≤_, _-_, _≡_, refl, sym, _∙_, arith, true, List, getD, ℤ, pos, w64, toZ, answer, weightIn}
+use Rattle.levels.proofs.Prelude.{product}
+use mathlib.Core.Path.{ap}
 use mathlib.Core.Logic.{⊎-elim}
-use native.Mathlib.Omega.{arith}
-use mathlib.Core.Bool.{true, false}
-use mathlib.Core.List.{List}
-use lib.ListN.{getD}
-use lib.IntN.{ℤ, pos}
+use mathlib.Core.Bool.{false}
 use lib.Signed.{ltZ}
-use mir.Syntax.{w64}
-use mir.Val.{toZ}
 use Rattle.integers.specs.Search.{firstLargest}
 use Rattle.integers.proofs.Searches.{largest-first, largest-later, largest-same}
-use Rattle.integers.proofs.Words.{answer}
-use Rattle.tables.specs.Storage.{weightIn, entryIn}
-use Rattle.plans.specs.Level.{product}
+use Rattle.tables.specs.Storage.{entryIn}
 use Rattle.plans.proofs.Agreement.{product-cong}
 use Rattle.levels.proofs.Laws.{row-fits}
 use Rattle.levels.proofs.vectors.best_vector.Statement.{statement}
@@ -71,12 +64,6 @@ product-requires-2 c κs =
     let p = c .before .before .before .before .before .pre in
     ((p .0 .0, omega (arith, row-here c, c .product-arg2 .given .0)), (p .1 .0, p .1 .1 (c .before .before .loop .v) (omega arith)))
 
-add-v : tie.Need-add-v Inv-loop μ-loop
-add-v c = omega arith
-
-loop-less : tie.Need-loop-less Inv-loop μ-loop
-loop-less c = omega arith
-
 loop-again : tie.Need-loop-again Inv-loop μ-loop
 loop-again c =
     let turn = c .before .before .before .before .loop .inv .1 in
@@ -95,15 +82,5 @@ returns c =
 
 pub best-vector-spec : {M : Type 1} → statement M
 best-vector-spec =
-    tie.close
-    (tie.spec
-    Inv-loop
-    μ-loop
-    product-requires
-    loop-holds
-    mul-product
-    product-requires-2
-    add-v
-    loop-less
-    loop-again
+    tie.close (tie.spec Inv-loop μ-loop product-requires loop-holds mul-product product-requires-2 (λ c. omega arith) (λ c. omega arith) loop-again
     returns)

@@ -1,14 +1,5 @@
-use Prim.Native.Nat.{ℕ, _+_, _*_, _≤_, _<_, _-_}
-use mathlib.Core.Path.{_≡_, sym, ap, _∙_}
-use native.Mathlib.Omega.{arith}
-use mathlib.Core.Bool.{Bool, true}
-use lib.Dec.{leb}
-use mathlib.Core.List.{List}
-use lib.ListN.{length, getD}
-use borrow.Author.Tests.{not-true, not-false}
-use Rattle.integers.specs.Search.{every}
-use Rattle.integers.proofs.Searches.{every-none, every-more, every-not}
-use Rattle.integers.proofs.Lists.{cell-below, row-below}
+use Rattle.tables.proofs.Prelude.{ℕ, _+_, _*_, _≤_, _<_, _-_, _≡_, sym, ap, _∙_, arith, Bool, true, leb, List, length, getD, not-true}
+use Rattle.tables.proofs.Prelude.{not-false, every, every-none, every-more, every-not, cell-below, row-below}
 use Rattle.tables.proofs.judge.cells_within.Statement.{statement}
 use Rattle.tables.proofs.judge.cells_within.Tie as tie
 
@@ -41,9 +32,6 @@ loop-holds c = (omega arith, every-none _)
 loop2-holds : tie.Need-loop2-holds Inv-loop2 μ-loop2 Inv-loop μ-loop
 loop2-holds c = (omega arith, every-none _)
 
-row-requires : tie.Need-row-requires Inv-loop2 μ-loop2 Inv-loop μ-loop
-row-requires c κs = omega arith
-
 mul-at : tie.Need-mul-at Inv-loop2 μ-loop2 Inv-loop μ-loop
 mul-at c = omega (arith, row-here c)
 
@@ -53,20 +41,8 @@ row-within-requires c κs = omega (arith, row-here c)
 returns : tie.Need-returns Inv-loop2 μ-loop2 Inv-loop μ-loop
 returns c = sym (every-not _ _ (c .before .before .before .before .before .before .loop .a) (omega arith) (every-not _ _ (c .before .before .before .before .loop2 .s) (omega arith) (sym (c .before .row-within .ensures ∙ ap (rowOk (c .before .before .before .before .before .before .before .before .args .cells .now) (c .before .before .before .before .before .before .before .before .args .w)) (c .before .before .row .ensures .0)) ∙ not-true _ (c .if1 .taken))))
 
-add-s : tie.Need-add-s Inv-loop2 μ-loop2 Inv-loop μ-loop
-add-s c = omega arith
-
-loop2-less : tie.Need-loop2-less Inv-loop2 μ-loop2 Inv-loop μ-loop
-loop2-less c = omega arith
-
 loop2-again : tie.Need-loop2-again Inv-loop2 μ-loop2 Inv-loop μ-loop
 loop2-again c = (omega arith, every-more _ _ (c .before .before .before .before .loop2 .inv .1) (sym (c .before .row-within .ensures ∙ ap (rowOk (c .before .before .before .before .before .before .before .before .args .cells .now) (c .before .before .before .before .before .before .before .before .args .w)) (c .before .before .row .ensures .0)) ∙ not-false _ (c .if1 .left)))
-
-add-a : tie.Need-add-a Inv-loop2 μ-loop2 Inv-loop μ-loop
-add-a c = omega arith
-
-loop-less : tie.Need-loop-less Inv-loop2 μ-loop2 Inv-loop μ-loop
-loop-less c = omega arith
 
 loop-again : tie.Need-loop-again Inv-loop2 μ-loop2 Inv-loop μ-loop
 loop-again c = let e : c .before .loop2 .s ≡ c .before .before .before .before .before .args .n = omega arith in (omega arith, every-more _ _ (c .before .before .before .loop .inv .1) (rw e at (c .before .loop2 .inv .1)))
@@ -76,22 +52,5 @@ returns-2 c = let e : c .before .loop .a ≡ c .before .before .before .args .m 
 
 pub cells-within-spec : {M : Type 1} → statement M
 cells-within-spec =
-    tie.close
-    (tie.spec
-    Inv-loop2
-    μ-loop2
-    Inv-loop
-    μ-loop
-    loop-holds
-    loop2-holds
-    row-requires
-    mul-at
-    row-within-requires
-    returns
-    add-s
-    loop2-less
-    loop2-again
-    add-a
-    loop-less
-    loop-again
-    returns-2)
+    tie.close (tie.spec Inv-loop2 μ-loop2 Inv-loop μ-loop loop-holds loop2-holds (λ c κs. omega arith) mul-at row-within-requires returns
+    (λ c. omega arith) (λ c. omega arith) loop2-again (λ c. omega arith) (λ c. omega arith) loop-again returns-2)

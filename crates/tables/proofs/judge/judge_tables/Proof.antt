@@ -1,11 +1,6 @@
-use mathlib.Core.Path.{_≡_, sym, _∙_}
-use mathlib.Core.Bool.{true}
-use native.Mathlib.Omega.{arith}
-use borrow.Author.Tests.{not-true, not-false}
-use Rattle.tables.specs.Storage.{modelOf}
-use Rattle.tables.specs.Judged.{limitsHold, modelVerdict}
-use Rattle.tables.proofs.Fitting.{Long, Few, limits-few, sizes}
-use borrow.Author.Needs.{needs}
+use Rattle.tables.proofs.Prelude.{_≡_, sym, _∙_, true, arith, not-true, not-false, modelOf, limitsHold, Long, Few, sizes, needs}
+use Rattle.tables.specs.Judged.{modelVerdict}
+use Rattle.tables.proofs.Fitting.{limits-few}
 use Rattle.tables.proofs.judge.judge_tables.Statement.{statement}
 use Rattle.tables.proofs.judge.judge_tables.Tie as tie
 
@@ -18,21 +13,12 @@ few-here c = limits-few (modelOf (c .before .before .args .t1)) (limits c)
 long : (c : tie.Start) → Long (c .args .t1)
 long c = record { transition = search (needs, c .good .0); observation = search (needs, c .good .0); reward = search (needs, c .good .0) }
 
-limits-hold-requires : tie.Need-limits-hold-requires
-limits-hold-requires c κs = search needs
-
 returns : tie.Need-returns
 unfolding modelVerdict
 returns c = rw (sym (c .before .limits-hold .ensures) ∙ not-true _ (c .if1 .taken))
 
 rows-total-requires : tie.Need-rows-total-requires
 rows-total-requires c κs = let f = few-here (c .before .before .before) in ((f .actions, (f .states, f .states)), omega (arith, sizes f, long (c .before .before .before .before .before)))
-
-enum-told : tie.Need-enum-told
-enum-told c = search needs
-
-enum-told-2 : tie.Need-enum-told-2
-enum-told-2 c = search needs
 
 returns-2 : tie.Need-returns-2
 unfolding modelVerdict
@@ -48,13 +34,5 @@ returns-3 c = rw (limits (c .before .before .before .before .before .before .bef
 
 pub judge-tables-spec : {M : Type 1} → statement M
 judge-tables-spec =
-    tie.close
-    (tie.spec
-    limits-hold-requires
-    returns
-    rows-total-requires
-    enum-told
-    enum-told-2
-    returns-2
-    rows-total-requires-2
+    tie.close (tie.spec (λ c κs. search needs) returns rows-total-requires (λ c. search needs) (λ c. search needs) returns-2 rows-total-requires-2
     returns-3)

@@ -1,7 +1,6 @@
-use native.Mathlib.Omega.{arith}
+use Rattle.tables.proofs.Prelude.{arith, Long, sizes, needs}
 use Rattle.tables.specs.Storage.{kept}
-use Rattle.tables.proofs.Fitting.{Long, Sizes, sizes}
-use borrow.Author.Needs.{needs}
+use Rattle.tables.proofs.Fitting.{Sizes}
 use Rattle.tables.proofs.judge.keep.Statement.{statement}
 use Rattle.tables.proofs.judge.keep.Tie as tie
 
@@ -14,26 +13,17 @@ long c = record { transition = search (needs, c .good .0); observation = search 
 mul-rows : tie.Need-mul-rows
 mul-rows c = omega (arith, here (c .before .before .before), long (c .before .before .before))
 
-slice-aggregate-clear-u16 : tie.Need-slice-aggregate-clear-u16
-slice-aggregate-clear-u16 c = search needs
-
 mul-clear-u16 : tie.Need-mul-clear-u16
 mul-clear-u16 c = omega (arith, here (c .before .before .before .before), long (c .before .before .before .before))
 
 clear-u16-requires : tie.Need-clear-u16-requires
 clear-u16-requires c κs = omega (arith, here (c .before .before .before .before), long (c .before .before .before .before))
 
-slice-aggregate-clear-u16-2 : tie.Need-slice-aggregate-clear-u16-2
-slice-aggregate-clear-u16-2 c = search needs
-
 mul-clear-u16-2 : tie.Need-mul-clear-u16-2
 mul-clear-u16-2 c = omega (arith, here (c .before .before .before .before .before .before .before), long (c .before .before .before .before .before .before .before))
 
 clear-u16-requires-2 : tie.Need-clear-u16-requires-2
 clear-u16-requires-2 c κs = omega (arith, here (c .before .before .before .before .before .before .before), long (c .before .before .before .before .before .before .before))
-
-slice-aggregate-clear-i64 : tie.Need-slice-aggregate-clear-i64
-slice-aggregate-clear-i64 c = search needs
 
 clear-i64-requires : tie.Need-clear-i64-requires
 clear-i64-requires c κs = omega (arith, here (c .before .before .before .before .before .before .before .before .before .before), long (c .before .before .before .before .before .before .before .before .before .before))
@@ -44,15 +34,5 @@ returns c = rw (c .before .before .before .before .before .before .before .clear
 
 pub keep-spec : {M : Type 1} → statement M
 keep-spec =
-    tie.close
-    (tie.spec
-    mul-rows
-    slice-aggregate-clear-u16
-    mul-clear-u16
-    clear-u16-requires
-    slice-aggregate-clear-u16-2
-    mul-clear-u16-2
-    clear-u16-requires-2
-    slice-aggregate-clear-i64
-    clear-i64-requires
-    returns)
+    tie.close (tie.spec mul-rows (λ c. search needs) mul-clear-u16 clear-u16-requires (λ c. search needs) mul-clear-u16-2 clear-u16-requires-2
+    (λ c. search needs) clear-i64-requires returns)

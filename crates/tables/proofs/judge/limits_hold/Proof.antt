@@ -1,10 +1,6 @@
-use mathlib.Core.Path.{_≡_, sym, _∙_}
-use mathlib.Core.Bool.{true}
-use native.Mathlib.Omega.{arith}
-use borrow.Author.Tests.{le-leb, lt-leb, not-true, not-false}
-use Rattle.tables.specs.Judged.{countsWithin, limitsHold}
-use Rattle.tables.proofs.Fitting.{Long, Few, few, sizes}
-use borrow.Author.Needs.{needs}
+use Rattle.tables.proofs.Prelude.{_≡_, sym, _∙_, true, arith, le-leb, lt-leb, not-true, not-false, limitsHold, Long, Few, sizes, needs}
+use Rattle.tables.specs.Judged.{countsWithin}
+use Rattle.tables.proofs.Fitting.{few}
 use Rattle.tables.proofs.judge.limits_hold.Statement.{statement}
 use Rattle.tables.proofs.judge.limits_hold.Tie as tie
 
@@ -16,9 +12,6 @@ few-here c = few _ _ _ (counts c)
 
 long : (c : tie.Start) → Long (c .args .t1)
 long c = record { transition = search (needs, c .good .0); observation = search (needs, c .good .0); reward = search (needs, c .good .0) }
-
-counts-within-requires : tie.Need-counts-within-requires
-counts-within-requires c κs = search needs
 
 returns : tie.Need-returns
 unfolding limitsHold
@@ -55,14 +48,5 @@ returns-5 c = rw (counts (c .before .before .before .before .before .before .bef
 
 pub limits-hold-spec : {M : Type 1} → statement M
 limits-hold-spec =
-    tie.close
-    (tie.spec
-    counts-within-requires
-    returns
-    returns-2
-    cells-within-requires
-    returns-3
-    cells-within-requires-2
-    returns-4
-    rewards-within-requires
-    returns-5)
+    tie.close (tie.spec (λ c κs. search needs) returns returns-2 cells-within-requires returns-3 cells-within-requires-2 returns-4
+    rewards-within-requires returns-5)

@@ -1,14 +1,6 @@
-use Prim.Native.Nat.{_≤_, _-_}
-use mathlib.Core.Path.{_≡_, sym, ap, _∙_}
-use native.Mathlib.Omega.{arith}
-use mathlib.Core.Bool.{true}
-use lib.Dec.{leb}
+use Rattle.tables.proofs.Prelude.{_≤_, _-_, _≡_, sym, ap, _∙_, arith, true, leb, not-true, not-false, every, every-none, every-more, every-not}
+use Rattle.tables.proofs.Prelude.{back, rewardIn}
 use lib.IntN.{ℤ, natAbs}
-use borrow.Author.Tests.{not-true, not-false}
-use Rattle.integers.specs.Search.{every}
-use Rattle.integers.proofs.Searches.{every-none, every-more, every-not}
-use Rattle.integers.proofs.Words.{back}
-use Rattle.tables.specs.Storage.{rewardIn}
 use Rattle.tables.proofs.judge.rewards_within.Statement.{statement}
 use Rattle.tables.proofs.judge.rewards_within.Tie as tie
 
@@ -36,26 +28,11 @@ loop2-holds c = (omega arith, every-none _)
 reward-at-requires : tie.Need-reward-at-requires Inv-loop2 μ-loop2 Inv-loop μ-loop
 reward-at-requires c κs = ((omega arith, omega arith), omega arith)
 
-within-requires : tie.Need-within-requires Inv-loop2 μ-loop2 Inv-loop μ-loop
-within-requires c κs = omega arith
-
 returns : tie.Need-returns Inv-loop2 μ-loop2 Inv-loop μ-loop
 returns c = sym (every-not _ _ (c .before .before .before .before .before .before .loop .a) (omega arith) (every-not _ _ (c .before .before .before .before .loop2 .s) (omega arith) (sym (said (c .before)) ∙ not-true _ (c .if1 .taken))))
 
-add-s : tie.Need-add-s Inv-loop2 μ-loop2 Inv-loop μ-loop
-add-s c = omega arith
-
-loop2-less : tie.Need-loop2-less Inv-loop2 μ-loop2 Inv-loop μ-loop
-loop2-less c = omega arith
-
 loop2-again : tie.Need-loop2-again Inv-loop2 μ-loop2 Inv-loop μ-loop
 loop2-again c = (omega arith, every-more _ _ (c .before .before .before .before .loop2 .inv .1) (sym (said (c .before)) ∙ not-false _ (c .if1 .left)))
-
-add-a : tie.Need-add-a Inv-loop2 μ-loop2 Inv-loop μ-loop
-add-a c = omega arith
-
-loop-less : tie.Need-loop-less Inv-loop2 μ-loop2 Inv-loop μ-loop
-loop-less c = omega arith
 
 loop-again : tie.Need-loop-again Inv-loop2 μ-loop2 Inv-loop μ-loop
 loop-again c = let e : c .before .loop2 .s ≡ c .before .before .before .before .args .n = omega arith in (omega arith, every-more _ _ (c .before .before .before .loop .inv .1) (rw e at (c .before .loop2 .inv .1)))
@@ -65,21 +42,5 @@ returns-2 c = let e : c .before .loop .a ≡ c .before .before .args .m = omega 
 
 pub rewards-within-spec : {M : Type 1} → statement M
 rewards-within-spec =
-    tie.close
-    (tie.spec
-    Inv-loop2
-    μ-loop2
-    Inv-loop
-    μ-loop
-    loop-holds
-    loop2-holds
-    reward-at-requires
-    within-requires
-    returns
-    add-s
-    loop2-less
-    loop2-again
-    add-a
-    loop-less
-    loop-again
-    returns-2)
+    tie.close (tie.spec Inv-loop2 μ-loop2 Inv-loop μ-loop loop-holds loop2-holds reward-at-requires (λ c κs. omega arith) returns (λ c. omega arith)
+    (λ c. omega arith) loop2-again (λ c. omega arith) (λ c. omega arith) loop-again returns-2)

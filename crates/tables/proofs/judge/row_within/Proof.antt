@@ -1,13 +1,5 @@
-use borrow.Author.Tests.{le-leb, lt-leb}
-use Prim.Native.Nat.{_+_, _≤_, _-_}
-use mathlib.Core.Path.{_≡_, sym}
-use native.Mathlib.Omega.{arith}
-use borrow.Author.Needs.{needs}
-use mathlib.Core.Bool.{true}
-use lib.Dec.{leb}
-use lib.ListN.{getD}
-use Rattle.integers.specs.Search.{every}
-use Rattle.integers.proofs.Searches.{every-none, every-more, every-not}
+use Rattle.tables.proofs.Prelude.{le-leb, lt-leb, _+_, _≤_, _-_, _≡_, sym, arith, needs, true, leb, getD, every, every-none, every-more}
+use Rattle.tables.proofs.Prelude.{every-not}
 use Rattle.tables.proofs.judge.row_within.Statement.{statement}
 use Rattle.tables.proofs.judge.row_within.Tie as tie
 
@@ -20,26 +12,8 @@ abbrev μ-loop : tie.MeasureT-loop
 loop-holds : tie.Need-loop-holds Inv-loop μ-loop
 loop-holds c = (omega arith, every-none _)
 
-add-wide : tie.Need-add-wide Inv-loop μ-loop
-add-wide c = search needs
-
-mul-wide : tie.Need-mul-wide Inv-loop μ-loop
-mul-wide c = search needs
-
-shared-slice-read-wide : tie.Need-shared-slice-read-wide Inv-loop μ-loop
-shared-slice-read-wide c = search needs
-
-wide-requires : tie.Need-wide-requires Inv-loop μ-loop
-wide-requires c κs = search needs
-
 returns : tie.Need-returns Inv-loop μ-loop
 returns c = sym (every-not _ _ (c .before .before .before .before .loop .x) (omega arith) (lt-leb _ 1000 (rw (c .before .wide .ensures) at (c .if1 .taken))))
-
-add-x : tie.Need-add-x Inv-loop μ-loop
-add-x c = search needs
-
-loop-less : tie.Need-loop-less Inv-loop μ-loop
-loop-less c = search needs
 
 loop-again : tie.Need-loop-again Inv-loop μ-loop
 loop-again c = (omega arith, every-more _ _ (c .before .before .before .before .loop .inv .1) (le-leb _ 1000 (rw (c .before .wide .ensures) at (c .if1 .left))))
@@ -49,17 +23,5 @@ returns-2 c = let e : c .before .loop .x ≡ c .before .before .before .args .w 
 
 pub row-within-spec : {M : Type 1} → statement M
 row-within-spec =
-    tie.close
-    (tie.spec
-    Inv-loop
-    μ-loop
-    loop-holds
-    add-wide
-    mul-wide
-    shared-slice-read-wide
-    wide-requires
-    returns
-    add-x
-    loop-less
-    loop-again
-    returns-2)
+    tie.close (tie.spec Inv-loop μ-loop loop-holds (λ c. search needs) (λ c. search needs) (λ c. search needs) (λ c κs. search needs) returns
+    (λ c. search needs) (λ c. search needs) loop-again returns-2)

@@ -1,13 +1,7 @@
-use Prim.Native.Nat.{ℕ, _+_, _*_, _≤_, _<_, _-_}
-use mathlib.Core.Path.{_≡_, refl, sym, ap, _∙_}
-use native.Mathlib.Omega.{arith}
-use mathlib.Core.Bool.{Bool}
+use Rattle.tables.proofs.Prelude.{ℕ, _+_, _*_, _≤_, _<_, _-_, _≡_, refl, sym, ap, _∙_, arith, Bool, List, length, getD, totalTo, cell-below}
+use Rattle.tables.proofs.Prelude.{row-below}
 use lib.Dec.{eqb}
-use mathlib.Core.List.{List}
-use lib.ListN.{length, getD}
 use borrow.Author.Tests.{eq-eqb, ne-eqb}
-use Rattle.integers.specs.Whole.{totalTo}
-use Rattle.integers.proofs.Lists.{cell-below, row-below}
 use Rattle.tables.specs.declared.Verdict.{Verdict}
 use Rattle.tables.specs.declared.Verdict.the-variants.{Fine, Refused}
 use Rattle.tables.specs.Verdicts.{unless, firstOf}
@@ -53,29 +47,14 @@ rows-holds c = (omega arith, (refl, first-none _))
 loop-holds : tie.Need-loop-holds Inv-loop μ-loop Inv-rows μ-rows
 loop-holds c = (omega arith, (c .before .rows .inv .1 .0, first-none _))
 
-row-requires : tie.Need-row-requires Inv-loop μ-loop Inv-rows μ-rows
-row-requires c κs = omega arith
-
 mul-row-total : tie.Need-mul-row-total Inv-loop μ-loop Inv-rows μ-rows
 mul-row-total c = omega (arith, row-here c)
 
 row-total-requires : tie.Need-row-total-requires Inv-loop μ-loop Inv-rows μ-rows
 row-total-requires c κs = omega (arith, row-here c)
 
-add-s : tie.Need-add-s Inv-loop μ-loop Inv-rows μ-rows
-add-s c = omega arith
-
-loop-less : tie.Need-loop-less Inv-loop μ-loop Inv-rows μ-rows
-loop-less c = omega arith
-
 loop-again : tie.Need-loop-again Inv-loop μ-loop Inv-rows μ-rows
 loop-again c = (omega arith, (c .before .before .before .before .loop .inv .1 .0, first-more _ _ (c .before .before .before .before .loop .inv .1 .1) (ap (λ (b : Bool). unless b (c .before .before .before .before .before .before .before .before .args .number) (c .before .before .before .before .before .before .rows .a * c .before .before .before .before .before .before .before .before .args .n + c .before .before .before .before .loop .s)) (eq-eqb _ 1000 (sym (said (c .before)) ∙ c .if1 .left)))))
-
-add-a : tie.Need-add-a Inv-loop μ-loop Inv-rows μ-rows
-add-a c = omega arith
-
-rows-less : tie.Need-rows-less Inv-loop μ-loop Inv-rows μ-rows
-rows-less c = omega arith
 
 rows-again : tie.Need-rows-again Inv-loop μ-loop Inv-rows μ-rows
 rows-again c = let e : c .before .loop .s ≡ c .before .before .before .before .before .args .n = omega arith in (omega arith, (c .before .loop .inv .1 .0, first-more _ _ (c .before .before .before .rows .inv .1 .1) (rw e at (c .before .loop .inv .1 .1))))
@@ -97,22 +76,5 @@ returns-2 c =
 
 pub rows-total-spec : {M : Type 1} → statement M
 rows-total-spec =
-    tie.close
-    (tie.spec
-    Inv-loop
-    μ-loop
-    Inv-rows
-    μ-rows
-    rows-holds
-    loop-holds
-    row-requires
-    mul-row-total
-    row-total-requires
-    add-s
-    loop-less
-    loop-again
-    add-a
-    rows-less
-    rows-again
-    returns
-    returns-2)
+    tie.close (tie.spec Inv-loop μ-loop Inv-rows μ-rows rows-holds loop-holds (λ c κs. omega arith) mul-row-total row-total-requires
+    (λ c. omega arith) (λ c. omega arith) loop-again (λ c. omega arith) (λ c. omega arith) rows-again returns returns-2)

@@ -1,8 +1,5 @@
-use Prim.Native.Nat.{_+_, _*_, _<_}
-use mathlib.Core.Path.{refl}
-use native.Mathlib.Omega.{arith}
-use Rattle.integers.proofs.Lists.{cell-below}
-use Rattle.tables.specs.Limits.{maxActions, maxStates}
+use Rattle.tables.proofs.Prelude.{_+_, _*_, _<_, refl, arith, cell-below, maxStates}
+use Rattle.tables.specs.Limits.{maxActions}
 use Rattle.tables.proofs.read.cell.Statement.{statement}
 use Rattle.tables.proofs.read.cell.Tie as tie
 
@@ -19,4 +16,5 @@ returns : tie.Need-returns
 returns c = (refl, in-table c)
 
 pub cell-spec : {M : Type 1} → statement M
-cell-spec = tie.close (tie.spec mul-result add-result returns)
+cell-spec =
+    tie.close (tie.spec mul-result add-result returns)

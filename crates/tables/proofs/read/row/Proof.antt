@@ -1,8 +1,5 @@
-use Prim.Native.Nat.{_+_, _*_, _<_}
-use mathlib.Core.Path.{refl}
-use native.Mathlib.Omega.{arith}
+use Rattle.tables.proofs.Prelude.{_+_, _*_, _<_, refl, arith, cell-below}
 use native.Mathlib.Nat.{mul-le-mul-left}
-use Rattle.integers.proofs.Lists.{cell-below}
 use Rattle.tables.proofs.read.row.Statement.{statement}
 use Rattle.tables.proofs.read.row.Tie as tie
 
@@ -21,4 +18,5 @@ returns : tie.Need-returns
 returns c = (refl, in-block c)
 
 pub row-spec : {M : Type 1} → statement M
-row-spec = tie.close (tie.spec mul-result add-result returns)
+row-spec =
+    tie.close (tie.spec mul-result add-result returns)

@@ -1,8 +1,4 @@
-use Prim.Native.Nat.{_*_, _≤_}
-use mathlib.Core.Path.{refl}
-use native.Mathlib.Nat.{mul-le-mul}
-use native.Mathlib.Omega.{arith}
-use Rattle.tables.specs.Limits.{maxWeight, one}
+use Rattle.tables.proofs.Prelude.{_*_, _≤_, refl, mul-le-mul, arith, maxWeight, one}
 use Rattle.tables.proofs.sums.add_moved.Statement.{statement}
 use Rattle.tables.proofs.sums.add_moved.Tie as tie
 
@@ -15,8 +11,6 @@ mul-result c = omega (arith, product c)
 add-result : tie.Need-add-result
 add-result c = omega (arith, product c)
 
-returns : tie.Need-returns
-returns c = refl
-
 pub add-moved-spec : {M : Type 1} → statement M
-add-moved-spec = tie.close (tie.spec mul-result add-result returns)
+add-moved-spec =
+    tie.close (tie.spec mul-result add-result (λ c. refl))

@@ -1,19 +1,8 @@
-use mathlib.Core.Path.{_≡_, _∙_}
-use native.Mathlib.Omega.{arith}
-use borrow.Author.Needs.{needs}
-use lib.Dec.{lit<}
-use mir.Syntax.{w64}
-use mir.Val.{toZ, ofZ}
-use Rattle.integers.specs.Whole.{_·_}
-use Rattle.tables.specs.Limits.{K}
-use Rattle.tables.specs.Storage.{rewardIn, onwardIn, backupIn}
-use Rattle.integers.proofs.Words.{answer}
+use Rattle.tables.proofs.Prelude.{_≡_, _∙_, arith, needs, lit<, w64, toZ, ofZ, _·_, K, rewardIn, onwardIn, answer}
+use Rattle.tables.specs.Storage.{backupIn}
 use Rattle.tables.proofs.Regroup.{backup-fits}
 use Rattle.tables.proofs.sums.backup.Statement.{statement}
 use Rattle.tables.proofs.sums.backup.Tie as tie
-
-reward-at-requires : tie.Need-reward-at-requires
-reward-at-requires c κs = search needs
 
 reward : (c : tie.After-reward-at)
     → let a = c .before .args in toZ w64 (ofZ w64 (c .reward-at .result)) ≡ rewardIn (a .n) (a .reward .now) (a .s .0) (a .a .0)
@@ -23,9 +12,6 @@ scaled-requires : tie.Need-scaled-requires
 scaled-requires c κs =
     let a = c .before in
     (lit< tt, rw (reward c) (omega (arith, a .pre .1 .1 .0 .reward (a .args .s .0) (a .pre .0 .1 .1 .0))))
-
-onward-requires : tie.Need-onward-requires
-onward-requires c κs = search needs
 
 now : (c : tie.After-scaled)
     → let a = c .before .before .args in toZ w64 (ofZ w64 (c .scaled .result)) ≡ K · rewardIn (a .n) (a .reward .now) (a .s .0) (a .a .0)
@@ -47,4 +33,5 @@ unfolding backupIn
 returns c = answer (c .add-scaled .ok) (c .add-scaled .ensures ∙ rw (now (c .before .before), later (c .before)))
 
 pub backup-spec : {M : Type 1} → statement M
-backup-spec = tie.close (tie.spec reward-at-requires scaled-requires onward-requires add-scaled-requires returns)
+backup-spec =
+    tie.close (tie.spec (λ c κs. search needs) scaled-requires (λ c κs. search needs) add-scaled-requires returns)

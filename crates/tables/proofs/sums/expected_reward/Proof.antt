@@ -1,16 +1,7 @@
-use Prim.Native.Nat.{_≤_, _-_}
-use mathlib.Core.Path.{_≡_, refl, sym}
-use native.Mathlib.Omega.{arith}
-use borrow.Author.Needs.{needs}
-use lib.Dec.{lit<}
-use mir.Syntax.{w64}
-use mir.Val.{toZ}
-use Rattle.integers.specs.Whole.{_·_, sumTo}
-use Rattle.integers.proofs.Sums.{sum-none}
-use Rattle.tables.specs.Limits.{maxWeight, maxReward}
-use Rattle.tables.specs.Storage.{weightIn, rewardIn, expectedIn}
-use Rattle.integers.proofs.Terms.{Terms, term-fits, term-added}
-use Rattle.integers.proofs.Words.{answer}
+use Rattle.tables.proofs.Prelude.{_≤_, _-_, _≡_, refl, sym, arith, needs, lit<, w64, toZ, _·_, sumTo, sum-none, maxWeight, weightIn, rewardIn}
+use Rattle.tables.proofs.Prelude.{Terms, term-fits, term-added, answer}
+use Rattle.tables.specs.Limits.{maxReward}
+use Rattle.tables.specs.Storage.{expectedIn}
 use Rattle.tables.proofs.sums.expected_reward.Statement.{statement}
 use Rattle.tables.proofs.sums.expected_reward.Tie as tie
 
@@ -27,24 +18,9 @@ terms c = record { weights = c .pre .1 .0 .below; values = c .pre .1 .1 .reward 
 loop-holds : tie.Need-loop-holds Inv-loop μ-loop
 loop-holds c = (search needs, sym (sum-none _))
 
-reward-at-requires : tie.Need-reward-at-requires Inv-loop μ-loop
-reward-at-requires c κs = search needs
-
-mul-add-scaled : tie.Need-mul-add-scaled Inv-loop μ-loop
-mul-add-scaled c = search needs
-
-element-copy-out-add-scaled : tie.Need-element-copy-out-add-scaled Inv-loop μ-loop
-element-copy-out-add-scaled c = search needs
-
 add-scaled-requires : tie.Need-add-scaled-requires Inv-loop μ-loop
 add-scaled-requires c κs =
     term-fits (terms (c .before .before .before .before)) _ (c .before .before .before .loop .inv .1) refl (answer (c .before .reward-at .ok) (c .before .reward-at .ensures)) (omega arith) (lit< tt) (omega arith)
-
-add-s : tie.Need-add-s Inv-loop μ-loop
-add-s c = search needs
-
-loop-less : tie.Need-loop-less Inv-loop μ-loop
-loop-less c = search needs
 
 loop-again : tie.Need-loop-again Inv-loop μ-loop
 loop-again c = (
@@ -60,16 +36,5 @@ returns c =
 
 pub expected-reward-spec : {M : Type 1} → statement M
 expected-reward-spec =
-    tie.close
-    (tie.spec
-    Inv-loop
-    μ-loop
-    loop-holds
-    reward-at-requires
-    mul-add-scaled
-    element-copy-out-add-scaled
-    add-scaled-requires
-    add-s
-    loop-less
-    loop-again
-    returns)
+    tie.close (tie.spec Inv-loop μ-loop loop-holds (λ c κs. search needs) (λ c. search needs) (λ c. search needs) add-scaled-requires
+    (λ c. search needs) (λ c. search needs) loop-again returns)

@@ -1,16 +1,7 @@
-use Prim.Native.Nat.{_≤_, _<_, _-_}
-use mathlib.Core.Path.{_≡_, sym, _∙_}
-use native.Mathlib.Omega.{arith}
-use borrow.Author.Needs.{needs}
-use lib.Dec.{lit<}
-use mir.Syntax.{w64}
-use mir.Val.{toZ, ofZ}
-use Rattle.integers.specs.Whole.{_·_, sumTo}
-use Rattle.integers.proofs.Sums.{sum-none}
-use Rattle.tables.specs.Limits.{maxVectors, one, maxEntry}
-use Rattle.tables.specs.Storage.{observationIn, chosenIn, foreseenIn}
-use Rattle.integers.proofs.Terms.{Terms, term-fits, term-added}
-use Rattle.integers.proofs.Words.{answer}
+use Rattle.tables.proofs.Prelude.{_≤_, _<_, _-_, _≡_, sym, _∙_, arith, needs, lit<, w64, toZ, ofZ, _·_, sumTo, sum-none, one, foreseenIn, Terms}
+use Rattle.tables.proofs.Prelude.{term-fits, term-added, answer}
+use Rattle.tables.specs.Limits.{maxVectors, maxEntry}
+use Rattle.tables.specs.Storage.{observationIn, chosenIn}
 use Rattle.tables.proofs.Regroup.{foreseen-terms}
 use Rattle.tables.proofs.sums.foreseen_at.Statement.{statement}
 use Rattle.tables.proofs.sums.foreseen_at.Tie as tie
@@ -29,9 +20,6 @@ terms c = foreseen-terms (c .pre .1 .0) (c .pre .1 .1) (c .pre .0 .1 .1 .1)
 
 loop-holds : tie.Need-loop-holds Inv-loop μ-loop
 loop-holds c = (search needs, sym (sum-none _))
-
-observation-at-requires : tie.Need-observation-at-requires Inv-loop μ-loop
-observation-at-requires c κs = search needs
 
 chosen-at-requires : tie.Need-chosen-at-requires Inv-loop μ-loop
 chosen-at-requires c κs = omega (arith, c .before .before .before .before .pre .1 .1 .long)
@@ -52,12 +40,6 @@ add-scaled-requires c κs =
     term-fits (terms (c .before .before .before .before .before .before)) _ (c .before .before .before .before .loop .inv .1)
     (c .before .before .observation-at .ensures) (value c) (omega arith) (lit< tt) (omega arith)
 
-add-o : tie.Need-add-o Inv-loop μ-loop
-add-o c = search needs
-
-loop-less : tie.Need-loop-less Inv-loop μ-loop
-loop-less c = search needs
-
 loop-again : tie.Need-loop-again Inv-loop μ-loop
 loop-again c = (
   search needs,
@@ -73,16 +55,5 @@ returns c =
 
 pub foreseen-at-spec : {M : Type 1} → statement M
 foreseen-at-spec =
-    tie.close
-    (tie.spec
-    Inv-loop
-    μ-loop
-    loop-holds
-    observation-at-requires
-    chosen-at-requires
-    entry-at-requires
-    add-scaled-requires
-    add-o
-    loop-less
-    loop-again
-    returns)
+    tie.close (tie.spec Inv-loop μ-loop loop-holds (λ c κs. search needs) chosen-at-requires entry-at-requires add-scaled-requires (λ c. search needs)
+    (λ c. search needs) loop-again returns)

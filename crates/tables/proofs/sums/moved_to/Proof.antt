@@ -1,10 +1,4 @@
-use Prim.Native.Nat.{_*_, _≤_, _-_}
-use mathlib.Core.Path.{_≡_, sym, _∙_}
-use native.Mathlib.Omega.{arith}
-use borrow.Author.Needs.{needs}
-use Rattle.integers.specs.Whole.{totalTo}
-use Rattle.integers.proofs.Sums.{total-none, total-step}
-use Rattle.tables.specs.Storage.{weightIn, transitionIn, movedIn}
+use Rattle.tables.proofs.Prelude.{_*_, _≤_, _-_, _≡_, sym, _∙_, arith, needs, totalTo, total-none, total-step, weightIn, transitionIn, movedIn}
 use Rattle.tables.proofs.Regroup.{moved-part}
 use Rattle.tables.proofs.sums.moved_to.Statement.{statement}
 use Rattle.tables.proofs.sums.moved_to.Tie as tie
@@ -18,15 +12,6 @@ abbrev μ-loop : tie.MeasureT-loop
 loop-holds : tie.Need-loop-holds Inv-loop μ-loop
 loop-holds c = (search needs, sym (total-none _))
 
-transition-at-requires : tie.Need-transition-at-requires Inv-loop μ-loop
-transition-at-requires c κs = search needs
-
-mul-add-moved : tie.Need-mul-add-moved Inv-loop μ-loop
-mul-add-moved c = search needs
-
-element-copy-out-add-moved : tie.Need-element-copy-out-add-moved Inv-loop μ-loop
-element-copy-out-add-moved c = search needs
-
 add-moved-requires : tie.Need-add-moved-requires Inv-loop μ-loop
 add-moved-requires c κs =
     let a = c .before .before .before .before in
@@ -37,12 +22,6 @@ add-moved-requires c κs =
         rw (c .before .transition-at .ensures) (a .pre .1 .1 .transition s (omega arith) (a .args .to .0) (a .pre .0 .1 .1)),
       ),
     )
-
-add-s : tie.Need-add-s Inv-loop μ-loop
-add-s c = search needs
-
-loop-less : tie.Need-loop-less Inv-loop μ-loop
-loop-less c = search needs
 
 loop-again : tie.Need-loop-again Inv-loop μ-loop
 loop-again c = (
@@ -58,16 +37,5 @@ returns c =
 
 pub moved-to-spec : {M : Type 1} → statement M
 moved-to-spec =
-    tie.close
-    (tie.spec
-    Inv-loop
-    μ-loop
-    loop-holds
-    transition-at-requires
-    mul-add-moved
-    element-copy-out-add-moved
-    add-moved-requires
-    add-s
-    loop-less
-    loop-again
-    returns)
+    tie.close (tie.spec Inv-loop μ-loop loop-holds (λ c κs. search needs) (λ c. search needs) (λ c. search needs) add-moved-requires
+    (λ c. search needs) (λ c. search needs) loop-again returns)

@@ -1,18 +1,6 @@
-use Prim.Native.Nat.{_≤_, _-_}
-use mathlib.Core.Path.{_≡_, sym}
-use native.Mathlib.Omega.{arith}
-use borrow.Author.Needs.{needs}
-use lib.Dec.{lit<}
-use lib.ListN.{getD}
-use lib.IntN.{pos}
-use mir.Syntax.{w64}
-use mir.Val.{toZ}
-use Rattle.integers.specs.Whole.{_·_, sumTo}
-use Rattle.integers.proofs.Sums.{sum-none}
-use Rattle.integers.proofs.Words.{back, answer}
-use Rattle.tables.specs.Limits.{one}
-use Rattle.tables.specs.Storage.{transitionIn, onwardIn, foreseenLimit}
-use Rattle.integers.proofs.Terms.{Terms, term-fits, term-added}
+use Rattle.tables.proofs.Prelude.{_≤_, _-_, _≡_, sym, arith, needs, lit<, getD, pos, w64, toZ, _·_, sumTo, sum-none, back, answer, one}
+use Rattle.tables.proofs.Prelude.{transitionIn, onwardIn, Terms, term-fits, term-added}
+use Rattle.tables.specs.Storage.{foreseenLimit}
 use Rattle.tables.proofs.Regroup.{onward-terms}
 use Rattle.tables.proofs.sums.onward.Statement.{statement}
 use Rattle.tables.proofs.sums.onward.Tie as tie
@@ -31,25 +19,10 @@ terms c = onward-terms (c .pre .1 .0) (c .pre .1 .1) (c .pre .0 .1 .1)
 loop-holds : tie.Need-loop-holds Inv-loop μ-loop
 loop-holds c = (search needs, sym (sum-none _))
 
-transition-at-requires : tie.Need-transition-at-requires Inv-loop μ-loop
-transition-at-requires c κs = search needs
-
-mul-add-scaled : tie.Need-mul-add-scaled Inv-loop μ-loop
-mul-add-scaled c = search needs
-
-element-copy-out-add-scaled : tie.Need-element-copy-out-add-scaled Inv-loop μ-loop
-element-copy-out-add-scaled c = search needs
-
 add-scaled-requires : tie.Need-add-scaled-requires Inv-loop μ-loop
 add-scaled-requires c κs =
     term-fits (terms (c .before .before .before .before)) _ (c .before .before .before .loop .inv .1)
     (c .before .transition-at .ensures) (back _ (c .add-scaled-arg .given)) (omega arith) (lit< tt) (omega arith)
-
-add-to : tie.Need-add-to Inv-loop μ-loop
-add-to c = search needs
-
-loop-less : tie.Need-loop-less Inv-loop μ-loop
-loop-less c = search needs
 
 loop-again : tie.Need-loop-again Inv-loop μ-loop
 loop-again c = (
@@ -66,16 +39,5 @@ returns c =
 
 pub onward-spec : {M : Type 1} → statement M
 onward-spec =
-    tie.close
-    (tie.spec
-    Inv-loop
-    μ-loop
-    loop-holds
-    transition-at-requires
-    mul-add-scaled
-    element-copy-out-add-scaled
-    add-scaled-requires
-    add-to
-    loop-less
-    loop-again
-    returns)
+    tie.close (tie.spec Inv-loop μ-loop loop-holds (λ c κs. search needs) (λ c. search needs) (λ c. search needs) add-scaled-requires
+    (λ c. search needs) (λ c. search needs) loop-again returns)

@@ -1,0 +1,22 @@
+-- What more than one proof of this crate names.
+pub use Prim.Native.Nat.{_*_, _+_, _-_, _<_, _≤_}
+pub use Rattle.builder.proofs.Levels.{value-at}
+pub use Rattle.checks.proofs.Roofs.{corner-at, point-at}
+pub use Rattle.integers.proofs.Lists.{padded-none, padded-turn}
+pub use Rattle.integers.proofs.Words.{answer}
+pub use Rattle.integers.specs.Cells.{padded}
+pub use Rattle.levels.specs.Storage.{levelOf, pointIn}
+pub use Rattle.levels.specs.declared.Level.{Level}
+pub use Rattle.plans.specs.Limits.{maxBuilt, maxPoints}
+pub use Rattle.tables.specs.Limits.{maxStates}
+pub use Rattle.tables.specs.Storage.{modelOf}
+pub use Rattle.tables.specs.declared.Tables.{Tables}
+pub use borrow.Author.Needs.{needs}
+pub use lib.IntN.{pos}
+pub use mathlib.Core.Logic.{⊎-elim}
+pub use mathlib.Core.Path.{_≡_, ap, sym}
+pub use mir.Syntax.{w64}
+pub use mir.Val.{toZ}
+pub use native.Mathlib.Omega.{arith}
+unfoldable pub use Rattle.plans.specs.Build.{leastValue}
+unfoldable pub use Rattle.tables.specs.Limits.{K}
