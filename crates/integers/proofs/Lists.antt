@@ -89,6 +89,14 @@ module _ {A : Type 0} where
   unfolding grid
   grid-length z size rows w f h = padded-length z size (rows * w) (λ i. f (i / w) (i % w)) h
 
+  -- what is filled in is read below the counts only
+  pub grid-cong : (z : A) (size rows w : ℕ) (f g : ℕ → ℕ → A) → ((r : ℕ) → r < rows → (x : ℕ) → x < w → f r x ≡ g r x)
+      → grid z size rows w f ≡ grid z size rows w g
+  unfolding grid
+  grid-cong z size rows zero f g h = padded-cong z size (rows * zero) _ _ (λ i l. absurd (omega arith))
+  grid-cong z size rows (suc w) f g h =
+      padded-cong z size (rows * suc w) _ _ (λ i l. h (i / suc w) (NatL.div-lt-iff-lt-mul (omega arith) .1 l) (i % suc w) (NatL.mod-lt i (omega arith)))
+
   -- as a loop pastes a row: x of its cells so far
   pub record Pasting (at x : ℕ) (row xs ys : List A) : Type 0 where
     pub same : ys ≡ paste xs at row x

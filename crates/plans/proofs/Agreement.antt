@@ -143,7 +143,7 @@ meets-agree M L W W' e m = record {
 
 -- ---- models that agree, and a level below that agrees
 module _ (M M' : Model) (e : Same M M') (L L' : Level) (g : Agree M L L') where
-  backupAt-same : (p : ℕ → ℕ) (a : ℕ) → a < M .actions → backupAt M' L' p a ≡ backupAt M L p a
+  pub backupAt-same : (p : ℕ → ℕ) (a : ℕ) → a < M .actions → backupAt M' L' p a ≡ backupAt M L p a
   unfolding backupAt
   backupAt-same p a la = cc (expected-same M M' e a la p, e .discount-same, ahead)
     where

@@ -1,28 +1,39 @@
--- The totals of a chain of levels bracket what the plans of as many steps earn. Assumes nothing.
-use Prim.Native.Nat.{ℕ, _<_}
+-- Accepted levels are certified, and the totals of a certified level bracket what plans earn. Assumes nothing.
+use Prim.Native.Nat.{ℕ, suc, _<_}
+use native.Mathlib.Omega.{arith}
 use Rattle.integers.proofs.Searches.{largest-in}
 use Rattle.tables.specs.Model.{Model}
-use Rattle.plans.specs.Level.{Level, Chain}
+use Rattle.plans.specs.Level.{Level, level0, Meets}
 use Rattle.plans.specs.Totals.{best, lower, advice, upper, Bracket}
-use Rattle.plans.proofs.Floor as Floor
-use Rattle.plans.proofs.Ceiling as Ceiling
+use Rattle.plans.proofs.Certified.{Certified}
+use Rattle.plans.proofs.Floor.{earned-0, earned-next, floor}
+use Rattle.plans.proofs.Ceiling.{roof, corner-0, corner-next, point-next}
+
+pub certified-0 : (M : Model) → Certified M 0 level0
+unfolding level0
+certified-0 M = record {
+  vector = λ v l. earned-0 M v;
+  corner = λ s l π h. corner-0 M s π;
+  point = λ i l π h. absurd (omega arith);
+}
+
+-- a level that meets its inequalities over a certified one is certified with one step more
+pub certified-next : {M : Model} {t : ℕ} {L : Level} → Certified M t L → (W : Level) → Meets M L W → Certified M (suc t) W
+certified-next {M} {t} {L} c W m = record {
+  vector = λ v l. earned-next M t L W (c .vector) v (m .vector v l);
+  corner = corner-next M t L c W m;
+  point = point-next M t L c W m;
+}
 
 pub best-exists : (M : Model) (L : Level) (b : ℕ → ℕ) → 0 < L .vectors → best M L b < L .vectors
 unfolding best
 best-exists M L b h = largest-in _ _ h
 
 -- Some plan opens with the advice and earns at least the lower total; no plan earns more than the upper.
--- The lower total is the product of the best vector, and the advice is its action. That vector exists, so its plan fits the model, opens with that action
--- and earns at least the product (`floor`). The upper total is the ceiling, which no plan that fits passes (`roof`). Qed.
-pub bracket : {M : Model} {t : ℕ} {L : Level} → Chain M t L → 0 < L .vectors → (b : ℕ → ℕ) → Bracket M t L b
+-- The lower total is the product of the best vector, and the advice is its action. That vector exists, so it has a plan that fits the model, opens with
+-- that action and earns at least the product (`floor`). The upper total is the ceiling, which no plan that fits passes (`roof`). Qed.
+pub bracket : {M : Model} {t : ℕ} {L : Level} → Certified M t L → 0 < L .vectors → (b : ℕ → ℕ) → Bracket M t L b
 unfolding lower advice upper
 bracket {M} {t} {L} c h b =
-    let v = best M L b in
-    let l = best-exists M L b h in
-    record {
-      plan = Floor.planOf c v;
-      fits = Floor.plan-fits c v l;
-      opens = Floor.plan-opens c v;
-      floor = Floor.floor c v l b;
-      roof = λ π f. Ceiling.roof c π f b;
-    }
+    let e = c .vector (best M L b) (best-exists M L b h) in
+    record { plan = e .plan; fits = e .fits; opens = e .opens; floor = floor e b; roof = λ π f. roof c π f b }

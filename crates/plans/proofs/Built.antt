@@ -10,7 +10,7 @@ use Rattle.integers.specs.Whole.{_·_, sumTo, totalTo, largestTo}
 use Rattle.integers.proofs.Order.{≤-trans, sub-≤, one-·, ·-mono}
 use Rattle.integers.proofs.Sums.{sum-mono, total-cong, total-mul, total-mul-right, total-swap, total-part}
 use Rattle.integers.proofs.Sizes.{abs-add, abs-times, times-bound, sum-weighed, abs-below, abs-above, multiple-above, multiple-between}
-use Rattle.integers.proofs.Rounding.{floor-≤, floor-range, ceil-≥, ceil-range}
+use Rattle.integers.proofs.Rounding.{floor-≤, floor-range, ceil-≥, ceil-least, ceil-range}
 use Rattle.integers.proofs.Searches.{largest-in, largest-max}
 use Rattle.tables.specs.Limits.{one, maxReward, maxEntry, K, maxLevels}
 use Rattle.tables.specs.Model.{Model, Valid, successor, expectedReward, backup, backedUp}
@@ -163,6 +163,12 @@ chosen-exists M L p a o h = largest-in _ _ h
 pub value-meets : (M : Model) (L : Level) (p : ℕ → ℕ) (a : ℕ) → a < M .actions → backupAt M L p a ≤ℤ K · leastValue M L p
 unfolding leastValue leastFor
 value-meets M L p a la = ≤-trans (ceil-≥ K K-positive (backupAt M L p a)) (·-mono K (largest-max (M .actions) (leastFor M L p) a la))
+
+-- No smaller whole number meets the backup inequality of every action: the least value is one action's backup over K, rounded up. Qed.
+pub value-least : (M : Model) (L : Level) (p : ℕ → ℕ) → 0 < M .actions
+    → (w : ℤ) → ((a : ℕ) → a < M .actions → backupAt M L p a ≤ℤ K · w) → leastValue M L p ≤ℤ w
+unfolding leastValue leastFor
+value-least M L p some w h = ceil-least K K-positive _ w (h _ (largest-in _ _ some))
 
 module _ (M : Model) (L : Level) (t : ℕ) (T : Valid M) (S : Shaped M t L) where
   pub entry-range : (p : ℕ → ℕ) (a : ℕ) → a < M .actions → (s : ℕ) → s < M .states → natAbs (entryFor M L p a s) ≤ range (suc t)

@@ -1,4 +1,4 @@
--- The ceiling: no plan that fits the model earns more than the sawtooth ceiling of the last level of a chain. Assumes nothing.
+-- The ceiling: no plan that fits the model earns more than the sawtooth ceiling of a certified level. Assumes nothing.
 use mathlib.Core.Path.{_≡_, refl, sym, _∙_, ap}
 use Prim.Native.Nat.{ℕ, zero, suc, _+_, _*_, _-_, _^_, _/_, _≤_, _<_}
 use native.Mathlib.Nat as NatL
@@ -15,8 +15,9 @@ use Rattle.integers.proofs.Searches.{below-suc}
 use Rattle.tables.specs.Limits.{K}
 use Rattle.tables.specs.Model.{Model, successor, expectedReward}
 use Rattle.plans.specs.Plan.{Plan, stop, step, Fits, earns, earnsAt}
-use Rattle.plans.specs.Level.{Level, level0, Meets, Chain, fresh, over, product, ceiling, backupAt, corner-weight}
+use Rattle.plans.specs.Level.{Level, level0, Meets, product, ceiling, backupAt, corner-weight}
 use Rattle.plans.specs.Level.{Ratio, none, ratio, joined, smallest, orNone, drop, gain}
+use Rattle.plans.proofs.Certified.{Certified}
 use Rattle.plans.proofs.Floor.{pow-·}
 
 -- ---- the smallest ratio
@@ -206,26 +207,33 @@ backup-ceiling M L t a plans h p =
     rw (earns-at M t a plans p, ·-add) (add-mono (≤-of (sym (pow-· t _)))
     (rw (·-swap (K ^ t) (M .discount)) (·-mono (M .discount) (≤-·-sum _ _ _ _ (λ o l. h o l (successor M p a o))))))
 
--- ---- the ceiling over a chain of levels
-module _ (M : Model) (L W : Level) (m : Meets M L W) (t a : ℕ) (la : a < M .actions) (plans : ℕ → Plan t)
-    (before : (o : ℕ) → o < M .observations → (q : ℕ → ℕ) → earnsAt M (plans o) q ≤ℤ (K ^ t) · ceiling (M .states) L q) where
-  lift : (p : ℕ → ℕ) (w : ℤ) → backupAt M L p a ≤ℤ K · w → earnsAt M (step a plans) p ≤ℤ (K ^ suc t) · w
-  lift p w k = rw (← pow-·) (≤-trans (backup-ceiling M L t a plans before p) (·-mono (K ^ t) k))
-
-  roof-step : (q : ℕ → ℕ) → earnsAt M (step a plans) q ≤ℤ (K ^ suc t) · ceiling (M .states) W q
-  unfolding earnsAt product
-  roof-step q =
-      sawtooth (M .states) (K ^ suc t) W (earns M (step a plans))
-      (λ s l. rw (corner-product (M .states) s (earns M (step a plans)) l) at (lift (corner-weight s) (W .corner s) (m .corner s l a la)))
-      (λ i l. lift (W .weight i) (W .value i) (m .point i l a la)) q
-
--- No t-step plan that fits the model earns more, at any weights, than K^t times the ceiling of level t of a chain.
--- By induction over the levels. At level 0 a plan earns 0, which is at most the zero corners, and so the ceiling (`sawtooth`). At level t + 1, a plan
--- with action a earns at weights p: K^(t+1) × the expected reward, and the discount times the sum over o of what its plan for o earns at the successor
--- weights (`earns-at`), which is at most K^t × the ceiling of level t there (the induction). That is K^t × the backup of level t at p, hence at most
--- K^(t+1) × the corner or the value of level t + 1 where p is a corner or a point. So `sawtooth` gives it at every weights. Qed.
-pub roof : {M : Model} {t : ℕ} {L : Level} → Chain M t L → (π : Plan t) → Fits M π → (q : ℕ → ℕ)
+-- ---- the ceiling of a certified level
+-- No t-step plan that fits the model earns more, at any weights, than K^t times the ceiling of a level certified after t levels.
+-- What a plan earns is at most K^t times the corners and the points' values; so `sawtooth` gives it at any weights. Qed.
+pub roof : {M : Model} {t : ℕ} {L : Level} → Certified M t L → (π : Plan t) → Fits M π → (q : ℕ → ℕ)
     → earnsAt M π q ≤ℤ (K ^ t) · ceiling (M .states) L q
-unfolding Fits earnsAt earns level0 product
-roof {M} fresh stop h q = sawtooth (M .states) (K ^ 0) level0 (λ s. pos 0) (λ s l. ≤-of (sym (·-zero (K ^ 0)))) (λ i l. absurd (omega arith)) q
-roof {M} (over {t = t} {L = L} W c m) (step a plans) h q = roof-step M L W m t a (h .0) plans (λ o l q'. roof c (plans o) (h .1 o l) q') q
+unfolding earnsAt product
+roof {M} {t} {L} c π h q = sawtooth (M .states) (K ^ t) L (earns M π) (λ s l. c .corner s l π h) (λ i l. c .point i l π h) q
+
+-- ---- corners and points
+pub corner-0 : (M : Model) (s : ℕ) (π : Plan 0) → earns M π s ≤ℤ (K ^ 0) · level0 .corner s
+unfolding earns level0
+corner-0 M s stop = ≤-of (sym (·-zero (K ^ 0)))
+
+-- What no plan passes with t steps, at the weights p, none passes with one step more at a value w that is at least every action's backup there.
+-- A plan with action a earns at p: K^(t+1) × the expected reward, and the discount times the sum over o of what its plan for o earns at the successor
+-- weights (`earns-at`), which is at most K^t × the ceiling of the level before (`roof`). That is K^t × the backup at p, hence at most K^(t+1) × w. Qed.
+module _ (M : Model) (t : ℕ) (L : Level) (c : Certified M t L) where
+  value-next : (p : ℕ → ℕ) (w : ℤ) → ((a : ℕ) → a < M .actions → backupAt M L p a ≤ℤ K · w)
+      → (π : Plan (suc t)) → Fits M π → earnsAt M π p ≤ℤ (K ^ suc t) · w
+  unfolding Fits
+  value-next p w k (step a plans) h =
+      rw (← pow-·) (≤-trans (backup-ceiling M L t a plans (λ o l q. roof c (plans o) (h .1 o l) q) p) (·-mono (K ^ t) (k a (h .0))))
+
+  module _ (W : Level) (m : Meets M L W) where
+    pub corner-next : (s : ℕ) → s < M .states → (π : Plan (suc t)) → Fits M π → earns M π s ≤ℤ (K ^ suc t) · W .corner s
+    unfolding earnsAt product
+    corner-next s l π h = rw (corner-product (M .states) s (earns M π) l) at (value-next (corner-weight s) (W .corner s) (m .corner s l) π h)
+
+    pub point-next : (i : ℕ) → i < W .points → (π : Plan (suc t)) → Fits M π → earnsAt M π (W .weight i) ≤ℤ (K ^ suc t) · W .value i
+    point-next i l π h = value-next (W .weight i) (W .value i) (m .point i l) π h

@@ -1,8 +1,9 @@
--- The floor: each vector of a chain of levels stands for a plan that fits the model, opens with the vector's action, and earns at least the vector's
--- entries. Assumes nothing.
+-- The floor: each vector of an accepted level has a plan that fits the model, opens with the vector's action, and earns at least the vector's entries.
+-- Assumes nothing.
 use mathlib.Core.Path.{_≡_, refl}
-use Prim.Native.Nat.{ℕ, suc, _^_, _<_}
+use Prim.Native.Nat.{ℕ, zero, suc, _^_, _<_}
 use native.Mathlib.Nat.{pow-suc}
+use native.Mathlib.Decide.{decLt}
 use lib.IntN.{ℤ}
 use lib.Signed.{_≤ℤ_}
 use Rattle.integers.specs.Whole.{_·_}
@@ -11,22 +12,8 @@ use Rattle.integers.proofs.Sums.{·-sum-≤}
 use Rattle.tables.specs.Limits.{K}
 use Rattle.tables.specs.Model.{Model, backup}
 use Rattle.plans.specs.Plan.{Plan, stop, step, Fits, Opens, earns, earnsAt}
-use Rattle.plans.specs.Level.{Level, level0, product, follows, Chain, fresh, over}
-
--- the plan that a vector stands for: its action, then the plans of the vectors that it chose
-unfoldable pub planOf : {M : Model} {t : ℕ} {L : Level} → Chain M t L → ℕ → Plan t
-planOf fresh v = stop
-planOf (over W c m) v = step (W .action v) (λ o. planOf c (W .choice v o))
-
-pub plan-fits : {M : Model} {t : ℕ} {L : Level} (c : Chain M t L) (v : ℕ) → v < L .vectors → Fits M (planOf c v)
-unfolding planOf Fits
-plan-fits fresh v l = tt
-plan-fits (over W c m) v l = (m .vector v l .action-exists, λ o b. plan-fits c (W .choice v o) (m .vector v l .choice-exists o b))
-
-pub plan-opens : {M : Model} {t : ℕ} {L : Level} (c : Chain M t L) (v : ℕ) → Opens (planOf c v) (L .action v)
-unfolding planOf Opens
-plan-opens fresh v = tt
-plan-opens (over W c m) v = refl
+use Rattle.plans.specs.Level.{Level, level0, product, follows, VectorHolds}
+use Rattle.plans.proofs.Certified.{Earned}
 
 -- one factor more
 pub pow-· : (t : ℕ) (x : ℤ) → (K ^ t) · (K · x) ≡ (K ^ suc t) · x
@@ -41,22 +28,61 @@ backup-floor M t a next plans h s =
     rw ·-add (add-mono (≤-of (pow-· t (M .reward s a)))
     (rw ·-swap (·-mono (M .discount) (·-sum-≤ _ _ _ _ (λ s' l. ·-sum-≤ _ _ _ _ (λ o l'. rw ·-swap (·-mono _ (h o l' s' l))))))))
 
--- At each state a vector promises no more than its plan earns, both times K^t.
--- By induction over the levels. At level 0 both are 0. At level t + 1, K times the entry is at most the backup of the entries chosen, by the vector's
--- inequality. Times K^t, those entries are earned by the plans of the vectors chosen (the induction), so the backup, a sum of them with factors of 0 or
--- more and K times the reward, is earned by the plan that takes the action and goes on with those plans. Qed.
-pub vector-floor : {M : Model} {t : ℕ} {L : Level} (c : Chain M t L) (v : ℕ) → v < L .vectors
-    → (s : ℕ) → s < M .states → (K ^ t) · L .entry v s ≤ℤ earns M (planOf c v) s
-unfolding planOf earns level0 follows
-vector-floor fresh v l s b = ≤-of (·-zero _)
-vector-floor {M} (over {t = t} {L = L} W c m) v l s b =
-    rw (← pow-·) (≤-trans (·-mono (K ^ t) (m .vector v l .entry-holds s b))
-    (backup-floor M t (W .action v) (follows L (W .choice v)) (λ o. planOf c (W .choice v o))
-    (λ o b' s' b''. vector-floor c (W .choice v o) (m .vector v l .choice-exists o b') s' b'') s))
+-- ---- a plan for each observation
+-- some plan, for numbers that are no observations
+anyPlan : (t : ℕ) → Plan t
+anyPlan zero = stop
+anyPlan (suc t) = step 0 (λ o. anyPlan t)
+
+module _ {t : ℕ} (k : ℕ) (given : (o : ℕ) → o < k → Plan t) where
+  planFor : (o : ℕ) → Dec (o < k) → Plan t
+  planFor o (yes l) = given o l
+  planFor o (no n) = anyPlan t
+
+  plan-for : (P : ℕ → Plan t → Type 0) → ((o : ℕ) (l : o < k) → P o (given o l)) → (o : ℕ) → o < k → P o (planFor o (decLt o k))
+  unfolding planFor
+  plan-for P h o l = by (decLt o k)
+    where
+      by : (d : Dec (o < k)) → P o (planFor o d)
+      by (yes b) = h o b
+      by (no n) = absurd (n l)
+
+-- ---- vectors
+-- at level 0 the plan of no steps earns the zero vector
+pub earned-0 : (M : Model) (v : ℕ) → Earned M 0 (level0 .action v) (level0 .entry v)
+unfolding level0 Fits Opens earns
+earned-0 M v = record { plan = stop; fits = tt; opens = tt; earned = λ s l. ≤-of (·-zero _) }
+
+-- A vector that meets its inequality over a level whose vectors are earned is earned with one step more.
+-- Its plan takes the vector's action and goes on, after each observation, with the plan of the vector chosen. K times the entry is at most the backup of the
+-- entries chosen; times K^t those are earned by the plans chosen, so the backup, a sum of them with factors of 0 or more and K times the reward, is earned
+-- by the plan made of them. Qed.
+pub earned-next : (M : Model) (t : ℕ) (L W : Level) → ((v : ℕ) → v < L .vectors → Earned M t (L .action v) (L .entry v))
+    → (v : ℕ) → VectorHolds M L W v → Earned M (suc t) (W .action v) (W .entry v)
+unfolding Fits Opens follows
+earned-next M t L W before v holds = record {
+  plan = step (W .action v) plans;
+  fits = (holds .action-exists, plan-for k given (λ o π. Fits M π) (λ o l. chosen o l .fits));
+  opens = refl;
+  earned = λ s b. rw (← pow-·) (≤-trans (·-mono (K ^ t) (holds .entry-holds s b)) (backup-floor M t (W .action v) (follows L (W .choice v)) plans
+      (plan-for k given (λ o π. (s' : ℕ) → s' < M .states → (K ^ t) · L .entry (W .choice v o) s' ≤ℤ earns M π s') (λ o l. chosen o l .earned)) s));
+}
+  where
+    k : ℕ
+    k = M .observations
+
+    chosen : (o : ℕ) → o < k → Earned M t (L .action (W .choice v o)) (L .entry (W .choice v o))
+    chosen o l = before (W .choice v o) (holds .choice-exists o l)
+
+    given : (o : ℕ) → o < k → Plan t
+    given o l = chosen o l .plan
+
+    plans : ℕ → Plan t
+    plans o = planFor k given o (decLt o k)
 
 -- At a mixture the plan of a vector earns at least the vector's product, both times K^t.
--- The product is the sum over the states of weight times entry; each term is at most weight times what is earned from that state (`vector-floor`). Qed.
-pub floor : {M : Model} {t : ℕ} {L : Level} (c : Chain M t L) (v : ℕ) → v < L .vectors → (b : ℕ → ℕ)
-    → (K ^ t) · product (M .states) b (L .entry v) ≤ℤ earnsAt M (planOf c v) b
+-- The product is the sum over the states of weight times entry; each term is at most weight times what is earned from that state. Qed.
+pub floor : {M : Model} {t a : ℕ} {entry : ℕ → ℤ} (e : Earned M t a entry) (b : ℕ → ℕ)
+    → (K ^ t) · product (M .states) b entry ≤ℤ earnsAt M (e .plan) b
 unfolding product earnsAt
-floor c v l b = ·-sum-≤ _ _ _ _ (λ s h. rw ·-swap (·-mono (b s) (vector-floor c v l s h)))
+floor e b = ·-sum-≤ _ _ _ _ (λ s h. rw ·-swap (·-mono (b s) (e .earned s h)))

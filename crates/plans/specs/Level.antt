@@ -107,11 +107,6 @@ pub record Shaped (M : Model) (t : ℕ) (W : Level) : Type 0 where
   pub value-in : (i : ℕ) → i < W .points → natAbs (W .value i) ≤ pointTotal * range t
   pub total : (i : ℕ) → i < W .points → totalTo (M .states) (W .weight i) ≡ pointTotal
 
--- t levels, each meeting its inequalities over the one before; the index is the last
-pub data Chain (M : Model) : ℕ → Level → Type 0 where
-  fresh : Chain M 0 level0
-  over : {t : ℕ} {L : Level} (W : Level) → Chain M t L → Meets M L W → Chain M (suc t) W
-
 -- two levels that agree in every part that is read
 pub record Agree (M : Model) (W W' : Level) : Type 0 where
   pub vectors-same : W' .vectors ≡ W .vectors

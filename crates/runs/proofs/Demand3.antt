@@ -16,12 +16,14 @@ use Rattle.tables.specs.Judged.{modelVerdict}
 use Rattle.tables.proofs.Accepted.{valid}
 use Rattle.tables.proofs.Same.{valid-same, kept-same}
 use Rattle.tables.specs.Limits.{maxLevels}
-use Rattle.plans.specs.Level.{Level as Ideal, level0, Chain, fresh as start, over, Agree}
+use Rattle.plans.specs.Level.{Level as Ideal, level0, Agree}
 use Rattle.plans.specs.Build.{built}
 use Rattle.plans.specs.Totals.{best, lower, upper, advice}
-use Rattle.plans.proofs.Bracket.{bracket}
+use Rattle.plans.proofs.Certified.{Certified}
+use Rattle.plans.proofs.Bracket.{certified-0, certified-next, bracket}
 use Rattle.plans.proofs.Agreement.{shaped-agree, meets-agree, meets-same, lower-agree, upper-agree, advice-agree}
 use Rattle.plans.proofs.Built.{built-shaped, built-meets, level0-shaped}
+use Rattle.plans.proofs.Rebuilt.{built-same}
 use Rattle.levels.specs.declared.Level.{Level}
 use Rattle.levels.specs.Storage.{levelOf, pointIn, freshLevel}
 use Rattle.levels.proofs.Laws.{passed, fine-before}
@@ -35,7 +37,7 @@ use Rattle.runs.specs.State.{buildVerdict, stored, builtFrom, builtOf}
 use Rattle.runs.specs.Demand3.{Opens, run, counted, acceptances, newer, lastOf, after, steps, last}
 use Rattle.runs.specs.Demand3.{StateHolds, TotalsHold, BuildHolds, PointsHold, Demand3}
 use Rattle.runs.proofs.Judged.{Standing, Accepted, standing-is, accepted, accepts, weights-is}
-use Rattle.runs.proofs.Stored.{stored-agree}
+use Rattle.runs.proofs.Stored.{stored-agree, stored-same}
 
 -- the model that is kept of tables m: the certifier's
 abbrev keptModel : Tables → Model
@@ -49,7 +51,7 @@ read m l = levelOf (m .states) (m .observations) l
 record Reached (m : Tables) (t : ℕ) (L : Ideal) (c : Certifier) : Type 0 where
   number : c .number ≡ t
   tables : c .tables ≡ kept m
-  chain : Chain (modelOf m) t L
+  certified : Certified (modelOf m) t L
   agrees : Agree (modelOf m) L (read m (c .level))
   stands : Standing (keptModel m) t (read m (c .level))
 
@@ -72,7 +74,7 @@ module _ (m : Tables) (o : Opens m) where
   reached-open = rw opens-fresh record {
     number = refl;
     tables = refl;
-    chain = start;
+    certified = certified-0 (modelOf m);
     agrees = fresh-agree (modelOf m);
     stands =
         let v = valid-same (modelOf m) (keptModel m) (kept-same m) (valid (modelOf m) fine-tables) in
@@ -90,13 +92,14 @@ module _ {m : Tables} {t : ℕ} {L : Ideal} {c : Certifier} (r : Reached m t L c
   accepted-over l e = accepted _ _ _ _ (rw (r .tables, r .number) at e)
 
   -- An accepted level meets its inequalities over the stored level, by the kept tables; so it does over the last accepted one, by the tables, and
-  -- makes the chain longer. It is stored with 0 past its counts: what is stored agrees with it, and so has its shape. Qed.
+  -- is certified with one step more. It is stored with 0 past its counts: what is stored agrees with it, and so has its shape. Qed.
   reached-next : (l : Level) → Accepted (keptModel m) t (read m (c .level)) (read m l) → Reached m (suc t) (read m l) (settled Fine c l)
   unfolding kept
   reached-next l a = record {
     number = ap (λ (n : ℕ). n + 1) (r .number) ∙ add-one t;
     tables = r .tables;
-    chain = over (read m l) (r .chain) (meets-same (modelOf m) (keptModel m) (kept-same m) L (read m (c .level)) (r .agrees) (read m l) (a .meets));
+    certified = certified-next (r .certified) (read m l)
+        (meets-same (modelOf m) (keptModel m) (kept-same m) L (read m (c .level)) (r .agrees) (read m l) (a .meets));
     agrees = rw (r .tables) (kept-agree (modelOf m) l);
     stands = record {
       valid-tables = r .stands .valid-tables;
@@ -142,6 +145,15 @@ module _ {m : Tables} {t : ℕ} {L : Ideal} {c : Certifier} (r : Reached m t L c
     advice-is = rw (r .tables) (advice-agree (modelOf m) L (read m (c .level)) (r .agrees) some-vectors (weightIn b))
 
   -- ---- building
+  -- what is built over the stored level, by the kept tables, is what is built over the last accepted one, by the tables
+  level-built : (p : Points) → stored (c .tables .states) (c .tables .observations) (builtFrom c p)
+      ≡ stored (m .states) (m .observations) (built (modelOf m) L (p .count) (pointIn (m .states) (p .weights)))
+  unfolding kept
+  level-built p =
+      rw (r .tables) (stored-same (modelOf m) _ _
+      (built-same (modelOf m) (keptModel m) (kept-same m) L (read m (c .level)) (r .agrees) some-vectors (r .stands .valid-tables .some-actions)
+      (p .count) (pointIn (m .states) (p .weights))))
+
   module _ (h : t < maxLevels) (p : Points) (points : PointsHold m p) where
     build-fine : buildVerdict c p ≡ Fine
     unfolding buildVerdict kept
@@ -191,23 +203,24 @@ module _ (m : Tables) (o : Opens m) (ls : List Level) where
     upper-is = upper-is reached b;
     gap-is = refl;
     action-is = advice-is reached b;
-    bracket = bracket (reached .chain) (some-vectors reached) (weightIn b);
+    bracket = bracket (reached .certified) (some-vectors reached) (weightIn b);
   }
 
   build-holds : steps m ls < maxLevels → (p : Points) → PointsHold m p → BuildHolds m ls p (builtOf (after m ls) p)
   unfolding builtOf offered kept
   build-holds h p points = rw (build-fine reached h p points) record {
     given = refl;
-    level-is = ap (λ (x : Tables). stored (x .states) (x .observations) (builtFrom (after m ls) p)) (reached .tables);
+    level-is = level-built reached p;
     accepted = built-accepted reached h p points;
   }
 
 -- Demand 3: what holds after any list of offers, of any content, to the certifier that opening returned on accepted tables.
--- By induction over the list, `Reached` holds after it. Level 0 is a chain of no levels, and the fresh level agrees with it. A refused offer changes
--- nothing. An accepted one passed every test: it has the shape of the next level and meets its inequalities over the stored level, by the kept tables.
--- Inequalities read only parts that agree, so it meets them over the last accepted level by the opened tables too, and makes the chain longer.
+-- By induction over the list, `Reached` holds after it. Level 0 is certified for plans of no steps, and the fresh level agrees with it. A refused offer
+-- changes nothing. An accepted one passed every test: it has the shape of the next level and meets its inequalities over the stored level, by the kept
+-- tables. Inequalities read only parts that agree, so it meets them over the last accepted level by the opened tables too, and is certified with one step
+-- more (`certified-next`).
 -- Totals are given, since `Reached` passes 7 and the number is above 0. They are those of the last accepted level, with which the stored one agrees, and
--- the totals of a chain bracket what its plans earn (`bracket`). Building is not refused either: the built level has the shape of the next level and meets
+-- the totals of a certified level bracket what plans earn (`bracket`). Building is not refused either: the built level has the shape of the next level and meets
 -- its inequalities over the stored one (`built-shaped`, `built-meets`); what is stored of it agrees with it, so it passes every test of an offer. Qed.
 pub demand3 : (m : Tables) → Opens m → (ls : List Level) → Demand3 m ls
 demand3 m o ls = record { state = state-holds m o ls; totals = totals-hold m o ls; build = build-holds m o ls }

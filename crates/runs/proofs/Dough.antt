@@ -17,7 +17,7 @@ use Rattle.tables.specs.declared.Verdict.{Verdict}
 use Rattle.tables.specs.declared.Verdict.the-variants.{Fine, Refused}
 use Rattle.tables.specs.Limits.{K}
 use Rattle.tables.specs.Model.{Model, successor, expectedReward, backup, backedUp}
-use Rattle.tables.specs.Storage.{modelOf, kept}
+use Rattle.tables.specs.Storage.{weightIn, modelOf, kept}
 use Rattle.tables.specs.Verdicts.{firstOf}
 use Rattle.tables.specs.Judged.{limitsHold, rowsTotal, modelVerdict}
 use Rattle.plans.specs.Limits.{range}
@@ -93,72 +93,38 @@ three = record {
 standing : ℕ → Level → Certifier
 standing t l = record { tables = dough; number = t; level = l }
 
--- level 2 with one vector of action 0 and choices 0 and 1, and with a corner 0 and a point value
-alone : ℤ → ℤ → ℤ → Level
-alone entry corner value = record {
+-- the built level 2 with one vector alone, of action 0 and choices 0 and 1
+alone : ℤ → ℤ → Level
+alone x y = record {
   vectors = 1;
   actions = replicate 32 0;
   choices = 0 ∷ 1 ∷ replicate 254 0;
-  entries = entry ∷ pos 251 ∷ replicate 510 (pos 0);
+  entries = x ∷ y ∷ replicate 510 (pos 0);
+  corners = two .corners;
+  points = two .points;
+  weights = two .weights;
+  values = two .values;
+}
+
+-- the built level 2 with another corner 0 and another point value
+changed : ℤ → ℤ → Level
+changed corner value = record {
+  vectors = two .vectors;
+  actions = two .actions;
+  choices = two .choices;
+  entries = two .entries;
   corners = corner ∷ pos 510 ∷ replicate 14 (pos 0);
-  points = 1;
-  weights = 50 ∷ 50 ∷ replicate 510 0;
+  points = two .points;
+  weights = two .weights;
   values = value ∷ replicate 31 (pos 0);
 }
 
-abbrev given : ℤ → ℤ → ℤ → ℕ → Bounds
-given low high apart a = record { verdict = Fine; lower = low; upper = high; gap = apart; action = record { 0 = a } }
-
--- the table, but for D9
-record Table : Type 0 where
-  open-fine : opened dough ≡ record { verdict = Fine; certifier = standing 0 (fresh dough .level) }
-  one-built : builtOf (standing 0 (fresh dough .level)) half ≡ record { verdict = Fine; level = one }
-  one-stands : offered (standing 0 (fresh dough .level)) one ≡ record { verdict = Fine; certifier = standing 1 one }
-  two-built : builtOf (standing 1 one) half ≡ record { verdict = Fine; level = two }
-  two-stands : offered (standing 1 one) two ≡ record { verdict = Fine; certifier = standing 2 two }
-  three-built : builtOf (standing 2 two) half ≡ record { verdict = Fine; level = three }
-  three-stands : offered (standing 2 two) three ≡ record { verdict = Fine; certifier = standing 3 three }
-  -- what `ladder` prints
-  line-1 : totalsOf (standing 1 one) (mixture 50 50) ≡ given (negsuc 9_999) (negsuc 9_999) (pos 0) 0
-  line-2 : totalsOf (standing 2 two) (mixture 50 50) ≡ given (pos 10_000) (pos 12_500) (pos 2_500) 0
-  line-3 : totalsOf (standing 3 three) (mixture 50 50) ≡ given (pos 13_350) (pos 18_575) (pos 5_225) 0
-  d1 : (cornerIn (one .corners) 0 ≡ negsuc 99) × (cornerIn (one .corners) 1 ≡ pos 600)
-  d2 : ceiling 2 (levelOf 2 2 one) (λ s. corner-weight 0 s * 20_000_000 + corner-weight 1 s * 22_500_000) ≡ negsuc 2_499_999_999
-  d3 : verdictOn (standing 1 one) (alone (negsuc 50) (negsuc 31) (pos 12_500)) ≡ Fine
-  d4 : verdictOn (standing 1 one) (alone (negsuc 49) (negsuc 31) (pos 12_500)) ≡ Refused 13 0
-  d5 : (cornerIn (two .corners) 0 ≡ negsuc 31) × (verdictOn (standing 1 one) two ≡ Fine)
-  d6 : verdictOn (standing 1 one) (alone (negsuc 50) (negsuc 32) (pos 12_500)) ≡ Refused 14 0
-  d7 : verdictOn (standing 1 one) (alone (negsuc 50) (negsuc 31) (pos 12_500)) ≡ Fine
-  d8 : verdictOn (standing 1 one) (alone (negsuc 50) (negsuc 31) (pos 12_499)) ≡ Refused 15 0
-  d10 : totalsOf (standing 2 two) (mixture 1 0) ≡ given (negsuc 50) (negsuc 31) (pos 19) 0
-  d11 : totalsOf (standing 2 two) (mixture 0 1) ≡ given (pos 510) (pos 510) (pos 0) 1
-  d12 : totalsOf (standing 2 two) (mixture 0 0) .verdict ≡ Refused 17 0
-
-table : Table
-unfolding dough half one two three offered verdictOn offerVerdict shapeVerdict backupsVerdict floorsVerdict cornersVerdict pointsVerdict numbersIn keptLevel cut totalsOf totalsVerdict best lower upper advice opened kept builtOf buildVerdict standingHolds modelVerdict limitsHold rowsTotal firstOf every totalTo rangesVerdict rowsWithin weightsVerdict range stored built seed bestAction chosen entryFor leastValue leastFor firstLargest product successor sumTo backedUp backup follows floorDiv ceilDiv backupAt expectedReward ceiling largestTo drop gain smallest joined orNone corner-weight padded grid listed _·_ K mixture standing alone
-table = record {
-  open-fine = refl;
-  one-built = refl;
-  one-stands = refl;
-  two-built = refl;
-  two-stands = refl;
-  three-built = refl;
-  three-stands = refl;
-  line-1 = refl;
-  line-2 = refl;
-  line-3 = refl;
-  d1 = (refl, refl);
-  d2 = refl;
-  d3 = refl;
-  d4 = refl;
-  d5 = (refl, refl);
-  d6 = refl;
-  d7 = refl;
-  d8 = refl;
-  d10 = refl;
-  d11 = refl;
-  d12 = refl;
-}
+-- the best of all t-step plans at a mixture: one earns n, times K^t, and none earns more
+record BestIs (M : Model) (t : ℕ) (b : ℕ → ℕ) (n : ℤ) : Type 0 where
+  plan : Plan t
+  fits : Fits M plan
+  earned : earnsAt M plan b ≡ (K ^ t) · n
+  most : (π : Plan t) → Fits M π → earnsAt M π b ≤ℤ (K ^ t) · n
 
 -- ---- D9, over all two-step plans
 
@@ -182,7 +148,7 @@ earns-one M (step a next) s = rw earns-more (simp (earns-none, ·-zero, sum-zero
 
 -- what an action and then an action for each observation earn at (50, 50), times K^2
 two-steps : ℕ → (ℕ → ℕ) → ℤ
-two-steps a next = sumTo 2 (λ s. 50 · ((K ^ 2) · modelOf dough .reward s a +ℤ 900 · sumTo 2 (λ s'. sumTo 2 (λ o.
+two-steps a next = sumTo 2 (λ s. weightIn (mixture 50 50) s · ((K ^ 2) · modelOf dough .reward s a +ℤ 900 · sumTo 2 (λ s'. sumTo 2 (λ o.
     (modelOf dough .transition s a s' * modelOf dough .observation a s' o) · ((K ^ 1) · modelOf dough .reward s' (next o))))))
 
 pair : ℕ → ℕ → ℕ → ℕ
@@ -190,7 +156,7 @@ pair x y zero = x
 pair x y (suc o) = y
 
 most : ℤ
-most = pos 10_025_000_000_000_000_000_000
+most = (K ^ 2) · pos 10_025
 
 below-two : (P : ℕ → Type 0) → P 0 → P 1 → (a : ℕ) → a < 2 → P a
 below-two P p q zero l = p
@@ -199,7 +165,7 @@ below-two P p q (suc (suc a)) l = absurd (omega arith)
 
 -- the eight plans one by one
 two-steps-≤ : (a : ℕ) → a < 2 → (x : ℕ) → x < 2 → (y : ℕ) → y < 2 → two-steps a (pair x y) ≤ℤ most
-unfolding two-steps pair most dough sumTo _·_ K
+unfolding two-steps pair most mixture dough sumTo _·_ K
 two-steps-≤ = below-two (λ a. (x : ℕ) → x < 2 → (y : ℕ) → y < 2 → two-steps a (pair x y) ≤ℤ most)
     (below-two (λ x. (y : ℕ) → y < 2 → two-steps 0 (pair x y) ≤ℤ most)
     (below-two (λ y. two-steps 0 (pair 0 y) ≤ℤ most) (leZ-yes tt) (leZ-yes tt))
@@ -213,7 +179,7 @@ two-steps-pair : (a : ℕ) (next : ℕ → ℕ) → two-steps a next ≡ two-ste
 unfolding two-steps pair sumTo
 two-steps-pair a next = refl
 
-two-steps-earn : (a : ℕ) (next : ℕ → Plan 1) → earnsAt (modelOf dough) (step a next) (λ s. 50) ≡ two-steps a (λ o. opening (next o))
+two-steps-earn : (a : ℕ) (next : ℕ → Plan 1) → earnsAt (modelOf dough) (step a next) (weightIn (mixture 50 50)) ≡ two-steps a (λ o. opening (next o))
 unfolding earnsAt two-steps dough
 two-steps-earn a next = simp (earns-more, earns-one)
 
@@ -221,15 +187,80 @@ opening-fits : (M : Model) (π : Plan 1) → Fits M π → opening π < M .actio
 unfolding opening Fits
 opening-fits M (step a next) h = h .0
 
--- none earns more than 10,025
-d9 : (π : Plan 2) → Fits (modelOf dough) π → earnsAt (modelOf dough) π (λ s. 50) ≤ℤ most
+none-more : (π : Plan 2) → Fits (modelOf dough) π → earnsAt (modelOf dough) π (weightIn (mixture 50 50)) ≤ℤ most
 unfolding Fits dough
-d9 (step a next) h =
+none-more (step a next) h =
     rw (two-steps-earn a next, two-steps-pair)
     (two-steps-≤ a (h .0) (opening (next 0)) (opening-fits (modelOf dough) (next 0) (h .1 0 (omega arith))) (opening (next 1))
     (opening-fits (modelOf dough) (next 1) (h .1 1 (omega arith))))
 
--- and one earns it: action 0, then 0 or 1 as observed
-d9-earned : earnsAt (modelOf dough) (step 0 (λ o. step o (λ o'. stop))) (λ s. 50) ≡ most
-unfolding earnsAt earns most dough sumTo _·_ K
-d9-earned = refl
+-- action 0, then 0 or 1 as observed
+best-of-two : BestIs (modelOf dough) 2 (weightIn (mixture 50 50)) (pos 10_025)
+unfolding Fits earnsAt earns most dough mixture sumTo _·_ K
+best-of-two = record {
+  plan = step 0 (λ o. step o (λ o'. stop));
+  fits = (omega arith, λ o l. (l, λ o' l'. tt));
+  earned = refl;
+  most = none-more;
+}
+
+abbrev given : ℤ → ℤ → ℤ → ℕ → Bounds
+given low high apart a = record { verdict = Fine; lower = low; upper = high; gap = apart; action = record { 0 = a } }
+
+-- ---- the table
+record Table : Type 0 where
+  open-fine : opened dough ≡ record { verdict = Fine; certifier = standing 0 (fresh dough .level) }
+  one-built : builtOf (standing 0 (fresh dough .level)) half ≡ record { verdict = Fine; level = one }
+  one-stands : offered (standing 0 (fresh dough .level)) one ≡ record { verdict = Fine; certifier = standing 1 one }
+  two-built : builtOf (standing 1 one) half ≡ record { verdict = Fine; level = two }
+  two-stands : offered (standing 1 one) two ≡ record { verdict = Fine; certifier = standing 2 two }
+  three-built : builtOf (standing 2 two) half ≡ record { verdict = Fine; level = three }
+  three-stands : offered (standing 2 two) three ≡ record { verdict = Fine; certifier = standing 3 three }
+  -- what `ladder` prints
+  line-1 : totalsOf (standing 1 one) (mixture 50 50) ≡ given (negsuc 9_999) (negsuc 9_999) (pos 0) 0
+  line-2 : totalsOf (standing 2 two) (mixture 50 50) ≡ given (pos 10_000) (pos 12_500) (pos 2_500) 0
+  line-3 : totalsOf (standing 3 three) (mixture 50 50) ≡ given (pos 13_350) (pos 18_575) (pos 5_225) 0
+  d1 : (cornerIn (one .corners) 0 ≡ negsuc 99) × (cornerIn (one .corners) 1 ≡ pos 600)
+  d2 : ceiling 2 (levelOf 2 2 one) (λ s. corner-weight 0 s * 20_000_000 + corner-weight 1 s * 22_500_000) ≡ negsuc 2_499_999_999
+  d3 : verdictOn (standing 1 one) (alone (negsuc 50) (pos 251)) ≡ Fine
+  d4 : (backup (modelOf dough) 0 (follows (levelOf 2 2 one) (pair 0 1)) 0 ≡ negsuc 50_499_999_999)
+      × (verdictOn (standing 1 one) (alone (negsuc 49) (pos 251)) ≡ Refused 13 0)
+  d5 : (cornerIn (two .corners) 0 ≡ negsuc 31) × (verdictOn (standing 1 one) two ≡ Fine)
+  d6 : verdictOn (standing 1 one) (changed (negsuc 32) (pos 12_500)) ≡ Refused 14 0
+  d7 : (two ≡ changed (negsuc 31) (pos 12_500)) × (verdictOn (standing 1 one) two ≡ Fine)
+  d8 : verdictOn (standing 1 one) (changed (negsuc 31) (pos 12_499)) ≡ Refused 15 0
+  d9 : BestIs (modelOf dough) 2 (weightIn (mixture 50 50)) (pos 10_025)
+  d10 : totalsOf (standing 2 two) (mixture 1 0) ≡ given (negsuc 50) (negsuc 31) (pos 19) 0
+  d11 : totalsOf (standing 2 two) (mixture 0 1) ≡ given (pos 510) (pos 510) (pos 0) 1
+  d12 : totalsOf (standing 2 two) (mixture 0 0) .verdict ≡ Refused 17 0
+
+table : Table
+unfolding dough half one two three offered verdictOn offerVerdict shapeVerdict backupsVerdict floorsVerdict cornersVerdict pointsVerdict numbersIn
+    keptLevel cut totalsOf totalsVerdict best lower upper advice opened kept builtOf buildVerdict standingHolds modelVerdict limitsHold rowsTotal
+    firstOf every totalTo rangesVerdict rowsWithin weightsVerdict range stored built seed bestAction chosen entryFor leastValue leastFor firstLargest
+    product successor sumTo backedUp backup follows floorDiv ceilDiv backupAt expectedReward ceiling largestTo drop gain smallest joined orNone
+    corner-weight padded grid listed _·_ K mixture standing alone changed pair
+table = record {
+  open-fine = refl;
+  one-built = refl;
+  one-stands = refl;
+  two-built = refl;
+  two-stands = refl;
+  three-built = refl;
+  three-stands = refl;
+  line-1 = refl;
+  line-2 = refl;
+  line-3 = refl;
+  d1 = (refl, refl);
+  d2 = refl;
+  d3 = refl;
+  d4 = (refl, refl);
+  d5 = (refl, refl);
+  d6 = refl;
+  d7 = (refl, refl);
+  d8 = refl;
+  d9 = best-of-two;
+  d10 = refl;
+  d11 = refl;
+  d12 = refl;
+}

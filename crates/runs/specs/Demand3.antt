@@ -18,13 +18,14 @@ use Rattle.tables.specs.Limits.{maxLevels}
 use Rattle.plans.specs.Limits.{maxBuilt, pointTotal}
 use Rattle.plans.specs.Level.{Level as Ideal, Agree, level0}
 use Rattle.plans.specs.Totals.{lower, upper, advice, Bracket}
+use Rattle.plans.specs.Build.{built}
 use Rattle.levels.specs.declared.Level.{Level}
 use Rattle.levels.specs.Storage.{levelOf, pointIn}
 use Rattle.runs.specs.declared.Certifier.{Certifier}
 use Rattle.runs.specs.declared.Bounds.{Bounds}
 use Rattle.runs.specs.declared.Points.{Points}
 use Rattle.runs.specs.declared.Built.{Built}
-use Rattle.runs.specs.State.{levelIn, builtFrom, opened, offered, mixtureHolds, totalsOf, stored, builtOf}
+use Rattle.runs.specs.State.{levelIn, opened, offered, mixtureHolds, totalsOf, stored, builtOf}
 
 -- a model is accepted if opening does not refuse its tables
 abbrev pub Opens : Tables → Type 0
@@ -77,10 +78,10 @@ pub record TotalsHold (m : Tables) (ls : List Level) (b : List ℕ) (r : Bounds)
   pub action-is : r .action .0 ≡ advice (modelOf m) (last m ls) (weightIn b)
   pub bracket : Bracket (modelOf m) (steps m ls) (last m ls) (weightIn b)
 
--- a built level r: given, of document 01's rounding over the standing level, and accepted by the same certifier
+-- a built level r: given, document 01's over the last accepted level, and accepted by the same certifier
 pub record BuildHolds (m : Tables) (ls : List Level) (p : Points) (r : Built) : Type 0 where
   pub given : r .verdict ≡ Fine
-  pub level-is : r .level ≡ stored (m .states) (m .observations) (builtFrom (after m ls) p)
+  pub level-is : r .level ≡ stored (m .states) (m .observations) (built (modelOf m) (last m ls) (p .count) (pointIn (m .states) (p .weights)))
   pub accepted : offered (after m ls) (r .level) .verdict ≡ Fine
 
 -- points within the builder's limits
