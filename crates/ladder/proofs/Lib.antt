@@ -1,1 +1,2 @@
-pub mod Prelude
+-- What the program's functions lean on.
+pub mod Climbing

@@ -1,0 +1,2 @@
+-- What the program knows of its certifier.
+pub mod Climb
