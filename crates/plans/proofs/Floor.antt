@@ -20,7 +20,7 @@ pub pow-· : (t : ℕ) (x : ℤ) → (K ^ t) · (K · x) ≡ (K ^ suc t) · x
 pow-· t x = rw (pow-suc, ·-·)
 
 -- the backup of entries that plans earn is earned by the plan made of them
-backup-floor : (M : Model) (t a : ℕ) (next : ℕ → ℕ → ℤ) (plans : ℕ → Plan t)
+pub backup-floor : (M : Model) (t a : ℕ) (next : ℕ → ℕ → ℤ) (plans : ℕ → Plan t)
     → ((o : ℕ) → o < M .observations → (s : ℕ) → s < M .states → (K ^ t) · next o s ≤ℤ earns M (plans o) s)
     → (s : ℕ) → (K ^ t) · backup M a next s ≤ℤ earns M (step a plans) s
 unfolding backup earns

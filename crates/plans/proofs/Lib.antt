@@ -7,3 +7,4 @@ pub mod Agreement
 pub mod Built
 pub mod Rebuilt
 pub mod Drops
+pub mod Ticks

@@ -4,3 +4,4 @@ pub mod Plan
 pub mod Level
 pub mod Totals
 pub mod Build
+pub mod Named

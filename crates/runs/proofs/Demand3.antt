@@ -40,24 +40,24 @@ use Rattle.runs.proofs.Judged.{Standing, Accepted, standing-is, accepte
 use Rattle.runs.proofs.Stored.{stored-agree, stored-same}
 
 -- the model that is kept of tables m: the certifier's
-abbrev keptModel : Tables → Model
+abbrev pub keptModel : Tables → Model
 keptModel m = modelOf (kept m)
 
 -- a level, read by the counts of tables m
-abbrev read : Tables → Level → Ideal
+abbrev pub read : Tables → Level → Ideal
 read m l = levelOf (m .states) (m .observations) l
 
 -- what holds of a certifier over tables m after t acceptances, the last of them of level L
-record Reached (m : Tables) (t : ℕ) (L : Ideal) (c : Certifier) : Type 0 where
-  number : c .number ≡ t
-  tables : c .tables ≡ kept m
-  certified : Certified (modelOf m) t L
-  agrees : Agree (modelOf m) L (read m (c .level))
-  stands : Standing (keptModel m) t (read m (c .level))
+pub record Reached (m : Tables) (t : ℕ) (L : Ideal) (c : Certifier) : Type 0 where
+  pub number : c .number ≡ t
+  pub tables : c .tables ≡ kept m
+  pub certified : Certified (modelOf m) t L
+  pub agrees : Agree (modelOf m) L (read m (c .level))
+  pub stands : Standing (keptModel m) t (read m (c .level))
 
 -- ---- opening
 module _ (m : Tables) (o : Opens m) where
-  fine-tables : modelVerdict (modelOf m) ≡ Fine
+  pub fine-tables : modelVerdict (modelOf m) ≡ Fine
   unfolding opened
   fine-tables = by (modelVerdict (modelOf m)) o
     where
@@ -69,7 +69,7 @@ module _ (m : Tables) (o : Opens m) where
   unfolding opened
   opens-fresh = rw fine-tables
 
-  reached-open : Reached m 0 level0 (opened m .certifier)
+  pub reached-open : Reached m 0 level0 (opened m .certifier)
   unfolding kept
   reached-open = rw opens-fresh record {
     number = refl;
@@ -87,13 +87,13 @@ module _ (m : Tables) (o : Opens m) where
 
 -- ---- one offer
 module _ {m : Tables} {t : ℕ} {L : Ideal} {c : Certifier} (r : Reached m t L c) where
-  accepted-over : (l : Level) → verdictOn c l ≡ Fine → Accepted (keptModel m) t (read m (c .level)) (read m l)
+  pub accepted-over : (l : Level) → verdictOn c l ≡ Fine → Accepted (keptModel m) t (read m (c .level)) (read m l)
   unfolding verdictOn kept
   accepted-over l e = accepted _ _ _ _ (rw (r .tables, r .number) at e)
 
   -- An accepted level meets its inequalities over the stored level, by the kept tables; so it does over the last accepted one, by the tables, and
   -- is certified with one step more. It is stored with 0 past its counts: what is stored agrees with it, and so has its shape. Qed.
-  reached-next : (l : Level) → Accepted (keptModel m) t (read m (c .level)) (read m l) → Reached m (suc t) (read m l) (settled Fine c l)
+  pub reached-next : (l : Level) → Accepted (keptModel m) t (read m (c .level)) (read m l) → Reached m (suc t) (read m l) (settled Fine c l)
   unfolding kept
   reached-next l a = record {
     number = ap (λ (n : ℕ). n + 1) (r .number) ∙ add-one t;
@@ -123,7 +123,7 @@ module _ {m : Tables} {t : ℕ} {L : Ideal} {c : Certifier} (r : Reached m t L c
   unfolding kept
   holds-true = rw (r .tables, r .number) (standing-is _ _ _ (r .stands))
 
-  some-vectors : 0 < L .vectors
+  pub some-vectors : 0 < L .vectors
   some-vectors = rw (r .agrees .vectors-same) at (r .stands .shaped .some-vectors)
 
   module _ (b : List ℕ) where
@@ -146,7 +146,7 @@ module _ {m : Tables} {t : ℕ} {L : Ideal} {c : Certifier} (r : Reached m t L c
 
   -- ---- building
   -- what is built over the stored level, by the kept tables, is what is built over the last accepted one, by the tables
-  level-built : (p : Points) → stored (c .tables .states) (c .tables .observations) (builtFrom c p)
+  pub level-built : (p : Points) → stored (c .tables .states) (c .tables .observations) (builtFrom c p)
       ≡ stored (m .states) (m .observations) (built (modelOf m) L (p .count) (pointIn (m .states) (p .weights)))
   unfolding kept
   level-built p =

@@ -3,3 +3,4 @@ pub mod Judged
 pub mod Stored
 pub mod Dough
 pub mod Demand3
+pub mod Ticks

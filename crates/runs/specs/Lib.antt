@@ -1,3 +1,4 @@
 -- What each call answers, and what holds after a list of offers.
 pub mod State
 pub mod Demand3
+pub mod Ticks
