@@ -10,5 +10,6 @@ pub mod program;
 pub mod rng;
 pub mod show;
 pub mod suites;
+pub mod ticks;
 pub mod traps;
 pub mod words;

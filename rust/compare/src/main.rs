@@ -6,6 +6,7 @@
 //!   past the longest),
 //! - `random`: random models in random dress, half of them damaged,
 //! - `plans`: lists of offers upon small models, the totals held against the best of all plans,
+//! - `ticks`: levels built and offered in turn, each entry held against what the plan named by its vector earns,
 //! - `calls`: storage of any content, lists of offers up to level 100 and past it, used with `--library` and `--traps`,
 //! - `ends`: storage with every number at an end of its range, for the largest sums, used with `--library`,
 //! - `words`: one call on words of any content and length, every buffer compared whole, used with `--library`.
@@ -19,7 +20,7 @@ use compare::gen::DOCUMENT;
 use compare::options::{Options, USAGE};
 use compare::program::Answerer;
 use compare::rng::Rng;
-use compare::{bracket, calls, files, show, traps};
+use compare::{bracket, calls, files, show, ticks, traps};
 use reference::{ladder, Rules};
 use std::collections::BTreeMap;
 use std::process::ExitCode;
@@ -29,6 +30,7 @@ use std::{env, fs, io};
 /// How many random cases there are unless a time is given.
 const FILES: u64 = 4_000;
 const PLANS: u64 = 600;
+const CLIMBS: u64 = 300;
 
 fn main() -> ExitCode {
     let options = match Options::parse(env::args().skip(1)) {
@@ -147,7 +149,37 @@ impl Comparison<'_> {
             "  {} levels accepted ({} with a point above the corners), {} refused, {} totals compared",
             self.plans.accepted, self.plans.above_corners, self.plans.refused, self.plans.compared
         );
+        if !self.climbs()? {
+            return Ok(false);
+        }
         println!("{} s in all", start.elapsed().as_secs());
+        Ok(true)
+    }
+
+    /// Levels built and offered in turn, and the largest loss by rounding at each level.
+    fn climbs(&mut self) -> io::Result<bool> {
+        let mut largest: BTreeMap<usize, u64> = BTreeMap::new();
+        for number in 0..CLIMBS {
+            let climb = ticks::random(&mut Rng::for_case(self.options.seed, "ticks", number));
+            match ticks::check(&climb, &DOCUMENT) {
+                Ok(losses) => {
+                    for (at, loss) in losses.iter().enumerate() {
+                        let seen = largest.entry(at + 1).or_insert(0);
+                        *seen = (*seen).max(u64::try_from(loss).unwrap_or(u64::MAX));
+                    }
+                }
+                Err(message) => {
+                    let shown = climb.show();
+                    println!("DIFFERENCE in ticks:{} (seed {}): {}\n{}", number, self.options.seed, message, shown);
+                    self.saved(shown.as_bytes())?;
+                    return Ok(false);
+                }
+            }
+        }
+        println!("levels built in turn: {}; the largest loss by rounding at level t, in ticks:", CLIMBS);
+        for (t, loss) in &largest {
+            println!("  {}: {:.3}", t, *loss as f64 / ticks::PARTS as f64);
+        }
         Ok(true)
     }
 
@@ -173,6 +205,15 @@ impl Comparison<'_> {
             }
             "calls" => {
                 print!("{}", calls::random(&mut rng, number).show());
+                Ok(true)
+            }
+            "ticks" => {
+                let climb = ticks::random(&mut rng);
+                print!("{}", climb.show());
+                match ticks::check(&climb, &DOCUMENT) {
+                    Ok(losses) => println!("losses in parts of a tick: {:?}", losses),
+                    Err(message) => println!("DIFFERENCE: {}", message),
+                }
                 Ok(true)
             }
             _ => Err(io::Error::new(io::ErrorKind::InvalidInput, "there is no such suite")),

@@ -10,7 +10,7 @@ usage: compare LADDER [OPTIONS]     compare the program at the path LADDER with 
   --seed N         the seed of the random cases (default 1)
   --seconds N      go on with random cases until so many seconds have passed (default: a fixed number of cases)
   --traps          show that each trap is caught: a copy of the rules with that trap must differ
-  --only SUITE:N   one case alone: fixed:N, random:N, calls:N, plans:N, ends:N or words:N
+  --only SUITE:N   one case alone: fixed:N, random:N, calls:N, plans:N, ticks:N, ends:N or words:N
   --file PATH      one file alone
   --save PATH      where to write the case that differs (the file, or the case in words)
   --examples DIR   model files to compare as well (default: examples)";

@@ -4,7 +4,7 @@ use crate::library::{self, ByWords, Call};
 use crate::options::Options;
 use crate::rng::Rng;
 use crate::words::{Copied, Slip, WordCalls};
-use crate::{bracket, calls, files, show};
+use crate::{bracket, calls, files, show, ticks};
 use std::collections::BTreeMap;
 use std::time::{Duration, Instant};
 use std::{fs, io};
@@ -15,6 +15,7 @@ const CALLS: u64 = 5_000;
 const ENDS: u64 = 1_500;
 const WORDS: u64 = 15_000;
 const PLANS: u64 = 1_000;
+const CLIMBS: u64 = 500;
 
 /// How many calls on words each slip is looked for in.
 const HUNTED: u64 = 3_000;
@@ -68,7 +69,14 @@ impl Suites<'_> {
         println!("fixed files: {}, examples: {}, {} s", fixed.len(), examples.len(), start.elapsed().as_secs());
 
         let limit = self.options.seconds.map(Duration::from_secs);
-        let shares = [("random", FILES), ("calls", CALLS), ("ends", ENDS), ("words", WORDS), ("plans", PLANS)];
+        let shares = [
+            ("random", FILES),
+            ("calls", CALLS),
+            ("ends", ENDS),
+            ("words", WORDS),
+            ("plans", PLANS),
+            ("ticks", CLIMBS),
+        ];
         let all: u64 = shares.iter().map(|(_, share)| share).sum();
         let mut done = shares.map(|(suite, share)| (suite, share, 0));
         let mut turn = 0;
@@ -111,6 +119,7 @@ impl Suites<'_> {
             "ends" => print!("{}", calls::at_ends(&mut rng, number).show()),
             "plans" => print!("{}", show::list(&bracket::random(&mut rng))),
             "words" => print!("{}", library::random(&mut rng)),
+            "ticks" => print!("{}", ticks::random(&mut rng).show()),
             _ => return Err(unknown("there is no such suite")),
         }
         self.one(suite, number)
@@ -128,6 +137,11 @@ impl Suites<'_> {
                     if suite == "calls" { calls::random(&mut rng, number) } else { calls::at_ends(&mut rng, number) };
                 let found = case.difference(&self.through).or_else(|| self.through.wrong());
                 self.told(&name, found, || case.show())
+            }
+            "ticks" => {
+                let climb = ticks::random(&mut rng);
+                let found = ticks::check(&climb, &self.through).err().or_else(|| self.through.wrong());
+                self.told(&name, found, || climb.show())
             }
             _ => {
                 let list = bracket::random(&mut rng);
@@ -198,7 +212,8 @@ mod tests {
         let words = ["--library", "--examples", "nowhere"].iter().map(|word| word.to_string());
         let mut options = Options::parse(words).unwrap();
         let copy = Copied::default();
-        for only in [("fixed", 3), ("random", 5), ("calls", 7), ("ends", 1), ("plans", 2), ("words", 11)] {
+        for only in [("fixed", 3), ("random", 5), ("calls", 7), ("ends", 1), ("plans", 2), ("words", 11), ("ticks", 3)]
+        {
             options.only = Some((only.0.to_string(), only.1));
             assert!(run(&options, &copy).unwrap());
         }

@@ -3,7 +3,7 @@
 use crate::files;
 use crate::program::Answerer;
 use crate::rng::Rng;
-use crate::{bracket, calls};
+use crate::{bracket, calls, ticks};
 use reference::{ladder, Rules, Trap};
 use std::io;
 
@@ -11,6 +11,7 @@ use std::io;
 const FILES: u64 = 1_000;
 const CALLS: u64 = 1_000;
 const PLANS: u64 = 400;
+const CLIMBS: u64 = 100;
 
 /// A trap, and the first case of each suite that caught it.
 struct Hunt {
@@ -20,6 +21,7 @@ struct Hunt {
     files: Option<String>,
     calls: Option<String>,
     plans: Option<String>,
+    ticks: Option<String>,
 }
 
 impl Hunt {
@@ -31,9 +33,10 @@ impl Hunt {
 /// Runs the suites against every trap; false if one is caught by none of them.
 ///
 /// Files are answered by the program that is compared, and by the copy in the reference's stead. Calls are compared between
-/// the copy and the reference. In the third suite the copy is held against all plans of small models.
+/// the copy and the reference. In the third suite the copy is held against all plans of small models, in the fourth against
+/// the plans that its vectors name.
 pub fn run(answerer: &Answerer, seed: u64) -> io::Result<bool> {
-    let hunt = |trap: Trap, reading: bool| Hunt { trap, reading, files: None, calls: None, plans: None };
+    let hunt = |trap: Trap, reading: bool| Hunt { trap, reading, files: None, calls: None, plans: None, ticks: None };
     let judging = Trap::JUDGING.iter().map(|&trap| hunt(trap, false));
     let reading = Trap::READING.iter().map(|&trap| hunt(trap, true));
     let mut hunts: Vec<Hunt> = judging.chain(reading).collect();
@@ -65,11 +68,19 @@ pub fn run(answerer: &Answerer, seed: u64) -> io::Result<bool> {
             }
         }
     }
+    for number in 0..CLIMBS {
+        let climb = ticks::random(&mut Rng::for_case(seed, "ticks", number));
+        for hunt in hunts.iter_mut().filter(|hunt| !hunt.reading && hunt.ticks.is_none()) {
+            if ticks::check(&climb, &hunt.rules()).is_err() {
+                hunt.ticks = Some(format!("ticks:{}", number));
+            }
+        }
+    }
 
     let mut all = true;
     for hunt in &hunts {
         let caught: Vec<&str> =
-            [&hunt.files, &hunt.calls, &hunt.plans].into_iter().flatten().map(String::as_str).collect();
+            [&hunt.files, &hunt.calls, &hunt.plans, &hunt.ticks].into_iter().flatten().map(String::as_str).collect();
         if caught.is_empty() {
             all = false;
             println!("NOT CAUGHT  {}", hunt.trap);
@@ -79,11 +90,12 @@ pub fn run(answerer: &Answerer, seed: u64) -> io::Result<bool> {
     }
     let caught_by = |suite: fn(&Hunt) -> bool| hunts.iter().filter(|hunt| suite(hunt)).count();
     println!(
-        "{} traps: {} caught by files, {} by calls, {} by plans",
+        "{} traps: {} caught by files, {} by calls, {} by plans, {} by ticks",
         hunts.len(),
         caught_by(|hunt| hunt.files.is_some()),
         caught_by(|hunt| hunt.calls.is_some()),
-        caught_by(|hunt| hunt.plans.is_some())
+        caught_by(|hunt| hunt.plans.is_some()),
+        caught_by(|hunt| hunt.ticks.is_some())
     );
     Ok(all)
 }

@@ -99,7 +99,8 @@ fn action_vector(model: &Model, standing: &Lists, p: &[BigInt], a: usize, rules:
     let choices: Vec<usize> = (0..model.k).map(choice).collect();
     let backup = |s| vector_backup(model, standing, s, a, &choices, rules);
     let backups: Vec<BigInt> = (0..model.n).map(backup).collect();
-    let entries = backups.iter().map(|backup| round_down(backup, &k(), rules)).collect();
+    let lower = u8::from(rules.has(Trap::EntriesTickLower));
+    let entries = backups.iter().map(|backup| round_down(backup, &k(), rules) - lower).collect();
     Made { action: a, choices, entries, backups }
 }
 

@@ -32,7 +32,7 @@ pub use file::{read, Reading, FILE_BYTES};
 pub use ladder::ladder;
 pub use level::{offer, open, Certifier, Level, LEVELS, POINTS, POINT_TOTAL, VECTORS};
 pub use model::{Model, Tables, ACTIONS, OBSERVATIONS, REWARD, STATES, THOUSAND};
-pub use plan::{all_plans, at_mixture, best, scale, Earned, Plan};
+pub use plan::{all_plans, at_mixture, best, earned, scale, Earned, Plan};
 pub use refusal::Refusal;
 pub use rules::{Rules, Trap};
 pub use totals::{totals, Totals, WEIGHT};

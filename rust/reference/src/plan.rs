@@ -32,7 +32,7 @@ pub fn scale(steps: u32) -> BigInt {
 
 /// N of a plan of t+1 steps from each state: K^(t+1) × R(s, a) + g × the sum over s' and o of T × O × N(subplan of o, s').
 /// The last step has no subplans, and N is 0 after it.
-fn earned(model: &Model, a: usize, steps: u32, next: &[&[BigInt]]) -> Vec<BigInt> {
+pub fn earned(model: &Model, a: usize, steps: u32, next: &[&[BigInt]]) -> Vec<BigInt> {
     let from = |s: usize| {
         let mut sum = zero();
         for s2 in 0..model.n {

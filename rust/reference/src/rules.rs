@@ -103,6 +103,7 @@ traps! {
         LastLargestAction: "the last largest action's vector is kept",
         ExactProducts: "actions are compared by their exact backups",
         CornersRoundedDown: "corners and point values are rounded down",
+        EntriesTickLower: "built entries are a tick lower",
         SeventeenPoints: "17 points may be built upon",
         // The worth of a plan graph.
         WorthRoundedOnce: "a worth is rounded once at the end",
