@@ -25,6 +25,11 @@
  *   mixture     n weights, 0 to 1,000,000 each, not all 0.
  *   graph       nodes (1 to 32), actions (nodes), next nodes (nodes x k).
  *
+ * What is proved: each call, by itself, answers and leaves in every buffer what the definitions of crates/exports/specs say,
+ * whatever it is handed. That the totals bracket every plan and that a built level is accepted is proved of the certifier
+ * behind these calls, for every list of offers; that the words which one call writes are those that the next one reads is
+ * tested, not proved.
+ *
  * A slice may be longer than its object; what lies behind is not read. The answer of a call is written at the front of the
  * buffer lent for it, and what lies behind it stays as it was.
  *
