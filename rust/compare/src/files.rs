@@ -113,12 +113,12 @@ impl Case {
 /// The files of a folder by name, if there is one: each whole, and cut in a few places.
 pub fn examples(folder: &Path, seed: u64) -> io::Result<Vec<(String, Case)>> {
     let mut cases = Vec::new();
-    if !folder.is_dir() {
-        return Ok(cases);
-    }
     let entries: io::Result<Vec<fs::DirEntry>> = fs::read_dir(folder)?.collect();
     let mut paths: Vec<_> = entries?.iter().map(fs::DirEntry::path).filter(|path| path.is_file()).collect();
     paths.sort();
+    if paths.is_empty() {
+        return Err(io::Error::new(io::ErrorKind::NotFound, format!("no file in {}", folder.display())));
+    }
     for path in paths {
         let file = fs::read(&path)?;
         let name = path.display().to_string();

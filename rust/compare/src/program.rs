@@ -20,7 +20,7 @@ pub enum Answerer {
 }
 
 impl Answerer {
-    /// All that is printed for a file. What a program should not do (faulting, printing errors, not ending) is told in
+    /// All that is printed for a file. What a program should not do (faulting, failing, printing errors, not ending) is told in
     /// words, so that it differs from every answer.
     pub fn answer(&self, file: &[u8]) -> io::Result<String> {
         match self {
@@ -46,7 +46,7 @@ fn run(path: &Path, file: &[u8]) -> io::Result<String> {
     if !complaints.is_empty() {
         answer.push_str(&format!("(standard error: {})", String::from_utf8_lossy(&complaints)));
     }
-    if status.code().is_none() {
+    if !status.success() {
         answer.push_str(&format!("({})", status));
     }
     Ok(answer)
