@@ -14,33 +14,34 @@ use lib.IntN.{ℤ, pos}
 use lib.Signed.{mag, ltZ}
 use mir.Syntax.{w64}
 use mir.Val.{toZ, ofZ}
-use Rattle.integers.specs.Whole.{totalTo, floorDiv, ceilDiv, Below}
+use Rattle.integers.specs.Whole.{totalTo, floorDiv, ceilDiv}
 use Rattle.integers.specs.Search.{firstLargest}
 use Rattle.integers.specs.Cells.{padded, grid}
 use Rattle.integers.proofs.Lists.{padded-none, padded-turn, padded-at, padded-length, grid-length, grid-more}
 use Rattle.integers.proofs.Words.{answer}
 use Rattle.integers.proofs.Parts.{T-true, T-false}
-use Rattle.integers.proofs.Searches.{largest-later, largest-same, largest-cong}
+use Rattle.integers.proofs.Searches.{largest-later, largest-same, largest-cong, largest-in}
+use Rattle.tables.specs.declared.Counts.{Counts}
 use Rattle.tables.specs.declared.Tables.{Tables}
-use Rattle.tables.specs.Limits.{maxStates, maxActions, maxObservations, maxVectors, one, K, maxLevels}
+use Rattle.tables.specs.Limits.{maxStates, maxActions, maxObservations, maxVectors, K, maxLevels}
 use Rattle.tables.specs.Model.{Model, backedUp}
-use Rattle.tables.specs.Storage.{weightIn, modelOf, TransitionsFit, ObservationsFit, RewardsFit}
-use Rattle.tables.proofs.Regroup.{transitions-fit, observations-fit, rewards-fit}
+use Rattle.tables.specs.Storage.{weightIn, countsOf, modelIn, modelOf}
+use Rattle.tables.proofs.Fitting as tables
 use Rattle.plans.specs.Limits.{maxPoints, pointTotal}
-use Rattle.plans.specs.Level.{Level as Ideal, corner-weight, follows, Shaped}
+use Rattle.plans.specs.Level.{Level as Ideal, ceiling, gain, backupAt, corner-weight, follows, Shaped}
 use Rattle.plans.specs.Build.{chosen, entryFor, bestAction, leastFor, leastValue, seed, built}
 use Rattle.plans.proofs.Agreement.{product-cong, successor-weights, backupAt-weights, backup-cong}
 use Rattle.plans.proofs.Ceiling.{corner-total}
 use Rattle.plans.proofs.Built.{action-exists, shaped-mono}
 use Rattle.levels.specs.declared.Level.{Level}
-use Rattle.levels.specs.Storage.{levelOf}
-use Rattle.sawtooth.specs.Storage.{positive, gainIn, CornersFit, PointsFit, maxGain}
-use Rattle.checks.specs.Storage.{backupAtIn, RoofFits, Standing}
-use Rattle.checks.proofs.Roofs.{roofIn, backup-at-is, roof-fits, light-below, corners-fit, points-fit, gains-below}
+use Rattle.levels.specs.Storage.{roofIn, levelOf}
+use Rattle.levels.proofs.Laws.{Long}
+use Rattle.checks.specs.Steps.{Roofed}
+use Rattle.checks.proofs.Lent.{floor-shaped, entries-lent, roof-lent}
 use Rattle.runs.specs.State.{stored}
 use Rattle.builder.specs.declared.Best.{Best}
 use Rattle.builder.specs.declared.Rows.{Rows}
-use Rattle.builder.specs.Storage.{topBuilt, candidateOf, bestOf, rowsOf, Buildable}
+use Rattle.builder.specs.Steps.{topBuilt, candidateOf, bestOf, leastFrom, leastOf, rowsOf, uponIn, Upon, Buildable}
 
 -- ---- the largest so far, as a loop takes it
 module _ (f : ℕ → ℤ) (n : ℕ) {most here : ℤ} (so-far : most ≡ f (firstLargest n f)) (next : here ≡ f n) where
@@ -50,35 +51,13 @@ module _ (f : ℕ → ℤ) (n : ℕ) {most here : ℤ} (so-far : most ≡ f (fir
   pub no-more-here : ltZ most here ≡ false → most ≡ f (firstLargest (n + 1) f)
   no-more-here t = so-far ∙ ap f (sym (largest-same n f (rw (← so-far, ← next) t)))
 
--- ---- one action's least value
-module _ (m : Tables) (l : Level) (gains p : List ℕ) (a : ℕ) (h : Standing m l gains) where
-  -- what a backup requires
-  pub backup-fits : totalTo (m .states) (weightIn p) ≤ pointTotal → a < m .actions
-      → ((m .states ≤ maxStates) × ((m .observations ≤ maxObservations) × ((a < maxActions) × (m .discount ≤ one))))
-      × (Below pointTotal (m .states) p
-      × (((TransitionsFit (m .states) (m .transition) a)
-      × ((ObservationsFit (m .states) (m .observations) (m .observation) a) × (RewardsFit (m .states) (m .reward) a)))
-      × (((CornersFit (m .states) (l .corners)) × ((PointsFit (m .states) (l .points) (l .weights)) × (Below maxGain (l .points) gains)))
-      × RoofFits (m .states) (m .observations) (m .transition) (m .observation) (roofIn m l gains) p a)))
-  backup-fits small la =
-      let v = h .valid in
-      let s = h .shaped in (
-        (v .few-states, (v .few-observations, (omega (arith, v .few-actions), v .discount-limit))),
-        (
-          light-below (m .states) p small,
-          (
-            (transitions-fit m v a la, (observations-fit m v a la, rewards-fit m v a la)),
-            ((corners-fit m l s, (points-fit m l s, gains-below m l gains h)), roof-fits m l gains p a h small la),
-          ),
-        ),
-      )
-
-  -- it is the backup over K rounded up, each from its bits
-  pub least-made : {x y : ℤ} → mag x < 2 ^ 63
-      → x ≡ backupAtIn (m .states) (m .observations) (m .discount) (m .transition) (m .observation) (m .reward) (roofIn m l gains) p a → mag y < 2 ^ 63
-      → y ≡ ceilDiv (toZ w64 (ofZ w64 x)) K → toZ w64 (ofZ w64 y) ≡ leastFor (modelOf m) (levelOf (m .states) (m .observations) l) (weightIn p) a
-  unfolding leastFor
-  least-made ok e fine f = answer fine (f ∙ ap (λ (z : ℤ). ceilDiv z K) (answer ok (e ∙ backup-at-is m l gains p a h)))
+-- ---- the least value, from what each action allows
+pub least-is : (M : Model) (L : Ideal) (p : ℕ → ℕ) (backups : List ℤ) → ((a : ℕ) → a < M .actions → getD backups a (pos 0) ≡ backupAt M L p a)
+    → 0 < M .actions → leastOf (M .actions) backups ≡ leastValue M L p
+unfolding leastValue leastFor
+least-is M L p backups h some =
+    let same = largest-cong (M .actions) (leastFrom backups) (λ a. ceilDiv (backupAt M L p a) K) some (λ a l. ap (λ (z : ℤ). ceilDiv z K) (h a l)) in
+    ap (λ (z : ℤ). ceilDiv z K) (h _ (largest-in (M .actions) (leastFrom backups) some)) ∙ ap (λ (a : ℕ). ceilDiv (backupAt M L p a) K) same
 
 -- ---- weights are read below the number of states only
 module _ (M : Model) (L : Ideal) (p p' : ℕ → ℕ) (h : (s : ℕ) → s < M .states → p s ≡ p' s) (some : 0 < M .actions) where
@@ -147,19 +126,19 @@ pub record Made (n k : ℕ) (W : Ideal) (v : ℕ) (best : Best) : Type 0 where
   pub entries-are : (s : ℕ) → s < n → getD (best .candidate .entries) s (pos 0) ≡ W .entry v s
 
 -- The best candidate at the weights of v is vector v of the built level: action, choices and entries read the weights below the number of states only. Qed.
-pub vector-made : {m : Tables} {l : Level} (count : ℕ) (weight : ℕ → ℕ → ℕ) (v : ℕ) (p : List ℕ) {best : Best} → Buildable m l
-    → ((s : ℕ) → s < m .states → weightIn p s ≡ seed (m .states) weight v s) → best ≡ bestOf m l p
-    → Made (m .states) (m .observations) (built (modelOf m) (levelOf (m .states) (m .observations) l) count weight) v best
+pub vector-made : {c : Counts} {T O : List ℕ} {R entries : List ℤ} {vectors : ℕ} (count : ℕ) (weight : ℕ → ℕ → ℕ) (v : ℕ) (p : List ℕ) {best : Best} → Upon c T O R entries vectors
+    → ((s : ℕ) → s < c .states → weightIn p s ≡ seed (c .states) weight v s) → best ≡ bestOf (modelIn c T O R) (uponIn c vectors entries) p
+    → Made (c .states) (c .observations) (built (modelIn c T O R) (uponIn c vectors entries) count weight) v best
 unfolding built bestOf candidateOf
-vector-made {m} {l} count weight v p h e f =
+vector-made {c} {T} {O} {R} {entries} {vectors} count weight v p h e f =
     let some = h .shaped .some-vectors in
     let acts = h .valid .some-actions in record {
-      action-in = rw f (omega (arith, action-exists (modelOf m) (levelOf (m .states) (m .observations) l) (weightIn p) acts, h .valid .few-actions));
-      action-is = rw f (best-action (modelOf m) _ _ _ e some acts);
-      chosen-long = rw f (padded-length 0 maxObservations (m .observations) _ (h .valid .few-observations));
-      chosen-is = λ o b. rw f (padded-at 0 maxObservations (m .observations) _ o 0 b ∙ best-chosen (modelOf m) _ _ _ e some acts o);
-      entries-long = rw f (padded-length (pos 0) maxStates (m .states) _ (h .valid .few-states));
-      entries-are = λ s b. rw f (padded-at (pos 0) maxStates (m .states) _ s (pos 0) b ∙ best-entry (modelOf m) _ _ _ e some acts s);
+      action-in = rw f (omega (arith, action-exists (modelIn c T O R) (uponIn c vectors entries) (weightIn p) acts, h .valid .few-actions));
+      action-is = rw f (best-action (modelIn c T O R) _ _ _ e some acts);
+      chosen-long = rw f (padded-length 0 maxObservations (c .observations) _ (h .valid .few-observations));
+      chosen-is = λ o b. rw f (padded-at 0 maxObservations (c .observations) _ o 0 b ∙ best-chosen (modelIn c T O R) _ _ _ e some acts o);
+      entries-long = rw f (padded-length (pos 0) maxStates (c .states) _ (h .valid .few-states));
+      entries-are = λ s b. rw f (padded-at (pos 0) maxStates (c .states) _ s (pos 0) b ∙ best-entry (modelIn c T O R) _ _ _ e some acts s);
     }
 
 -- the first v vectors of a level in storage
@@ -222,19 +201,35 @@ module _ (n k : ℕ) (W : Ideal) where
   unfolding rowsOf
   filled-all h e = rw (h .actions-are, h .choices-are, h .entries-are, e)
 
-module _ {m : Tables} {l : Level} (h : Buildable m l) where
-  -- a level that can be built upon is within the limits
-  pub built-upon : Shaped (modelOf m) maxLevels (levelOf (m .states) (m .observations) l)
+-- tables and a level by value that can be built upon lend what can be
+module _ {m : Tables} {l : Level} (h : Buildable m l) (lent : tables.Long m) (long : Long l) where
+  -- the level is within the limits
+  built-upon : Shaped (modelOf m) maxLevels (levelOf (m .states) (m .observations) l)
   built-upon = shaped-mono _ _ topBuilt maxLevels (omega arith) (h .shaped)
 
-  -- and stands, with its gains
-  pub standing : {gains : List ℕ}
-      → gains ≡ padded 0 maxPoints (l .points) (λ i. positive (gainIn (m .states) (l .corners) (l .weights) (l .values) i)) → Standing m l gains
-  standing e = record {
+  pub upon-lent : Upon (countsOf m) (m .transition) (m .observation) (m .reward) (l .entries) (l .vectors)
+  upon-lent = record {
     valid = h .valid;
-    shaped = built-upon;
-    gained = λ i b. rw e (padded-at 0 maxPoints (l .points) _ i 0 b);
+    stored = tables.stored-valid m lent (h .valid);
+    shaped = floor-shaped (modelOf m) (h .valid .some-actions) (m .states) (m .observations) topBuilt l (h .shaped);
+    entries-stored = entries-lent m l (h .valid) lent long built-upon .stored;
   }
+
+  pub roofed-lent : Roofed (countsOf m) (m .transition) (m .observation) (m .reward) (l .corners) (l .points) (l .weights) (l .values)
+  roofed-lent = roof-lent m l (h .valid) lent long built-upon
+
+-- of the standing level, vectors are built from its vectors, and least values from its corners and points
+module _ (m : Tables) (l : Level) where
+  pub rows-read : (count : ℕ) (weight : ℕ → ℕ → ℕ)
+      → rowsOf (m .states) (m .observations) (built (modelOf m) (uponIn (countsOf m) (l .vectors) (l .entries)) count weight)
+      ≡ rowsOf (m .states) (m .observations) (built (modelOf m) (levelOf (m .states) (m .observations) l) count weight)
+  unfolding rowsOf built bestAction entryFor chosen follows
+  rows-read count weight = refl
+
+  pub least-read : (p : ℕ → ℕ) → leastValue (modelOf m) (roofIn (m .states) (l .corners) (l .points) (l .weights) (l .values)) p
+      ≡ leastValue (modelOf m) (levelOf (m .states) (m .observations) l) p
+  unfolding leastValue leastFor backupAt ceiling gain
+  least-read p = refl
 
 -- the built level in storage, from its parts
 pub level-made : (M : Model) (L : Ideal) (count : ℕ) (weight : ℕ → ℕ → ℕ) {rows : Rows} {corners values : List ℤ} {weights : List ℕ}

@@ -5,12 +5,11 @@ pub use Rattle.checks.proofs.Roofs.{corner-at, point-at}
 pub use Rattle.integers.proofs.Lists.{padded-none, padded-turn}
 pub use Rattle.integers.proofs.Words.{answer}
 pub use Rattle.integers.specs.Cells.{padded}
-pub use Rattle.levels.specs.Storage.{levelOf, pointIn}
-pub use Rattle.levels.specs.declared.Level.{Level}
+pub use Rattle.levels.specs.Storage.{pointIn, roofIn}
 pub use Rattle.plans.specs.Limits.{maxBuilt, maxPoints}
 pub use Rattle.tables.specs.Limits.{maxStates}
-pub use Rattle.tables.specs.Storage.{modelOf}
-pub use Rattle.tables.specs.declared.Tables.{Tables}
+pub use Rattle.tables.specs.Storage.{modelIn}
+pub use Rattle.tables.specs.declared.Counts.{Counts}
 pub use borrow.Author.Needs.{needs}
 pub use lib.IntN.{pos}
 pub use mathlib.Core.Logic.{⊎-elim}

@@ -1,2 +1,2 @@
 -- The builder's steps over storage.
-pub mod Storage
+pub mod Steps

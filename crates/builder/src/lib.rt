@@ -1,44 +1,46 @@
 // The builder: from a standing level and the weights of some points, a level that is always accepted.
 ghost use mathlib.Core.Path.{_≡_};
-ghost use Prim.Native.Nat.{ℕ, _+_, _*_, _≤_, _<_};
-ghost use lib.ListN.{getD};
-ghost use lib.IntN.{pos, natAbs};
+ghost use mathlib.Core.List.{[]};
+ghost use Prim.Native.Nat.{ℕ, _+_, _*_, _-_, _≤_, _<_};
+ghost use lib.ListN.{length};
+ghost use lib.IntN.{pos};
 ghost use Rattle.integers.specs.Whole.{floorDiv, totalTo, Below, Within};
 ghost use Rattle.integers.specs.Search.{firstLargest};
 ghost use Rattle.integers.specs.Cells.{padded, grid};
-ghost use Rattle.tables.specs.Limits.{maxStates, maxActions, maxObservations, maxVectors, one, maxWeight, maxEntry, K};
-ghost use Rattle.tables.specs.Storage.{weightIn, entryIn, modelOf, movedIn, seenIn, backupIn, TransitionsFit, ObservationsFit, RewardsFit, movedLimit, foreseenLimit};
+ghost use Rattle.tables.specs.Limits.{maxStates, maxActions, maxObservations, one, K};
+ghost use Rattle.tables.specs.Storage.{weightIn, entryIn, modelIn, modelOf};
+ghost use Rattle.tables.specs.Steps.{movedIn, seenIn, backupIn, rowsTo, TransitionsFit, ObservationsFit, RewardsFit, EntriesFit, movedLimit, foreseenLimit};
 ghost use Rattle.plans.specs.Limits.{maxBuilt, maxPoints, pointTotal, maxReached};
 ghost use Rattle.plans.specs.Level.{product, corner-weight};
 ghost use Rattle.plans.specs.Build.{seed, leastValue, built};
-ghost use Rattle.levels.specs.Storage.{levelOf, pointIn};
-ghost use Rattle.checks.specs.Storage.{Standing};
+ghost use Rattle.levels.specs.Storage.{roofIn, levelOf, pointIn};
+ghost use Rattle.checks.specs.Steps.{Light, Roofed};
 ghost use Rattle.runs.specs.State.{stored};
-ghost use Rattle.builder.specs.Storage.{candidateIn, bestOf, rowsOf, Buildable};
+ghost use Rattle.builder.specs.Steps.{candidateIn, bestOf, leastOf, rowsOf, uponIn, Upon, Buildable};
 use integers::cells;
 use levels::Actions;
 use levels::Choices;
-use levels::Chosen;
 use levels::Corners;
+use levels::Entries;
 use levels::Level;
 use levels::PointWeights;
 use levels::Values;
 use levels::shape;
 use levels::vectors;
 use runs::Points;
-use sawtooth::Gains;
 use tables::Action;
-use tables::Entries;
+use tables::Counts;
 use tables::Foreseen;
 use tables::Observation;
-use tables::Observations;
-use tables::Rewards;
 use tables::State;
 use tables::Tables;
-use tables::Transitions;
 use tables::Vector;
 use tables::Weights;
+use tables::read;
 use tables::sums;
+
+// What a vector chooses: a table of choices of one row.
+pub type Chosen = [u16; Tables::OBSERVATIONS];
 
 // One action's vector at some weights.
 pub struct Candidate {
@@ -59,43 +61,37 @@ pub struct Rows {
     pub entries: Entries,
 }
 
-fn narrow(v: Vector) -> u16
-    requires { ⌜ v .0 < maxVectors ⌝ }
-    ensures { λ r. ⌜ r ≡ v .0 ⌝ }
-{
-    v.0 as u16
-}
-
 // For each observation, the first previous vector with the largest product with the successor weights.
 fn choose(
-    observation: &Observations,
-    entries: &Entries,
-    u: &Weights,
+    observation: &[u16],
+    entries: &[i64],
+    u: &[u64],
     n: usize,
     k: usize,
     count: usize,
     a: Action,
 ) -> Chosen
-    requires { ⌜ (n ≤ maxStates) × ((k ≤ maxObservations) × ((a .0 < maxActions) × ((0 < count) × (count ≤ maxVectors)))) ⌝ }
+    requires { ⌜ (n ≤ maxStates) × ((k ≤ maxObservations) × ((a .0 < maxActions) × (0 < count))) ⌝ }
     requires { ⌜ Below movedLimit n (now u) ⌝ }
     requires { ⌜ ObservationsFit n k (now observation) (a .0) ⌝ }
     requires { ⌜ ((o : ℕ) → o < k → (s : ℕ) → s < n → seenIn n k (now observation) (now u) (a .0) o s ≤ maxReached) ⌝ }
-    requires { ⌜ ((v : ℕ) → v < count → (s : ℕ) → s < n → natAbs (entryIn n (now entries) v s) ≤ maxEntry) ⌝ }
+    requires { ⌜ EntriesFit n count (now entries) ⌝ }
     ensures { λ r. ⌜ r ≡ padded 0 maxObservations k (λ o. firstLargest count (λ v. product n (weightIn (padded 0 maxStates n (seenIn n k (now (observation .entry)) (now (u .entry)) (a .0) o))) (entryIn n (now (entries .entry)) v))) ⌝ }
 {
     let mut chosen = [0u16; Tables::OBSERVATIONS];
     for o in 0..k {
         let q = sums::successors(observation, n, k, u, a, Observation(o));
-        chosen[o] = narrow(vectors::best_vector(&q, entries, n, count));
+        let best = vectors::best_vector(&q, entries, n, count);
+        read::put_choice(&mut chosen, k, Vector(0), Observation(o), best);
     }
     chosen
 }
 
 // Each state's backup over K, rounded towards minus infinity.
 fn rounded<'a>(
-    transition: &'a Transitions,
-    reward: &'a Rewards,
-    f: &Foreseen,
+    transition: &'a [u16],
+    reward: &'a [i64],
+    f: &[i64],
     n: usize,
     g: u64,
     a: Action,
@@ -115,28 +111,29 @@ fn rounded<'a>(
 
 // One action's vector at weights p.
 fn vector_for<'a>(
-    transition: &'a Transitions,
-    observation: &'a Observations,
-    reward: &'a Rewards,
-    entries: &Entries,
-    p: &Weights,
-    n: usize,
-    k: usize,
-    g: u64,
+    transition: &'a [u16],
+    observation: &'a [u16],
+    reward: &'a [i64],
+    entries: &[i64],
+    p: &[u64],
+    c: Counts,
     count: usize,
     a: Action,
 ) -> Candidate
-    requires { ⌜ (n ≤ maxStates) × ((k ≤ maxObservations) × ((a .0 < maxActions) × (g ≤ one))) ⌝ }
-    requires { ⌜ (0 < count) × (count ≤ maxVectors) ⌝ }
-    requires { ⌜ Below pointTotal n (now p) ⌝ }
-    requires { ⌜ (TransitionsFit n (now transition) (a .0)) × ((ObservationsFit n k (now observation) (a .0)) × (RewardsFit n (now reward) (a .0))) ⌝ }
-    requires { ⌜ ((o : ℕ) → o < k → (s : ℕ) → s < n → seenIn n k (now observation) (padded 0 maxStates n (movedIn n (now transition) (now p) (a .0))) (a .0) o s ≤ maxReached) × ((v : ℕ) → v < count → (s : ℕ) → s < n → natAbs (entryIn n (now entries) v s) ≤ maxEntry) ⌝ }
-    ensures { λ r. ⌜ r ≡ candidateIn n k g (now (transition .entry)) (now (observation .entry)) (now (reward .entry)) (now (entries .entry)) count (now (p .entry)) (a .0) ⌝ }
+    requires { ⌜ (c .states ≤ maxStates) × ((c .observations ≤ maxObservations) × ((a .0 < maxActions) × (c .discount ≤ one))) ⌝ }
+    requires { ⌜ 0 < count ⌝ }
+    requires { ⌜ Below pointTotal (c .states) (now p) ⌝ }
+    requires { ⌜ (TransitionsFit (c .states) (now transition) (a .0)) × ((ObservationsFit (c .states) (c .observations) (now observation) (a .0)) × (RewardsFit (c .states) (now reward) (a .0))) ⌝ }
+    requires { ⌜ ((o : ℕ) → o < c .observations → (s : ℕ) → s < c .states → seenIn (c .states) (c .observations) (now observation) (padded 0 maxStates (c .states) (movedIn (c .states) (now transition) (now p) (a .0))) (a .0) o s ≤ maxReached) ⌝ }
+    requires { ⌜ EntriesFit (c .states) count (now entries) ⌝ }
+    ensures { λ r. ⌜ r ≡ candidateIn c (now (transition .entry)) (now (observation .entry)) (now (reward .entry)) (now (entries .entry)) count (now (p .entry)) (a .0) ⌝ }
 {
+    let n = c.states;
+    let k = c.observations;
     let u = sums::moved(transition, n, p, a);
     let chosen = choose(observation, entries, &u, n, k, count, a);
-    let f = sums::foreseen(observation, n, k, entries, &chosen, a);
-    let e = rounded(transition, reward, &f, n, g, a);
+    let f = sums::foreseen(observation, n, k, entries, &chosen, Vector(0), a);
+    let e = rounded(transition, reward, &f, n, c.discount, a);
     Candidate {
         chosen: chosen,
         entries: e,
@@ -144,46 +141,47 @@ fn vector_for<'a>(
 }
 
 // The first action whose vector has the largest product with p.
-pub fn best_candidate(m: Tables, l: Level, p: Weights) -> Best
-    requires { ⌜ Buildable m l ⌝ }
-    requires { ⌜ totalTo (m .states) (weightIn p) ≤ pointTotal ⌝ }
-    ensures { λ r. ⌜ r ≡ bestOf m l p ⌝ }
+pub fn best_candidate<'a>(
+    transition: &'a [u16],
+    observation: &'a [u16],
+    reward: &'a [i64],
+    entries: &[i64],
+    p: &[u64],
+    c: Counts,
+    count: usize,
+) -> Best
+    requires { ⌜ Upon c (now transition) (now observation) (now reward) (now entries) count ⌝ }
+    requires { ⌜ Light (c .states) (now p) ⌝ }
+    ensures { λ r. ⌜ r ≡ bestOf (modelIn c (now (transition .entry)) (now (observation .entry)) (now (reward .entry))) (uponIn c count (now (entries .entry))) (now (p .entry)) ⌝ }
 {
-    let n = m.states;
-    let actions = m.actions;
-    let k = m.observations;
-    let g = m.discount;
-    let count = l.vectors;
+    let n = c.states;
+    let actions = c.actions;
     let mut action: usize = 0;
     let mut best = vector_for(
-        &m.transition,
-        &m.observation,
-        &m.reward,
-        &l.entries,
-        &p,
-        n,
-        k,
-        g,
+        transition,
+        observation,
+        reward,
+        entries,
+        p,
+        c,
         count,
         Action(0),
     );
     let first = best.entries;
-    let mut most = vectors::product(&p, &first, 0, n);
+    let mut most = vectors::product(p, &first, 0, n);
     for a in 1..actions {
         let next = vector_for(
-            &m.transition,
-            &m.observation,
-            &m.reward,
-            &l.entries,
-            &p,
-            n,
-            k,
-            g,
+            transition,
+            observation,
+            reward,
+            entries,
+            p,
+            c,
             count,
             Action(a),
         );
-        let entries = next.entries;
-        let here = vectors::product(&p, &entries, 0, n);
+        let made = next.entries;
+        let here = vectors::product(p, &made, 0, n);
         if most < here {
             most = here;
             action = a;
@@ -196,52 +194,14 @@ pub fn best_candidate(m: Tables, l: Level, p: Weights) -> Best
     }
 }
 
-// The least whole number that meets the backup inequality of every action at weights p.
-pub fn least_value(m: Tables, l: Level, gains: Gains, p: Weights) -> i64
-    requires { ⌜ Standing m l gains ⌝ }
-    requires { ⌜ totalTo (m .states) (weightIn p) ≤ pointTotal ⌝ }
-    ensures { λ r. ⌜ r ≡ leastValue (modelOf m) (levelOf (m .states) (m .observations) l) (weightIn p) ⌝ }
+// The least whole number that meets the inequality of every action, from what each allows.
+fn least_of(backups: &[i64], actions: usize) -> i64
+    requires { ⌜ (0 < actions) × (actions ≤ length (now backups)) ⌝ }
+    ensures { λ r. ⌜ r ≡ leastOf actions (now (backups .entry)) ⌝ }
 {
-    let n = m.states;
-    let actions = m.actions;
-    let k = m.observations;
-    let g = m.discount;
-    let points = l.points;
-    let mut most = integers::ceil_div(
-        checks::backup_at(
-            &m.transition,
-            &m.observation,
-            &m.reward,
-            &l.corners,
-            &l.weights,
-            &gains,
-            &p,
-            n,
-            k,
-            g,
-            points,
-            Action(0),
-        ),
-        Tables::K,
-    );
+    let mut most = integers::ceil_div(backups[0], Tables::K);
     for a in 1..actions {
-        let here = integers::ceil_div(
-            checks::backup_at(
-                &m.transition,
-                &m.observation,
-                &m.reward,
-                &l.corners,
-                &l.weights,
-                &gains,
-                &p,
-                n,
-                k,
-                g,
-                points,
-                Action(a),
-            ),
-            Tables::K,
-        );
+        let here = integers::ceil_div(backups[a], Tables::K);
         if most < here {
             most = here;
         }
@@ -249,30 +209,17 @@ pub fn least_value(m: Tables, l: Level, gains: Gains, p: Weights) -> i64
     most
 }
 
-// The weights of a point that the builder is given.
-fn given_weights(p: Points, n: usize, i: usize) -> Weights
-    requires { ⌜ (n ≤ maxStates) × (i < maxBuilt) ⌝ }
-    ensures { λ r. ⌜ r ≡ padded 0 maxStates n (pointIn n (p .weights) i) ⌝ }
-{
-    let at = i * n;
-    let weights = p.weights;
-    let mut w = [0u64; Tables::STATES];
-    for s in 0..n {
-        w[s] = shape::weight(weights[at + s]);
-    }
-    w
-}
-
 // The weights at which vector v is made: corner 0, 1, .., then the points.
-fn seed_weights(p: Points, n: usize, v: Vector) -> Weights
+fn seed_weights(weights: &[u32], n: usize, v: Vector) -> Weights
     requires { ⌜ (n ≤ maxStates) × (v .0 < n + maxBuilt) ⌝ }
-    ensures { λ r. ⌜ ((s : ℕ) → s < n → weightIn r s ≡ seed n (pointIn n (p .weights)) (v .0) s) ⌝ }
+    requires { ⌜ (n ≤ v .0 → rowsTo n (v .0 - n) ≤ length (now weights)) ⌝ }
+    ensures { λ r. ⌜ ((s : ℕ) → s < n → weightIn r s ≡ seed n (pointIn n (now (weights .entry))) (v .0) s) × (length r ≡ maxStates) ⌝ }
 {
     let i = v.0;
     if i < n {
         return checks::corner_weights(State(i));
     }
-    given_weights(p, n, i - n)
+    shape::point_weights(weights, n, i - n)
 }
 
 fn number(a: Action) -> u8
@@ -283,26 +230,36 @@ fn number(a: Action) -> u8
 }
 
 // A vector at each corner, then at each point.
-pub fn build_vectors(m: Tables, l: Level, p: Points) -> Rows
-    requires { ⌜ Buildable m l ⌝ }
-    requires { ⌜ p .count ≤ maxBuilt ⌝ }
-    requires { ⌜ ((i : ℕ) → i < p .count → totalTo (m .states) (pointIn (m .states) (p .weights) i) ≡ pointTotal) ⌝ }
-    ensures { λ r. ⌜ r ≡ rowsOf (m .states) (m .observations) (built (modelOf m) (levelOf (m .states) (m .observations) l) (p .count) (pointIn (m .states) (p .weights))) ⌝ }
+fn build_vectors<'a>(
+    transition: &'a [u16],
+    observation: &'a [u16],
+    reward: &'a [i64],
+    standing: &[i64],
+    weights: &[u32],
+    c: Counts,
+    vectors: usize,
+    points: usize,
+) -> Rows
+    requires { ⌜ Upon c (now transition) (now observation) (now reward) (now standing) vectors ⌝ }
+    requires { ⌜ (points ≤ maxBuilt) × (points * c .states ≤ length (now weights)) ⌝ }
+    requires { ⌜ ((i : ℕ) → i < points → totalTo (c .states) (pointIn (c .states) (now weights) i) ≡ pointTotal) ⌝ }
+    ensures { λ r. ⌜ r ≡ rowsOf (c .states) (c .observations) (built (modelIn c (now (transition .entry)) (now (observation .entry)) (now (reward .entry))) (uponIn c vectors (now (standing .entry))) points (pointIn (c .states) (now (weights .entry)))) ⌝ }
 {
-    let n = m.states;
-    let k = m.observations;
-    let count = n + p.count;
+    let n = c.states;
+    let k = c.observations;
+    let count = n + points;
     let mut actions = [0u8; Tables::VECTORS];
     let mut choices = [0u16; Tables::VECTORS * Tables::OBSERVATIONS];
     let mut entries = [0i64; Tables::VECTORS * Tables::STATES];
     for v in 0..count {
-        let best = best_candidate(m, l, seed_weights(p, n, Vector(v)));
+        let p = seed_weights(weights, n, Vector(v));
+        let best = best_candidate(transition, observation, reward, standing, &p, c, vectors);
         let made = best.candidate;
         let chosen = made.chosen;
         let row = made.entries;
         actions[v] = number(best.action);
-        cells::paste_u16(&mut choices, v * k, &chosen, k);
-        cells::paste_i64(&mut entries, v * n, &row, n);
+        cells::paste_u16(&mut choices, read::start(v, k), &chosen, k);
+        cells::paste_i64(&mut entries, read::start(v, n), &row, n);
     }
     Rows {
         actions: actions,
@@ -312,41 +269,86 @@ pub fn build_vectors(m: Tables, l: Level, p: Points) -> Rows
 }
 
 // The least corners that meet their inequalities.
-pub fn build_corners(m: Tables, l: Level, gains: Gains) -> Corners
-    requires { ⌜ Standing m l gains ⌝ }
-    ensures { λ r. ⌜ r ≡ padded (pos 0) maxStates (m .states) (λ s. leastValue (modelOf m) (levelOf (m .states) (m .observations) l) (corner-weight s)) ⌝ }
+fn build_corners<'a, 'b>(
+    transition: &'a [u16],
+    observation: &'a [u16],
+    reward: &'a [i64],
+    corners: &'b [i64],
+    weights: &'b [u32],
+    values: &'b [i64],
+    c: Counts,
+    points: usize,
+) -> Corners
+    requires { ⌜ Roofed c (now transition) (now observation) (now reward) (now corners) points (now weights) (now values) ⌝ }
+    ensures { λ r. ⌜ r ≡ padded (pos 0) maxStates (c .states) (λ s. leastValue (modelIn c (now (transition .entry)) (now (observation .entry)) (now (reward .entry))) (roofIn (c .states) (now (corners .entry)) points (now (weights .entry)) (now (values .entry))) (corner-weight s)) ⌝ }
 {
-    let n = m.states;
-    let mut corners = [0i64; Tables::STATES];
+    let n = c.states;
+    let gains = sawtooth::gains(corners, weights, values, points, n);
+    let mut least = [0i64; Tables::STATES];
     for s in 0..n {
-        corners[s] = least_value(m, l, gains, checks::corner_weights(State(s)));
+        let p = checks::corner_weights(State(s));
+        let backups = checks::backups_at(
+            transition,
+            observation,
+            reward,
+            corners,
+            weights,
+            &gains,
+            &p,
+            c,
+            points,
+        );
+        least[s] = least_of(&backups, c.actions);
     }
-    corners
+    least
 }
 
 // The least point values that meet their inequalities.
-pub fn build_values(m: Tables, l: Level, gains: Gains, p: Points) -> Values
-    requires { ⌜ Standing m l gains ⌝ }
-    requires { ⌜ p .count ≤ maxBuilt ⌝ }
-    requires { ⌜ ((i : ℕ) → i < p .count → totalTo (m .states) (pointIn (m .states) (p .weights) i) ≡ pointTotal) ⌝ }
-    ensures { λ r. ⌜ r ≡ padded (pos 0) maxPoints (p .count) (λ i. leastValue (modelOf m) (levelOf (m .states) (m .observations) l) (pointIn (m .states) (p .weights) i)) ⌝ }
+fn build_values<'a, 'b>(
+    transition: &'a [u16],
+    observation: &'a [u16],
+    reward: &'a [i64],
+    corners: &'b [i64],
+    weights: &'b [u32],
+    values: &'b [i64],
+    given: &[u32],
+    c: Counts,
+    points: usize,
+    count: usize,
+) -> Values
+    requires { ⌜ Roofed c (now transition) (now observation) (now reward) (now corners) points (now weights) (now values) ⌝ }
+    requires { ⌜ (count ≤ maxBuilt) × (count * c .states ≤ length (now given)) ⌝ }
+    requires { ⌜ ((i : ℕ) → i < count → totalTo (c .states) (pointIn (c .states) (now given) i) ≡ pointTotal) ⌝ }
+    ensures { λ r. ⌜ r ≡ padded (pos 0) maxPoints count (λ i. leastValue (modelIn c (now (transition .entry)) (now (observation .entry)) (now (reward .entry))) (roofIn (c .states) (now (corners .entry)) points (now (weights .entry)) (now (values .entry))) (pointIn (c .states) (now (given .entry)) i)) ⌝ }
 {
-    let n = m.states;
-    let count = p.count;
-    let mut values = [0i64; Level::POINTS];
+    let n = c.states;
+    let gains = sawtooth::gains(corners, weights, values, points, n);
+    let mut least = [0i64; Level::POINTS];
     for i in 0..count {
-        values[i] = least_value(m, l, gains, given_weights(p, n, i));
+        let p = shape::point_weights(given, n, i);
+        let backups = checks::backups_at(
+            transition,
+            observation,
+            reward,
+            corners,
+            weights,
+            &gains,
+            &p,
+            c,
+            points,
+        );
+        least[i] = least_of(&backups, c.actions);
     }
-    values
+    least
 }
 
 // The points' weights, in their order.
-pub fn keep_points(p: Points, n: usize) -> PointWeights
-    requires { ⌜ (n ≤ maxStates) × (p .count ≤ maxBuilt) ⌝ }
-    ensures { λ r. ⌜ r ≡ grid 0 (maxPoints * maxStates) (p .count) n (pointIn n (p .weights)) ⌝ }
+fn keep_points(given: &[u32], count: usize, n: usize) -> PointWeights
+    requires { ⌜ (n ≤ maxStates) × (count ≤ maxBuilt) ⌝ }
+    requires { ⌜ count * n ≤ length (now given) ⌝ }
+    ensures { λ r. ⌜ r ≡ grid 0 (maxPoints * maxStates) count n (pointIn n (now (given .entry))) ⌝ }
 {
-    let used = p.count * n;
-    let given = p.weights;
+    let used = count * n;
     let mut weights = [0u32; Level::POINTS * Tables::STATES];
     for i in 0..used {
         weights[i] = given[i];
@@ -363,11 +365,45 @@ pub fn build_level(m: Tables, l: Level, p: Points) -> Level
 {
     let n = m.states;
     let count = p.count;
-    let gains = sawtooth::gains(&l.corners, &l.weights, &l.values, l.points, n);
-    let rows = build_vectors(m, l, p);
-    let corners = build_corners(m, l, gains);
-    let values = build_values(m, l, gains, p);
-    let weights = keep_points(p, n);
+    let c = Counts {
+        states: n,
+        actions: m.actions,
+        observations: m.observations,
+        discount: m.discount,
+    };
+    let rows = build_vectors(
+        &m.transition,
+        &m.observation,
+        &m.reward,
+        &l.entries,
+        &p.weights,
+        c,
+        l.vectors,
+        count,
+    );
+    let corners = build_corners(
+        &m.transition,
+        &m.observation,
+        &m.reward,
+        &l.corners,
+        &l.weights,
+        &l.values,
+        c,
+        l.points,
+    );
+    let values = build_values(
+        &m.transition,
+        &m.observation,
+        &m.reward,
+        &l.corners,
+        &l.weights,
+        &l.values,
+        &p.weights,
+        c,
+        l.points,
+        count,
+    );
+    let weights = keep_points(&p.weights, count, n);
     let actions = rows.actions;
     let choices = rows.choices;
     let entries = rows.entries;

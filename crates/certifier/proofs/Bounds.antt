@@ -9,27 +9,32 @@ use native.Mathlib.Omega.{arith}
 use borrow.Author.Tests.{leb-true, lt-ltb}
 use lib.Dec.{ltb}
 use lib.ListN.{getD}
-use lib.IntN.{ℤ, natAbs, _-ℤ_}
+use lib.IntN.{ℤ, pos, natAbs, _-ℤ_}
 use Rattle.integers.specs.Whole.{totalTo, Below}
 use Rattle.integers.specs.Cells.{padded}
-use Rattle.integers.proofs.Lists.{padded-at}
+use Rattle.integers.proofs.Lists.{padded-at, padded-length}
 use Rattle.integers.proofs.Searches.{and-true, every-at, largest-cong}
 use Rattle.integers.proofs.Sizes.{times-bound, sum-weighed}
 use Rattle.integers.proofs.Sums.{total-bound}
 use Rattle.tables.specs.declared.Verdict.the-variants.{Fine}
-use Rattle.tables.specs.Limits.{maxStates, maxVectors, maxWeight, maxEntry, maxLevels}
+use Rattle.tables.specs.Limits.{maxStates, maxWeight, maxEntry, maxLevels}
 use Rattle.tables.specs.Model.{Model}
-use Rattle.tables.specs.Storage.{weightIn, entryIn}
+use Rattle.tables.specs.Storage.{rowStart, weightIn, entryIn, countsOf}
+use Rattle.tables.specs.Steps.{EntriesFit}
+use Rattle.tables.proofs.Fitting as tables
+use Rattle.tables.proofs.Fitting.{row-alone}
 use Rattle.plans.specs.Limits.{maxPoints, range, maxReached}
-use Rattle.plans.specs.Level.{Level as Ideal, product, Shaped}
+use Rattle.plans.specs.Level.{Level as Ideal, product, gain, ceiling, Shaped}
 use Rattle.plans.specs.Totals.{best, lower, upper, advice}
 use Rattle.plans.proofs.Agreement.{product-cong, ceiling-weights}
 use Rattle.plans.proofs.Bracket.{best-exists}
 use Rattle.plans.proofs.Built.{ceiling-range, range-limit, shaped-mono}
-use Rattle.levels.proofs.Laws.{row-fits}
-use Rattle.sawtooth.specs.Storage.{positive, gainIn, ceilingIn, CornersFit, PointsFit, ValuesFit, maxGain}
-use Rattle.sawtooth.proofs.Joined.{ceiling-is, gains-limit}
-use Rattle.checks.proofs.Roofs as roofs
+use Rattle.levels.specs.Storage.{pointIn}
+use Rattle.levels.proofs.Laws.{Long}
+use Rattle.sawtooth.specs.Steps.{positive, gainIn, ceilingIn}
+use Rattle.sawtooth.proofs.Joined.{ceiling-is}
+use Rattle.checks.specs.Steps.{Roofed}
+use Rattle.checks.proofs.Lent.{entries-lent, roof-lent}
 use Rattle.runs.specs.declared.Certifier.{Certifier}
 use Rattle.runs.specs.declared.Bounds.{Bounds}
 use Rattle.runs.specs.State.{modelIn, levelIn, holds, mixtureHolds, totalsVerdict, boundsBy, totalsOf}
@@ -60,16 +65,19 @@ module _ (M : Model) (L : Ideal) (b b' : ℕ → ℕ) (same : (s : ℕ) → s < 
     advice-weights = ap (L .action) best-weights
 
 -- ---- a mixture
--- the weights of the states, as the code widens them
-widened-at : {n : ℕ} {q : List ℕ} (b : List ℕ) → q ≡ padded 0 maxStates n (weightIn b) → (s : ℕ) → s < n → weightIn q s ≡ weightIn b s
-widened-at {n} b e s l = rw e (padded-at 0 maxStates n (weightIn b) s 0 l)
+-- the weights of the states, as the code widens them: those of a row that is alone
+widened-at : {n : ℕ} {q : List ℕ} (b : List ℕ) → q ≡ padded 0 maxStates n (pointIn n b 0) → (s : ℕ) → s < n → weightIn q s ≡ weightIn b s
+widened-at {n} b e s l = rw e (padded-at 0 maxStates n (pointIn n b 0) s 0 l) ∙ ap (λ (i : ℕ). getD b i 0) (row-alone n s)
 
-pub mixture-below : {n : ℕ} {q : List ℕ} (b : List ℕ) → q ≡ padded 0 maxStates n (weightIn b) → mixtureHolds n (weightIn b) ≡ true
+pub mixture-below : {n : ℕ} {q : List ℕ} (b : List ℕ) → n ≤ maxStates → q ≡ padded 0 maxStates n (pointIn n b 0) → mixtureHolds n (weightIn b) ≡ true
     → Below maxWeight n q
-mixture-below {n} b e h = record { below = λ s l. rw (widened-at b e s l) (leb-true _ _ (every-at n _ (and-true _ _ h .0) s l)) }
+mixture-below {n} b few e h = record {
+  long = rw (e, padded-length 0 maxStates n (pointIn n b 0) few) few;
+  below = λ s l. rw (widened-at b e s l) (leb-true _ _ (every-at n _ (and-true _ _ h .0) s l));
+}
 
 pub below-reached : {n : ℕ} {q : List ℕ} → Below maxWeight n q → Below maxReached n q
-below-reached b = record { below = λ s l. omega (arith, b .below s l) }
+below-reached b = record { long = b .long; below = λ s l. omega (arith, b .below s l) }
 
 -- ---- a certifier that is not refused by 7
 module _ (c : Certifier) (h : holds c ≡ true) where
@@ -82,41 +90,31 @@ module _ (c : Certifier) (h : holds c ≡ true) where
   pub some-vectors : 0 < c .level .vectors
   some-vectors = stands .shaped .some-vectors
 
-  pub few-vectors : c .level .vectors ≤ maxVectors
-  few-vectors = stands .shaped .few-vectors
-
-  pub entries-fit : (v : ℕ) → v < c .level .vectors → (s : ℕ) → s < c .tables .states
-      → natAbs (entryIn (c .tables .states) (c .level .entries) v s) ≤ maxEntry
-  entries-fit v l s b = omega (arith, stands .shaped .entry-in v l s b, range-limit (c .number) (stands .few-levels))
-
   -- the level is within the limits of the hundredth
   full : Shaped (modelIn c) maxLevels (levelIn c)
   full = shaped-mono (modelIn c) (levelIn c) (c .number) maxLevels (stands .few-levels) (stands .shaped)
 
-  pub corners-fit : CornersFit (c .tables .states) (c .level .corners)
-  corners-fit = roofs.corners-fit (c .tables) (c .level) full
+  -- what its arrays lend
+  module _ (lent : tables.Long (c .tables)) (long : Long (c .level)) where
+    pub entries-fit : EntriesFit (c .tables .states) (c .level .vectors) (c .level .entries)
+    entries-fit = entries-lent (c .tables) (c .level) (stands .valid-tables) lent long full
 
-  pub points-fit : PointsFit (c .tables .states) (c .level .points) (c .level .weights)
-  points-fit = roofs.points-fit (c .tables) (c .level) full
-
-  pub values-fit : ValuesFit (c .level .points) (c .level .values)
-  values-fit = roofs.values-fit (c .tables) (c .level) full
+    pub roofed : Roofed (countsOf (c .tables)) (c .tables .transition) (c .tables .observation) (c .tables .reward) (c .level .corners) (c .level .points)
+        (c .level .weights) (c .level .values)
+    roofed = roof-lent (c .tables) (c .level) (stands .valid-tables) lent long full
 
   -- the best vector, found by code
   module _ (q : List ℕ) {i : ℕ} (e : i ≡ best (modelIn c) (levelIn c) (weightIn q)) where
     pub best-below : i < c .level .vectors
     best-below = rw e (best-exists (modelIn c) (levelIn c) (weightIn q) some-vectors)
 
-    pub best-in : i < maxVectors
-    best-in = omega (arith, best-below, few-vectors)
-
-    -- it lies in the array
-    pub best-row : i * c .tables .states + c .tables .states ≤ 512
-    best-row = row-fits {R = 32} {X = 16} i (c .level .vectors) (c .tables .states) best-below few-vectors few-states
-
-    pub lower-is : product (c .tables .states) (weightIn q) (entryIn (c .tables .states) (c .level .entries) i) ≡ lower (modelIn c) (levelIn c) (weightIn q)
+    pub lower-is : {at : ℕ} {x : ℤ} → at ≡ rowStart (c .tables .states) i
+        → x ≡ product (c .tables .states) (weightIn q) (λ s. getD (c .level .entries) (at + s) (pos 0)) → x ≡ lower (modelIn c) (levelIn c) (weightIn q)
     unfolding lower
-    lower-is = ap (λ (v : ℕ). product (c .tables .states) (weightIn q) (entryIn (c .tables .states) (c .level .entries) v)) e
+    lower-is starts x =
+        x
+        ∙ ap (λ (z : ℕ). product (c .tables .states) (weightIn q) (λ s. getD (c .level .entries) (z + s) (pos 0))) starts
+        ∙ ap (λ (v : ℕ). product (c .tables .states) (weightIn q) (entryIn (c .tables .states) (c .level .entries) v)) e
 
   -- the gains, as the code lists them
   module _ {gains : List ℕ}
@@ -126,13 +124,11 @@ module _ (c : Certifier) (h : holds c ≡ true) where
         → getD gains i 0 ≡ positive (gainIn (c .tables .states) (c .level .corners) (c .level .weights) (c .level .values) i)
     gains-at i l = rw e (padded-at 0 maxPoints (c .level .points) _ i 0 l)
 
-    pub gains-below : Below maxGain (c .level .points) gains
-    gains-below = record { below = λ i l. rw (gains-at i l) (gains-limit corners-fit points-fit values-fit few-states i l) }
-
     pub upper-is : (q : List ℕ) → ceilingIn (c .tables .states) (c .level .corners) (c .level .weights) gains (c .level .points) q
         ≡ upper (modelIn c) (levelIn c) (weightIn q)
-    unfolding upper
-    upper-is q = ceiling-is (c .tables .states) (c .tables .observations) (c .level) gains q gains-at
+    unfolding upper ceiling gain
+    upper-is q =
+        ceiling-is (c .tables .states) (c .level .corners) (c .level .points) (c .level .weights) (c .level .values) gains q gains-at
 
   -- how large the totals are
   module _ {q : List ℕ} (b : Below maxWeight (c .tables .states) q) where
@@ -162,7 +158,7 @@ module _ (c : Certifier) (h : holds c ≡ true) where
   unfolding advice
   bounds-are q e low high gap action = rw (action, gap, low, high, e)
 
-  pub bounds-widened : {q : List ℕ} (b : List ℕ) → q ≡ padded 0 maxStates (c .tables .states) (weightIn b) → boundsBy Fine c q ≡ boundsBy Fine c b
+  pub bounds-widened : {q : List ℕ} (b : List ℕ) → q ≡ padded 0 maxStates (c .tables .states) (pointIn (c .tables .states) b 0) → boundsBy Fine c q ≡ boundsBy Fine c b
   bounds-widened {q} b e =
       let same = widened-at b e in
       rw (
@@ -190,7 +186,7 @@ module _ (c : Certifier) (b : List ℕ) {r : Bounds} where
       unfolding totalsOf totalsVerdict
       refused-17 f e = e ∙ rw (h, above-zero (c .number) k, f)
 
-      pub bounds-given : {q : List ℕ} → mixtureHolds (c .tables .states) (weightIn b) ≡ true → q ≡ padded 0 maxStates (c .tables .states) (weightIn b)
+      pub bounds-given : {q : List ℕ} → mixtureHolds (c .tables .states) (weightIn b) ≡ true → q ≡ padded 0 maxStates (c .tables .states) (pointIn (c .tables .states) b 0)
           → r ≡ boundsBy Fine c q → r ≡ totalsOf c b
       unfolding totalsOf totalsVerdict
       bounds-given f w e = e ∙ bounds-widened c h b w ∙ rw (h, above-zero (c .number) k, f)

@@ -19,7 +19,7 @@ use Rattle.runs.specs.declared.Points.{Points}
 use Rattle.runs.specs.declared.Built.{Built}
 use Rattle.runs.specs.State.{modelIn, levelIn, holds, buildVerdict, stored, builtFrom, builtBy, builtOf}
 use Rattle.runs.proofs.Judged.{standing-true}
-use Rattle.builder.specs.Storage.{topBuilt, Buildable}
+use Rattle.builder.specs.Steps.{topBuilt, Buildable}
 use Rattle.certifier.specs.Stages.{noBuilt}
 
 module _ (c : Certifier) (p : Points) where

@@ -1,33 +1,31 @@
 -- An offer's tests in their two stages, and what the first leaves known for the second. Assumes nothing.
-use mathlib.Core.Path.{_≡_}
+use mathlib.Core.Path.{_≡_, refl}
 use mathlib.Core.Bool.{true}
-use mathlib.Core.List.{List}
+use mathlib.Core.List.{[]}
 use Prim.Native.Nat.{ℕ, suc, _<_}
 use native.Mathlib.Omega.{arith}
 use borrow.Author.Tests.{ltb-true, lt-ltb, le-leb}
-use Rattle.integers.specs.Cells.{padded}
-use Rattle.integers.proofs.Lists.{padded-at}
 use Rattle.integers.proofs.Searches.{and-true, and-is, at-every}
-use Rattle.tables.specs.declared.Tables.{Tables}
 use Rattle.tables.specs.declared.Verdict.{Verdict}
 use Rattle.tables.specs.declared.Verdict.the-variants.{Fine, Refused}
 use Rattle.tables.specs.Model.{Model, Valid}
-use Rattle.tables.specs.Storage.{modelOf}
+use Rattle.tables.specs.Storage.{countsOf}
+use Rattle.tables.proofs.Fitting as tables
 use Rattle.tables.specs.Judged.{modelVerdict}
 use Rattle.tables.proofs.Refusals.{before-fine, unless-fine, stops, goes}
 use Rattle.tables.specs.Limits.{maxLevels}
-use Rattle.plans.specs.Limits.{maxPoints}
-use Rattle.plans.specs.Level.{Level as Ideal, Shaped}
+use Rattle.plans.specs.Level.{Level as Ideal, Shaped, ceiling, gain, backupAt, follows}
 use Rattle.levels.specs.declared.Level.{Level}
-use Rattle.levels.specs.Storage.{levelOf}
+use Rattle.levels.specs.Storage.{floorIn, roofIn}
+use Rattle.levels.proofs.Laws.{Long, sizes}
 use Rattle.levels.specs.Judged.{countsHold, rangesVerdict, weightsVerdict, isFine, standingHolds, numbersVerdict}
 use Rattle.levels.specs.Judged.{floorsVerdict, cornersVerdict, pointsVerdict, shapeVerdict, backupsVerdict, offerVerdict}
 use Rattle.runs.specs.declared.Certifier.{Certifier}
 use Rattle.runs.specs.State.{modelIn, readBy, levelIn, verdictOn}
 use Rattle.plans.proofs.Built.{shaped-mono}
 use Rattle.runs.proofs.Judged.{Accepted, standing-true, numbers-fine, accepted}
-use Rattle.sawtooth.specs.Storage.{positive, gainIn}
-use Rattle.checks.specs.Storage.{Standing}
+use Rattle.checks.specs.Steps.{Judging, Roofed}
+use Rattle.checks.proofs.Lent.{entries-lent, roof-lent}
 use Rattle.certifier.proofs.Stages.{fine}
 
 -- ---- the stages as the code goes through them
@@ -97,12 +95,50 @@ module _ (M : Model) (t : ℕ) (L W : Ideal) where
         chosen = λ v l. numbers-fine M t L W (e11 .0) v l .1;
       }
 
--- ---- the standing level with the gains of its points, as the code lists them
-pub standing-gains : (m : Tables) (l : Level) {gains : List ℕ} → Valid (modelOf m)
-    → Shaped (modelOf m) maxLevels (levelOf (m .states) (m .observations) l)
-    → gains ≡ padded 0 maxPoints (l .points) (λ i. positive (gainIn (m .states) (l .corners) (l .weights) (l .values) i)) → Standing m l gains
-standing-gains m l valid shaped e = record {
-  valid = valid;
-  shaped = shaped;
-  gained = λ i b. rw e (padded-at 0 maxPoints (l .points) _ i 0 b);
-}
+-- ---- what a certifier and an offered level by value lend to the tests of 13 to 15
+module _ (c : Certifier) (l : Level) where
+  -- of the standing level and the offered one, each test reads a part
+  pub floors-read : floorsVerdict (modelIn c) (floorIn (c .tables .states) (c .tables .observations) 0 [] [] (c .level .entries))
+      (floorIn (c .tables .states) (c .tables .observations) (l .vectors) (l .actions) (l .choices) (l .entries))
+      ≡ floorsVerdict (modelIn c) (levelIn c) (readBy c l)
+  unfolding floorsVerdict follows
+  floors-read = refl
+
+  -- the corners and points of the standing level
+  abbrev roof : Ideal
+  roof = roofIn (c .tables .states) (c .level .corners) (c .level .points) (c .level .weights) (c .level .values)
+
+  pub corners-read : cornersVerdict (modelIn c) roof (roofIn (c .tables .states) (l .corners) 0 [] []) ≡ cornersVerdict (modelIn c) (levelIn c) (readBy c l)
+  unfolding cornersVerdict backupAt ceiling gain
+  corners-read = refl
+
+  pub points-read : pointsVerdict (modelIn c) roof (roofIn (c .tables .states) [] (l .points) (l .weights) (l .values)) ≡ pointsVerdict (modelIn c) (levelIn c) (readBy c l)
+  unfolding pointsVerdict backupAt ceiling gain
+  points-read = refl
+
+  module _ (f : Fitting (modelIn c) (c .number) (levelIn c) (readBy c l)) (lent : tables.Long (c .tables)) (stands : Long (c .level)) (offers : Long l) where
+    pub judging : Judging (countsOf (c .tables)) (c .tables .transition) (c .tables .observation) (c .tables .reward) (c .level .entries) (l .vectors)
+        (l .actions) (l .choices) (l .entries)
+    judging =
+        let room = sizes l (f .valid .few-states) (f .valid .few-observations) (f .shaped .few-vectors) (f .shaped .few-points) in record {
+          valid = f .valid;
+          stored = tables.stored-valid (c .tables) lent (f .valid);
+          actions-long = rw (offers .actions) (f .shaped .few-vectors);
+          acts = f .shaped .action-in;
+          chosen = λ v b. record {
+            vectors = c .level .vectors;
+            entries-fit = entries-lent (c .tables) (c .level) (f .valid) lent stands (f .standing);
+            row = omega (arith, f .shaped .few-vectors);
+            stored = tables.rows-stored (c .tables .observations) v (l .vectors) b (rw (offers .choices) (room .choices));
+            vector = f .chosen v b;
+          };
+          offers = entries-lent (c .tables) l (f .valid) lent offers (f .shaped);
+        }
+
+    pub standing-roof : Roofed (countsOf (c .tables)) (c .tables .transition) (c .tables .observation) (c .tables .reward) (c .level .corners)
+        (c .level .points) (c .level .weights) (c .level .values)
+    standing-roof = roof-lent (c .tables) (c .level) (f .valid) lent stands (f .standing)
+
+    pub offered-roof : Roofed (countsOf (c .tables)) (c .tables .transition) (c .tables .observation) (c .tables .reward) (l .corners) (l .points) (l .weights)
+        (l .values)
+    offered-roof = roof-lent (c .tables) l (f .valid) lent offers (f .shaped)

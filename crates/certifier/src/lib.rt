@@ -4,7 +4,6 @@ ghost use mathlib.Core.Bool.{true};
 ghost use mathlib.Core.List.{List};
 ghost use Prim.Native.Nat.{_≤_, _<_};
 ghost use Rattle.integers.specs.Whole.{Below};
-ghost use Rattle.integers.specs.Cells.{padded};
 ghost use Rattle.tables.specs.declared.Tables.{Tables};
 ghost use Rattle.tables.specs.declared.Verdict.the-variants.{Fine};
 ghost use Rattle.tables.specs.Limits.{maxStates, maxVectors, maxWeight, maxLevels};
@@ -25,10 +24,12 @@ use runs::Built;
 use runs::Certifier;
 use runs::Points;
 use tables::Action;
+use tables::Counts;
 use tables::Tables;
 use tables::Verdict;
 use tables::Weights;
 use tables::judge;
+use tables::read;
 
 // Opens a certifier on tables of any content: at level 0, or refused by 3, 5 or 6.
 pub fn open(tables: Tables) -> Answer
@@ -89,7 +90,13 @@ fn standing_holds(c: Certifier) -> bool
     let m = c.tables;
     let l = c.level;
     let number = c.number;
-    let tables = judge::judge_tables(m);
+    let counts = Counts {
+        states: m.states,
+        actions: m.actions,
+        observations: m.observations,
+        discount: m.discount,
+    };
+    let tables = judge::judge_tables(&m.transition, &m.observation, &m.reward, counts);
     let Verdict::Fine = tables else {
         return false;
     };
@@ -155,22 +162,53 @@ fn judge_backups(c: Certifier, l: Level) -> Verdict
 {
     let m = c.tables;
     let standing = c.level;
-    let floors = checks::floors_hold(m, standing, l);
+    let counts = Counts {
+        states: m.states,
+        actions: m.actions,
+        observations: m.observations,
+        discount: m.discount,
+    };
+    let floors = checks::floors_hold(
+        &m.transition,
+        &m.observation,
+        &m.reward,
+        &standing.entries,
+        &l.actions,
+        &l.choices,
+        &l.entries,
+        counts,
+        l.vectors,
+    );
     let Verdict::Fine = floors else {
         return floors;
     };
-    let gains = sawtooth::gains(
+    let corners = checks::corners_hold(
+        &m.transition,
+        &m.observation,
+        &m.reward,
         &standing.corners,
         &standing.weights,
         &standing.values,
+        &l.corners,
+        counts,
         standing.points,
-        m.states,
     );
-    let corners = checks::corners_hold(m, standing, gains, l);
     let Verdict::Fine = corners else {
         return corners;
     };
-    checks::points_hold(m, standing, gains, l)
+    checks::points_hold(
+        &m.transition,
+        &m.observation,
+        &m.reward,
+        &standing.corners,
+        &standing.weights,
+        &standing.values,
+        &l.weights,
+        &l.values,
+        counts,
+        standing.points,
+        l.points,
+    )
 }
 
 fn judge_offer(c: Certifier, l: Level) -> Verdict
@@ -224,17 +262,6 @@ fn mixture_holds(b: [u32; Tables::STATES], n: usize) -> bool
     0 < total
 }
 
-fn widened(b: [u32; Tables::STATES], n: usize) -> Weights
-    requires { ⌜ n ≤ maxStates ⌝ }
-    ensures { λ r. ⌜ r ≡ padded 0 maxStates n (weightIn b) ⌝ }
-{
-    let mut w = [0u64; Tables::STATES];
-    for s in 0..n {
-        w[s] = shape::weight(b[s]);
-    }
-    w
-}
-
 // A refusal of totals, with every other part 0.
 fn no_bounds(number: u8) -> Bounds
     ensures { λ r. ⌜ r ≡ noBounds number ⌝ }
@@ -259,7 +286,7 @@ fn bounds_at(c: Certifier, q: Weights) -> Bounds
     let l = c.level;
     let v = vectors::best_vector(&q, &l.entries, n, l.vectors);
     let i = v.0;
-    let lower = vectors::product(&q, &l.entries, i * n, n);
+    let lower = vectors::product(&q, &l.entries, read::start(i, n), n);
     let gains = sawtooth::gains(&l.corners, &l.weights, &l.values, l.points, n);
     let upper = sawtooth::ceiling(&q, &l.corners, &l.weights, &gains, l.points, n);
     let actions = l.actions;
@@ -288,7 +315,7 @@ pub fn totals(c: Certifier, b: [u32; Tables::STATES]) -> Bounds
     if !mixture_holds(b, n) {
         return no_bounds(17);
     }
-    bounds_at(c, widened(b, n))
+    bounds_at(c, shape::point_weights(&b, n, 0))
 }
 
 // A refusal of the builder, with a level of which every part is 0.

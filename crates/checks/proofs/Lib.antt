@@ -1,4 +1,5 @@
 -- Laws of the backup inequalities, of vectors and of the ceiling.
 pub mod Floors
 pub mod Roofs
+pub mod Lent
 pub mod Prelude

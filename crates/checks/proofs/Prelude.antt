@@ -1,19 +1,18 @@
 -- What more than one proof of this crate names.
 pub use Prim.Native.Nat.{_-_, _<_, _≤_, ℕ}
-pub use Rattle.checks.proofs.Roofs.{aheadAt, corners-fit, covers-by}
+pub use Rattle.checks.proofs.Roofs.{aheadAt, covers-by}
 pub use Rattle.integers.proofs.Words.{answer, back}
 pub use Rattle.integers.specs.Cells.{padded}
 pub use Rattle.integers.specs.Whole.{_·_, sumTo}
 pub use Rattle.levels.proofs.Laws.{failed, passed}
 pub use Rattle.levels.specs.Judged.{coversBackups}
-pub use Rattle.levels.specs.Storage.{levelOf}
-pub use Rattle.levels.specs.declared.Level.{Level}
-pub use Rattle.sawtooth.specs.Storage.{ceilingIn}
+pub use Rattle.levels.specs.Storage.{pointIn, roofIn}
+pub use Rattle.sawtooth.specs.Steps.{ceilingIn, gainIn, positive}
 pub use Rattle.tables.proofs.Refusals.{first-here, first-more, first-none}
 pub use Rattle.tables.specs.Limits.{maxStates}
-pub use Rattle.tables.specs.Storage.{modelOf}
+pub use Rattle.tables.specs.Storage.{modelIn}
 pub use Rattle.tables.specs.Verdicts.{firstOf, unless}
-pub use Rattle.tables.specs.declared.Tables.{Tables}
+pub use Rattle.tables.specs.declared.Counts.{Counts}
 pub use Rattle.tables.specs.declared.Verdict.{Verdict}
 pub use Rattle.tables.specs.declared.Verdict.the-variants.{Fine}
 pub use borrow.Author.Needs.{needs}

@@ -1,2 +1,2 @@
 -- Backups at weights over storage.
-pub mod Storage
+pub mod Steps

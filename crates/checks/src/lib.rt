@@ -1,48 +1,43 @@
 // The backup inequalities of an offered level: vectors (13), corners (14) and points (15).
 ghost use mathlib.Core.Path.{_≡_};
+ghost use mathlib.Core.List.{[]};
 ghost use Prim.Native.Nat.{ℕ, _*_, _≤_, _<_};
-ghost use lib.ListN.{set, replicate};
-ghost use lib.IntN.{natAbs};
+ghost use lib.ListN.{length, getD, set, replicate};
+ghost use lib.IntN.{pos, natAbs};
 ghost use lib.Signed.{leZ};
 ghost use Rattle.integers.specs.Whole.{_·_, sumTo, totalTo, Below, Within};
+ghost use Rattle.integers.specs.Search.{every};
 ghost use Rattle.integers.specs.Cells.{padded};
-ghost use Rattle.tables.specs.Limits.{maxStates, maxActions, maxObservations, maxVectors, one, maxEntry, K, maxLevels};
-ghost use Rattle.tables.specs.Model.{Valid};
-ghost use Rattle.tables.specs.Storage.{weightIn, modelOf, seenIn, backupIn, TransitionsFit, ObservationsFit, RewardsFit, movedLimit, foreseenLimit};
+ghost use Rattle.tables.specs.Limits.{maxStates, maxActions, maxObservations, one, maxEntry, K};
+ghost use Rattle.tables.specs.Storage.{modelIn};
+ghost use Rattle.tables.specs.Steps.{seenIn, backupIn, TransitionsFit, ObservationsFit, RewardsFit, movedLimit, foreseenLimit};
 ghost use Rattle.plans.specs.Limits.{pointTotal};
-ghost use Rattle.plans.specs.Level.{Shaped};
-ghost use Rattle.levels.specs.Storage.{choiceIn, levelOf};
-ghost use Rattle.levels.specs.Judged.{coversBackups, floorsVerdict, cornersVerdict, pointsVerdict};
-ghost use Rattle.sawtooth.specs.Storage.{ceilingIn, CornersFit, PointsFit, maxGain};
-ghost use Rattle.checks.specs.Storage.{backupAtIn, Ahead, RoofFits, Standing};
-use levels::Choices;
-use levels::Chosen;
-use levels::Corners;
-use levels::Level;
-use levels::PointWeights;
+ghost use Rattle.levels.specs.Storage.{pointIn, floorIn, roofIn};
+ghost use Rattle.levels.specs.Judged.{floorsVerdict, cornersVerdict, pointsVerdict};
+ghost use Rattle.sawtooth.specs.Steps.{ceilingIn, CornersFit, PointsFit, ValuesFit, maxGain};
+ghost use Rattle.checks.specs.Steps.{backupAtIn, Ahead, RoofFits, Roof, Light, Roofed, Judging};
 use levels::shape;
-use sawtooth::Gains;
 use tables::Action;
-use tables::Foreseen;
+use tables::Counts;
 use tables::Observation;
-use tables::Observations;
-use tables::Rewards;
 use tables::State;
 use tables::Tables;
-use tables::Transitions;
 use tables::Vector;
 use tables::Verdict;
 use tables::Weights;
 use tables::read;
 use tables::sums;
 
+// What each action allows, at some weights.
+pub type Backups = [i64; Tables::ACTIONS];
+
 // The sum over o of the ceiling at the successor weights, from what moved to each state.
 fn ceilings<'a>(
-    observation: &Observations,
-    u: &Weights,
-    corners: &'a Corners,
-    weights: &'a PointWeights,
-    gains: &Gains,
+    observation: &[u16],
+    u: &[u64],
+    corners: &'a [i64],
+    weights: &'a [u32],
+    gains: &[u64],
     n: usize,
     k: usize,
     points: usize,
@@ -69,62 +64,86 @@ fn ceilings<'a>(
 }
 
 // The least K × value at weights p that an action allows.
-pub fn backup_at<'a, 'b>(
-    transition: &'a Transitions,
-    observation: &'a Observations,
-    reward: &'a Rewards,
-    corners: &'b Corners,
-    weights: &'b PointWeights,
-    gains: &Gains,
-    p: &Weights,
-    n: usize,
-    k: usize,
-    g: u64,
+fn backup_at<'a, 'b>(
+    transition: &'a [u16],
+    observation: &'a [u16],
+    reward: &'a [i64],
+    corners: &'b [i64],
+    weights: &'b [u32],
+    gains: &[u64],
+    p: &[u64],
+    c: Counts,
     points: usize,
     a: Action,
 ) -> i64
-    requires { ⌜ (n ≤ maxStates) × ((k ≤ maxObservations) × ((a .0 < maxActions) × (g ≤ one))) ⌝ }
-    requires { ⌜ Below pointTotal n (now p) ⌝ }
-    requires { ⌜ (TransitionsFit n (now transition) (a .0)) × ((ObservationsFit n k (now observation) (a .0)) × (RewardsFit n (now reward) (a .0))) ⌝ }
-    requires { ⌜ (CornersFit n (now corners)) × ((PointsFit n points (now weights)) × (Below maxGain points (now gains))) ⌝ }
-    requires { ⌜ RoofFits n k (now transition) (now observation) (ceilingIn n (now corners) (now weights) (now gains) points) (now p) (a .0) ⌝ }
-    ensures { λ r. ⌜ r ≡ backupAtIn n k g (now (transition .entry)) (now (observation .entry)) (now (reward .entry)) (ceilingIn n (now (corners .entry)) (now (weights .entry)) (now (gains .entry)) points) (now (p .entry)) (a .0) ⌝ }
+    requires { ⌜ (c .states ≤ maxStates) × ((c .observations ≤ maxObservations) × ((a .0 < maxActions) × (c .discount ≤ one))) ⌝ }
+    requires { ⌜ Below pointTotal (c .states) (now p) ⌝ }
+    requires { ⌜ (TransitionsFit (c .states) (now transition) (a .0)) × ((ObservationsFit (c .states) (c .observations) (now observation) (a .0)) × (RewardsFit (c .states) (now reward) (a .0))) ⌝ }
+    requires { ⌜ (CornersFit (c .states) (now corners)) × ((PointsFit (c .states) points (now weights)) × (Below maxGain points (now gains))) ⌝ }
+    requires { ⌜ RoofFits (c .states) (c .observations) (now transition) (now observation) (ceilingIn (c .states) (now corners) (now weights) (now gains) points) (now p) (a .0) ⌝ }
+    ensures { λ r. ⌜ r ≡ backupAtIn c (now (transition .entry)) (now (observation .entry)) (now (reward .entry)) (ceilingIn (c .states) (now (corners .entry)) (now (weights .entry)) (now (gains .entry)) points) (now (p .entry)) (a .0) ⌝ }
 {
+    let n = c.states;
     let u = sums::moved(transition, n, p, a);
     let now = integers::scaled(Tables::K, sums::expected_reward(reward, n, p, a));
-    let ahead = ceilings(observation, &u, corners, weights, gains, n, k, points, a);
-    integers::add_scaled(now, g, ahead)
+    let ahead = ceilings(
+        observation,
+        &u,
+        corners,
+        weights,
+        gains,
+        n,
+        c.observations,
+        points,
+        a,
+    );
+    integers::add_scaled(now, c.discount, ahead)
 }
 
-// Whether a value at weights p is at least every action's backup.
-pub fn covers_backups(m: Tables, l: Level, gains: Gains, p: Weights, w: i64) -> bool
-    requires { ⌜ Standing m l gains ⌝ }
-    requires { ⌜ totalTo (m .states) (weightIn p) ≤ pointTotal ⌝ }
-    requires { ⌜ natAbs w ≤ pointTotal * maxEntry ⌝ }
-    ensures { λ r. ⌜ r ≡ coversBackups (modelOf m) (levelOf (m .states) (m .observations) l) (weightIn p) w ⌝ }
+// The same for each action.
+pub fn backups_at<'a, 'b>(
+    transition: &'a [u16],
+    observation: &'a [u16],
+    reward: &'a [i64],
+    corners: &'b [i64],
+    weights: &'b [u32],
+    gains: &[u64],
+    p: &[u64],
+    c: Counts,
+    points: usize,
+) -> Backups
+    requires { ⌜ Roof c (now transition) (now observation) (now reward) (now corners) (now weights) (now gains) points ⌝ }
+    requires { ⌜ Light (c .states) (now p) ⌝ }
+    ensures { λ r. ⌜ r ≡ padded (pos 0) maxActions (c .actions) (backupAtIn c (now (transition .entry)) (now (observation .entry)) (now (reward .entry)) (ceilingIn (c .states) (now (corners .entry)) (now (weights .entry)) (now (gains .entry)) points) (now (p .entry))) ⌝ }
 {
-    let n = m.states;
-    let actions = m.actions;
-    let k = m.observations;
-    let g = m.discount;
-    let points = l.points;
-    let most = integers::scaled(Tables::K, w);
+    let actions = c.actions;
+    let mut backups = [0i64; Tables::ACTIONS];
     for a in 0..actions {
-        let b = backup_at(
-            &m.transition,
-            &m.observation,
-            &m.reward,
-            &l.corners,
-            &l.weights,
-            &gains,
-            &p,
-            n,
-            k,
-            g,
+        backups[a] = backup_at(
+            transition,
+            observation,
+            reward,
+            corners,
+            weights,
+            gains,
+            p,
+            c,
             points,
             Action(a),
         );
-        if most < b {
+    }
+    backups
+}
+
+// Whether a value is at least every action's backup.
+fn covers(backups: &[i64], actions: usize, w: i64) -> bool
+    requires { ⌜ actions ≤ length (now backups) ⌝ }
+    requires { ⌜ natAbs w ≤ pointTotal * maxEntry ⌝ }
+    ensures { λ r. ⌜ r ≡ every actions (λ a. leZ (getD (now (backups .entry)) a (pos 0)) (K · w)) ⌝ }
+{
+    let most = integers::scaled(Tables::K, w);
+    for a in 0..actions {
+        if most < backups[a] {
             return false;
         }
     }
@@ -143,16 +162,37 @@ pub fn corner_weights(s: State) -> Weights
 }
 
 // 14: the first corner below its backup.
-pub fn corners_hold(m: Tables, standing: Level, gains: Gains, offered: Level) -> Verdict
-    requires { ⌜ Standing m standing gains ⌝ }
-    requires { ⌜ Shaped (modelOf m) maxLevels (levelOf (m .states) (m .observations) offered) ⌝ }
-    ensures { λ r. ⌜ r ≡ cornersVerdict (modelOf m) (levelOf (m .states) (m .observations) standing) (levelOf (m .states) (m .observations) offered) ⌝ }
+pub fn corners_hold<'a, 'b>(
+    transition: &'a [u16],
+    observation: &'a [u16],
+    reward: &'a [i64],
+    corners: &'b [i64],
+    weights: &'b [u32],
+    values: &'b [i64],
+    offered: &[i64],
+    c: Counts,
+    points: usize,
+) -> Verdict
+    requires { ⌜ Roofed c (now transition) (now observation) (now reward) (now corners) points (now weights) (now values) ⌝ }
+    requires { ⌜ CornersFit (c .states) (now offered) ⌝ }
+    ensures { λ r. ⌜ r ≡ cornersVerdict (modelIn c (now (transition .entry)) (now (observation .entry)) (now (reward .entry))) (roofIn (c .states) (now (corners .entry)) points (now (weights .entry)) (now (values .entry))) (roofIn (c .states) (now (offered .entry)) 0 [] []) ⌝ }
 {
-    let n = m.states;
-    let corners = offered.corners;
+    let n = c.states;
+    let gains = sawtooth::gains(corners, weights, values, points, n);
     for s in 0..n {
         let p = corner_weights(State(s));
-        if !covers_backups(m, standing, gains, p, corners[s]) {
+        let backups = backups_at(
+            transition,
+            observation,
+            reward,
+            corners,
+            weights,
+            &gains,
+            &p,
+            c,
+            points,
+        );
+        if !covers(&backups, c.actions, offered[s]) {
             return Verdict::Refused(14, s);
         }
     }
@@ -160,44 +200,54 @@ pub fn corners_hold(m: Tables, standing: Level, gains: Gains, offered: Level) ->
 }
 
 // 15: the first point below its backup.
-pub fn points_hold(m: Tables, standing: Level, gains: Gains, offered: Level) -> Verdict
-    requires { ⌜ Standing m standing gains ⌝ }
-    requires { ⌜ Shaped (modelOf m) maxLevels (levelOf (m .states) (m .observations) offered) ⌝ }
-    ensures { λ r. ⌜ r ≡ pointsVerdict (modelOf m) (levelOf (m .states) (m .observations) standing) (levelOf (m .states) (m .observations) offered) ⌝ }
+pub fn points_hold<'a, 'b, 'c>(
+    transition: &'a [u16],
+    observation: &'a [u16],
+    reward: &'a [i64],
+    corners: &'b [i64],
+    weights: &'b [u32],
+    values: &'b [i64],
+    offered: &'c [u32],
+    at: &'c [i64],
+    c: Counts,
+    points: usize,
+    count: usize,
+) -> Verdict
+    requires { ⌜ Roofed c (now transition) (now observation) (now reward) (now corners) points (now weights) (now values) ⌝ }
+    requires { ⌜ PointsFit (c .states) count (now offered) ⌝ }
+    requires { ⌜ ValuesFit count (now at) ⌝ }
+    requires { ⌜ ((i : ℕ) → i < count → totalTo (c .states) (pointIn (c .states) (now offered) i) ≡ pointTotal) ⌝ }
+    ensures { λ r. ⌜ r ≡ pointsVerdict (modelIn c (now (transition .entry)) (now (observation .entry)) (now (reward .entry))) (roofIn (c .states) (now (corners .entry)) points (now (weights .entry)) (now (values .entry))) (roofIn (c .states) [] count (now (offered .entry)) (now (at .entry))) ⌝ }
 {
-    let n = m.states;
-    let points = offered.points;
-    let weights = offered.weights;
-    let values = offered.values;
-    for i in 0..points {
-        let p = sawtooth::point_weights(&weights, n, i);
-        if !covers_backups(m, standing, gains, p, values[i]) {
+    let n = c.states;
+    let gains = sawtooth::gains(corners, weights, values, points, n);
+    for i in 0..count {
+        let p = shape::point_weights(offered, n, i);
+        let backups = backups_at(
+            transition,
+            observation,
+            reward,
+            corners,
+            weights,
+            &gains,
+            &p,
+            c,
+            points,
+        );
+        if !covers(&backups, c.actions, at[i]) {
             return Verdict::Refused(15, i);
         }
     }
     Verdict::Fine
 }
 
-// The vectors that a vector chooses.
-pub fn choices_of(choices: &Choices, k: usize, v: Vector) -> Chosen
-    requires { ⌜ (k ≤ maxObservations) × (v .0 < maxVectors) ⌝ }
-    ensures { λ r. ⌜ r ≡ padded 0 maxObservations k (choiceIn k (now (choices .entry)) (v .0)) ⌝ }
-{
-    let at = v.0 * k;
-    let mut chosen = [0u16; Tables::OBSERVATIONS];
-    for o in 0..k {
-        chosen[o] = choices[at + o];
-    }
-    chosen
-}
-
 // Whether an entry is at most its backup.
 fn entry_holds<'a>(
-    transition: &'a Transitions,
-    reward: &'a Rewards,
+    transition: &'a [u16],
+    reward: &'a [i64],
     n: usize,
     g: u64,
-    f: &Foreseen,
+    f: &[i64],
     s: State,
     a: Action,
     entry: i64,
@@ -214,26 +264,29 @@ fn entry_holds<'a>(
 }
 
 // 13: the first vector with an entry above its backup.
-pub fn floors_hold(m: Tables, standing: Level, offered: Level) -> Verdict
-    requires { ⌜ Valid (modelOf m) ⌝ }
-    requires { ⌜ Shaped (modelOf m) maxLevels (levelOf (m .states) (m .observations) standing) ⌝ }
-    requires { ⌜ Shaped (modelOf m) maxLevels (levelOf (m .states) (m .observations) offered) ⌝ }
-    requires { ⌜ ((v : ℕ) → v < offered .vectors → (o : ℕ) → o < m .observations → choiceIn (m .observations) (offered .choices) v o < standing .vectors) ⌝ }
-    ensures { λ r. ⌜ r ≡ floorsVerdict (modelOf m) (levelOf (m .states) (m .observations) standing) (levelOf (m .states) (m .observations) offered) ⌝ }
+pub fn floors_hold<'a, 'b>(
+    transition: &'a [u16],
+    observation: &'a [u16],
+    reward: &'a [i64],
+    entries: &[i64],
+    actions: &'b [u8],
+    choices: &'b [u16],
+    offered: &'b [i64],
+    c: Counts,
+    vectors: usize,
+) -> Verdict
+    requires { ⌜ Judging c (now transition) (now observation) (now reward) (now entries) vectors (now actions) (now choices) (now offered) ⌝ }
+    ensures { λ r. ⌜ r ≡ floorsVerdict (modelIn c (now (transition .entry)) (now (observation .entry)) (now (reward .entry))) (floorIn (c .states) (c .observations) 0 [] [] (now (entries .entry))) (floorIn (c .states) (c .observations) vectors (now (actions .entry)) (now (choices .entry)) (now (offered .entry))) ⌝ }
 {
-    let n = m.states;
-    let k = m.observations;
-    let g = m.discount;
-    let vectors = offered.vectors;
-    let actions = offered.actions;
+    let n = c.states;
+    let k = c.observations;
     let mut found = Verdict::Fine;
     'vectors: for v in 0..vectors {
         let a = Action(shape::action(actions[v]));
-        let chosen = choices_of(&offered.choices, k, Vector(v));
-        let f = sums::foreseen(&m.observation, n, k, &standing.entries, &chosen, a);
+        let f = sums::foreseen(observation, n, k, entries, choices, Vector(v), a);
         for s in 0..n {
-            let e = read::entry_at(&offered.entries, n, Vector(v), State(s));
-            if !entry_holds(&m.transition, &m.reward, n, g, &f, State(s), a, e) {
+            let e = read::entry_at(offered, n, Vector(v), State(s));
+            if !entry_holds(transition, reward, n, c.discount, &f, State(s), a, e) {
                 found = Verdict::Refused(13, v);
                 break 'vectors;
             }

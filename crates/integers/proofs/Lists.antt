@@ -216,9 +216,16 @@ module _ {A : Type 0} (z : A) where
   cut-cell rows w xs r h x l = cut-at-default (rows * w) xs (r * w + x) (cell-below r rows x w h l)
 
 -- ---- bounds on what an array is filled with
-pub filled-below : (size : ℕ) {n limit : ℕ} (f : ℕ → ℕ) {xs : List ℕ} → xs ≡ padded 0 size n f → ((i : ℕ) → i < n → f i ≤ limit) → Below limit n xs
-filled-below size {n} f e h = record { below = λ i l. rw (e, padded-at 0 size n f i 0 l) (h i l) }
+pub filled-below : (size : ℕ) {n limit : ℕ} (f : ℕ → ℕ) {xs : List ℕ} → xs ≡ padded 0 size n f → n ≤ size → ((i : ℕ) → i < n → f i ≤ limit)
+    → Below limit n xs
+filled-below size {n} f e few h = record {
+  long = rw (e, padded-length 0 size n f few) few;
+  below = λ i l. rw (e, padded-at 0 size n f i 0 l) (h i l);
+}
 
-pub filled-within : (size : ℕ) {n limit : ℕ} (f : ℕ → ℤ) {xs : List ℤ} → xs ≡ padded (pos 0) size n f → ((i : ℕ) → i < n → natAbs (f i) ≤ limit)
+pub filled-within : (size : ℕ) {n limit : ℕ} (f : ℕ → ℤ) {xs : List ℤ} → xs ≡ padded (pos 0) size n f → n ≤ size → ((i : ℕ) → i < n → natAbs (f i) ≤ limit)
     → Within limit n xs
-filled-within size {n} f e h = record { within = λ i l. rw (e, padded-at (pos 0) size n f i (pos 0) l) (h i l) }
+filled-within size {n} f e few h = record {
+  long = rw (e, padded-length (pos 0) size n f few) few;
+  within = λ i l. rw (e, padded-at (pos 0) size n f i (pos 0) l) (h i l);
+}

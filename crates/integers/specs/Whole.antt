@@ -9,7 +9,7 @@
 --   Below, Within    bounds on the first entries of a list
 use Prim.Native.Nat.{ℕ, zero, suc, _+_, _/_, _≤_, _<_, max}
 use mathlib.Core.List.{List}
-use lib.ListN.{getD}
+use lib.ListN.{length, getD}
 use lib.IntN.{ℤ, pos, negsuc, negℤ, natAbs, _+ℤ_, _*ℤ_}
 
 infixl 75 _·_
@@ -36,10 +36,12 @@ floorDiv (negsuc a) k = negsuc (a / k)
 unfoldable pub ceilDiv : ℤ → ℕ → ℤ
 ceilDiv z k = negℤ (floorDiv (negℤ z) k)
 
--- each of the first `count` entries is at most `limit`
+-- there are `count` entries, and each of the first `count` is at most `limit`
 pub record Below (limit count : ℕ) (xs : List ℕ) : Type 0 where
+  pub long : count ≤ length xs
   pub below : (i : ℕ) → i < count → getD xs i 0 ≤ limit
 
--- each of the first `count` entries lies between - `limit` and `limit`
+-- there are `count` entries, and each of the first `count` lies between - `limit` and `limit`
 pub record Within (limit count : ℕ) (xs : List ℤ) : Type 0 where
+  pub long : count ≤ length xs
   pub within : (i : ℕ) → i < count → natAbs (getD xs i (pos 0)) ≤ limit

@@ -1,39 +1,47 @@
 -- From storage to a level: rows packed by the counts, as the model's tables are. Every contract speaks through these.
 --
 --   choices by v, o     entries by v, s     weights by i, s     actions, corners, values by their one index
-use Prim.Native.Nat.{ℕ, _+_, _*_}
-use mathlib.Core.List.{List}
+use Prim.Native.Nat.{ℕ, _*_}
+use mathlib.Core.List.{List, []}
 use lib.ListN.{getD, replicate}
 use lib.IntN.{ℤ, pos}
 use Rattle.integers.specs.Cells.{cut}
 use Rattle.tables.specs.Limits.{maxStates, maxObservations, maxVectors}
-use Rattle.tables.specs.Storage.{entryIn}
+use Rattle.tables.specs.Storage.{rowPlace, entryIn, choiceIn}
 use Rattle.plans.specs.Limits.{maxPoints}
 use Rattle.plans.specs.Level.{Level as Ideal}
 use Rattle.levels.specs.declared.Level.{Level}
-
-abbrev pub choiceIn : ℕ → List ℕ → ℕ → ℕ → ℕ
-choiceIn k cells v o = getD cells (v * k + o) 0
 
 abbrev pub cornerIn : List ℤ → ℕ → ℤ
 cornerIn cells s = getD cells s (pos 0)
 
 -- the weights of point i
 abbrev pub pointIn : ℕ → List ℕ → ℕ → ℕ → ℕ
-pointIn n cells i s = getD cells (i * n + s) 0
+pointIn n cells i s = getD cells (rowPlace n i s) 0
 
--- the level that is stored, of a model with n states and k observations
-abbrev pub levelOf : ℕ → ℕ → Level → Ideal
-levelOf n k l = record {
-  vectors = l .vectors;
-  action = λ v. getD (l .actions) v 0;
-  choice = choiceIn k (l .choices);
-  entry = entryIn n (l .entries);
-  corner = cornerIn (l .corners);
-  points = l .points;
-  weight = pointIn n (l .weights);
-  value = λ i. getD (l .values) i (pos 0);
+-- the level that is read by the counts from its parts, of a model with n states and k observations
+abbrev pub levelIn : ℕ → ℕ → ℕ → List ℕ → List ℕ → List ℤ → List ℤ → ℕ → List ℕ → List ℤ → Ideal
+levelIn n k vectors actions choices entries corners points weights values = record {
+  vectors = vectors;
+  action = λ v. getD actions v 0;
+  choice = choiceIn k choices;
+  entry = entryIn n entries;
+  corner = cornerIn corners;
+  points = points;
+  weight = pointIn n weights;
+  value = λ i. getD values i (pos 0);
 }
+
+-- the level that is stored
+abbrev pub levelOf : ℕ → ℕ → Level → Ideal
+levelOf n k l = levelIn n k (l .vectors) (l .actions) (l .choices) (l .entries) (l .corners) (l .points) (l .weights) (l .values)
+
+-- a level of which only the vectors are read, and one of which only the corners and points are
+abbrev pub floorIn : ℕ → ℕ → ℕ → List ℕ → List ℕ → List ℤ → Ideal
+floorIn n k vectors actions choices entries = levelIn n k vectors actions choices entries [] 0 [] []
+
+abbrev pub roofIn : ℕ → List ℤ → ℕ → List ℕ → List ℤ → Ideal
+roofIn n corners points weights values = levelIn n 0 1 [] [] [] corners points weights values
 
 -- the same level with 0 past the counts
 unfoldable pub keptLevel : ℕ → ℕ → Level → Level

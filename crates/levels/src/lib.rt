@@ -2,20 +2,19 @@
 pub mod shape; // 9 to 12, and what is kept of a level
 pub mod vectors; // products with vectors, and the first largest
 
-use tables::Entries;
 use tables::Tables;
 
 pub type Actions = [u8; Tables::VECTORS];
 
 pub type Choices = [u16; Tables::VECTORS * Tables::OBSERVATIONS];
 
+pub type Entries = [i64; Tables::VECTORS * Tables::STATES];
+
 pub type Corners = [i64; Tables::STATES];
 
 pub type PointWeights = [u32; Level::POINTS * Tables::STATES];
 
 pub type Values = [i64; Level::POINTS];
-
-pub type Chosen = [u16; Tables::OBSERVATIONS];
 
 // A level by value: choices by vector and observation, entries by vector and state, weights by point and state, packed by the counts.
 pub struct Level {

@@ -4,24 +4,28 @@ ghost use Prim.Native.Nat.{_+_, _*_, _≤_, _<_, _^_};
 ghost use lib.ListN.{length, getD};
 ghost use lib.IntN.{pos};
 ghost use Rattle.integers.specs.Whole.{totalTo};
+ghost use Rattle.integers.specs.Cells.{padded};
 ghost use Rattle.tables.specs.Limits.{maxStates, maxObservations, maxVectors};
 ghost use Rattle.plans.specs.Limits.{maxPoints};
-ghost use Rattle.levels.specs.Storage.{choiceIn, pointIn, keptLevel, freshLevel, noLevel};
+ghost use Rattle.tables.specs.Steps.{rowsTo};
+ghost use Rattle.tables.specs.Storage.{rowPlace, choiceIn};
+ghost use Rattle.levels.specs.Storage.{pointIn, keptLevel, freshLevel, noLevel};
 ghost use Rattle.levels.specs.Judged.{countsHold, rowsWithin, weightsVerdict, actionsExist, numbersIn};
-use super::Actions;
 use super::Level;
 use integers::cells;
+use tables::Observation;
 use tables::Tables;
+use tables::Vector;
 use tables::Verdict;
+use tables::Weights;
+use tables::judge;
+use tables::read;
 
 // 9
 pub fn counts_hold(vectors: usize, points: usize) -> bool
     ensures { λ r. ⌜ r ≡ countsHold vectors points ⌝ }
 {
-    if vectors < 1 {
-        return false;
-    }
-    if Tables::VECTORS < vectors {
+    if !judge::count_within(Tables::VECTORS, vectors) {
         return false;
     }
     points <= Level::POINTS
@@ -31,13 +35,13 @@ pub fn counts_hold(vectors: usize, points: usize) -> bool
 pub fn rows_within(cells: &[i64], rows: usize, w: usize, limit: u64, number: u8) -> Verdict
     requires { ⌜ (rows ≤ maxVectors) × ((w ≤ maxStates) × (limit < 2 ^ 63)) ⌝ }
     requires { ⌜ rows * w ≤ length (now cells) ⌝ }
-    ensures { λ r. ⌜ r ≡ rowsWithin number rows w limit (λ i x. getD (now (cells .entry)) (i * w + x) (pos 0)) ⌝ }
+    ensures { λ r. ⌜ r ≡ rowsWithin number rows w limit (λ i x. getD (now (cells .entry)) (rowPlace w i x) (pos 0)) ⌝ }
 {
     let mut found = Verdict::Fine;
     'rows: for i in 0..rows {
-        let at = i * w;
         for x in 0..w {
-            if !integers::within(limit, cells[at + x]) {
+            let at = read::row(i, w, x);
+            if !integers::within(limit, cells[at]) {
                 found = Verdict::Refused(number, i);
                 break 'rows;
             }
@@ -51,6 +55,20 @@ pub fn weight(x: u32) -> u64
     ensures { λ r. ⌜ r ≡ x ⌝ }
 {
     x as u64
+}
+
+// The weights of row i: of a point, or of a mixture, which is a row alone.
+pub fn point_weights(weights: &[u32], n: usize, i: usize) -> Weights
+    requires { ⌜ (n ≤ maxStates) × (i < maxPoints) ⌝ }
+    requires { ⌜ rowsTo n i ≤ length (now weights) ⌝ }
+    ensures { λ r. ⌜ r ≡ padded 0 maxStates n (pointIn n (now (weights .entry)) i) ⌝ }
+{
+    let mut p = [0u64; Tables::STATES];
+    for s in 0..n {
+        let at = read::row(i, n, s);
+        p[s] = weight(weights[at]);
+    }
+    p
 }
 
 // The total of the n weights from `at` on.
@@ -72,7 +90,7 @@ pub fn weights_hold(cells: &[u32], n: usize, points: usize) -> Verdict
     ensures { λ r. ⌜ r ≡ weightsVerdict n points (pointIn n (now (cells .entry))) ⌝ }
 {
     for i in 0..points {
-        if weights_total(cells, i * n, n) != Level::TOTAL {
+        if weights_total(cells, read::start(i, n), n) != Level::TOTAL {
             return Verdict::Refused(12, i);
         }
     }
@@ -86,15 +104,8 @@ pub fn action(x: u8) -> usize
     x as usize
 }
 
-// A chosen number, as it is stored.
-pub fn choice(x: u16) -> usize
-    ensures { λ r. ⌜ r ≡ x ⌝ }
-{
-    x as usize
-}
-
-pub fn actions_exist(actions: &Actions, vectors: usize, m: usize) -> bool
-    requires { ⌜ vectors ≤ maxVectors ⌝ }
+pub fn actions_exist(actions: &[u8], vectors: usize, m: usize) -> bool
+    requires { ⌜ vectors ≤ length (now actions) ⌝ }
     ensures { λ r. ⌜ r ≡ actionsExist m vectors (λ v. getD (now (actions .entry)) v 0) ⌝ }
 {
     for v in 0..vectors {
@@ -125,9 +136,9 @@ pub fn numbers_exist<'a>(
             found = Verdict::Refused(number, v);
             break 'vectors;
         }
-        let at = v * k;
         for o in 0..k {
-            if standing <= choice(choices[at + o]) {
+            let chosen = read::choice_at(choices, k, Vector(v), Observation(o));
+            if standing <= chosen.0 {
                 found = Verdict::Refused(number, v);
                 break 'vectors;
             }

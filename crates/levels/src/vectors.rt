@@ -1,20 +1,20 @@
 // Products of weights with vectors, and the first vector with the largest.
 ghost use mathlib.Core.Path.{_≡_};
-ghost use Prim.Native.Nat.{ℕ, _+_, _*_, _≤_, _<_};
+ghost use Prim.Native.Nat.{ℕ, _+_, _≤_, _<_};
 ghost use lib.ListN.{length, getD};
 ghost use lib.IntN.{pos, natAbs};
 ghost use Rattle.integers.specs.Whole.{Below};
 ghost use Rattle.integers.specs.Search.{firstLargest};
-ghost use Rattle.tables.specs.Limits.{maxStates, maxVectors, maxEntry};
+ghost use Rattle.tables.specs.Limits.{maxStates, maxEntry};
+ghost use Rattle.tables.specs.Steps.{EntriesFit};
 ghost use Rattle.tables.specs.Storage.{weightIn, entryIn};
 ghost use Rattle.plans.specs.Limits.{maxReached};
 ghost use Rattle.plans.specs.Level.{product};
-use tables::Entries;
 use tables::Vector;
-use tables::Weights;
+use tables::read;
 
 // The product of weights with the n numbers from `at` on.
-pub fn product(q: &Weights, cells: &[i64], at: usize, n: usize) -> i64
+pub fn product(q: &[u64], cells: &[i64], at: usize, n: usize) -> i64
     requires { ⌜ (n ≤ maxStates) × (at + n ≤ length (now cells)) ⌝ }
     requires { ⌜ Below maxReached n (now q) ⌝ }
     requires { ⌜ ((s : ℕ) → s < n → natAbs (getD (now cells) (at + s) (pos 0)) ≤ maxEntry) ⌝ }
@@ -28,16 +28,16 @@ pub fn product(q: &Weights, cells: &[i64], at: usize, n: usize) -> i64
 }
 
 // The first vector with the largest product.
-pub fn best_vector(q: &Weights, entries: &Entries, n: usize, vectors: usize) -> Vector
-    requires { ⌜ (n ≤ maxStates) × ((0 < vectors) × (vectors ≤ maxVectors)) ⌝ }
+pub fn best_vector(q: &[u64], entries: &[i64], n: usize, vectors: usize) -> Vector
+    requires { ⌜ (n ≤ maxStates) × (0 < vectors) ⌝ }
     requires { ⌜ Below maxReached n (now q) ⌝ }
-    requires { ⌜ ((v : ℕ) → v < vectors → (s : ℕ) → s < n → natAbs (entryIn n (now entries) v s) ≤ maxEntry) ⌝ }
+    requires { ⌜ EntriesFit n vectors (now entries) ⌝ }
     ensures { λ r. ⌜ r .0 ≡ firstLargest vectors (λ v. product n (weightIn (now (q .entry))) (entryIn n (now (entries .entry)) v)) ⌝ }
 {
     let mut best: usize = 0;
-    let mut most = product(q, entries, 0, n);
+    let mut most = product(q, entries, read::start(0, n), n);
     for v in 1..vectors {
-        let here = product(q, entries, v * n, n);
+        let here = product(q, entries, read::start(v, n), n);
         if most < here {
             most = here;
             best = v;

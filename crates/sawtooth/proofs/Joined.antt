@@ -10,9 +10,8 @@ use Rattle.integers.proofs.Sums.{largestTo-cong}
 use Rattle.tables.specs.Limits.{maxStates}
 use Rattle.tables.specs.Storage.{weightIn}
 use Rattle.plans.specs.Level.{product, smallest, orNone, drop, gain, ceiling}
-use Rattle.levels.specs.declared.Level.{Level}
-use Rattle.levels.specs.Storage.{cornerIn, pointIn, levelOf}
-use Rattle.sawtooth.specs.Storage.{positive, gainIn, dropIn, ceilingIn, CornersFit, PointsFit, ValuesFit, maxGain}
+use Rattle.levels.specs.Storage.{cornerIn, pointIn, roofIn}
+use Rattle.sawtooth.specs.Steps.{positive, gainIn, dropIn, ceilingIn, CornersFit, PointsFit, ValuesFit, maxGain}
 use Rattle.sawtooth.proofs.Laws.{drop-limit, gain-limit, positive-limit}
 
 -- ---- the ceiling
@@ -27,13 +26,13 @@ drop-positive n p q (pos zero) = no-drop n p q
 drop-positive n p q (pos (suc G)) = refl
 drop-positive n p q (negsuc G) = no-drop n p q
 
-pub ceiling-is : (n k : ℕ) (l : Level) (gains q : List ℕ)
-    → ((i : ℕ) → i < l .points → getD gains i 0 ≡ positive (gainIn n (l .corners) (l .weights) (l .values) i))
-    → ceilingIn n (l .corners) (l .weights) gains (l .points) q ≡ ceiling n (levelOf n k l) (weightIn q)
+pub ceiling-is : (n : ℕ) (corners : List ℤ) (points : ℕ) (weights : List ℕ) (values : List ℤ) (gains q : List ℕ)
+    → ((i : ℕ) → i < points → getD gains i 0 ≡ positive (gainIn n corners weights values i))
+    → ceilingIn n corners weights gains points q ≡ ceiling n (roofIn n corners points weights values) (weightIn q)
 unfolding ceilingIn ceiling dropIn gain gainIn
-ceiling-is n k l gains q h =
-    ap (λ (d : ℕ). product n (weightIn q) (cornerIn (l .corners)) -ℤ pos d)
-    (largestTo-cong (l .points) _ _ (λ i b. rw (h i b) (sym (drop-positive n (pointIn n (l .weights) i) (weightIn q) _))))
+ceiling-is n corners points weights values gains q h =
+    ap (λ (d : ℕ). product n (weightIn q) (cornerIn corners) -ℤ pos d)
+    (largestTo-cong points _ _ (λ i b. rw (h i b) (sym (drop-positive n (pointIn n weights i) (weightIn q) _))))
 
 -- ---- the gains
 pub gains-limit : {n points : ℕ} {corners values : List ℤ} {weights : List ℕ} → CornersFit n corners → PointsFit n points weights → ValuesFit points values

@@ -1,6 +1,6 @@
 -- Laws for the sawtooth's loops: the least quotient q / p found by cross products and the drop read off it, points that cannot beat the largest drop so
 -- far, and how large drops and gains are. Assumes nothing.
-use mathlib.Core.Path.{_≡_, refl, sym, _∙_}
+use mathlib.Core.Path.{_≡_, refl, sym, _∙_, ap}
 use mathlib.Core.Bool.{Bool, true, false, _&&_}
 use Prim.Native.Nat.{ℕ, zero, suc, _+_, _*_, _/_, _≤_, _<_}
 use native.Mathlib.Nat as NatL
@@ -9,25 +9,25 @@ use borrow.Author.Count.{below-more}
 use borrow.Author.Tests.{leb-false}
 use mathlib.Core.List.{List}
 use lib.Dec.{T, leb}
-use lib.ListN.{getD}
+use lib.ListN.{length, getD}
 use lib.IntN.{ℤ, pos, negsuc, natAbs, _-ℤ_}
 use lib.Signed.{ltZ, nonNeg}
 use Rattle.integers.specs.Whole.{largestTo, Below}
 use Rattle.integers.specs.Search.{every}
 use Rattle.integers.specs.Cells.{padded}
-use Rattle.integers.proofs.Lists.{row-below, padded-at}
+use Rattle.integers.proofs.Lists.{row-below, padded-at, padded-length}
 use Rattle.integers.proofs.Parts.{is-T, ltZ-true, ltZ-false}
 use Rattle.integers.proofs.Sizes.{abs-sub}
 use Rattle.integers.proofs.Sums.{largest-ind, largest-more}
 use Rattle.integers.proofs.Terms.{Terms, terms-limit}
 use Rattle.tables.specs.Limits.{maxStates, maxEntry}
-use Rattle.tables.specs.Storage.{weightIn}
-use Rattle.plans.specs.Limits.{maxPoints, pointTotal, maxReached}
+use Rattle.tables.specs.Storage.{rowStart, weightIn}
+use Rattle.plans.specs.Limits.{pointTotal, maxReached}
 use Rattle.plans.specs.Level.{Ratio, none, ratio, joined, smallest, orNone, product}
 use Rattle.plans.proofs.Agreement.{product-cong}
 use Rattle.plans.proofs.Drops.{drop-capped, drop-cross}
 use Rattle.levels.specs.Storage.{cornerIn, pointIn}
-use Rattle.sawtooth.specs.Storage.{positive, gainIn, dropIn, CornersFit, PointsFit, maxGain}
+use Rattle.sawtooth.specs.Steps.{positive, gainIn, dropIn, CornersFit, PointsFit, maxGain}
 
 -- ---- the least quotient
 factor-positive : (x y z : ℕ) → x < y * z → 0 < z
@@ -109,11 +109,17 @@ not-beaten n p q G best least h e =
     (omega (arith, leb-false (least * p (f .index)) (q (f .index) * G) (f .fails), NatL.mul-le-mul-right (p (f .index)) h))
 
 -- the same of a point in storage, by what was answered
-pub drop-beaten : (n : ℕ) (weights gains q : List ℕ) (i : ℕ) {best least : ℕ} {answer : Bool} → least ≤ best + 1
-    → answer ≡ every n (λ s. leb (least * pointIn n weights i s) (weightIn q s * getD gains i 0)) → answer ≡ false → dropIn n weights gains q i ≤ best
+pub drop-beaten : (n : ℕ) (weights gains q : List ℕ) (i : ℕ) {least at best : ℕ} {answer : Bool} → at ≡ rowStart n i → least ≤ best + 1
+    → answer ≡ every n (λ s. leb (least * getD weights (at + s) 0) (weightIn q s * getD gains i 0)) → answer ≡ false → dropIn n weights gains q i ≤ best
 unfolding dropIn
-drop-beaten n weights gains q i {best} {least} h e f =
-    not-beaten n (pointIn n weights i) (weightIn q) (getD gains i 0) best least h (sym e ∙ f)
+drop-beaten n weights gains q i {least} {at} {best} starts h e f =
+    not-beaten n (pointIn n weights i) (weightIn q) (getD gains i 0) best least h
+    (sym (e ∙ ap (λ (z : ℕ). every n (λ s. leb (least * getD weights (z + s) 0) (weightIn q s * getD gains i 0))) starts) ∙ f)
+
+pub drop-said : (n : ℕ) (weights gains q : List ℕ) (i : ℕ) {at d : ℕ} → at ≡ rowStart n i
+    → d ≡ orNone (smallest n (λ s. getD weights (at + s) 0) (weightIn q) (getD gains i 0)) → d ≡ dropIn n weights gains q i
+unfolding dropIn
+drop-said n weights gains q i starts e = e ∙ ap (λ (z : ℕ). orNone (smallest n (λ s. getD weights (z + s) 0) (weightIn q) (getD gains i 0))) starts
 
 -- what the best becomes, where the next is at most the best and where it is above
 pub largest-kept : (i : ℕ) (f : ℕ → ℕ) {best best' : ℕ} → best ≡ largestTo i f → best' ≡ best → f i ≤ best → best' ≡ largestTo (i + 1) f
@@ -180,13 +186,20 @@ positive-from (pos g) e = (tt, refl)
 positive-from (negsuc g) e = absurd (omega (arith, ltZ-false (negsuc g) (pos 0) e))
 
 -- ---- the weights of a point
-pub row-fits : (i n : ℕ) → i < maxPoints → n ≤ maxStates → i * n + n ≤ maxPoints * maxStates
-row-fits i n l h = omega (arith, row-below i maxPoints n l)
+pub point-inside : (i n : ℕ) {points at : ℕ} {weights : List ℕ} → PointsFit n points weights → i < points → at ≡ rowStart n i → at + n ≤ length weights
+point-inside i n {points} fit l starts = rw starts (omega (arith, row-below i points n l, fit .stored))
+
+pub point-within : (i n : ℕ) {points at : ℕ} {weights : List ℕ} → PointsFit n points weights → i < points → at ≡ rowStart n i
+    → (s : ℕ) → s < n → getD weights (at + s) 0 ≤ pointTotal
+point-within i n fit l starts s b = rw starts (fit .weight i l s b)
 
 -- filled up to the size of an array
 module _ (n i : ℕ) (weights p : List ℕ) (filled : p ≡ padded 0 maxStates n (pointIn n weights i)) where
-  pub filled-below : {points : ℕ} → PointsFit n points weights → i < points → Below pointTotal n p
-  filled-below f l = record { below = λ s k. rw (filled, padded-at 0 maxStates n (pointIn n weights i) s 0 k) (f .weight i l s k) }
+  pub filled-below : {points : ℕ} → PointsFit n points weights → i < points → n ≤ maxStates → Below pointTotal n p
+  filled-below f l few = record {
+    long = rw (filled, padded-length 0 maxStates n (pointIn n weights i) few) few;
+    below = λ s k. rw (filled, padded-at 0 maxStates n (pointIn n weights i) s 0 k) (f .weight i l s k);
+  }
 
   pub filled-gain : (corners values : List ℤ) {v : ℤ} {r : ℕ} → v ≡ getD values i (pos 0) → r ≡ positive (product n (weightIn p) (cornerIn corners) -ℤ v)
       → r ≡ positive (gainIn n corners weights values i)

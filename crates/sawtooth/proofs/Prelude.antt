@@ -6,7 +6,7 @@ pub use Rattle.integers.specs.Cells.{padded}
 pub use Rattle.levels.specs.Storage.{cornerIn}
 pub use Rattle.plans.specs.Level.{product}
 pub use Rattle.plans.specs.Limits.{maxPoints, maxReached}
-pub use Rattle.sawtooth.proofs.Laws.{first-cells, first-fit, row-fits}
+pub use Rattle.sawtooth.proofs.Laws.{first-cells, first-fit}
 pub use Rattle.tables.specs.Limits.{maxStates}
 pub use Rattle.tables.specs.Storage.{weightIn}
 pub use borrow.Author.Needs.{needs}

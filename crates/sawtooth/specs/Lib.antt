@@ -1,2 +1,2 @@
 -- The sawtooth ceiling over stored corners, points and gains.
-pub mod Storage
+pub mod Steps

@@ -3,7 +3,7 @@
 ghost use mathlib.Core.Path.{_≡_};
 ghost use Prim.Native.Nat.{ℕ, _+_, _*_, _≤_, _<_};
 ghost use lib.Dec.{leb};
-ghost use lib.ListN.{getD};
+ghost use lib.ListN.{length, getD};
 ghost use lib.IntN.{natAbs, _-ℤ_};
 ghost use Rattle.integers.specs.Whole.{largestTo, Below};
 ghost use Rattle.integers.specs.Search.{every};
@@ -12,37 +12,20 @@ ghost use Rattle.tables.specs.Limits.{maxStates, maxEntry};
 ghost use Rattle.tables.specs.Storage.{weightIn};
 ghost use Rattle.plans.specs.Limits.{maxPoints, pointTotal, maxReached};
 ghost use Rattle.plans.specs.Level.{product, smallest, orNone};
-ghost use Rattle.levels.specs.Storage.{cornerIn, pointIn};
-ghost use Rattle.sawtooth.specs.Storage.{positive, gainIn, dropIn, ceilingIn, CornersFit, PointsFit, ValuesFit, maxGain, cap};
-use levels::Corners;
+ghost use Rattle.levels.specs.Storage.{cornerIn};
+ghost use Rattle.sawtooth.specs.Steps.{positive, gainIn, dropIn, ceilingIn, CornersFit, PointsFit, ValuesFit, maxGain, cap};
 use levels::Level;
-use levels::PointWeights;
-use levels::Values;
 use levels::shape;
 use levels::vectors;
-use tables::Tables;
-use tables::Weights;
+use tables::read;
 
 pub type Gains = [u64; Level::POINTS];
 
 // No drop is compared with more than this: one more of it times a weight still fits.
 const CAP: u64 = 100_000_000_000_000_000;
 
-// The weights of point i.
-pub fn point_weights(weights: &PointWeights, n: usize, i: usize) -> Weights
-    requires { ⌜ (n ≤ maxStates) × (i < maxPoints) ⌝ }
-    ensures { λ r. ⌜ r ≡ padded 0 maxStates n (pointIn n (now (weights .entry)) i) ⌝ }
-{
-    let at = i * n;
-    let mut p = [0u64; Tables::STATES];
-    for s in 0..n {
-        p[s] = shape::weight(weights[at + s]);
-    }
-    p
-}
-
 // The positive part of a point's gain: corners · p less its value.
-fn gain_of(corners: &Corners, p: &Weights, value: i64, n: usize) -> u64
+fn gain_of(corners: &[i64], p: &[u64], value: i64, n: usize) -> u64
     requires { ⌜ n ≤ maxStates ⌝ }
     requires { ⌜ CornersFit n (now corners) ⌝ }
     requires { ⌜ Below pointTotal n (now p) ⌝ }
@@ -58,9 +41,9 @@ fn gain_of(corners: &Corners, p: &Weights, value: i64, n: usize) -> u64
 
 // The positive part of each point's gain.
 pub fn gains<'a>(
-    corners: &'a Corners,
-    weights: &'a PointWeights,
-    values: &'a Values,
+    corners: &'a [i64],
+    weights: &'a [u32],
+    values: &'a [i64],
     points: usize,
     n: usize,
 ) -> Gains
@@ -72,7 +55,7 @@ pub fn gains<'a>(
 {
     let mut g = [0u64; Level::POINTS];
     for i in 0..points {
-        let p = point_weights(weights, n, i);
+        let p = shape::point_weights(weights, n, i);
         g[i] = gain_of(corners, &p, values[i], n);
     }
     g
@@ -95,8 +78,8 @@ fn wanted(least: u64, p: u64) -> u64
 }
 
 // Whether the drop is at least `least`: q(s) × gain is at least `least` × p(s) at every state. It leaves at the first that says no.
-fn reaches(q: &Weights, weights: &PointWeights, at: usize, gain: u64, n: usize, least: u64) -> bool
-    requires { ⌜ (n ≤ maxStates) × ((at + n ≤ maxPoints * maxStates) × ((gain ≤ maxGain) × (least ≤ cap + 1))) ⌝ }
+fn reaches(q: &[u64], weights: &[u32], at: usize, gain: u64, n: usize, least: u64) -> bool
+    requires { ⌜ (n ≤ maxStates) × ((at + n ≤ length (now weights)) × ((gain ≤ maxGain) × (least ≤ cap + 1))) ⌝ }
     requires { ⌜ Below maxReached n (now q) ⌝ }
     requires { ⌜ ((s : ℕ) → s < n → getD (now weights) (at + s) 0 ≤ pointTotal) ⌝ }
     ensures { λ r. ⌜ r ≡ every n (λ s. leb (least * getD (now (weights .entry)) (at + s) 0) (getD (now (q .entry)) s 0 * gain)) ⌝ }
@@ -119,8 +102,8 @@ fn cross(q: u64, p: u64) -> u64
 }
 
 // The drop: the smallest q(s) × gain / p(s), by cross-multiplication with one division at the end; 0 where no state has weight.
-fn drop_of(q: &Weights, weights: &PointWeights, at: usize, gain: u64, n: usize) -> u64
-    requires { ⌜ (n ≤ maxStates) × ((at + n ≤ maxPoints * maxStates) × (gain ≤ maxGain)) ⌝ }
+fn drop_of(q: &[u64], weights: &[u32], at: usize, gain: u64, n: usize) -> u64
+    requires { ⌜ (n ≤ maxStates) × ((at + n ≤ length (now weights)) × (gain ≤ maxGain)) ⌝ }
     requires { ⌜ Below maxReached n (now q) ⌝ }
     requires { ⌜ ((s : ℕ) → s < n → getD (now weights) (at + s) 0 ≤ pointTotal) ⌝ }
     ensures { λ r. ⌜ r ≡ orNone (smallest n (λ s. getD (now (weights .entry)) (at + s) 0) (weightIn (now (q .entry))) gain) ⌝ }
@@ -149,9 +132,9 @@ fn least_above(best: u64) -> u64
 
 // The largest drop of a point, or 0. A point that cannot beat the largest so far is left at once.
 pub fn largest_drop<'a>(
-    q: &Weights,
-    weights: &'a PointWeights,
-    gains: &Gains,
+    q: &[u64],
+    weights: &'a [u32],
+    gains: &[u64],
     points: usize,
     n: usize,
 ) -> u64
@@ -163,7 +146,7 @@ pub fn largest_drop<'a>(
 {
     let mut best: u64 = 0;
     for i in 0..points {
-        let at = i * n;
+        let at = read::start(i, n);
         let gain = gains[i];
         if reaches(q, weights, at, gain, n, least_above(best)) {
             let d = drop_of(q, weights, at, gain, n);
@@ -177,10 +160,10 @@ pub fn largest_drop<'a>(
 
 // The ceiling at q.
 pub fn ceiling<'a>(
-    q: &Weights,
-    corners: &'a Corners,
-    weights: &'a PointWeights,
-    gains: &Gains,
+    q: &[u64],
+    corners: &'a [i64],
+    weights: &'a [u32],
+    gains: &[u64],
     points: usize,
     n: usize,
 ) -> i64

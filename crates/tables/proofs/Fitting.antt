@@ -1,15 +1,37 @@
 -- Tables whose counts are within the limits do not reach past their arrays. Assumes nothing.
-use Prim.Native.Nat.{ℕ, _*_, _≤_}
+use Prim.Native.Nat.{ℕ, _+_, _*_, _≤_, _<_}
 use mathlib.Core.Path.{_≡_}
 use mathlib.Core.Bool.{true, _&&_}
-use native.Mathlib.Nat.{mul-le-mul}
+use native.Mathlib.Nat.{mul-le-mul, mul-le-mul-right}
+use native.Mathlib.Omega.{arith}
 use lib.Dec.{leb}
 use lib.ListN.{length}
 use borrow.Author.Tests.{leb-true}
+use Rattle.integers.proofs.Lists.{cell-below}
 use Rattle.integers.proofs.Searches.{and-true}
 use Rattle.tables.specs.declared.Tables.{Tables}
-use Rattle.tables.specs.Model.{Model}
+use Rattle.tables.specs.Model.{Model, Valid}
+use Rattle.tables.specs.Storage.{rowPlace, cellPlace, countsOf, modelOf}
+use Rattle.tables.specs.Steps.{rowsTo, cellsTo, Stored}
 use Rattle.tables.specs.Judged.{countWithin, countsWithin, limitsHold}
+
+-- ---- places that are stored
+pub row-stored : (w r x : ℕ) {size : ℕ} → x < w → rowsTo w r ≤ size → rowPlace w r x < size
+row-stored w r x l long = omega (arith, cell-below r (r + 1) x w (let h : r < r + 1 = omega arith in h) l)
+
+pub cell-stored : (n w a s x : ℕ) {size : ℕ} → s < n → x < w → cellsTo n w a ≤ size → cellPlace n w a s x < size
+cell-stored n w a s x ls lx long =
+    omega (arith, cell-below (rowPlace n a s) (rowsTo n a) x w (row-stored n a s ls (let h : rowsTo n a ≤ rowsTo n a = omega arith in h)) lx)
+
+-- the rows up to r are among all
+pub rows-stored : (w r rows : ℕ) {size : ℕ} → r < rows → rows * w ≤ size → rowsTo w r ≤ size
+rows-stored w r rows l long = omega (arith, mul-le-mul-right w (let h : r + 1 ≤ rows = omega arith in h))
+
+-- a row that is alone starts at 0
+pub row-alone : (w x : ℕ) → rowPlace w 0 x ≡ x
+row-alone w x = omega arith
+
+-- ---- tables by value
 
 -- what the type says of tables of any content
 pub record Long (m : Tables) : Type 0 where
@@ -42,6 +64,22 @@ few n m k e =
       observations = leb-true k 8 (and-true (leb 1 k) (leb k 8) (l .1) .1);
     }
 
-pub limits-few : (M : Model) → limitsHold M ≡ true → Few (M .actions) (M .states) (M .observations)
+pub limits-counts : (M : Model) → limitsHold M ≡ true → countsWithin (M .states) (M .actions) (M .observations) ≡ true
 unfolding limitsHold
-limits-few M e = few (M .states) (M .actions) (M .observations) (and-true (countsWithin (M .states) (M .actions) (M .observations)) _ e .0)
+limits-counts M e = and-true (countsWithin (M .states) (M .actions) (M .observations)) _ e .0
+
+pub limits-few : (M : Model) → limitsHold M ≡ true → Few (M .actions) (M .states) (M .observations)
+limits-few M e = few (M .states) (M .actions) (M .observations) (limits-counts M e)
+
+-- tables by value are long enough for counts within the limits
+pub stored-few : (m : Tables) → Long m → Few (m .actions) (m .states) (m .observations) → Stored (countsOf m) (m .transition) (m .observation) (m .reward)
+stored-few m long f =
+    let s = sizes f in
+    record { transitions = rw (long .transition) (s .transitions); observed = rw (long .observation) (s .observed); rewards = rw (long .reward) (s .rows) }
+
+pub stored-by : (m : Tables) → Long m → countsWithin (m .states) (m .actions) (m .observations) ≡ true
+    → Stored (countsOf m) (m .transition) (m .observation) (m .reward)
+stored-by m long e = stored-few m long (few (m .states) (m .actions) (m .observations) e)
+
+pub stored-valid : (m : Tables) → Long m → Valid (modelOf m) → Stored (countsOf m) (m .transition) (m .observation) (m .reward)
+stored-valid m long v = stored-few m long (record { actions = v .few-actions; states = v .few-states; observations = v .few-observations })

@@ -8,9 +8,9 @@ pub use Rattle.integers.proofs.Words.{answer, back}
 pub use Rattle.integers.specs.Cells.{padded}
 pub use Rattle.integers.specs.Search.{every}
 pub use Rattle.integers.specs.Whole.{_·_, sumTo, totalTo}
-pub use Rattle.tables.proofs.Fitting.{Few, Long, sizes}
+pub use Rattle.tables.proofs.Fitting.{Few, Long, cell-stored, row-stored, rows-stored, sizes, stored-by}
 pub use Rattle.tables.specs.Limits.{maxStates, maxWeight, one}
-pub use Rattle.tables.specs.Storage.{modelOf, rewardIn, transitionIn, weightIn}
+pub use Rattle.tables.specs.Storage.{modelIn, modelOf, rewardIn, transitionIn, weightIn}
 pub use borrow.Author.Needs.{needs}
 pub use borrow.Author.Tests.{le-leb, lt-leb, not-false, not-true}
 pub use lib.Dec.{leb, lit<}
@@ -25,4 +25,4 @@ pub use native.Mathlib.Nat.{mul-le-mul}
 pub use native.Mathlib.Omega.{arith}
 unfoldable pub use Rattle.tables.specs.Judged.{limitsHold}
 unfoldable pub use Rattle.tables.specs.Limits.{K}
-unfoldable pub use Rattle.tables.specs.Storage.{foreseenIn, movedIn, onwardIn}
+unfoldable pub use Rattle.tables.specs.Steps.{foreseenIn, movedIn, onwardIn}

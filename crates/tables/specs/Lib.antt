@@ -2,5 +2,6 @@
 pub mod Limits
 pub mod Model
 pub mod Storage
+pub mod Steps
 pub mod Verdicts
 pub mod Judged

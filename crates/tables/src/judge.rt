@@ -1,16 +1,18 @@
 // Refusals 3, 5 and 6, and what is kept of tables of any content.
 ghost use mathlib.Core.Path.{_≡_};
+ghost use mathlib.Core.Bool.{true};
 ghost use Prim.Native.Nat.{_+_, _*_, _≤_};
 ghost use lib.Dec.{leb};
 ghost use lib.ListN.{length, getD};
 ghost use Rattle.integers.specs.Whole.{totalTo};
 ghost use Rattle.integers.specs.Search.{every};
 ghost use Rattle.tables.specs.Limits.{maxStates, maxActions, maxObservations, one};
-ghost use Rattle.tables.specs.Storage.{cellIn, rewardIn, modelOf, kept};
+ghost use Rattle.tables.specs.Storage.{cellIn, rewardIn, modelIn, modelOf, kept};
+ghost use Rattle.tables.specs.Steps.{Stored};
 ghost use Rattle.tables.specs.Judged.{countWithin, countsWithin, cellsWithin, rewardsWithin, limitsHold, rowsTotal, modelVerdict, noTables, openedFrom};
 use super::Action;
+use super::Counts;
 use super::Opened;
-use super::Rewards;
 use super::State;
 use super::Tables;
 use super::Verdict;
@@ -59,7 +61,7 @@ fn cells_within(cells: &[u16], m: usize, n: usize, w: usize) -> bool
 {
     for a in 0..m {
         for s in 0..n {
-            let at = read::row(a, n, s) * w;
+            let at = read::start(read::row(a, n, s), w);
             if !row_within(cells, at, w) {
                 return false;
             }
@@ -68,8 +70,9 @@ fn cells_within(cells: &[u16], m: usize, n: usize, w: usize) -> bool
     true
 }
 
-fn rewards_within(cells: &Rewards, m: usize, n: usize) -> bool
+fn rewards_within(cells: &[i64], m: usize, n: usize) -> bool
     requires { ⌜ (m ≤ maxActions) × (n ≤ maxStates) ⌝ }
+    requires { ⌜ m * n ≤ length (now cells) ⌝ }
     ensures { λ r. ⌜ r ≡ rewardsWithin m n (rewardIn n (now (cells .entry))) ⌝ }
 {
     for a in 0..m {
@@ -86,25 +89,28 @@ fn rewards_within(cells: &Rewards, m: usize, n: usize) -> bool
 }
 
 // 3
-fn limits_hold(m: Tables) -> bool
-    ensures { λ r. ⌜ r ≡ limitsHold (modelOf m) ⌝ }
+fn limits_hold<'a>(
+    transition: &'a [u16],
+    observation: &'a [u16],
+    reward: &'a [i64],
+    c: Counts,
+) -> bool
+    requires { ⌜ (countsWithin (c .states) (c .actions) (c .observations) ≡ true → Stored c (now transition) (now observation) (now reward)) ⌝ }
+    ensures { λ r. ⌜ r ≡ limitsHold (modelIn c (now (transition .entry)) (now (observation .entry)) (now (reward .entry))) ⌝ }
 {
-    let n = m.states;
-    let actions = m.actions;
-    let k = m.observations;
-    if !counts_within(n, actions, k) {
+    if !counts_within(c.states, c.actions, c.observations) {
         return false;
     }
-    if Tables::ONE < m.discount {
+    if Tables::ONE < c.discount {
         return false;
     }
-    if !cells_within(&m.transition, actions, n, n) {
+    if !cells_within(transition, c.actions, c.states, c.states) {
         return false;
     }
-    if !cells_within(&m.observation, actions, n, k) {
+    if !cells_within(observation, c.actions, c.states, c.observations) {
         return false;
     }
-    rewards_within(&m.reward, actions, n)
+    rewards_within(reward, c.actions, c.states)
 }
 
 // The total of the w cells from `at` on.
@@ -129,7 +135,7 @@ pub fn rows_total(cells: &[u16], m: usize, n: usize, w: usize, number: u8) -> Ve
     'rows: for a in 0..m {
         for s in 0..n {
             let row = read::row(a, n, s);
-            if row_total(cells, row * w, w) != Tables::ONE {
+            if row_total(cells, read::start(row, w), w) != Tables::ONE {
                 found = Verdict::Refused(number, row);
                 break 'rows;
             }
@@ -139,20 +145,23 @@ pub fn rows_total(cells: &[u16], m: usize, n: usize, w: usize, number: u8) -> Ve
 }
 
 // 3, then 5, then 6.
-pub fn judge_tables(m: Tables) -> Verdict
-    ensures { λ r. ⌜ r ≡ modelVerdict (modelOf m) ⌝ }
+pub fn judge_tables<'a>(
+    transition: &'a [u16],
+    observation: &'a [u16],
+    reward: &'a [i64],
+    c: Counts,
+) -> Verdict
+    requires { ⌜ (countsWithin (c .states) (c .actions) (c .observations) ≡ true → Stored c (now transition) (now observation) (now reward)) ⌝ }
+    ensures { λ r. ⌜ r ≡ modelVerdict (modelIn c (now (transition .entry)) (now (observation .entry)) (now (reward .entry))) ⌝ }
 {
-    if !limits_hold(m) {
+    if !limits_hold(transition, observation, reward, c) {
         return Verdict::Refused(3, 0);
     }
-    let n = m.states;
-    let actions = m.actions;
-    let k = m.observations;
-    let transitions = rows_total(&m.transition, actions, n, n, 5);
+    let transitions = rows_total(transition, c.actions, c.states, c.states, 5);
     let Verdict::Fine = transitions else {
         return transitions;
     };
-    rows_total(&m.observation, actions, n, k, 6)
+    rows_total(observation, c.actions, c.states, c.observations, 6)
 }
 
 // The tables with 0 past their counts.
@@ -202,7 +211,14 @@ impl Tables {
 pub fn open_tables(m: Tables) -> Opened
     ensures { λ r. ⌜ r ≡ openedFrom m ⌝ }
 {
-    match judge_tables(m) {
+    let c = Counts {
+        states: m.states,
+        actions: m.actions,
+        observations: m.observations,
+        discount: m.discount,
+    };
+    let verdict = judge_tables(&m.transition, &m.observation, &m.reward, c);
+    match verdict {
         Verdict::Fine => {
             let tables = keep(m);
             Opened {

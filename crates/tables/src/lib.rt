@@ -12,28 +12,28 @@ pub struct Observation(pub usize);
 
 pub struct Vector(pub usize);
 
-// Storage, packed by the counts with the last index fastest.
-pub type Transitions = [u16; Tables::ACTIONS * Tables::STATES * Tables::STATES];
-
-pub type Observations = [u16; Tables::ACTIONS * Tables::STATES * Tables::OBSERVATIONS];
-
-pub type Rewards = [i64; Tables::ACTIONS * Tables::STATES];
-
+// Numbers by state that are worked out on the way.
 pub type Weights = [u64; Tables::STATES]; // of a mixture, a point or the states reached
 
 pub type Foreseen = [i64; Tables::STATES];
 
-pub type Entries = [i64; Tables::VECTORS * Tables::STATES];
+// The counts by which lent tables are read, and the discount.
+pub struct Counts {
+    pub states: usize,
+    pub actions: usize,
+    pub observations: usize,
+    pub discount: u64,
+}
 
-// A model by value: T(s,a,s') by a, s, s'; O(a,s',o) by a, s', o; R(s,a) by a, s.
+// A model by value, packed by the counts with the last index fastest: T(s,a,s') by a, s, s'; O(a,s',o) by a, s', o; R(s,a) by a, s.
 pub struct Tables {
     pub states: usize,
     pub actions: usize,
     pub observations: usize,
     pub discount: u64,
-    pub transition: Transitions,
-    pub observation: Observations,
-    pub reward: Rewards,
+    pub transition: [u16; Tables::ACTIONS * Tables::STATES * Tables::STATES],
+    pub observation: [u16; Tables::ACTIONS * Tables::STATES * Tables::OBSERVATIONS],
+    pub reward: [i64; Tables::ACTIONS * Tables::STATES],
 }
 
 // What a test answers: nothing to refuse, or document 01's number and place.

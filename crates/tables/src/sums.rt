@@ -2,21 +2,16 @@
 // Σ_s p(s) × T(s,a,s') for an action, Σ_o O(a,s',o) × (entry chosen for o) for a vector and a state reached.
 ghost use mathlib.Core.Path.{_≡_};
 ghost use Prim.Native.Nat.{_+_, _*_, _≤_, _<_};
-ghost use lib.ListN.{length, getD};
 ghost use lib.IntN.{pos};
 ghost use Rattle.integers.specs.Whole.{floorDiv, Below, Within};
 ghost use Rattle.integers.specs.Cells.{padded};
 ghost use Rattle.tables.specs.Limits.{maxStates, maxActions, maxObservations, one, maxWeight, K};
-ghost use Rattle.tables.specs.Storage.{movedIn, seenIn, expectedIn, foreseenIn, onwardIn, backupIn, TransitionsFit, ObservationsFit, RewardsFit, ChosenFit, movedLimit, foreseenLimit};
+ghost use Rattle.tables.specs.Steps.{movedIn, seenIn, expectedIn, foreseenIn, onwardIn, backupIn, TransitionsFit, ObservationsFit, RewardsFit, ChosenFit, movedLimit, foreseenLimit};
 use super::Action;
-use super::Entries;
 use super::Foreseen;
 use super::Observation;
-use super::Observations;
-use super::Rewards;
 use super::State;
 use super::Tables;
-use super::Transitions;
 use super::Vector;
 use super::Weights;
 use super::read;
@@ -30,7 +25,7 @@ fn add_moved(sum: u64, p: u64, t: u64) -> u64
 }
 
 // The sum over s of p(s) × T(s,a,s').
-fn moved_to(cells: &Transitions, n: usize, p: &Weights, a: Action, to: State) -> u64
+fn moved_to(cells: &[u16], n: usize, p: &[u64], a: Action, to: State) -> u64
     requires { ⌜ (n ≤ maxStates) × ((a .0 < maxActions) × (to .0 < n)) ⌝ }
     requires { ⌜ Below maxWeight n (now p) ⌝ }
     requires { ⌜ TransitionsFit n (now cells) (a .0) ⌝ }
@@ -45,7 +40,7 @@ fn moved_to(cells: &Transitions, n: usize, p: &Weights, a: Action, to: State) ->
 }
 
 // The same at each state reached.
-pub fn moved(cells: &Transitions, n: usize, p: &Weights, a: Action) -> Weights
+pub fn moved(cells: &[u16], n: usize, p: &[u64], a: Action) -> Weights
     requires { ⌜ (n ≤ maxStates) × (a .0 < maxActions) ⌝ }
     requires { ⌜ Below maxWeight n (now p) ⌝ }
     requires { ⌜ TransitionsFit n (now cells) (a .0) ⌝ }
@@ -67,10 +62,10 @@ fn share(u: u64, o: u64) -> u64
 
 // The successor weights for an action and an observation, from what moved to each state.
 pub fn successors(
-    cells: &Observations,
+    cells: &[u16],
     n: usize,
     k: usize,
-    u: &Weights,
+    u: &[u64],
     a: Action,
     o: Observation,
 ) -> Weights
@@ -87,7 +82,7 @@ pub fn successors(
 }
 
 // p · R(·,a)
-pub fn expected_reward(cells: &Rewards, n: usize, p: &Weights, a: Action) -> i64
+pub fn expected_reward(cells: &[i64], n: usize, p: &[u64], a: Action) -> i64
     requires { ⌜ (n ≤ maxStates) × (a .0 < maxActions) ⌝ }
     requires { ⌜ Below maxWeight n (now p) ⌝ }
     requires { ⌜ RewardsFit n (now cells) (a .0) ⌝ }
@@ -101,39 +96,31 @@ pub fn expected_reward(cells: &Rewards, n: usize, p: &Weights, a: Action) -> i64
     sum
 }
 
-fn chosen_at(chosen: &[u16], o: Observation) -> Vector
-    requires { ⌜ o .0 < length (now chosen) ⌝ }
-    ensures { λ r. ⌜ r .0 ≡ getD (now (chosen .entry)) (o .0) 0 ⌝ }
-{
-    let i = o.0;
-    Vector(index(chosen[i]))
-}
-
-fn index(x: u16) -> usize
-    ensures { λ r. ⌜ r ≡ x ⌝ }
-{
-    x as usize
-}
-
-// The sum over o of O(a,s',o) × (entry at s' of the vector chosen for o).
+// The sum over o of O(a,s',o) × (entry at s' of the vector that v chooses for o).
 fn foreseen_at(
-    cells: &Observations,
+    cells: &[u16],
     n: usize,
     k: usize,
-    entries: &Entries,
-    chosen: &[u16],
+    entries: &[i64],
+    choices: &[u16],
+    v: Vector,
     a: Action,
     to: State,
 ) -> i64
     requires { ⌜ (n ≤ maxStates) × ((k ≤ maxObservations) × ((a .0 < maxActions) × (to .0 < n))) ⌝ }
     requires { ⌜ ObservationsFit n k (now cells) (a .0) ⌝ }
-    requires { ⌜ ChosenFit n k (now entries) (now chosen) ⌝ }
-    ensures { λ r. ⌜ r ≡ foreseenIn n k (now (cells .entry)) (now (entries .entry)) (now (chosen .entry)) (a .0) (to .0) ⌝ }
+    requires { ⌜ ChosenFit n k (now entries) (now choices) (v .0) ⌝ }
+    ensures { λ r. ⌜ r ≡ foreseenIn n k (now (cells .entry)) (now (entries .entry)) (now (choices .entry)) (v .0) (a .0) (to .0) ⌝ }
 {
     let mut sum: i64 = 0;
     for o in 0..k {
         let w = read::observation_at(cells, n, k, a, to, Observation(o));
-        let e = read::entry_at(entries, n, chosen_at(chosen, Observation(o)), to);
+        let e = read::entry_at(
+            entries,
+            n,
+            read::choice_at(choices, k, v, Observation(o)),
+            to,
+        );
         sum = integers::add_scaled(sum, w, e);
     }
     sum
@@ -141,27 +128,28 @@ fn foreseen_at(
 
 // The same at each state reached.
 pub fn foreseen(
-    cells: &Observations,
+    cells: &[u16],
     n: usize,
     k: usize,
-    entries: &Entries,
-    chosen: &[u16],
+    entries: &[i64],
+    choices: &[u16],
+    v: Vector,
     a: Action,
 ) -> Foreseen
     requires { ⌜ (n ≤ maxStates) × ((k ≤ maxObservations) × (a .0 < maxActions)) ⌝ }
     requires { ⌜ ObservationsFit n k (now cells) (a .0) ⌝ }
-    requires { ⌜ ChosenFit n k (now entries) (now chosen) ⌝ }
-    ensures { λ r. ⌜ r ≡ padded (pos 0) maxStates n (foreseenIn n k (now (cells .entry)) (now (entries .entry)) (now (chosen .entry)) (a .0)) ⌝ }
+    requires { ⌜ ChosenFit n k (now entries) (now choices) (v .0) ⌝ }
+    ensures { λ r. ⌜ r ≡ padded (pos 0) maxStates n (foreseenIn n k (now (cells .entry)) (now (entries .entry)) (now (choices .entry)) (v .0) (a .0)) ⌝ }
 {
     let mut f = [0i64; Tables::STATES];
     for to in 0..n {
-        f[to] = foreseen_at(cells, n, k, entries, chosen, a, State(to));
+        f[to] = foreseen_at(cells, n, k, entries, choices, v, a, State(to));
     }
     f
 }
 
 // The sum over s' of T(s,a,s') × what is foreseen at s'.
-fn onward(cells: &Transitions, n: usize, f: &Foreseen, s: State, a: Action) -> i64
+fn onward(cells: &[u16], n: usize, f: &[i64], s: State, a: Action) -> i64
     requires { ⌜ (n ≤ maxStates) × ((a .0 < maxActions) × (s .0 < n)) ⌝ }
     requires { ⌜ TransitionsFit n (now cells) (a .0) ⌝ }
     requires { ⌜ Within foreseenLimit n (now f) ⌝ }
@@ -177,11 +165,11 @@ fn onward(cells: &Transitions, n: usize, f: &Foreseen, s: State, a: Action) -> i
 
 // The vector backup: K × R(s,a) + g × the sum onward.
 pub fn backup<'a>(
-    transition: &'a Transitions,
-    reward: &'a Rewards,
+    transition: &'a [u16],
+    reward: &'a [i64],
     n: usize,
     g: u64,
-    f: &Foreseen,
+    f: &[i64],
     s: State,
     a: Action,
 ) -> i64
@@ -198,11 +186,11 @@ pub fn backup<'a>(
 
 // The backup over K, rounded towards minus infinity.
 pub fn backed_up<'a>(
-    transition: &'a Transitions,
-    reward: &'a Rewards,
+    transition: &'a [u16],
+    reward: &'a [i64],
     n: usize,
     g: u64,
-    f: &Foreseen,
+    f: &[i64],
     s: State,
     a: Action,
 ) -> i64

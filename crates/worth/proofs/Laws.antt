@@ -11,21 +11,21 @@ use Rattle.integers.proofs.Lists.{padded-at}
 use Rattle.integers.proofs.Rounding.{floor-range}
 use Rattle.integers.proofs.Searches.{and-true}
 use Rattle.integers.proofs.Terms.{Terms, terms-limit}
-use Rattle.tables.specs.declared.Tables.{Tables}
+use Rattle.tables.specs.declared.Counts.{Counts}
 use Rattle.tables.specs.declared.Verdict.the-variants.{Fine}
 use Rattle.tables.specs.Limits.{maxStates, one, maxEntry, K}
 use Rattle.tables.specs.Model.{Model, backedUp}
-use Rattle.tables.specs.Storage.{backupIn, foreseenLimit}
+use Rattle.tables.specs.Storage.{modelIn}
+use Rattle.tables.specs.Steps.{backupIn, foreseenLimit}
 use Rattle.tables.proofs.Accepted.{valid, count-true}
 use Rattle.tables.proofs.Refusals.{before-fine, unless-fine}
 use Rattle.tables.proofs.Regroup.{backup-foreseen}
 use Rattle.plans.specs.Limits.{range}
 use Rattle.plans.proofs.Built.{K-positive, backup-within, range-limit}
 use Rattle.levels.proofs.Laws.{numbers-in}
-use Rattle.worth.specs.declared.Counts.{Counts}
 use Rattle.worth.specs.Limits.{maxSteps}
 use Rattle.worth.specs.Graph.{PlanGraph, worthOf, observedOf, Sound, Accepted}
-use Rattle.worth.specs.Storage.{modelIn, graphIn}
+use Rattle.worth.specs.Storage.{graphIn}
 use Rattle.worth.specs.Judged.{worthVerdict}
 
 module _ (M : Model) (G : PlanGraph) (h : Sound M G) where
@@ -53,23 +53,12 @@ module _ (M : Model) (G : PlanGraph) (h : Sound M G) where
     observed-limit l = omega (arith, h .valid .few-observations, terms-limit (observed-terms l) (M .observations) (omega arith))
 
 -- ---- lent arrays
-module _ (c : Counts) (discount : ℕ) (transition observation : List ℕ) (reward : List ℤ) (actions next : List ℕ) where
+module _ (c : Counts) (T O : List ℕ) (R : List ℤ) (nodes : ℕ) (actions next : List ℕ) where
   abbrev model : Model
-  model = modelIn c discount transition observation reward
+  model = modelIn c T O R
 
   abbrev graph : PlanGraph
-  graph = graphIn c actions next
-
-  abbrev tables : Tables
-  tables = record {
-    states = c .states;
-    actions = c .actions;
-    observations = c .observations;
-    discount = discount;
-    transition = transition;
-    observation = observation;
-    reward = reward;
-  }
+  graph = graphIn (c .observations) nodes actions next
 
   pub worth-none : (d v s : ℕ) → d ≡ 0 → pos 0 ≡ worthOf model graph d v s
   unfolding worthOf
@@ -78,13 +67,13 @@ module _ (c : Counts) (discount : ℕ) (transition observation : List ℕ) (rewa
 
   -- with the sum over observations at each state, one step lower, the backup over K is the worth
   pub worth-from : (d v s : ℕ) {f : List ℤ} → (d ≡ 0 → ⊥) → f ≡ padded (pos 0) maxStates (c .states) (observedOf model graph (d - 1) v)
-      → floorDiv (backupIn (c .states) discount transition reward f (graph .action v) s) K ≡ worthOf model graph d v s
+      → floorDiv (backupIn (c .states) (c .discount) T R f (graph .action v) s) K ≡ worthOf model graph d v s
   unfolding worthOf backedUp observedOf
   worth-from zero v s more e = absurd (more refl)
   worth-from (suc d) v s {f} more e =
       let less : suc d - 1 ≡ d = omega arith in
       ap (λ (z : ℤ). floorDiv z K)
-      (backup-foreseen tables (λ o s'. worthOf model graph d (graph .next v o) s') f (graph .action v) s
+      (backup-foreseen c T O R (λ o s'. worthOf model graph d (graph .next v o) s') f (graph .action v) s
       (λ s' l. rw (e, less) (padded-at (pos 0) maxStates (c .states) (observedOf model graph d v) s' (pos 0) l)))
 
 -- ---- what is not refused

@@ -2,4 +2,5 @@
 pub mod Limits
 pub mod Graph
 pub mod Storage
+pub mod Steps
 pub mod Judged

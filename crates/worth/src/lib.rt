@@ -1,22 +1,24 @@
 // A plan graph's worth, by two functions in turn: the worth of a node, and the sum over observations of what follows it.
 ghost use mathlib.Core.Path.{_≡_};
+ghost use mathlib.Core.Bool.{true};
 ghost use Prim.Native.Nat.{_≤_, _<_};
-ghost use lib.ListN.{getD};
+ghost use lib.ListN.{length, getD};
 ghost use Rattle.tables.specs.Limits.{maxObservations};
-ghost use Rattle.tables.specs.Storage.{modelOf};
-ghost use Rattle.levels.specs.Storage.{choiceIn};
+ghost use Rattle.tables.specs.Storage.{choiceIn, modelIn};
+ghost use Rattle.tables.specs.Steps.{rowsTo, Stored};
+ghost use Rattle.tables.specs.Judged.{countsWithin};
 ghost use Rattle.worth.specs.Limits.{maxNodes};
-ghost use Rattle.worth.specs.Graph.{worthOf, observedOf, Accepted};
-ghost use Rattle.worth.specs.Storage.{graphOf, modelIn, graphIn};
+ghost use Rattle.worth.specs.Graph.{worthOf, observedOf};
+ghost use Rattle.worth.specs.Storage.{graphIn};
+ghost use Rattle.worth.specs.Steps.{GraphStored, Asked};
 ghost use Rattle.worth.specs.Judged.{askedWithin, worthVerdict, worthAnswer};
 use levels::shape;
 use tables::Action;
+use tables::Counts;
 use tables::Observation;
-use tables::Observations;
-use tables::Rewards;
 use tables::State;
 use tables::Tables;
-use tables::Transitions;
+use tables::Vector;
 use tables::Verdict;
 use tables::judge;
 use tables::read;
@@ -24,15 +26,11 @@ use tables::sums;
 
 pub struct Node(pub usize);
 
-pub type Actions = [u8; Graph::NODES];
-
-pub type NextNodes = [u16; Graph::NODES * Tables::OBSERVATIONS];
-
 // A plan graph by value: next nodes by node and observation, packed by the counts.
 pub struct Graph {
     pub nodes: usize,
-    pub actions: Actions,
-    pub next: NextNodes,
+    pub actions: [u8; Graph::NODES],
+    pub next: [u16; Graph::NODES * Tables::OBSERVATIONS],
 }
 
 // The verdict on what is asked, with the worth.
@@ -41,22 +39,14 @@ pub struct Valued {
     pub ticks: i64,
 }
 
-// The counts by which lent arrays are read.
-struct Counts {
-    states: usize,
-    actions: usize,
-    observations: usize,
-    nodes: usize,
-}
-
 impl Graph {
     pub const NODES: usize = 32;
 
     pub const STEPS: usize = 4;
 }
 
-fn action_at(actions: &Actions, v: Node) -> Action
-    requires { ⌜ v .0 < maxNodes ⌝ }
+fn action_at(actions: &[u8], v: Node) -> Action
+    requires { ⌜ v .0 < length (now actions) ⌝ }
     ensures { λ r. ⌜ r .0 ≡ getD (now (actions .entry)) (v .0) 0 ⌝ }
 {
     let i = v.0;
@@ -64,29 +54,30 @@ fn action_at(actions: &Actions, v: Node) -> Action
 }
 
 // The node to go on with after an observation.
-fn next_at(next: &NextNodes, k: usize, v: Node, o: Observation) -> Node
-    requires { ⌜ (v .0 < maxNodes) × ((k ≤ maxObservations) × (o .0 < k)) ⌝ }
+fn next_at(next: &[u16], k: usize, v: Node, o: Observation) -> Node
+    requires { ⌜ (k ≤ maxObservations) × ((v .0 < maxNodes) × (o .0 < k)) ⌝ }
+    requires { ⌜ rowsTo k (v .0) ≤ length (now next) ⌝ }
     ensures { λ r. ⌜ r .0 ≡ choiceIn k (now (next .entry)) (v .0) (o .0) ⌝ }
 {
-    let at = v.0 * k + o.0;
-    Node(shape::choice(next[at]))
+    let u = read::choice_at(next, k, Vector(v.0), o);
+    Node(u.0)
 }
 
 // The worth of a node at a state with d steps left.
 fn worth_at<'a, 'b>(
-    transition: &'a Transitions,
-    observation: &'a Observations,
-    reward: &'a Rewards,
-    actions: &'b Actions,
-    next: &'b NextNodes,
+    transition: &'a [u16],
+    observation: &'a [u16],
+    reward: &'a [i64],
+    actions: &'b [u8],
+    next: &'b [u16],
     c: Counts,
-    discount: u64,
+    nodes: usize,
     v: Node,
     s: State,
     d: usize,
 ) -> i64
-    requires { ⌜ Accepted (modelIn c discount (now transition) (now observation) (now reward)) (graphIn c (now actions) (now next)) (v .0) (s .0) d ⌝ }
-    ensures { λ r. ⌜ r ≡ worthOf (modelIn c discount (now (transition .entry)) (now (observation .entry)) (now (reward .entry))) (graphIn c (now (actions .entry)) (now (next .entry))) d (v .0) (s .0) ⌝ }
+    requires { ⌜ Asked c (now transition) (now observation) (now reward) nodes (now actions) (now next) (v .0) (s .0) d ⌝ }
+    ensures { λ r. ⌜ r ≡ worthOf (modelIn c (now (transition .entry)) (now (observation .entry)) (now (reward .entry))) (graphIn (c .observations) nodes (now (actions .entry)) (now (next .entry))) d (v .0) (s .0) ⌝ }
 {
     if d == 0 {
         return 0;
@@ -101,7 +92,7 @@ fn worth_at<'a, 'b>(
             actions,
             next,
             c,
-            discount,
+            nodes,
             v,
             State(to),
             d - 1,
@@ -111,7 +102,7 @@ fn worth_at<'a, 'b>(
         transition,
         reward,
         n,
-        discount,
+        c.discount,
         &f,
         s,
         action_at(actions, v),
@@ -120,19 +111,19 @@ fn worth_at<'a, 'b>(
 
 // The sum over o of O(a,s',o) × the worth at s' of the node that follows o, with d steps left.
 fn observed_at<'a, 'b>(
-    transition: &'a Transitions,
-    observation: &'a Observations,
-    reward: &'a Rewards,
-    actions: &'b Actions,
-    next: &'b NextNodes,
+    transition: &'a [u16],
+    observation: &'a [u16],
+    reward: &'a [i64],
+    actions: &'b [u8],
+    next: &'b [u16],
     c: Counts,
-    discount: u64,
+    nodes: usize,
     v: Node,
     to: State,
     d: usize,
 ) -> i64
-    requires { ⌜ Accepted (modelIn c discount (now transition) (now observation) (now reward)) (graphIn c (now actions) (now next)) (v .0) (to .0) d ⌝ }
-    ensures { λ r. ⌜ r ≡ observedOf (modelIn c discount (now (transition .entry)) (now (observation .entry)) (now (reward .entry))) (graphIn c (now (actions .entry)) (now (next .entry))) d (v .0) (to .0) ⌝ }
+    requires { ⌜ Asked c (now transition) (now observation) (now reward) nodes (now actions) (now next) (v .0) (to .0) d ⌝ }
+    ensures { λ r. ⌜ r ≡ observedOf (modelIn c (now (transition .entry)) (now (observation .entry)) (now (reward .entry))) (graphIn (c .observations) nodes (now (actions .entry)) (now (next .entry))) d (v .0) (to .0) ⌝ }
 {
     let n = c.states;
     let k = c.observations;
@@ -148,7 +139,7 @@ fn observed_at<'a, 'b>(
             actions,
             next,
             c,
-            discount,
+            nodes,
             u,
             to,
             d,
@@ -171,30 +162,34 @@ fn asked_within(nodes: usize, n: usize, v: Node, s: State, d: usize) -> bool
 }
 
 // 3, 5 and 6 of the tables, then 18.
-fn judge_worth(m: Tables, g: Graph, v: Node, s: State, d: usize) -> Verdict
-    ensures { λ r. ⌜ r ≡ worthVerdict (modelOf m) (graphOf (m .observations) g) (v .0) (s .0) d ⌝ }
+fn judge_worth<'a, 'b>(
+    transition: &'a [u16],
+    observation: &'a [u16],
+    reward: &'a [i64],
+    actions: &'b [u8],
+    next: &'b [u16],
+    c: Counts,
+    nodes: usize,
+    v: Node,
+    s: State,
+    d: usize,
+) -> Verdict
+    requires { ⌜ (countsWithin (c .states) (c .actions) (c .observations) ≡ true → Stored c (now transition) (now observation) (now reward)) ⌝ }
+    requires { ⌜ (nodes ≤ maxNodes → c .observations ≤ maxObservations → GraphStored (c .observations) nodes (now actions) (now next)) ⌝ }
+    ensures { λ r. ⌜ r ≡ worthVerdict (modelIn c (now (transition .entry)) (now (observation .entry)) (now (reward .entry))) (graphIn (c .observations) nodes (now (actions .entry)) (now (next .entry))) (v .0) (s .0) d ⌝ }
 {
-    let tables = judge::judge_tables(m);
+    let tables = judge::judge_tables(transition, observation, reward, c);
     let Verdict::Fine = tables else {
         return tables;
     };
-    let nodes = g.nodes;
     if !judge::count_within(Graph::NODES, nodes) {
         return Verdict::Refused(18, 0);
     }
-    let numbers = shape::numbers_exist(
-        &g.actions,
-        &g.next,
-        nodes,
-        m.actions,
-        m.observations,
-        nodes,
-        18,
-    );
+    let numbers = shape::numbers_exist(actions, next, nodes, c.actions, c.observations, nodes, 18);
     let Verdict::Fine = numbers else {
         return numbers;
     };
-    if !asked_within(nodes, m.states, v, s, d) {
+    if !asked_within(nodes, c.states, v, s, d) {
         return Verdict::Refused(18, 0);
     }
     Verdict::Fine
@@ -204,14 +199,27 @@ fn judge_worth(m: Tables, g: Graph, v: Node, s: State, d: usize) -> Verdict
 pub fn worth(m: Tables, g: Graph, v: Node, s: State, d: usize) -> Valued
     ensures { λ r. ⌜ r ≡ worthAnswer m g (v .0) (s .0) d ⌝ }
 {
-    match judge_worth(m, g, v, s, d) {
+    let c = Counts {
+        states: m.states,
+        actions: m.actions,
+        observations: m.observations,
+        discount: m.discount,
+    };
+    let nodes = g.nodes;
+    let verdict = judge_worth(
+        &m.transition,
+        &m.observation,
+        &m.reward,
+        &g.actions,
+        &g.next,
+        c,
+        nodes,
+        v,
+        s,
+        d,
+    );
+    match verdict {
         Verdict::Fine => {
-            let c = Counts {
-                states: m.states,
-                actions: m.actions,
-                observations: m.observations,
-                nodes: g.nodes,
-            };
             let ticks = worth_at(
                 &m.transition,
                 &m.observation,
@@ -219,7 +227,7 @@ pub fn worth(m: Tables, g: Graph, v: Node, s: State, d: usize) -> Valued
                 &g.actions,
                 &g.next,
                 c,
-                m.discount,
+                nodes,
                 v,
                 s,
                 d,

@@ -1,53 +1,49 @@
-use Rattle.builder.proofs.Prelude.{_-_, _≤_, ap, ⊎-elim, arith, needs, w64, toZ, answer}
-use Rattle.builder.proofs.Actions.{Asked, vector-fits, vector-product, Best-of, best-first, best-larger, best-not-larger, best-found}
+use Rattle.builder.proofs.Prelude.{_-_, _≤_, sym, ap, ⊎-elim, arith, needs, w64, toZ, answer}
+use Rattle.builder.proofs.Actions.{Asked, vector-fits, vector-long, vector-product, Best-of, best-first, best-larger, best-not-larger, best-found}
 use Rattle.builder.proofs.best_candidate.Statement.{statement}
 use Rattle.builder.proofs.best_candidate.Tie as tie
 
 abbrev Inv-loop : tie.InvT-loop
-Inv-loop m l p n actions k g count action₀ best₀ most₀ a₀ action best most a =
-    ((1 ≤ a) × (a ≤ actions)) × Best-of m l p a action best (toZ w64 most)
+Inv-loop T O R entries p c count n actions action₀ best₀ most₀ a₀ action best most a =
+    ((1 ≤ a) × (a ≤ actions)) × Best-of c T O R entries count p a action best (toZ w64 most)
 
 abbrev μ-loop : tie.MeasureT-loop
-μ-loop m l p n actions k g count action₀ best₀ most₀ a₀ action best most a = actions - a
+μ-loop T O R entries p c count n actions action₀ best₀ most₀ a₀ action best most a = actions - a
 
-asked : (c : tie.Start Inv-loop μ-loop) → Asked (c .args .t1) (c .args .t2) (c .args .t3)
-asked c = record { buildable = c .pre .0; small = c .pre .1 }
+asked : (c : tie.Start Inv-loop μ-loop)
+    → let a = c .args in Asked (a .c) (a .transition .now) (a .observation .now) (a .reward .now) (a .entries .now) (a .count) (a .p .now)
+asked c = record { upon = c .pre .0; light = c .pre .1 }
 
 vector-for-requires : tie.Need-vector-for-requires Inv-loop μ-loop
-vector-for-requires c κs =
-    let s = c .before .before .before .before .before .before .before in
-    vector-fits (asked s) 0 (s .pre .0 .valid .some-actions)
+vector-for-requires c κs = vector-fits (asked (c .before .before .before)) 0 (c .before .before .before .pre .0 .valid .some-actions)
+
+first-long : tie.Need-slice-aggregate-product Inv-loop μ-loop
+first-long c = sym (vector-long (asked (c .before .before .before .before .before .before)) 0 (c .before .before .vector-for .ensures))
 
 product-requires : tie.Need-product-requires Inv-loop μ-loop
-product-requires c κs =
-    let s = c .before .before .before .before .before .before .before .before .before .before .before in
-    vector-product (asked s) 0 (c .before .before .before .vector-for .ensures) (s .pre .0 .valid .some-actions)
+product-requires c κs = vector-product (asked (c .before .before .before .before .before .before)) 0 (c .before .before .vector-for .ensures) (c .before .before .before .before .before .before .pre .0 .valid .some-actions)
 
 loop-holds : tie.Need-loop-holds Inv-loop μ-loop
-loop-holds c =
-    let s = c .before .before .before .before .before .before .before .before .before .before .before .before in (
-      (omega arith, s .pre .0 .valid .some-actions),
-      best-first (asked s) (c .before .before .before .before .vector-for .ensures) (answer (c .product .ok) (c .product .ensures)),
-    )
+loop-holds c = (
+  (omega arith, c .before .before .before .before .before .before .before .pre .0 .valid .some-actions),
+  best-first (asked (c .before .before .before .before .before .before .before)) (c .before .before .before .vector-for .ensures) (answer (c .product .ok) (c .product .ensures)),
+)
 
 vector-for-requires-2 : tie.Need-vector-for-requires-2 Inv-loop μ-loop
-vector-for-requires-2 c κs =
-    let l = c .before .before .before .before .before .before .before .before in
-    vector-fits (l .loop .inv .1 .asked) (l .loop .a) (c .before .before .before .before .before .before .before .loop-test .taken)
+vector-for-requires-2 c κs = vector-fits (asked (c .before .before .before .before .before .before .before .before .before)) (c .before .loop .a) (c .loop-test .taken)
+
+next-long : tie.Need-slice-aggregate-product-2 Inv-loop μ-loop
+next-long c = sym (vector-long (asked (c .before .before .before .before .before .before .before .before .before .before .before .before)) (c .before .before .before .before .loop .a) (c .before .before .vector-for2 .ensures))
 
 product-requires-2 : tie.Need-product-requires-2 Inv-loop μ-loop
-product-requires-2 c κs =
-    let l = c .before .before .before .before .before .before .before .before .before .before .before .before in
-    vector-product (l .loop .inv .1 .asked) (l .loop .a) (c .before .before .before .vector-for2 .ensures)
-    (c .before .before .before .before .before .before .before .before .before .before .before .loop-test .taken)
+product-requires-2 c κs = vector-product (asked (c .before .before .before .before .before .before .before .before .before .before .before .before)) (c .before .before .before .before .loop .a) (c .before .before .vector-for2 .ensures) (c .before .before .before .loop-test .taken)
 
 loop-again : tie.Need-loop-again Inv-loop μ-loop
 loop-again c =
-    let l = c .before .before .before .before .before .before .before .before .before .before .before .before .before .before in
-    let t = c .before .before .before .before .before .before .before .before .before .before .before .before .before .loop-test .taken in
-    let found = c .before .before .before .before .before .vector-for2 .ensures in
+    let l = c .before .before .before .before .before .before in
+    let found = c .before .before .before .before .vector-for2 .ensures in
     let here = answer (c .before .product2 .ok) (c .before .product2 .ensures) in (
-      (omega arith, omega (arith, t)),
+      (omega arith, omega (arith, c .before .before .before .before .before .loop-test .taken)),
       ⊎-elim
           (λ w. best-larger (l .loop .inv .1) found here (w .0 .taken) (w .1) (w .2) (ap (toZ w64) (w .3)))
           (λ w. best-not-larger (l .loop .inv .1) found here (w .0 .left) (w .1) (w .2) (ap (toZ w64) (w .3)))
@@ -59,5 +55,5 @@ returns c = best-found (c .before .loop .inv .1) (omega arith)
 
 pub best-candidate-spec : {M : Type 1} → statement M
 best-candidate-spec =
-    tie.close (tie.spec Inv-loop μ-loop vector-for-requires (λ c. search needs) product-requires loop-holds vector-for-requires-2 (λ c. search needs)
-    product-requires-2 (λ c. search needs) (λ c. search needs) loop-again returns)
+    tie.close (tie.spec Inv-loop μ-loop vector-for-requires first-long product-requires loop-holds vector-for-requires-2 next-long product-requires-2
+    (λ c. omega (arith, c .before .before .before .before .before .loop-test .taken, c .before .before .before .before .before .before .before .before .before .before .before .before .before .before .pre .0 .valid .few-actions)) (λ c. omega (arith, c .before .before .before .before .before .loop-test .taken)) loop-again returns)

@@ -1,61 +1,67 @@
-use Rattle.builder.proofs.Prelude.{_-_, _≤_, _<_, _≡_, sym, arith, pos, padded, padded-none, padded-turn, maxStates, modelOf, leastValue}
-use Rattle.builder.proofs.Prelude.{levelOf, corner-at, value-at}
+use Rattle.builder.proofs.Prelude.{_-_, _≤_, _<_, _≡_, sym, arith, pos, padded, padded-none, padded-turn, maxStates, maxPoints, modelIn, leastValue}
+use Rattle.builder.proofs.Prelude.{roofIn, corner-at, value-at}
+use mathlib.Core.Path.{_∙_}
+use Rattle.integers.proofs.Lists.{padded-length}
 use Rattle.plans.specs.Level.{corner-weight}
-use Rattle.checks.proofs.Roofs.{corner-light}
+use Rattle.checks.proofs.Roofs.{corner-long, corner-light, corners-fit, points-fit, values-fit, roof-holds, backups-at, backups-long}
+use Rattle.builder.proofs.Levels.{least-is}
 use Rattle.builder.proofs.build_corners.Statement.{statement}
 use Rattle.builder.proofs.build_corners.Tie as tie
 
 abbrev Inv-loop : tie.InvT-loop
-Inv-loop m l gains n corners₀ s₀ corners s =
-    (s ≤ m .states)
-    × (corners ≡ padded (pos 0) maxStates s (λ i. leastValue (modelOf m) (levelOf (m .states) (m .observations) l) (corner-weight i)))
+Inv-loop T O R corners weights values c points n gains least₀ s₀ least s =
+    (s ≤ c .states)
+    × (least ≡ padded (pos 0) maxStates s (λ i. leastValue (modelIn c T O R) (roofIn (c .states) corners points weights values) (corner-weight i)))
 
 abbrev μ-loop : tie.MeasureT-loop
-μ-loop m l gains n corners₀ s₀ corners s = m .states - s
+μ-loop T O R corners weights values c points n gains least₀ s₀ least s = c .states - s
+
+gains-requires : tie.Need-gains-requires Inv-loop μ-loop
+gains-requires c κs = let h = c .before .before .before .pre in (h .valid .few-states, (corners-fit h, (points-fit h, values-fit h)))
 
 loop-holds : tie.Need-loop-holds Inv-loop μ-loop
 loop-holds c = (omega arith, sym (padded-none _ _ _))
 
 below : (c : tie.In-loop Inv-loop μ-loop) → c .before .loop .s < maxStates
-below c = omega (arith, c .loop-test .taken, c .before .before .pre .valid .few-states)
+below c = omega (arith, c .loop-test .taken, c .before .before .before .before .before .before .pre .valid .few-states)
 
-corner-weights-requires : tie.Need-corner-weights-requires Inv-loop μ-loop
-corner-weights-requires c κs = below c
+gains-long : tie.Need-slice-aggregate-backups-at Inv-loop μ-loop
+gains-long c = sym (rw (c .before .before .before .before .gains .ensures) (padded-length 0 maxPoints _ _ (c .before .before .before .before .before .before .before .before .pre .shaped .few-points)))
 
-least-value-requires : tie.Need-least-value-requires Inv-loop μ-loop
-least-value-requires c κs =
-    let p = c .before .before .before .pre in
-    (p, corner-light (c .corner-weights .ensures) (c .before .loop-test .taken) (p .valid .few-states))
+weights-long : tie.Need-slice-aggregate-backups-at-2 Inv-loop μ-loop
+weights-long c = sym (corner-long (c .before .before .before .before .loop .s) (c .before .before .corner-weights .ensures))
 
-mul-corners : tie.Need-mul-corners Inv-loop μ-loop
-mul-corners c = omega (arith, below (c .before .before))
+backups-at-requires : tie.Need-backups-at-requires Inv-loop μ-loop
+backups-at-requires c κs =
+    let h = c .before .before .before .before .before .before .before .before .before .pre in
+    (roof-holds h (c .before .before .before .before .before .gains .ensures), corner-light (c .before .before .corner-weights .ensures) (c .before .before .before .loop-test .taken) (h .valid .few-states))
 
-array-set-from-corners : tie.Need-array-set-from-corners Inv-loop μ-loop
-array-set-from-corners c = below (c .before .before)
+long : tie.Need-slice-aggregate-least-of Inv-loop μ-loop
+long c = sym (backups-long (c .before .before .before .before .before .before .before .before .before .before .before .pre) (c .before .before .before .before .before .before .before .gains .ensures) _ (c .before .backups-at .ensures))
 
-add-s : tie.Need-add-s Inv-loop μ-loop
-add-s c = omega (arith, below (c .before .before))
-
-loop-less : tie.Need-loop-less Inv-loop μ-loop
-loop-less c = omega (arith, c .before .before .loop-test .taken)
+least-of-requires : tie.Need-least-of-requires Inv-loop μ-loop
+least-of-requires c κs =
+    let h = c .before .before .before .before .before .before .before .before .before .before .before .pre in
+    (h .valid .some-actions, omega (arith, h .valid .few-actions, backups-long h (c .before .before .before .before .before .before .before .gains .ensures) _ (c .before .backups-at .ensures)))
 
 loop-again : tie.Need-loop-again Inv-loop μ-loop
 loop-again c =
-    let l = c .before .before .before in
-    let e = c .before .corner-weights .ensures in (
-      omega (arith, c .before .before .loop-test .taken),
-      padded-turn _ _ _ _ (l .loop .inv .1)
-          (value-at _ _ _ _ (λ i b. corner-at e (below (c .before .before)) i) (l .before .pre .valid .some-actions)
-          (c .least-value .ok) (c .least-value .ensures))
-          (below (c .before .before)),
+    let h = c .before .before .before .before .before .before .before .before .before .before .before .before .pre in
+    let b = c .before .before .backups-at in (
+      omega (arith, c .before .before .before .before .before .before .loop-test .taken),
+      padded-turn _ _ _ _ (c .before .before .before .before .before .before .before .loop .inv .1)
+          (value-at _ _ _ _ (λ i l. corner-at (c .before .before .before .before .before .corner-weights .ensures) (below (c .before .before .before .before .before .before)) i) (h .valid .some-actions) (c .least-of .ok)
+          (c .least-of .ensures ∙ least-is _ _ _ (b .result) (backups-at h (c .before .before .before .before .before .before .before .before .gains .ensures) _ (b .ensures)) (h .valid .some-actions)))
+          (below (c .before .before .before .before .before .before)),
     )
 
 returns : tie.Need-returns Inv-loop μ-loop
 returns c =
-    let e : c .before .loop .s ≡ c .before .before .args .m .states = omega (arith, c .loop-test .left, c .before .loop .inv .0) in
+    let e : c .before .loop .s ≡ c .before .before .before .before .before .before .args .c .states = omega (arith, c .loop-test .left, c .before .loop .inv .0) in
     rw e at (c .before .loop .inv .1)
 
 pub build-corners-spec : {M : Type 1} → statement M
 build-corners-spec =
-    tie.close (tie.spec Inv-loop μ-loop loop-holds corner-weights-requires least-value-requires mul-corners array-set-from-corners add-s loop-less
-    loop-again returns)
+    tie.close (tie.spec Inv-loop μ-loop gains-requires loop-holds (λ c κs. below c) gains-long weights-long backups-at-requires long least-of-requires
+    (λ c. omega (arith, below (c .before .before .before .before .before .before))) (λ c. below (c .before .before .before .before .before .before)) (λ c. omega (arith, below (c .before .before .before .before .before .before))) (λ c. omega (arith, c .before .before .before .before .before .before .loop-test .taken)) loop-again
+    returns)

@@ -1,62 +1,82 @@
-use Rattle.builder.proofs.Prelude.{_-_, _≤_, _<_, _≡_, sym, arith, pos, padded, padded-none, padded-turn, modelOf, maxPoints, maxBuilt}
-use Rattle.builder.proofs.Prelude.{leastValue, levelOf, pointIn, point-at, value-at}
-use Rattle.checks.proofs.Roofs.{point-light}
+use Rattle.builder.proofs.Prelude.{_-_, _≤_, _<_, _≡_, sym, arith, pos, padded, padded-none, padded-turn, modelIn, maxPoints, maxBuilt}
+use Rattle.builder.proofs.Prelude.{leastValue, roofIn, pointIn, point-at, value-at}
+use mathlib.Core.Path.{_∙_}
+use Rattle.integers.proofs.Lists.{padded-length}
+use Rattle.tables.proofs.Fitting.{rows-stored}
+use Rattle.checks.proofs.Roofs.{point-long, point-light, corners-fit, points-fit, values-fit, roof-holds, backups-at, backups-long}
+use Rattle.builder.proofs.Levels.{least-is}
 use Rattle.builder.proofs.build_values.Statement.{statement}
 use Rattle.builder.proofs.build_values.Tie as tie
 
 abbrev Inv-loop : tie.InvT-loop
-Inv-loop m l gains p n count values₀ i₀ values i =
-    (i ≤ p .count)
-    × (values ≡ padded (pos 0) maxPoints i (λ j. leastValue (modelOf m) (levelOf (m .states) (m .observations) l) (pointIn (m .states) (p .weights) j)))
+Inv-loop T O R corners weights values given c points count n gains least₀ i₀ least i =
+    (i ≤ count)
+    × (least ≡ padded (pos 0) maxPoints i (λ j. leastValue (modelIn c T O R) (roofIn (c .states) corners points weights values) (pointIn (c .states) given j)))
 
 abbrev μ-loop : tie.MeasureT-loop
-μ-loop m l gains p n count values₀ i₀ values i = p .count - i
+μ-loop T O R corners weights values given c points count n gains least₀ i₀ least i = count - i
+
+gains-requires : tie.Need-gains-requires Inv-loop μ-loop
+gains-requires c κs = let h = c .before .before .before .before .pre .0 in (h .valid .few-states, (corners-fit h, (points-fit h, values-fit h)))
 
 loop-holds : tie.Need-loop-holds Inv-loop μ-loop
 loop-holds c = (omega arith, sym (padded-none _ _ _))
 
 below : (c : tie.In-loop Inv-loop μ-loop) → c .before .loop .i < maxBuilt
-below c = omega (arith, c .loop-test .taken, c .before .before .pre .1 .0)
+below c = omega (arith, c .loop-test .taken, c .before .before .before .before .before .before .before .pre .1 .0 .0)
 
-given-weights-requires : tie.Need-given-weights-requires Inv-loop μ-loop
-given-weights-requires c κs = (c .before .before .pre .0 .valid .few-states, below c)
+point-weights-requires : tie.Need-point-weights-requires Inv-loop μ-loop
+point-weights-requires c κs =
+    let s = c .before .before .before .before .before .before .before in (
+      (s .pre .0 .valid .few-states, omega (arith, below c)),
+      rows-stored (s .args .c .states) (c .before .loop .i) (s .args .count) (c .loop-test .taken) (s .pre .1 .0 .1),
+    )
 
-least-value-requires : tie.Need-least-value-requires Inv-loop μ-loop
-least-value-requires c κs =
-    let s = c .before .before .before in
-    let i = c .before .before .loop .i in
-    (s .pre .0, point-light (s .args .m .states) (s .args .p .weights) i (c .given-weights .ensures) (s .pre .1 .1 i (c .before .loop-test .taken)))
+gains-long : tie.Need-slice-aggregate-backups-at Inv-loop μ-loop
+gains-long c = sym (rw (c .before .before .before .before .gains .ensures) (padded-length 0 maxPoints _ _ (c .before .before .before .before .before .before .before .before .before .pre .0 .shaped .few-points)))
 
-mul-values : tie.Need-mul-values Inv-loop μ-loop
-mul-values c = omega (arith, below (c .before .before))
+weights-long : tie.Need-slice-aggregate-backups-at-2 Inv-loop μ-loop
+weights-long c =
+    let s = c .before .before .before .before .before .before .before .before .before .before in
+    sym (point-long (s .args .c .states) (s .args .given .now) (c .before .before .before .before .loop .i) (c .before .before .point-weights .ensures) (s .pre .0 .valid .few-states))
 
-array-set-from-values : tie.Need-array-set-from-values Inv-loop μ-loop
-array-set-from-values c = omega (arith, below (c .before .before))
+backups-at-requires : tie.Need-backups-at-requires Inv-loop μ-loop
+backups-at-requires c κs =
+    let s = c .before .before .before .before .before .before .before .before .before .before in
+    let i = c .before .before .before .before .loop .i in (
+      roof-holds (s .pre .0) (c .before .before .before .before .before .gains .ensures),
+      point-light (s .args .c .states) (s .args .given .now) i (c .before .before .point-weights .ensures) (s .pre .0 .valid .few-states)
+          (s .pre .1 .1 i (c .before .before .before .loop-test .taken)),
+    )
 
-add-i : tie.Need-add-i Inv-loop μ-loop
-add-i c = omega (arith, below (c .before .before))
+long : tie.Need-slice-aggregate-least-of Inv-loop μ-loop
+long c = sym (backups-long (c .before .before .before .before .before .before .before .before .before .before .before .before .pre .0) (c .before .before .before .before .before .before .before .gains .ensures) _ (c .before .backups-at .ensures))
 
-loop-less : tie.Need-loop-less Inv-loop μ-loop
-loop-less c = omega (arith, c .before .before .loop-test .taken)
+least-of-requires : tie.Need-least-of-requires Inv-loop μ-loop
+least-of-requires c κs =
+    let h = c .before .before .before .before .before .before .before .before .before .before .before .before .pre .0 in
+    (h .valid .some-actions, omega (arith, h .valid .few-actions, backups-long h (c .before .before .before .before .before .before .before .gains .ensures) _ (c .before .backups-at .ensures)))
 
 loop-again : tie.Need-loop-again Inv-loop μ-loop
 loop-again c =
-    let l = c .before .before .before in
-    let s = l .before in
-    let e = c .before .given-weights .ensures in (
-      omega (arith, c .before .before .loop-test .taken),
-      padded-turn _ _ _ _ (l .loop .inv .1)
-          (value-at _ _ _ _ (point-at (s .args .m .states) (s .args .p .weights) (l .loop .i) e) (s .pre .0 .valid .some-actions)
-          (c .least-value .ok) (c .least-value .ensures))
-          (omega (arith, below (c .before .before))),
+    let s = c .before .before .before .before .before .before .before .before .before .before .before .before .before in
+    let h = s .pre .0 in
+    let b = c .before .before .backups-at in (
+      omega (arith, c .before .before .before .before .before .before .loop-test .taken),
+      padded-turn _ _ _ _ (c .before .before .before .before .before .before .before .loop .inv .1)
+          (value-at _ _ _ _ (point-at (s .args .c .states) (s .args .given .now) (c .before .before .before .before .before .before .before .loop .i) (c .before .before .before .before .before .point-weights .ensures)) (h .valid .some-actions)
+          (c .least-of .ok)
+          (c .least-of .ensures ∙ least-is _ _ _ (b .result) (backups-at h (c .before .before .before .before .before .before .before .before .gains .ensures) _ (b .ensures)) (h .valid .some-actions)))
+          (omega (arith, below (c .before .before .before .before .before .before))),
     )
 
 returns : tie.Need-returns Inv-loop μ-loop
 returns c =
-    let e : c .before .loop .i ≡ c .before .before .args .p .count = omega (arith, c .loop-test .left, c .before .loop .inv .0) in
+    let e : c .before .loop .i ≡ c .before .before .before .before .before .before .before .args .count = omega (arith, c .loop-test .left, c .before .loop .inv .0) in
     rw e at (c .before .loop .inv .1)
 
 pub build-values-spec : {M : Type 1} → statement M
 build-values-spec =
-    tie.close (tie.spec Inv-loop μ-loop loop-holds given-weights-requires least-value-requires mul-values array-set-from-values add-i loop-less
-    loop-again returns)
+    tie.close (tie.spec Inv-loop μ-loop gains-requires loop-holds point-weights-requires gains-long weights-long backups-at-requires long
+    least-of-requires (λ c. omega (arith, below (c .before .before .before .before .before .before))) (λ c. omega (arith, below (c .before .before .before .before .before .before))) (λ c. omega (arith, below (c .before .before .before .before .before .before)))
+    (λ c. omega (arith, c .before .before .before .before .before .before .loop-test .taken)) loop-again returns)

@@ -1,8 +1,12 @@
-use Rattle.builder.proofs.Prelude.{_-_, _≤_, _≡_, sym, arith, needs, padded, padded-none, padded-turn, maxStates}
+use Rattle.builder.proofs.Prelude.{_-_, _≤_, _≡_, sym, ap, arith, needs, padded, padded-none, padded-turn, maxStates}
+use Prim.Native.Nat.{ℕ}
+use mathlib.Core.Path.{_∙_}
+use lib.ListN.{length, set}
+use Rattle.integers.proofs.Lists.{filled-below, padded-length}
 use Rattle.tables.specs.Limits.{maxObservations}
-use Rattle.tables.specs.Storage.{seenIn}
+use Rattle.tables.specs.Steps.{seenIn}
+use Rattle.tables.proofs.Fitting.{row-alone}
 use Rattle.builder.proofs.Candidates.{picked, found-in, picked-from}
-use Rattle.integers.proofs.Lists.{filled-below}
 use Rattle.builder.proofs.choose.Statement.{statement}
 use Rattle.builder.proofs.choose.Tie as tie
 
@@ -16,39 +20,53 @@ abbrev μ-loop : tie.MeasureT-loop
 loop-holds : tie.Need-loop-holds Inv-loop μ-loop
 loop-holds c = (search needs, sym (padded-none _ _ _))
 
+weights-long : tie.Need-slice-aggregate-best-vector Inv-loop μ-loop
+weights-long c = sym (rw (c .before .successors .ensures) (padded-length 0 maxStates _ _ (c .before .before .before .before .before .before .pre .0 .0)))
+
 best-vector-requires : tie.Need-best-vector-requires Inv-loop μ-loop
 best-vector-requires c κs =
-    let l = c .before .before .before in
-    let a = l .before .args in
-    let p = l .before .pre in (
+    let o = c .before .before .before .loop .o in
+    let a = c .before .before .before .before .before .before .args in
+    let p = c .before .before .before .before .before .before .pre in (
       (p .0 .0, p .0 .1 .1 .1),
       (
-        filled-below maxStates (seenIn (a .n) (a .k) (a .observation .now) (a .u .now) (a .a .0) (l .loop .o)) (c .before .successors .ensures)
-            (p .1 .1 .1 .0 (l .loop .o) (omega arith)),
+        filled-below maxStates (seenIn (a .n) (a .k) (a .observation .now) (a .u .now) (a .a .0) o) (c .before .successors .ensures) (p .0 .0)
+            (p .1 .1 .1 .0 o (omega arith)),
         p .1 .1 .1 .1,
       ),
     )
 
-narrow-requires : tie.Need-narrow-requires Inv-loop μ-loop
-narrow-requires c κs =
-    let p = c .before .before .before .before .before .pre .0 .1 .1 .1 in
-    found-in _ _ (c .best-vector .ensures) (p .0) (p .1)
+-- the choices so far fill the row
+long : (c : tie.In-loop Inv-loop μ-loop) → length (c .before .loop .chosen) ≡ maxObservations
+long c = rw (c .before .loop .inv .1) (padded-length 0 maxObservations _ _ (omega (arith, c .before .before .before .before .pre .0 .1 .0)))
+
+chosen-long : tie.Need-slice-aggregate-put-choice Inv-loop μ-loop
+chosen-long c = sym (long (c .before .before .before .before))
+
+put-choice-requires : tie.Need-put-choice-requires Inv-loop μ-loop
+put-choice-requires c κs =
+    let p = c .before .before .before .before .before .before .before .before .pre in (
+      (p .0 .1 .0, (omega arith, omega arith)),
+      (omega (arith, long (c .before .before .before .before), p .0 .1 .0), found-in _ _ (c .before .best-vector .ensures) (p .0 .1 .1 .1) (p .1 .1 .1 .1 .few)),
+    )
 
 loop-again : tie.Need-loop-again Inv-loop μ-loop
 loop-again c =
-    let l = c .before .before .before .before .before in
-    let a = l .before .args in (
+    let l = c .before .before .before .before .before .before .before in
+    let a = c .before .before .before .before .before .before .before .before .before .before .args in (
       search needs,
-      padded-turn _ _ _ _ (l .loop .inv .1)
+      c .before .put-choice .ensures
+          ∙ ap (λ (i : ℕ). set (l .loop .chosen) i (c .before .before .before .best-vector .result .0)) (row-alone (a .k) (l .loop .o))
+          ∙ padded-turn _ _ _ _ (l .loop .inv .1)
           (picked-from (a .n) (a .k) (a .observation .now) (a .u .now) (a .entries .now) (a .count) (a .a .0) (l .loop .o)
-          (c .before .before .before .successors .ensures) (c .before .best-vector .ensures) (c .narrow .ensures))
+          (c .before .before .before .before .before .successors .ensures) (c .before .before .before .best-vector .ensures))
           (omega arith),
     )
 
 returns : tie.Need-returns Inv-loop μ-loop
-returns c = let e : c .before .loop .o ≡ c .before .before .args .k = omega arith in rw e at (c .before .loop .inv .1)
+returns c = let e : c .before .loop .o ≡ c .before .before .before .before .args .k = omega arith in rw e at (c .before .loop .inv .1)
 
 pub choose-spec : {M : Type 1} → statement M
 choose-spec =
-    tie.close (tie.spec Inv-loop μ-loop loop-holds (λ c κs. search needs) best-vector-requires narrow-requires (λ c. search needs) (λ c. search needs)
+    tie.close (tie.spec Inv-loop μ-loop loop-holds (λ c κs. search needs) weights-long best-vector-requires chosen-long put-choice-requires
     (λ c. search needs) (λ c. search needs) loop-again returns)

@@ -1,6 +1,6 @@
 use Rattle.builder.proofs.Prelude.{_-_, _≤_, _≡_, sym, arith, needs, pos, padded, padded-none, padded-turn, answer, maxStates, K}
 use Rattle.integers.specs.Whole.{floorDiv}
-use Rattle.tables.specs.Storage.{backupIn}
+use Rattle.tables.specs.Steps.{backupIn}
 use Rattle.builder.proofs.rounded.Statement.{statement}
 use Rattle.builder.proofs.rounded.Tie as tie
 
@@ -21,7 +21,7 @@ loop-again c = (
 )
 
 returns : tie.Need-returns Inv-loop μ-loop
-returns c = let e : c .before .loop .s ≡ c .before .before .args .n = omega arith in rw e at (c .before .loop .inv .1)
+returns c = let e : c .before .loop .s ≡ c .before .before .before .args .n = omega arith in rw e at (c .before .loop .inv .1)
 
 pub rounded-spec : {M : Type 1} → statement M
 rounded-spec =

@@ -1,89 +1,91 @@
-use Rattle.checks.proofs.Prelude.{ℕ, _≤_, _<_, _-_, _≡_, sym, _∙_, List, arith, not-true, not-false, ℤ, pos, getD, back, Tables, Verdict, Fine}
-use Rattle.checks.proofs.Prelude.{maxStates, modelOf, unless, firstOf, first-none, first-more, first-here, Level, levelOf, coversBackups}
-use Rattle.checks.proofs.Prelude.{passed, failed, corners-fit, covers-by}
+use Rattle.checks.proofs.Prelude.{ℕ, _≤_, _<_, _-_, _≡_, sym, _∙_, List, arith, not-true, not-false, ℤ, pos, getD, back, Counts, Verdict, Fine}
+use Rattle.checks.proofs.Prelude.{maxStates, modelIn, unless, firstOf, first-none, first-more, first-here, roofIn, coversBackups, passed, failed, covers-by}
+use Rattle.checks.proofs.Prelude.{padded}
+use Rattle.integers.proofs.Lists.{padded-length}
+use Rattle.plans.specs.Limits.{maxPoints}
 use Rattle.plans.specs.Level.{corner-weight}
 use Rattle.levels.specs.Storage.{cornerIn}
 use Rattle.levels.specs.Judged.{cornersVerdict}
-use Rattle.checks.proofs.Roofs.{corner-at, corner-light}
+use Rattle.checks.proofs.Roofs.{corner-at, corner-long, corner-light, corners-fit, points-fit, values-fit, roof-holds, backups-long, covers-said}
 use Rattle.checks.proofs.corners_hold.Statement.{statement}
 use Rattle.checks.proofs.corners_hold.Tie as tie
 
 -- the verdict on corner s
-abbrev verdict : Tables → Level → List ℤ → ℕ → Verdict
-verdict m standing corners s =
-    unless (coversBackups (modelOf m) (levelOf (m .states) (m .observations) standing) (corner-weight s) (cornerIn corners s)) 14 s
+abbrev verdict : Counts → List ℕ → List ℕ → List ℤ → List ℤ → ℕ → List ℕ → List ℤ → List ℤ → ℕ → Verdict
+verdict c T O R corners points weights values offered s =
+    unless (coversBackups (modelIn c T O R) (roofIn (c .states) corners points weights values) (corner-weight s) (cornerIn offered s)) 14 s
 
 abbrev Inv-loop : tie.InvT-loop
-Inv-loop m standing gains n corners s₀ s = (s ≤ m .states) × (firstOf s (verdict m standing corners) ≡ Fine)
+Inv-loop T O R corners weights values offered c points n gains s₀ s =
+    (s ≤ c .states) × (firstOf s (verdict c T O R corners points weights values offered) ≡ Fine)
 
 abbrev μ-loop : tie.MeasureT-loop
-μ-loop m standing gains n corners s₀ s = m .states - s
+μ-loop T O R corners weights values offered c points n gains s₀ s = c .states - s
+
+gains-requires : tie.Need-gains-requires Inv-loop μ-loop
+gains-requires c κs = let h = c .before .before .before .pre .0 in (h .valid .few-states, (corners-fit h, (points-fit h, values-fit h)))
 
 loop-holds : tie.Need-loop-holds Inv-loop μ-loop
 loop-holds c = (omega arith, first-none _)
 
 below : (c : tie.In-loop Inv-loop μ-loop) → c .before .loop .s < maxStates
-below c = omega (arith, c .loop-test .taken, c .before .before .before .pre .0 .valid .few-states)
+below c = omega (arith, c .loop-test .taken, c .before .before .before .before .before .before .pre .0 .valid .few-states)
 
-corner-weights-requires : tie.Need-corner-weights-requires Inv-loop μ-loop
-corner-weights-requires c κs = below c
+gains-long : tie.Need-slice-aggregate-backups-at Inv-loop μ-loop
+gains-long c = sym (rw (c .before .before .before .before .gains .ensures) (padded-length 0 maxPoints _ _ (c .before .before .before .before .before .before .before .before .pre .0 .shaped .few-points)))
 
-mul-covers-backups : tie.Need-mul-covers-backups Inv-loop μ-loop
-mul-covers-backups c = omega (arith, below (c .before))
+weights-long : tie.Need-slice-aggregate-backups-at-2 Inv-loop μ-loop
+weights-long c = sym (corner-long (c .before .before .before .before .loop .s) (c .before .before .corner-weights .ensures))
 
-array-copy-out-covers-backups : tie.Need-array-copy-out-covers-backups Inv-loop μ-loop
-array-copy-out-covers-backups c = below (c .before)
+backups-at-requires : tie.Need-backups-at-requires Inv-loop μ-loop
+backups-at-requires c κs =
+    let h = c .before .before .before .before .before .before .before .before .before .pre .0 in
+    (roof-holds h (c .before .before .before .before .before .gains .ensures), corner-light (c .before .before .corner-weights .ensures) (c .before .before .before .loop-test .taken) (h .valid .few-states))
 
-covers-backups-requires : tie.Need-covers-backups-requires Inv-loop μ-loop
-covers-backups-requires c κs =
-    let t = c .before .before in
-    let a = t .before .before .before in
-    let s = t .before .loop .s in (
-      a .pre .0,
-      (
-        corner-light (c .before .corner-weights .ensures) (t .loop-test .taken) (a .pre .0 .valid .few-states),
-        rw (back (getD (a .args .offered .corners) s (pos 0)) (c .covers-backups-arg .given))
-            (omega (arith, corners-fit (a .args .m) (a .args .offered) (a .pre .1) .corner s (t .loop-test .taken))),
-      ),
+long : tie.Need-slice-aggregate-covers Inv-loop μ-loop
+long c = sym (backups-long (c .before .before .before .before .before .before .before .before .before .before .before .pre .0) (c .before .before .before .before .before .before .before .gains .ensures) _ (c .before .backups-at .ensures))
+
+stored : tie.Need-shared-slice-copy-out-covers Inv-loop μ-loop
+stored c = omega (arith, c .before .before .before .before .before .loop-test .taken, c .before .before .before .before .before .before .before .before .before .before .before .pre .1 .long)
+
+covers-requires : tie.Need-covers-requires Inv-loop μ-loop
+covers-requires c κs =
+    let a = c .before .before .before .before .before .before .before .before .before .before .before .before in
+    let s = c .before .before .before .before .before .before .before .loop .s in (
+      omega (arith, a .pre .0 .valid .few-actions, backups-long (a .pre .0) (c .before .before .before .before .before .before .before .before .gains .ensures) _ (c .before .before .backups-at .ensures)),
+      rw (back (getD (a .args .offered .now) s (pos 0)) (c .covers-arg .given)) (omega (arith, a .pre .1 .corner s (c .before .before .before .before .before .before .loop-test .taken))),
     )
 
 -- the answer, by the corner's own weights and value
-said : (c : tie.After-covers-backups Inv-loop μ-loop)
-    → let l = c .before .before .before .before in
-    let a = l .before .before .args in
-    c .covers-backups .result
-    ≡ coversBackups (modelOf (a .m)) (levelOf (a .m .states) (a .m .observations) (a .standing)) (corner-weight (l .loop .s))
-    (cornerIn (a .offered .corners) (l .loop .s))
+said : (c : tie.After-covers Inv-loop μ-loop)
+    → let a = c .before .before .before .before .before .before .before .before .before .before .before .before .before .args in
+    let s = c .before .before .before .before .before .before .before .before .loop .s in
+    c .covers .result
+    ≡ coversBackups (modelIn (a .c) (a .transition .now) (a .observation .now) (a .reward .now))
+    (roofIn (a .c .states) (a .corners .now) (a .points) (a .weights .now) (a .values .now)) (corner-weight s) (cornerIn (a .offered .now) s)
 said c =
-    covers-by _ _ (λ i b. corner-at (c .before .before .corner-weights .ensures) (below (c .before .before .before)) i)
-    (back _ (c .before .covers-backups-arg .given)) (c .covers-backups .ensures)
+    covers-by _ _ (λ i b. corner-at (c .before .before .before .before .before .before .corner-weights .ensures) (below (c .before .before .before .before .before .before .before)) i) (back _ (c .before .covers-arg .given))
+    (covers-said (c .before .before .before .before .before .before .before .before .before .before .before .before .before .pre .0) (c .before .before .before .before .before .before .before .before .before .gains .ensures) _ (c .before .before .before .backups-at .ensures) _ (c .covers .ensures))
 
 returns : tie.Need-returns Inv-loop μ-loop
 unfolding cornersVerdict
 returns c =
-    let t = c .before .before .before .before in
     sym
-    (first-here _ _ (t .before .loop .s) (t .loop-test .taken) (t .before .loop .inv .1)
+    (first-here _ _ (c .before .before .before .before .before .before .before .before .before .loop .s) (c .before .before .before .before .before .before .before .before .loop-test .taken) (c .before .before .before .before .before .before .before .before .before .loop .inv .1)
     (failed _ _ (sym (said (c .before)) ∙ not-true _ (c .if1 .taken))))
 
-add-s : tie.Need-add-s Inv-loop μ-loop
-add-s c = omega (arith, below (c .before .before .before .before))
-
-loop-less : tie.Need-loop-less Inv-loop μ-loop
-loop-less c = omega (arith, c .before .before .before .before .loop-test .taken)
-
 loop-again : tie.Need-loop-again Inv-loop μ-loop
-loop-again c =
-    let t = c .before .before .before .before in
-    (omega (arith, t .loop-test .taken), first-more _ _ (t .before .loop .inv .1) (passed _ _ (sym (said (c .before)) ∙ not-false _ (c .if1 .left))))
+loop-again c = (
+  omega (arith, c .before .before .before .before .before .before .before .before .loop-test .taken),
+  first-more _ _ (c .before .before .before .before .before .before .before .before .before .loop .inv .1) (passed _ _ (sym (said (c .before)) ∙ not-false _ (c .if1 .left))),
+)
 
 returns-2 : tie.Need-returns-2 Inv-loop μ-loop
 unfolding cornersVerdict
-returns-2 c =
-    let e : c .before .loop .s ≡ c .before .before .before .args .m .states = omega arith in
-    sym (rw e at (c .before .loop .inv .1))
+returns-2 c = let e : c .before .loop .s ≡ c .before .before .before .before .before .before .args .c .states = omega arith in sym (rw e at (c .before .loop .inv .1))
 
 pub corners-hold-spec : {M : Type 1} → statement M
 corners-hold-spec =
-    tie.close (tie.spec Inv-loop μ-loop loop-holds corner-weights-requires mul-covers-backups array-copy-out-covers-backups covers-backups-requires
-    returns add-s loop-less loop-again returns-2)
+    tie.close (tie.spec Inv-loop μ-loop gains-requires loop-holds (λ c κs. below c) gains-long weights-long backups-at-requires long
+    (λ c. omega (arith, below (c .before .before .before .before .before))) stored covers-requires returns (λ c. omega (arith, below (c .before .before .before .before .before .before .before .before)))
+    (λ c. omega (arith, c .before .before .before .before .before .before .before .before .loop-test .taken)) loop-again returns-2)

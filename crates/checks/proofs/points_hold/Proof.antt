@@ -1,93 +1,103 @@
-use Rattle.checks.proofs.Prelude.{ℕ, _≤_, _<_, _-_, _≡_, sym, _∙_, List, arith, not-true, not-false, ℤ, pos, getD, back, Tables, Verdict, Fine}
-use Rattle.checks.proofs.Prelude.{modelOf, unless, firstOf, first-none, first-more, first-here, Level, levelOf, coversBackups, passed, failed}
-use Rattle.checks.proofs.Prelude.{covers-by}
+use Rattle.checks.proofs.Prelude.{ℕ, _≤_, _<_, _-_, _≡_, sym, _∙_, List, arith, not-true, not-false, ℤ, pos, getD, back, Counts, Verdict, Fine}
+use Rattle.checks.proofs.Prelude.{maxStates, modelIn, unless, firstOf, first-none, first-more, first-here, pointIn, roofIn, coversBackups, passed, failed, covers-by}
+use Rattle.integers.proofs.Lists.{padded-length}
+use Rattle.tables.proofs.Fitting.{rows-stored}
 use Rattle.plans.specs.Limits.{maxPoints}
-use Rattle.levels.specs.Storage.{pointIn}
 use Rattle.levels.specs.Judged.{pointsVerdict}
-use Rattle.checks.proofs.Roofs.{values-fit, point-at, point-light}
+use Rattle.checks.proofs.Roofs.{point-at, point-long, point-light, corners-fit, points-fit, values-fit, roof-holds, backups-long, covers-said}
 use Rattle.checks.proofs.points_hold.Statement.{statement}
 use Rattle.checks.proofs.points_hold.Tie as tie
 
 -- the verdict on point i
-abbrev verdict : Tables → Level → List ℕ → List ℤ → ℕ → Verdict
-verdict m standing weights values i =
+abbrev verdict : Counts → List ℕ → List ℕ → List ℤ → List ℤ → ℕ → List ℕ → List ℤ → List ℕ → List ℤ → ℕ → Verdict
+verdict c T O R corners points weights values offered at i =
     unless
-    (coversBackups (modelOf m) (levelOf (m .states) (m .observations) standing) (pointIn (m .states) weights i) (getD values i (pos 0)))
+    (coversBackups (modelIn c T O R) (roofIn (c .states) corners points weights values) (pointIn (c .states) offered i) (getD at i (pos 0)))
     15 i
 
 abbrev Inv-loop : tie.InvT-loop
-Inv-loop m standing gains n points weights values i₀ i = (i ≤ points) × (firstOf i (verdict m standing weights values) ≡ Fine)
+Inv-loop T O R corners weights values offered at c points count n gains i₀ i =
+    (i ≤ count) × (firstOf i (verdict c T O R corners points weights values offered at) ≡ Fine)
 
 abbrev μ-loop : tie.MeasureT-loop
-μ-loop m standing gains n points weights values i₀ i = points - i
+μ-loop T O R corners weights values offered at c points count n gains i₀ i = count - i
+
+gains-requires : tie.Need-gains-requires Inv-loop μ-loop
+gains-requires c κs = let h = c .before .before .before .before .pre .0 in (h .valid .few-states, (corners-fit h, (points-fit h, values-fit h)))
 
 loop-holds : tie.Need-loop-holds Inv-loop μ-loop
 loop-holds c = (omega arith, first-none _)
 
 below : (c : tie.In-loop Inv-loop μ-loop) → c .before .loop .i < maxPoints
-below c = omega (arith, c .loop-test .taken, c .before .before .before .before .pre .1 .few-points)
+below c = omega (arith, c .loop-test .taken, c .before .before .before .before .before .before .before .pre .1 .0 .few)
 
 point-weights-requires : tie.Need-point-weights-requires Inv-loop μ-loop
-point-weights-requires c κs = (c .before .before .before .before .before .pre .0 .valid .few-states, below (c .before))
+point-weights-requires c κs =
+    let a = c .before .before .before .before .before .before .before in
+    ((a .pre .0 .valid .few-states, below c), rows-stored (a .args .c .states) (c .before .loop .i) (a .args .count) (c .loop-test .taken) (a .pre .1 .0 .stored))
 
-mul-covers-backups : tie.Need-mul-covers-backups Inv-loop μ-loop
-mul-covers-backups c = omega (arith, below (c .before .before))
+gains-long : tie.Need-slice-aggregate-backups-at Inv-loop μ-loop
+gains-long c = sym (rw (c .before .before .before .before .gains .ensures) (padded-length 0 maxPoints _ _ (c .before .before .before .before .before .before .before .before .before .pre .0 .shaped .few-points)))
 
-array-copy-out-covers-backups : tie.Need-array-copy-out-covers-backups Inv-loop μ-loop
-array-copy-out-covers-backups c = below (c .before .before)
+weights-long : tie.Need-slice-aggregate-backups-at-2 Inv-loop μ-loop
+weights-long c =
+    let a = c .before .before .before .before .before .before .before .before .before .before in
+    sym (point-long (a .args .c .states) (a .args .offered .now) (c .before .before .before .before .loop .i) (c .before .before .point-weights .ensures) (a .pre .0 .valid .few-states))
 
-covers-backups-requires : tie.Need-covers-backups-requires Inv-loop μ-loop
-covers-backups-requires c κs =
-    let t = c .before .before .before in
-    let a = t .before .before .before .before in
-    let i = t .before .loop .i in (
-      a .pre .0,
-      (
-        point-light (a .args .m .states) (a .args .offered .weights) i (c .before .point-weights .ensures) (a .pre .1 .total i (t .loop-test .taken)),
-        rw (back (getD (a .args .offered .values) i (pos 0)) (c .covers-backups-arg .given))
-            (values-fit (a .args .m) (a .args .offered) (a .pre .1) .value i (t .loop-test .taken)),
-      ),
+backups-at-requires : tie.Need-backups-at-requires Inv-loop μ-loop
+backups-at-requires c κs =
+    let a = c .before .before .before .before .before .before .before .before .before .before in
+    let i = c .before .before .before .before .loop .i in (
+      roof-holds (a .pre .0) (c .before .before .before .before .before .gains .ensures),
+      point-light (a .args .c .states) (a .args .offered .now) i (c .before .before .point-weights .ensures) (a .pre .0 .valid .few-states)
+          (a .pre .1 .1 .1 i (c .before .before .before .loop-test .taken)),
+    )
+
+long : tie.Need-slice-aggregate-covers Inv-loop μ-loop
+long c = sym (backups-long (c .before .before .before .before .before .before .before .before .before .before .before .before .pre .0) (c .before .before .before .before .before .before .before .gains .ensures) _ (c .before .backups-at .ensures))
+
+stored : tie.Need-shared-slice-copy-out-covers Inv-loop μ-loop
+stored c = omega (arith, c .before .before .before .before .before .loop-test .taken, c .before .before .before .before .before .before .before .before .before .before .before .before .pre .1 .1 .0 .long)
+
+covers-requires : tie.Need-covers-requires Inv-loop μ-loop
+covers-requires c κs =
+    let a = c .before .before .before .before .before .before .before .before .before .before .before .before .before in
+    let i = c .before .before .before .before .before .before .before .loop .i in (
+      omega (arith, a .pre .0 .valid .few-actions, backups-long (a .pre .0) (c .before .before .before .before .before .before .before .before .gains .ensures) _ (c .before .before .backups-at .ensures)),
+      rw (back (getD (a .args .at .now) i (pos 0)) (c .covers-arg .given)) (a .pre .1 .1 .0 .value i (c .before .before .before .before .before .before .loop-test .taken)),
     )
 
 -- the answer, by the point's own weights and value
-said : (c : tie.After-covers-backups Inv-loop μ-loop)
-    → let l = c .before .before .before .before .before in
-    let a = l .before .before .before .args in
-    c .covers-backups .result
-    ≡ coversBackups (modelOf (a .m)) (levelOf (a .m .states) (a .m .observations) (a .standing)) (pointIn (a .m .states) (a .offered .weights) (l .loop .i))
-    (getD (a .offered .values) (l .loop .i) (pos 0))
+said : (c : tie.After-covers Inv-loop μ-loop)
+    → let a = c .before .before .before .before .before .before .before .before .before .before .before .before .before .before .args in
+    let i = c .before .before .before .before .before .before .before .before .loop .i in
+    c .covers .result
+    ≡ coversBackups (modelIn (a .c) (a .transition .now) (a .observation .now) (a .reward .now))
+    (roofIn (a .c .states) (a .corners .now) (a .points) (a .weights .now) (a .values .now)) (pointIn (a .c .states) (a .offered .now) i) (getD (a .at .now) i (pos 0))
 said c =
-    let l = c .before .before .before .before .before in
-    let a = l .before .before .before .args in
-    covers-by _ _ (point-at (a .m .states) (a .offered .weights) (l .loop .i) (c .before .before .point-weights .ensures))
-    (back _ (c .before .covers-backups-arg .given)) (c .covers-backups .ensures)
+    let a = c .before .before .before .before .before .before .before .before .before .before .before .before .before .before .args in
+    covers-by _ _ (point-at (a .c .states) (a .offered .now) (c .before .before .before .before .before .before .before .before .loop .i) (c .before .before .before .before .before .before .point-weights .ensures)) (back _ (c .before .covers-arg .given))
+    (covers-said (c .before .before .before .before .before .before .before .before .before .before .before .before .before .before .pre .0) (c .before .before .before .before .before .before .before .before .before .gains .ensures) _ (c .before .before .before .backups-at .ensures) _ (c .covers .ensures))
 
 returns : tie.Need-returns Inv-loop μ-loop
 unfolding pointsVerdict
 returns c =
-    let t = c .before .before .before .before .before in
     sym
-    (first-here _ _ (t .before .loop .i) (t .loop-test .taken) (t .before .loop .inv .1)
+    (first-here _ _ (c .before .before .before .before .before .before .before .before .before .loop .i) (c .before .before .before .before .before .before .before .before .loop-test .taken) (c .before .before .before .before .before .before .before .before .before .loop .inv .1)
     (failed _ _ (sym (said (c .before)) ∙ not-true _ (c .if1 .taken))))
 
-add-i : tie.Need-add-i Inv-loop μ-loop
-add-i c = omega (arith, below (c .before .before .before .before .before))
-
-loop-less : tie.Need-loop-less Inv-loop μ-loop
-loop-less c = omega (arith, c .before .before .before .before .before .loop-test .taken)
-
 loop-again : tie.Need-loop-again Inv-loop μ-loop
-loop-again c =
-    let t = c .before .before .before .before .before in
-    (omega (arith, t .loop-test .taken), first-more _ _ (t .before .loop .inv .1) (passed _ _ (sym (said (c .before)) ∙ not-false _ (c .if1 .left))))
+loop-again c = (
+  omega (arith, c .before .before .before .before .before .before .before .before .loop-test .taken),
+  first-more _ _ (c .before .before .before .before .before .before .before .before .before .loop .inv .1) (passed _ _ (sym (said (c .before)) ∙ not-false _ (c .if1 .left))),
+)
 
 returns-2 : tie.Need-returns-2 Inv-loop μ-loop
 unfolding pointsVerdict
-returns-2 c =
-    let e : c .before .loop .i ≡ c .before .before .before .before .args .offered .points = omega arith in
-    sym (rw e at (c .before .loop .inv .1))
+returns-2 c = let e : c .before .loop .i ≡ c .before .before .before .before .before .before .before .args .count = omega arith in sym (rw e at (c .before .loop .inv .1))
 
 pub points-hold-spec : {M : Type 1} → statement M
 points-hold-spec =
-    tie.close (tie.spec Inv-loop μ-loop loop-holds point-weights-requires mul-covers-backups array-copy-out-covers-backups covers-backups-requires
-    returns add-i loop-less loop-again returns-2)
+    tie.close (tie.spec Inv-loop μ-loop gains-requires loop-holds point-weights-requires gains-long weights-long backups-at-requires long
+    (λ c. omega (arith, below (c .before .before .before .before .before))) stored covers-requires returns (λ c. omega (arith, below (c .before .before .before .before .before .before .before .before)))
+    (λ c. omega (arith, c .before .before .before .before .before .before .before .before .loop-test .taken)) loop-again returns-2)

@@ -2,17 +2,17 @@ use Rattle.sawtooth.proofs.Prelude.{_*_, _≤_, _≡_, _∙_, arith, ne
 use Rattle.sawtooth.proofs.Prelude.{first-cells, first-fit}
 use mir.Facts.{toZ-pos}
 use Rattle.integers.proofs.Words.{fits}
-use Rattle.sawtooth.specs.Storage.{ceilingIn, maxGain}
+use Rattle.sawtooth.specs.Steps.{ceilingIn, maxGain}
 use Rattle.sawtooth.proofs.Laws.{product-limit, largest-limit}
 use Rattle.sawtooth.proofs.ceiling.Statement.{statement}
 use Rattle.sawtooth.proofs.ceiling.Tie as tie
 
 product-requires : tie.Need-product-requires
-product-requires c κs = let a = c .before .before .pre in ((search needs, search needs), (a .1 .0, first-fit (a .1 .1 .0)))
+product-requires c κs = let a = c .before .before .before .before .pre in ((search needs, search needs), (a .1 .0, first-fit (a .1 .1 .0)))
 
 small : (c : tie.After-largest-drop) → c .largest-drop .result ≤ maxReached * maxGain
 small c =
-    let a = c .before in
+    let a = c .before .before .before .before in
     rw (c .largest-drop .ensures)
     (largest-limit (a .args .n) (a .args .points) (a .args .weights .now) (a .args .gains .now) (a .args .q .now) (a .pre .1 .0) (a .pre .1 .1 .1 .1))
 
@@ -20,24 +20,24 @@ drop : (c : tie.After-largest-drop) → toZ w64 (c .largest-drop .result) ≡ po
 drop c = toZ-pos w64 {n = c .largest-drop .result} (omega (arith, small c))
 
 at-corners : (c : tie.After-product)
-    → let a = c .before .before .before .args in
+    → let a = c .before .before .before .before .before .args in
     toZ w64 (ofZ w64 (c .product .result)) ≡ product (a .n) (weightIn (a .q .now)) (cornerIn (a .corners .now))
-at-corners c = answer (c .product .ok) (c .product .ensures ∙ first-cells _ _ (c .before .before .before .args .corners .now))
+at-corners c = answer (c .product .ok) (c .product .ensures ∙ first-cells _ _ (c .before .before .before .before .before .args .corners .now))
 
 cast-minus : tie.Need-cast-minus
-cast-minus c = fits (pos (c .before .before .largest-drop .result)) (omega (arith, small (c .before .before)))
+cast-minus c = fits (pos (c .before .largest-drop .result)) (omega (arith, small (c .before)))
 
 minus-requires : tie.Need-minus-requires
 minus-requires c κs =
-    let a = c .before .before .before in
-    rw (at-corners c, drop (c .before .before))
-    (omega (arith, small (c .before .before), product-limit maxReached (weightIn (a .args .q .now)) (a .pre .0) (a .pre .1 .1 .0) (a .pre .1 .0 .below)))
+    let a = c .before .before .before .before .before in
+    rw (at-corners c, drop (c .before))
+    (omega (arith, small (c .before), product-limit maxReached (weightIn (a .args .q .now)) (a .pre .0) (a .pre .1 .1 .0) (a .pre .1 .0 .below)))
 
 returns : tie.Need-returns
 unfolding ceilingIn
 returns c =
     answer (c .minus .ok)
-    (c .minus .ensures ∙ rw (at-corners (c .before), drop (c .before .before .before), c .before .before .before .largest-drop .ensures))
+    (c .minus .ensures ∙ rw (at-corners (c .before), drop (c .before .before), c .before .before .largest-drop .ensures))
 
 pub ceiling-spec : {M : Type 1} → statement M
 ceiling-spec =

@@ -12,19 +12,19 @@ abbrev μ-loop : tie.MeasureT-loop
 μ-loop q weights at gain n top₀ under₀ s₀ top under s = n - s
 
 limits : (c : tie.At-loop Inv-loop μ-loop) → (c .loop .top ≤ maxReached) × (c .loop .under ≤ pointTotal)
-limits c = let a = c .before in least-limits _ _ (c .loop .inv .1) (c .loop .inv .0) (a .pre .1 .1) (a .pre .1 .0 .below) (lit≤ tt)
+limits c = let a = c .before .before .before in least-limits _ _ (c .loop .inv .1) (c .loop .inv .0) (a .pre .1 .1) (a .pre .1 .0 .below) (lit≤ tt)
 
 loop-holds : tie.Need-loop-holds Inv-loop μ-loop
 loop-holds c = (omega arith, least-start _ _)
 
 cross-requires : tie.Need-cross-requires Inv-loop μ-loop
 cross-requires c κs =
-    let l = c .before .before .before .before in (l .before .pre .1 .0 .below (l .loop .s) (omega arith), limits l .1)
+    let l = c .before .before .before .before in (l .before .before .before .pre .1 .0 .below (l .loop .s) (omega arith), limits l .1)
 
 cross-requires-2 : tie.Need-cross-requires-2 Inv-loop μ-loop
 cross-requires-2 c κs =
     let l = c .before .before .before .before .before in
-    (limits l .0, rw (c .before .before .weight .ensures) (l .before .pre .1 .1 (l .loop .s) (omega arith)))
+    (limits l .0, rw (c .before .before .weight .ensures) (l .before .before .before .pre .1 .1 (l .loop .s) (omega arith)))
 
 loop-again : tie.Need-loop-again Inv-loop μ-loop
 loop-again c =
@@ -41,20 +41,20 @@ loop-again c =
 returns : tie.Need-returns Inv-loop μ-loop
 returns c =
     let l = c .before .before in
-    let e : l .loop .s ≡ l .before .args .n = omega arith in
-    sym (least-none _ _ (l .before .args .gain) (rw e at (l .loop .inv .1)) (c .if2 .taken))
+    let e : l .loop .s ≡ l .before .before .before .args .n = omega arith in
+    sym (least-none _ _ (l .before .before .before .args .gain) (rw e at (l .loop .inv .1)) (c .if2 .taken))
 
 reach-requires : tie.Need-reach-requires Inv-loop μ-loop
-reach-requires c κs = (limits (c .before .before) .0, c .before .before .before .pre .0 .1 .1)
+reach-requires c κs = (limits (c .before .before) .0, c .before .before .before .before .before .pre .0 .1 .1)
 
 returns-2 : tie.Need-returns-2 Inv-loop μ-loop
 returns-2 c =
     let l = c .before .before .before in
-    let e : l .loop .s ≡ l .before .args .n = omega arith in
-    rw (c .reach .ensures) (sym (least-drop _ _ (l .before .args .gain) (rw e at (l .loop .inv .1)) (c .before .if2 .left)))
+    let e : l .loop .s ≡ l .before .before .before .args .n = omega arith in
+    rw (c .reach .ensures) (sym (least-drop _ _ (l .before .before .before .args .gain) (rw e at (l .loop .inv .1)) (c .before .if2 .left)))
 
 pub drop-of-spec : {M : Type 1} → statement M
 drop-of-spec =
-    tie.close (tie.spec Inv-loop μ-loop loop-holds (λ c. search needs) (λ c. search needs) (λ c. search needs) (λ c κs. search needs)
-    (λ c. search needs) (λ c. search needs) cross-requires cross-requires-2 (λ c. search needs) (λ c. search needs) loop-again returns reach-requires
-    (λ c. omega arith) returns-2)
+    tie.close (tie.spec Inv-loop μ-loop loop-holds (λ c. search needs) (λ c. search needs) (λ c. search needs) (λ c κs. search needs) (λ c. search needs)
+    (λ c. search needs) cross-requires cross-requires-2 (λ c. search needs) (λ c. search needs) loop-again returns reach-requires (λ c. omega arith)
+    returns-2)

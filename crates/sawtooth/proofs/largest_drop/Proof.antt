@@ -1,9 +1,9 @@
-use Rattle.sawtooth.proofs.Prelude.{_+_, _*_, _-_, _≤_, _≡_, sym, ⊎-elim, arith, needs, maxStates, maxPoints, row-fits}
+use Rattle.sawtooth.proofs.Prelude.{_-_, _≤_, _≡_, sym, ⊎-elim, arith, needs}
 use mathlib.Core.Bool.{false}
 use Rattle.integers.specs.Whole.{largestTo}
 use Rattle.integers.proofs.Sums.{largest-none}
-use Rattle.sawtooth.specs.Storage.{dropIn}
-use Rattle.sawtooth.proofs.Laws.{drop-beaten, largest-kept, largest-new}
+use Rattle.sawtooth.specs.Steps.{dropIn}
+use Rattle.sawtooth.proofs.Laws.{point-inside, point-within, drop-beaten, drop-said, largest-kept, largest-new}
 use Rattle.sawtooth.proofs.largest_drop.Statement.{statement}
 use Rattle.sawtooth.proofs.largest_drop.Tie as tie
 
@@ -13,55 +13,57 @@ Inv-loop q weights gains points n best₀ i₀ best i = (i ≤ points) × (best 
 abbrev μ-loop : tie.MeasureT-loop
 μ-loop q weights gains points n best₀ i₀ best i = points - i
 
--- the point's weights lie within the array
-inside : (c : tie.In-loop Inv-loop μ-loop) → let l = c .before in l .loop .i * l .before .args .n + l .before .args .n ≤ maxPoints * maxStates
-inside c = row-fits (c .before .loop .i) (c .before .before .args .n) (omega arith) (c .before .before .pre .0)
-
 loop-holds : tie.Need-loop-holds Inv-loop μ-loop
 loop-holds c = (search needs, sym (largest-none _))
 
-mul-at : tie.Need-mul-at Inv-loop μ-loop
-mul-at c = omega (arith, inside c)
-
 reaches-requires : tie.Need-reaches-requires Inv-loop μ-loop
 reaches-requires c κs =
-    let t = c .before .before in
-    let a = t .before .before .pre in
-    let i = t .before .loop .i in
-    ((a .0, (inside t, (a .1 .1 .1 .below i (omega arith), c .least-above .ensures .1))), (a .1 .0, a .1 .1 .0 .weight i (omega arith)))
+    let a = c .before .before .before .before .before .before .before .before in
+    let i = c .before .before .before .before .loop .i in
+    let p = a .pre .1 .1 .0 in (
+      (a .pre .0, (point-inside i (a .args .n) p (omega arith) (c .before .before .start .ensures), (a .pre .1 .1 .1 .below i (omega arith), c .least-above .ensures .1))),
+      (a .pre .1 .0, point-within i (a .args .n) p (omega arith) (c .before .before .start .ensures)),
+    )
 
 drop-of-requires : tie.Need-drop-of-requires Inv-loop μ-loop
 drop-of-requires c κs =
-    let t = c .before .before .before .before in
-    let a = t .before .before .pre in
-    let i = t .before .loop .i in
-    ((a .0, (inside t, a .1 .1 .1 .below i (omega arith))), (a .1 .0, a .1 .1 .0 .weight i (omega arith)))
+    let a = c .before .before .before .before .before .before .before .before .before .before in
+    let i = c .before .before .before .before .before .before .loop .i in
+    let p = a .pre .1 .1 .0 in (
+      (a .pre .0, (point-inside i (a .args .n) p (omega arith) (c .before .before .before .before .start .ensures), a .pre .1 .1 .1 .below i (omega arith))),
+      (a .pre .1 .0, point-within i (a .args .n) p (omega arith) (c .before .before .before .before .start .ensures)),
+    )
 
 -- a point that does not reach is not above the best
 left-out : (c : tie.After-reaches Inv-loop μ-loop)
-    → let l = c .before .before .before .before in
-    let a = l .before .args in
+    → let l = c .before .before .before .before .before in
+    let a = c .before .before .before .before .before .before .before .before .before .args in
     c .reaches .result ≡ false → dropIn (a .n) (a .weights .now) (a .gains .now) (a .q .now) (l .loop .i) ≤ l .loop .best
 left-out c =
-    let l = c .before .before .before .before in
-    let a = l .before .args in
-    drop-beaten (a .n) (a .weights .now) (a .gains .now) (a .q .now) (l .loop .i) (c .before .least-above .ensures .0) (c .reaches .ensures)
+    let l = c .before .before .before .before .before in
+    let a = c .before .before .before .before .before .before .before .before .before .args in
+    drop-beaten (a .n) (a .weights .now) (a .gains .now) (a .q .now) (l .loop .i) (c .before .before .before .start .ensures) (c .before .least-above .ensures .0)
+    (c .reaches .ensures)
 
 loop-again : tie.Need-loop-again Inv-loop μ-loop
-unfolding dropIn
 loop-again c =
-    let l = c .before .before .before .before .before in (
+    let l = c .before .before .before .before .before .before in
+    let a = c .before .before .before .before .before .before .before .before .before .before .args in (
       search needs,
-      ⊎-elim (λ w. largest-new _ _ (l .loop .inv .1) (w .3) (w .1 .ensures) (w .2 .taken))
-          (⊎-elim (λ w. largest-kept _ _ (l .loop .inv .1) (w .3) (rw (w .1 .ensures) at (w .2 .left)))
+      ⊎-elim
+          (λ w. largest-new _ _ (l .loop .inv .1) (w .3)
+          (drop-said (a .n) (a .weights .now) (a .gains .now) (a .q .now) (l .loop .i) (c .before .before .before .before .start .ensures) (w .1 .ensures)) (w .2 .taken))
+          (⊎-elim
+          (λ w. largest-kept _ _ (l .loop .inv .1) (w .3)
+          (rw (drop-said (a .n) (a .weights .now) (a .gains .now) (a .q .now) (l .loop .i) (c .before .before .before .before .start .ensures) (w .1 .ensures)) at (w .2 .left)))
           (λ w. largest-kept _ _ (l .loop .inv .1) (w .1) (left-out (c .before) (w .0 .left))))
           (c .if1 .came),
     )
 
 returns : tie.Need-returns Inv-loop μ-loop
-returns c = let e : c .before .loop .i ≡ c .before .before .args .points = omega arith in rw e at (c .before .loop .inv .1)
+returns c = let e : c .before .loop .i ≡ c .before .before .before .before .before .args .points = omega arith in rw e at (c .before .loop .inv .1)
 
 pub largest-drop-spec : {M : Type 1} → statement M
 largest-drop-spec =
-    tie.close (tie.spec Inv-loop μ-loop loop-holds mul-at (λ c. search needs) (λ c. search needs) (λ c κs. search needs) reaches-requires
+    tie.close (tie.spec Inv-loop μ-loop loop-holds (λ c κs. search needs) (λ c. search needs) (λ c. search needs) (λ c κs. search needs) reaches-requires
     drop-of-requires (λ c. search needs) (λ c. search needs) loop-again returns)

@@ -19,12 +19,12 @@ loop-holds c = (omega arith, every-none _)
 
 reach-requires : tie.Need-reach-requires Inv-loop μ-loop
 reach-requires c κs =
-    let a = c .before .before .before .before .before in
+    let a = c .before .before .before .before .before .before .before in
     (a .pre .1 .0 .below (c .before .before .before .before .loop .s) (omega arith), a .pre .0 .1 .1 .0)
 
 wanted-requires : tie.Need-wanted-requires Inv-loop μ-loop
 wanted-requires c κs =
-    let a = c .before .before .before .before .before .before in
+    let a = c .before .before .before .before .before .before .before .before in
     (a .pre .0 .1 .1 .1, rw (c .before .before .weight .ensures) (a .pre .1 .1 (c .before .before .before .before .before .loop .s) (omega arith)))
 
 returns : tie.Need-returns Inv-loop μ-loop
@@ -38,9 +38,9 @@ loop-again c =
     (omega arith, every-more _ _ (c .before .before .before .before .before .before .before .loop .inv .1) (le-leb _ _ t))
 
 returns-2 : tie.Need-returns-2 Inv-loop μ-loop
-returns-2 c = let e : c .before .loop .s ≡ c .before .before .args .n = omega arith in sym (rw e at (c .before .loop .inv .1))
+returns-2 c = let e : c .before .loop .s ≡ c .before .before .before .before .args .n = omega arith in sym (rw e at (c .before .loop .inv .1))
 
 pub reaches-spec : {M : Type 1} → statement M
 reaches-spec =
-    tie.close (tie.spec Inv-loop μ-loop loop-holds (λ c. search needs) (λ c. search needs) (λ c. search needs) (λ c κs. search needs)
-    (λ c. search needs) (λ c. search needs) reach-requires wanted-requires returns (λ c. search needs) (λ c. search needs) loop-again returns-2)
+    tie.close (tie.spec Inv-loop μ-loop loop-holds (λ c. search needs) (λ c. search needs) (λ c. search needs) (λ c κs. search needs) (λ c. search needs)
+    (λ c. search needs) reach-requires wanted-requires returns (λ c. search needs) (λ c. search needs) loop-again returns-2)

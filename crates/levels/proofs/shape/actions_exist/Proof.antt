@@ -25,10 +25,9 @@ loop-again c = (
 
 returns-2 : tie.Need-returns-2 Inv-loop μ-loop
 returns-2 c =
-    let e : c .before .loop .v ≡ c .before .before .args .vectors = omega arith in
+    let e : c .before .loop .v ≡ c .before .before .before .args .vectors = omega arith in
     sym (rw e at (c .before .loop .inv .1))
 
 pub actions-exist-spec : {M : Type 1} → statement M
 actions-exist-spec =
-    tie.close (tie.spec Inv-loop μ-loop loop-holds (λ c. search needs) (λ c κs. search needs) returns (λ c. search needs) (λ c. search needs)
-    loop-again returns-2)
+    tie.close (tie.spec Inv-loop μ-loop loop-holds (λ c. search needs) (λ c κs. search needs) returns (λ c. search needs) (λ c. search needs) loop-again returns-2)

@@ -1,8 +1,9 @@
-use Rattle.levels.proofs.Prelude.{ℕ, _+_, _*_, _≤_, _-_, _≡_, refl, sym, _∙_, arith, lt-ltb, le-ltb, true, List, ltb, length, getD, row-below}
+use Rattle.levels.proofs.Prelude.{ℕ, _+_, _*_, _≤_, _-_, _≡_, refl, sym, _∙_, arith, lt-ltb, le-ltb, true, List, ltb, length, getD, rows-stored}
 use Rattle.levels.proofs.Prelude.{Verdict, Fine, unless, firstOf, first-none, first-more, first-here, passed, failed}
 use Rattle.tables.specs.Verdicts.{_before_}
 use Rattle.tables.proofs.Refusals.{refused-before}
-use Rattle.levels.specs.Storage.{choiceIn}
+use Rattle.tables.specs.Storage.{choiceIn}
+use Rattle.tables.specs.Steps.{rowsTo}
 use Rattle.levels.specs.Judged.{numbersIn}
 use Rattle.levels.proofs.Laws.{fine-before}
 use Rattle.levels.proofs.shape.numbers_exist.Statement.{statement}
@@ -17,11 +18,11 @@ verdict number actions choices m k standing v =
     unless (ltb (getD actions v 0) m) number v before firstOf k (chosen number choices k standing v)
 
 abbrev Inv-loop : tie.InvT-loop
-Inv-loop actions choices vectors m k standing number found₀ v at o₀ found o =
+Inv-loop actions choices vectors m k standing number found₀ v o₀ found o =
     (o ≤ k) × ((found ≡ Fine) × (firstOf o (chosen number choices k standing v) ≡ Fine))
 
 abbrev μ-loop : tie.MeasureT-loop
-μ-loop actions choices vectors m k standing number found₀ v at o₀ found o = k - o
+μ-loop actions choices vectors m k standing number found₀ v o₀ found o = k - o
 
 abbrev Inv-vectors : tie.InvT-vectors
 Inv-vectors actions choices vectors m k standing number found₀ v₀ found v =
@@ -38,11 +39,8 @@ shared-slice-read-action c = omega (arith, c .before .before .before .before .be
 
 -- the vector's choices lie in the array
 row-here : (c : tie.Else1 Inv-loop μ-loop Inv-vectors μ-vectors) →
-    let a = c .before .before .before .before .before .before .before .args in
-    c .before .before .before .before .vectors .v * a .k + a .k ≤ length (a .choices .now)
-row-here c =
-    let a = c .before .before .before .before .before .before .before in
-    omega (arith, row-below (c .before .before .before .before .vectors .v) (a .args .vectors) (a .args .k) (omega arith), a .pre .1 .1)
+    let a = c .before .before .before .before .before .before .before .args in rowsTo (a .k) (c .before .before .before .before .vectors .v) ≤ length (a .choices .now)
+row-here c = let a = c .before .before .before .before .before .before .before in rows-stored (a .args .k) (c .before .before .before .before .vectors .v) (a .args .vectors) (omega arith) (a .pre .1 .1)
 
 -- the vector's action exists
 acts : (c : tie.Else1 Inv-loop μ-loop Inv-vectors μ-vectors) →
@@ -50,27 +48,18 @@ acts : (c : tie.Else1 Inv-loop μ-loop Inv-vectors μ-vectors) →
     ltb (getD (a .actions .now) (c .before .before .before .before .vectors .v) 0) (a .m) ≡ true
 acts c = lt-ltb _ _ (rw (c .before .action .ensures) at (c .if1 .left))
 
-mul-at : tie.Need-mul-at Inv-loop μ-loop Inv-vectors μ-vectors
-mul-at c = omega (arith, row-here c)
-
 loop-holds : tie.Need-loop-holds Inv-loop μ-loop Inv-vectors μ-vectors
 loop-holds c = (omega arith, (c .before .before .before .before .vectors .inv .1 .0, first-none _))
 
-add-choice : tie.Need-add-choice Inv-loop μ-loop Inv-vectors μ-vectors
-add-choice c = omega (arith, row-here (c .before .before))
-
-mul-choice : tie.Need-mul-choice Inv-loop μ-loop Inv-vectors μ-vectors
-mul-choice c = omega (arith, row-here (c .before .before))
-
-shared-slice-read-choice : tie.Need-shared-slice-read-choice Inv-loop μ-loop Inv-vectors μ-vectors
-shared-slice-read-choice c = omega (arith, row-here (c .before .before .before))
+choice-at-requires : tie.Need-choice-at-requires Inv-loop μ-loop Inv-vectors μ-vectors
+choice-at-requires c κs = ((c .before .before .before .before .before .before .before .before .before .pre .0 .1, (omega arith, omega arith)), row-here (c .before .before))
 
 loop-again : tie.Need-loop-again Inv-loop μ-loop Inv-vectors μ-vectors
 loop-again c = (
   omega arith,
   (
     c .before .before .before .before .loop .inv .1 .0,
-    first-more _ _ (c .before .before .before .before .loop .inv .1 .1) (passed _ _ (lt-ltb _ _ (rw (c .before .choice .ensures) at (c .if2 .left)))),
+    first-more _ _ (c .before .before .before .before .loop .inv .1 .1) (passed _ _ (lt-ltb _ _ (rw (c .before .before .choice-at .ensures) at (c .if2 .left)))),
   ),
 )
 
@@ -106,10 +95,9 @@ returns-3 c =
     (first-here _ _ (t .before .before .before .before .vectors .v) (omega arith) (t .before .before .before .before .vectors .inv .1 .1)
     (fine-before (passed _ _ (acts t))
     (first-here _ _ (c .before .before .before .before .loop .o) (omega arith) (c .before .before .before .before .loop .inv .1 .1)
-    (failed _ _ (le-ltb _ _ (rw (c .before .choice .ensures) at (c .if2 .taken)))))))
+    (failed _ _ (le-ltb _ _ (rw (c .before .before .choice-at .ensures) at (c .if2 .taken)))))))
 
 pub numbers-exist-spec : {M : Type 1} → statement M
 numbers-exist-spec =
-    tie.close (tie.spec Inv-loop μ-loop Inv-vectors μ-vectors vectors-holds shared-slice-read-action (λ c κs. tt) mul-at loop-holds add-choice
-    mul-choice shared-slice-read-choice (λ c κs. tt) (λ c. omega arith) (λ c. omega arith) loop-again (λ c. omega arith) (λ c. omega arith)
-    vectors-again returns returns-2 returns-3)
+    tie.close (tie.spec Inv-loop μ-loop Inv-vectors μ-vectors vectors-holds shared-slice-read-action (λ c κs. tt) loop-holds choice-at-requires
+    (λ c. omega arith) (λ c. omega arith) loop-again (λ c. omega arith) (λ c. omega arith) vectors-again returns returns-2 returns-3)

@@ -1,4 +1,4 @@
-use Rattle.levels.proofs.Prelude.{ℕ, _+_, _*_, _≤_, _-_, _≡_, refl, sym, _∙_, arith, List, length, getD, ℤ, pos, row-below, back, Verdict, Fine}
+use Rattle.levels.proofs.Prelude.{needs, ℕ, _+_, _*_, _≤_, _-_, _≡_, refl, sym, _∙_, arith, List, length, getD, ℤ, pos, row-stored, rows-stored, _<_, back, Verdict, Fine}
 use Rattle.levels.proofs.Prelude.{unless, firstOf, first-none, first-more, first-here, passed, failed}
 use borrow.Author.Tests.{not-true, not-false}
 use lib.Dec.{leb}
@@ -12,10 +12,10 @@ abbrev verdict : List ℤ → ℕ → ℕ → ℕ → ℕ → ℕ → Verdict
 verdict cells w limit number i x = unless (leb (natAbs (getD cells (i * w + x) (pos 0))) limit) number i
 
 abbrev Inv-loop : tie.InvT-loop
-Inv-loop cells rows w limit number found₀ i at x₀ found x = (x ≤ w) × ((found ≡ Fine) × (firstOf x (verdict cells w limit number i) ≡ Fine))
+Inv-loop cells rows w limit number found₀ i x₀ found x = (x ≤ w) × ((found ≡ Fine) × (firstOf x (verdict cells w limit number i) ≡ Fine))
 
 abbrev μ-loop : tie.MeasureT-loop
-μ-loop cells rows w limit number found₀ i at x₀ found x = w - x
+μ-loop cells rows w limit number found₀ i x₀ found x = w - x
 
 abbrev Inv-rows : tie.InvT-rows
 Inv-rows cells rows w limit number found₀ i₀ found i =
@@ -25,45 +25,35 @@ abbrev μ-rows : tie.MeasureT-rows
 μ-rows cells rows w limit number found₀ i₀ found i = rows - i
 
 -- the row lies in the cells
-row-here : (c : tie.In-rows Inv-loop μ-loop Inv-rows μ-rows) →
-    let a = c .before .before .args in c .before .rows .i * a .w + a .w ≤ length (a .cells .now)
-row-here c = omega (arith, row-below (c .before .rows .i) (c .before .before .args .rows) (c .before .before .args .w) (omega arith))
+row-here : (c : tie.In-loop Inv-loop μ-loop Inv-rows μ-rows) →
+    let a = c .before .before .before .before .args in c .before .before .before .rows .i * a .w + c .before .loop .x < length (a .cells .now)
+row-here c =
+    let a = c .before .before .before .before in
+    row-stored (a .args .w) (c .before .before .before .rows .i) (c .before .loop .x) (omega arith) (rows-stored (a .args .w) (c .before .before .before .rows .i) (a .args .rows) (omega arith) (a .pre .1))
 
 rows-holds : tie.Need-rows-holds Inv-loop μ-loop Inv-rows μ-rows
 rows-holds c = (omega arith, (refl, first-none _))
 
-mul-at : tie.Need-mul-at Inv-loop μ-loop Inv-rows μ-rows
-mul-at c = omega (arith, row-here c)
-
 loop-holds : tie.Need-loop-holds Inv-loop μ-loop Inv-rows μ-rows
 loop-holds c = (omega arith, (c .before .rows .inv .1 .0, first-none _))
 
-add-within : tie.Need-add-within Inv-loop μ-loop Inv-rows μ-rows
-add-within c = omega (arith, row-here (c .before .before))
-
-mul-within : tie.Need-mul-within Inv-loop μ-loop Inv-rows μ-rows
-mul-within c = omega (arith, row-here (c .before .before))
-
-shared-slice-copy-out-within :
-    tie.Need-shared-slice-copy-out-within Inv-loop μ-loop Inv-rows μ-rows
-shared-slice-copy-out-within c = omega (arith, row-here (c .before .before))
+stored : tie.Need-shared-slice-copy-out-within Inv-loop μ-loop Inv-rows μ-rows
+stored c = rw (c .row .ensures .0) (row-here (c .before))
 
 within-requires : tie.Need-within-requires Inv-loop μ-loop Inv-rows μ-rows
-within-requires c κs = c .before .before .before .before .before .pre .0 .1 .1
+within-requires c κs = c .before .before .before .before .before .before .pre .0 .1 .1
 
 -- the test, by the number's own place
 said : (c : tie.After-within Inv-loop μ-loop Inv-rows μ-rows) →
-    let a = c .before .before .before .before .before .before .args in
-    let i = c .before .before .before .before .before .rows .i in
-    c .within .result ≡ leb (natAbs (getD (a .cells .now) (i * a .w + c .before .before .before .loop .x) (pos 0))) (a .limit)
-said c = c .within .ensures ∙ rw (back _ (c .before .within-arg .given))
+    let a = c .before .before .before .before .before .before .before .args in c .within .result ≡ leb (natAbs (getD (a .cells .now) (c .before .before .before .before .before .before .rows .i * a .w + c .before .before .before .before .loop .x) (pos 0))) (a .limit)
+said c = c .within .ensures ∙ rw (back _ (c .before .within-arg .given), c .before .before .row .ensures .0)
 
 loop-again : tie.Need-loop-again Inv-loop μ-loop Inv-rows μ-rows
 loop-again c = (
   omega arith,
   (
-    c .before .before .before .before .loop .inv .1 .0,
-    first-more _ _ (c .before .before .before .before .loop .inv .1 .1) (passed _ _ (sym (said (c .before)) ∙ not-false _ (c .if1 .left))),
+    c .before .before .before .before .before .loop .inv .1 .0,
+    first-more _ _ (c .before .before .before .before .before .loop .inv .1 .1) (passed _ _ (sym (said (c .before)) ∙ not-false _ (c .if1 .left))),
   ),
 )
 
@@ -81,7 +71,7 @@ returns c =
 returns-2 : tie.Need-returns-2 Inv-loop μ-loop Inv-rows μ-rows
 unfolding rowsWithin
 returns-2 c =
-    let t = c .before .before .before .before in
+    let t = c .before .before .before .before .before in
     sym
     (first-here _ _ (t .before .before .rows .i) (omega arith) (t .before .before .rows .inv .1 .1)
     (first-here _ _ (t .loop .x) (omega arith) (t .loop .inv .1 .1)
@@ -89,5 +79,5 @@ returns-2 c =
 
 pub rows-within-spec : {M : Type 1} → statement M
 rows-within-spec =
-    tie.close (tie.spec Inv-loop μ-loop Inv-rows μ-rows rows-holds mul-at loop-holds add-within mul-within shared-slice-copy-out-within
-    within-requires (λ c. omega arith) (λ c. omega arith) loop-again (λ c. omega arith) (λ c. omega arith) rows-again returns returns-2)
+    tie.close (tie.spec Inv-loop μ-loop Inv-rows μ-rows rows-holds loop-holds (λ c κs. search needs) (λ c. search needs) stored within-requires
+    (λ c. omega arith) (λ c. omega arith) loop-again (λ c. omega arith) (λ c. omega arith) rows-again returns returns-2)

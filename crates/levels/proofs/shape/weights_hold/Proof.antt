@@ -1,5 +1,6 @@
-use Rattle.levels.proofs.Prelude.{ℕ, _+_, _*_, _≤_, _-_, _≡_, sym, _∙_, arith, List, length, totalTo, row-below, Verdict, Fine, unless, firstOf}
+use Rattle.levels.proofs.Prelude.{ℕ, _+_, _*_, _≤_, _-_, _≡_, sym, _∙_, arith, List, length, getD, totalTo, row-below, Verdict, Fine, unless, firstOf}
 use Rattle.levels.proofs.Prelude.{first-none, first-more, first-here, passed, failed}
+use mathlib.Core.Path.{ap}
 use borrow.Author.Tests.{eq-eqb, ne-eqb}
 use lib.Dec.{eqb}
 use Rattle.plans.specs.Limits.{pointTotal}
@@ -27,22 +28,25 @@ row-here c =
 loop-holds : tie.Need-loop-holds Inv-loop μ-loop
 loop-holds c = (omega arith, first-none _)
 
-mul-weights-total : tie.Need-mul-weights-total Inv-loop μ-loop
-mul-weights-total c = omega (arith, row-here c)
-
 weights-total-requires : tie.Need-weights-total-requires Inv-loop μ-loop
-weights-total-requires c κs = omega (arith, row-here c)
+weights-total-requires c κs = rw (c .start .ensures) (omega (arith, row-here (c .before), c .before .before .before .before .pre .0))
+
+-- the total, by the point's own number
+said : (c : tie.After-weights-total Inv-loop μ-loop) → let a = c .before .before .before .before .before .args in c .weights-total .result ≡ totalTo (a .n) (pointIn (a .n) (a .cells .now) (c .before .before .before .loop .i))
+said c =
+    let a = c .before .before .before .before .before .args in
+    c .weights-total .ensures ∙ ap (λ (z : ℕ). totalTo (a .n) (λ s. getD (a .cells .now) (z + s) 0)) (c .before .start .ensures)
 
 returns : tie.Need-returns Inv-loop μ-loop
 unfolding weightsVerdict
 returns c =
-    sym (first-here _ _ (c .before .before .before .loop .i) (omega arith) (c .before .before .before .loop .inv .1)
-    (failed _ _ (ne-eqb _ _ (λ e. c .if1 .taken (c .before .weights-total .ensures ∙ e)))))
+    sym (first-here _ _ (c .before .before .before .before .loop .i) (omega arith) (c .before .before .before .before .loop .inv .1)
+    (failed _ _ (ne-eqb _ _ (λ e. c .if1 .taken (said (c .before) ∙ e)))))
 
 loop-again : tie.Need-loop-again Inv-loop μ-loop
 loop-again c = (
   omega arith,
-  first-more _ _ (c .before .before .before .loop .inv .1) (passed _ _ (eq-eqb _ _ (sym (c .before .weights-total .ensures) ∙ c .if1 .left))),
+  first-more _ _ (c .before .before .before .before .loop .inv .1) (passed _ _ (eq-eqb _ _ (sym (said (c .before)) ∙ c .if1 .left))),
 )
 
 returns-2 : tie.Need-returns-2 Inv-loop μ-loop
@@ -53,5 +57,4 @@ returns-2 c =
 
 pub weights-hold-spec : {M : Type 1} → statement M
 weights-hold-spec =
-    tie.close (tie.spec Inv-loop μ-loop loop-holds mul-weights-total weights-total-requires returns (λ c. omega arith) (λ c. omega arith) loop-again
-    returns-2)
+    tie.close (tie.spec Inv-loop μ-loop loop-holds (λ c κs. omega arith) weights-total-requires returns (λ c. omega arith) (λ c. omega arith) loop-again returns-2)

@@ -1,14 +1,15 @@
-use Rattle.levels.proofs.Prelude.{ℕ, _+_, _*_, _≤_, _-_, _≡_, refl, sym, _∙_, arith, true, List, getD, ℤ, pos, w64, toZ, answer, weightIn}
-use Rattle.levels.proofs.Prelude.{product}
+use Rattle.levels.proofs.Prelude.{needs, ℕ, _+_, _<_, _≤_, _-_, _≡_, refl, sym, _∙_, arith, true, List, getD, ℤ, pos, w64, toZ, answer, weightIn}
+use Rattle.levels.proofs.Prelude.{length, ofZ, product, row-below}
 use mathlib.Core.Path.{ap}
+use lib.IntN.{natAbs}
 use mathlib.Core.Logic.{⊎-elim}
 use mathlib.Core.Bool.{false}
 use lib.Signed.{ltZ}
 use Rattle.integers.specs.Search.{firstLargest}
 use Rattle.integers.proofs.Searches.{largest-first, largest-later, largest-same}
-use Rattle.tables.specs.Storage.{entryIn}
-use Rattle.plans.proofs.Agreement.{product-cong}
-use Rattle.levels.proofs.Laws.{row-fits}
+use Rattle.tables.specs.Limits.{maxEntry}
+use Rattle.tables.specs.Storage.{rowStart, entryIn}
+use Rattle.tables.specs.Steps.{EntriesFit}
 use Rattle.levels.proofs.vectors.best_vector.Statement.{statement}
 use Rattle.levels.proofs.vectors.best_vector.Tie as tie
 
@@ -16,8 +17,10 @@ use Rattle.levels.proofs.vectors.best_vector.Tie as tie
 abbrev worth : List ℕ → List ℤ → ℕ → ℕ → ℤ
 worth q entries n v = product n (weightIn q) (entryIn n entries v)
 
-first-entry : (n : ℕ) (entries : List ℤ) (s : ℕ) → getD entries (0 + s) (pos 0) ≡ entryIn n entries 0 s
-first-entry n entries s = ap (λ (i : ℕ). getD entries i (pos 0)) (omega arith)
+-- by where the vector starts
+from-start : (q : List ℕ) (entries : List ℤ) (n v : ℕ) {at : ℕ} {r : ℤ} → at ≡ rowStart n v
+    → r ≡ product n (weightIn q) (λ s. getD entries (at + s) (pos 0)) → r ≡ worth q entries n v
+from-start q entries n v e h = h ∙ ap (λ (z : ℕ). product n (weightIn q) (λ s. getD entries (z + s) (pos 0))) e
 
 -- a turn of the search: the best so far, what it is worth, and what vector v is worth
 module _ (f : ℕ → ℤ) (v : ℕ) {best : ℕ} {most here : ℤ} (so-far : best ≡ firstLargest v f) (held : most ≡ f best) (seen : here ≡ f v) where
@@ -34,53 +37,62 @@ Inv-loop q entries n vectors best₀ most₀ v₀ best most v =
 abbrev μ-loop : tie.MeasureT-loop
 μ-loop q entries n vectors best₀ most₀ v₀ best most v = vectors - v
 
--- the vector lies in the array
-row-here : (c : tie.After-product-arg2 Inv-loop μ-loop) →
-    let n = c .before .before .before .before .before .args .n in c .before .before .loop .v * n + n ≤ 512
-row-here c = row-fits {R = 32} {X = 16} _ (c .before .before .before .before .before .args .vectors) _ (omega arith) (omega arith) (omega arith)
+-- vector v lies in the array, with entries within the limit
+record Here (entries : List ℤ) (n at : ℕ) : Type 0 where
+  inside : at + n ≤ length entries
+  within : (s : ℕ) → s < n → natAbs (getD entries (at + s) (pos 0)) ≤ maxEntry
+
+here : (entries : List ℤ) (n vectors v : ℕ) {at : ℕ} → EntriesFit n vectors entries → v < vectors → at ≡ rowStart n v → Here entries n at
+here entries n vectors v fit l e = record { inside = rw e (omega (arith, row-below v vectors n l, fit .stored)); within = λ s b. rw e (fit .entry v l s b) }
 
 product-requires : tie.Need-product-requires Inv-loop μ-loop
 product-requires c κs =
-    let p = c .before .pre in (
-      (p .0 .0, omega (arith, c .product-arg .given .0)),
-      (p .1 .0, λ s l. rw (first-entry (c .before .args .n) (c .before .args .entries .now) s) (p .1 .1 0 (p .0 .1 .0) s l)),
-    )
+    let a = c .before .before in
+    let h = here (a .args .entries .now) (a .args .n) (a .args .vectors) 0 (a .pre .1 .1) (a .pre .0 .1) (c .start .ensures) in
+    ((a .pre .0 .0, h .inside), (a .pre .1 .0, h .within))
 
 loop-holds : tie.Need-loop-holds Inv-loop μ-loop
-loop-holds c = (
-  (omega arith, omega arith),
-  (
-    sym (largest-first _),
-    answer (c .product .ok) (c .product .ensures)
-        ∙ product-cong _ _ _ _ _ (λ s l. refl) (λ s l. first-entry (c .before .before .args .n) (c .before .before .args .entries .now) s),
-  ),
-)
+loop-holds c =
+    let a = c .before .before .before .args in (
+      (omega arith, omega arith),
+      (
+        sym (largest-first _),
+        from-start (a .q .now) (a .entries .now) (a .n) 0 (c .before .start .ensures) (answer (c .product .ok) (c .product .ensures)),
+      ),
+    )
 
-mul-product : tie.Need-mul-product Inv-loop μ-loop
-mul-product c = omega (arith, row-here c)
+start-requires-2 : tie.Need-start-requires-2 Inv-loop μ-loop
+start-requires-2 c κs = let a = c .before .before .before .before .before in (omega (arith, a .pre .1 .1 .few), a .pre .0 .0)
 
 product-requires-2 : tie.Need-product-requires-2 Inv-loop μ-loop
 product-requires-2 c κs =
-    let p = c .before .before .before .before .before .pre in
-    ((p .0 .0, omega (arith, row-here c, c .product-arg2 .given .0)), (p .1 .0, p .1 .1 (c .before .before .loop .v) (omega arith)))
+    let a = c .before .before .before .before .before .before in
+    let v = c .before .before .loop .v in
+    let h = here (a .args .entries .now) (a .args .n) (a .args .vectors) v (a .pre .1 .1) (omega arith) (c .start2 .ensures) in
+    ((a .pre .0 .0, h .inside), (a .pre .1 .0, h .within))
+
+-- what vector v is worth
+seen : (c : tie.After-product2 Inv-loop μ-loop) → let a = c .before .before .before .before .before .before .before .args in toZ w64 (ofZ w64 (c .product2 .result)) ≡ worth (a .q .now) (a .entries .now) (a .n) (c .before .before .before .loop .v)
+seen c =
+    let a = c .before .before .before .before .before .before .before .args in
+    from-start (a .q .now) (a .entries .now) (a .n) (c .before .before .before .loop .v) (c .before .start2 .ensures) (answer (c .product2 .ok) (c .product2 .ensures))
 
 loop-again : tie.Need-loop-again Inv-loop μ-loop
 loop-again c =
-    let turn = c .before .before .before .before .loop .inv .1 in
-    let call = c .before .product2 in (
+    let turn = c .before .before .before .before .loop .inv .1 in (
       (omega arith, omega arith),
       ⊎-elim
-          (λ w. larger _ _ (turn .0) (turn .1) (answer (call .ok) (call .ensures)) (w .0 .taken) (w .1) (ap (toZ w64) (w .2)))
-          (λ w. not-larger _ _ (turn .0) (turn .1) (answer (call .ok) (call .ensures)) (w .0 .left) (w .1) (ap (toZ w64) (w .2)))
+          (λ w. larger _ _ (turn .0) (turn .1) (seen (c .before)) (w .0 .taken) (w .1) (ap (toZ w64) (w .2)))
+          (λ w. not-larger _ _ (turn .0) (turn .1) (seen (c .before)) (w .0 .left) (w .1) (ap (toZ w64) (w .2)))
           (c .if1 .came),
     )
 
 returns : tie.Need-returns Inv-loop μ-loop
 returns c =
-    let e : c .before .loop .v ≡ c .before .before .before .before .args .vectors = omega arith in
+    let e : c .before .loop .v ≡ c .before .before .before .before .before .args .vectors = omega arith in
     rw e at (c .before .loop .inv .1 .0)
 
 pub best-vector-spec : {M : Type 1} → statement M
 best-vector-spec =
-    tie.close (tie.spec Inv-loop μ-loop product-requires loop-holds mul-product product-requires-2 (λ c. omega arith) (λ c. omega arith) loop-again
-    returns)
+    tie.close (tie.spec Inv-loop μ-loop (λ c κs. search needs) product-requires loop-holds start-requires-2 product-requires-2 (λ c. omega arith)
+    (λ c. omega arith) loop-again returns)

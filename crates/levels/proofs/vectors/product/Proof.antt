@@ -23,19 +23,19 @@ loop-holds c = (search needs, sym (sum-none _))
 
 add-scaled-requires : tie.Need-add-scaled-requires Inv-loop μ-loop
 add-scaled-requires c κs =
-    term-fits (terms (c .before .before .before .before)) _ (c .before .before .before .loop .inv .1) refl (back _ (c .add-scaled-arg2 .given))
+    term-fits (terms (c .before .before .before .before .before)) _ (c .before .before .before .loop .inv .1) refl (back _ (c .add-scaled-arg .given))
     (omega arith) (lit< tt) (omega arith)
 
 loop-again : tie.Need-loop-again Inv-loop μ-loop
 loop-again c = (
   search needs,
-  term-added (terms (c .before .before .before .before .before)) _ (c .before .before .before .before .loop .inv .1) refl
-      (back _ (c .before .add-scaled-arg2 .given)) (answer (c .add-scaled .ok) (c .add-scaled .ensures)),
+  term-added (terms (c .before .before .before .before .before .before)) _ (c .before .before .before .before .loop .inv .1) refl
+      (back _ (c .before .add-scaled-arg .given)) (answer (c .add-scaled .ok) (c .add-scaled .ensures)),
 )
 
 returns : tie.Need-returns Inv-loop μ-loop
 unfolding product
-returns c = let e : c .before .loop .s ≡ c .before .before .args .n = omega arith in rw e at (c .before .loop .inv .1)
+returns c = let e : c .before .loop .s ≡ c .before .before .before .args .n = omega arith in rw e at (c .before .loop .inv .1)
 
 pub product-spec : {M : Type 1} → statement M
 product-spec =

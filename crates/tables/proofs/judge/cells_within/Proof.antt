@@ -32,17 +32,27 @@ loop-holds c = (omega arith, every-none _)
 loop2-holds : tie.Need-loop2-holds Inv-loop2 μ-loop2 Inv-loop μ-loop
 loop2-holds c = (omega arith, every-none _)
 
-mul-at : tie.Need-mul-at Inv-loop2 μ-loop2 Inv-loop μ-loop
-mul-at c = omega (arith, row-here c)
+-- where the row starts, by its own number
+at-is : (c : tie.After-start Inv-loop2 μ-loop2 Inv-loop μ-loop)
+    → let a = c .before .before .before .before .before .before .before .args in c .start .result ≡ (c .before .before .before .before .before .loop .a * a .n + c .before .before .before .loop2 .s) * a .w
+at-is c = c .start .ensures ∙ ap (λ (r : ℕ). r * c .before .before .before .before .before .before .before .args .w) (c .before .row .ensures .0)
+
+-- the test of the row, by that number
+said : (c : tie.After-row-within Inv-loop2 μ-loop2 Inv-loop μ-loop)
+    → let a = c .before .before .before .before .before .before .before .before .args in c .row-within .result ≡ rowOk (a .cells .now) (a .w) (c .before .before .before .before .before .before .loop .a * a .n + c .before .before .before .before .loop2 .s)
+said c =
+    let a = c .before .before .before .before .before .before .before .before .args in
+    c .row-within .ensures ∙ ap (λ (z : ℕ). every (a .w) (λ x. leb (getD (a .cells .now) (z + x) 0) 1000)) (at-is (c .before))
 
 row-within-requires : tie.Need-row-within-requires Inv-loop2 μ-loop2 Inv-loop μ-loop
-row-within-requires c κs = omega (arith, row-here c)
+row-within-requires c κs = rw (c .start .ensures) (omega (arith, row-here (c .before)))
 
 returns : tie.Need-returns Inv-loop2 μ-loop2 Inv-loop μ-loop
-returns c = sym (every-not _ _ (c .before .before .before .before .before .before .loop .a) (omega arith) (every-not _ _ (c .before .before .before .before .loop2 .s) (omega arith) (sym (c .before .row-within .ensures ∙ ap (rowOk (c .before .before .before .before .before .before .before .before .args .cells .now) (c .before .before .before .before .before .before .before .before .args .w)) (c .before .before .row .ensures .0)) ∙ not-true _ (c .if1 .taken))))
+returns c =
+    sym (every-not _ _ (c .before .before .before .before .before .before .before .loop .a) (omega arith) (every-not _ _ (c .before .before .before .before .before .loop2 .s) (omega arith) (sym (said (c .before)) ∙ not-true _ (c .if1 .taken))))
 
 loop2-again : tie.Need-loop2-again Inv-loop2 μ-loop2 Inv-loop μ-loop
-loop2-again c = (omega arith, every-more _ _ (c .before .before .before .before .loop2 .inv .1) (sym (c .before .row-within .ensures ∙ ap (rowOk (c .before .before .before .before .before .before .before .before .args .cells .now) (c .before .before .before .before .before .before .before .before .args .w)) (c .before .before .row .ensures .0)) ∙ not-false _ (c .if1 .left)))
+loop2-again c = (omega arith, every-more _ _ (c .before .before .before .before .before .loop2 .inv .1) (sym (said (c .before)) ∙ not-false _ (c .if1 .left)))
 
 loop-again : tie.Need-loop-again Inv-loop2 μ-loop2 Inv-loop μ-loop
 loop-again c = let e : c .before .loop2 .s ≡ c .before .before .before .before .before .args .n = omega arith in (omega arith, every-more _ _ (c .before .before .before .loop .inv .1) (rw e at (c .before .loop2 .inv .1)))
@@ -52,5 +62,5 @@ returns-2 c = let e : c .before .loop .a ≡ c .before .before .before .args .m 
 
 pub cells-within-spec : {M : Type 1} → statement M
 cells-within-spec =
-    tie.close (tie.spec Inv-loop2 μ-loop2 Inv-loop μ-loop loop-holds loop2-holds (λ c κs. omega arith) mul-at row-within-requires returns
+    tie.close (tie.spec Inv-loop2 μ-loop2 Inv-loop μ-loop loop-holds loop2-holds (λ c κs. omega arith) (λ c κs. omega arith) row-within-requires returns
     (λ c. omega arith) (λ c. omega arith) loop2-again (λ c. omega arith) (λ c. omega arith) loop-again returns-2)

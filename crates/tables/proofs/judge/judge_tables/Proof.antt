@@ -1,38 +1,40 @@
-use Rattle.tables.proofs.Prelude.{_≡_, sym, _∙_, true, arith, not-true, not-false, modelOf, limitsHold, Long, Few, sizes, needs}
+use Rattle.tables.proofs.Prelude.{_≡_, sym, _∙_, true, arith, not-true, not-false, modelIn, limitsHold, Few, needs}
+use Rattle.tables.specs.Steps.{Stored}
 use Rattle.tables.specs.Judged.{modelVerdict}
-use Rattle.tables.proofs.Fitting.{limits-few}
+use Rattle.tables.proofs.Fitting.{limits-counts, limits-few}
 use Rattle.tables.proofs.judge.judge_tables.Statement.{statement}
 use Rattle.tables.proofs.judge.judge_tables.Tie as tie
 
-limits : (c : tie.Else1) → limitsHold (modelOf (c .before .before .args .t1)) ≡ true
+limits : (c : tie.Else1) → let a = c .before .before .before .before .args in limitsHold (modelIn (a .c) (a .transition .now) (a .observation .now) (a .reward .now)) ≡ true
 limits c = sym (c .before .limits-hold .ensures) ∙ not-false _ (c .if1 .left)
 
-few-here : (c : tie.Else1) → Few (c .before .before .args .t1 .actions) (c .before .before .args .t1 .states) (c .before .before .args .t1 .observations)
-few-here c = limits-few (modelOf (c .before .before .args .t1)) (limits c)
+few-here : (c : tie.Else1) → let m = c .before .before .before .before .args .c in Few (m .actions) (m .states) (m .observations)
+few-here c = let a = c .before .before .before .before .args in limits-few (modelIn (a .c) (a .transition .now) (a .observation .now) (a .reward .now)) (limits c)
 
-long : (c : tie.Start) → Long (c .args .t1)
-long c = record { transition = search (needs, c .good .0); observation = search (needs, c .good .0); reward = search (needs, c .good .0) }
+stored : (c : tie.Else1) → let a = c .before .before .before .before .args in Stored (a .c) (a .transition .now) (a .observation .now) (a .reward .now)
+stored c =
+    let a = c .before .before .before .before .args in
+    c .before .before .before .before .pre (limits-counts (modelIn (a .c) (a .transition .now) (a .observation .now) (a .reward .now)) (limits c))
 
 returns : tie.Need-returns
 unfolding modelVerdict
 returns c = rw (sym (c .before .limits-hold .ensures) ∙ not-true _ (c .if1 .taken))
 
 rows-total-requires : tie.Need-rows-total-requires
-rows-total-requires c κs = let f = few-here (c .before .before .before) in ((f .actions, (f .states, f .states)), omega (arith, sizes f, long (c .before .before .before .before .before)))
+rows-total-requires c κs = let f = few-here c in ((f .actions, (f .states, f .states)), stored c .transitions)
 
 returns-2 : tie.Need-returns-2
 unfolding modelVerdict
-returns-2 c =
-    rw (limits (c .before .before .before .before .before .before), sym (c .before .before .rows-total .ensures) ∙ c .enum-told2 .given .1, c .enum-told2 .given .1)
+returns-2 c = rw (limits (c .before .before .before), sym (c .before .before .rows-total .ensures) ∙ c .enum-told2 .given .1, c .enum-told2 .given .1)
 
 rows-total-requires-2 : tie.Need-rows-total-requires-2
-rows-total-requires-2 c κs = let f = few-here (c .before .before .before .before .before .before .before .before .before) in ((f .actions, (f .states, omega (arith, f .observations))), omega (arith, sizes f, long (c .before .before .before .before .before .before .before .before .before .before .before)))
+rows-total-requires-2 c κs = let f = few-here (c .before .before .before) in ((f .actions, (f .states, omega (arith, f .observations))), stored (c .before .before .before) .observed)
 
 returns-3 : tie.Need-returns-3
 unfolding modelVerdict
-returns-3 c = rw (limits (c .before .before .before .before .before .before .before .before .before .before), sym (c .before .before .before .before .before .before .rows-total .ensures) ∙ c .before .before .before .before .enum-told .given .1) (c .rows-total2 .ensures)
+returns-3 c = rw (limits (c .before .before .before .before), sym (c .before .before .before .rows-total .ensures) ∙ c .before .enum-told .given .1) (c .rows-total2 .ensures)
 
 pub judge-tables-spec : {M : Type 1} → statement M
 judge-tables-spec =
-    tie.close (tie.spec (λ c κs. search needs) returns rows-total-requires (λ c. search needs) (λ c. search needs) returns-2 rows-total-requires-2
+    tie.close (tie.spec (λ c κs. c .before .before .pre) returns rows-total-requires (λ c. search needs) (λ c. search needs) returns-2 rows-total-requires-2
     returns-3)

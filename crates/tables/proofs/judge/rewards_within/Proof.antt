@@ -1,5 +1,5 @@
 use Rattle.tables.proofs.Prelude.{_≤_, _-_, _≡_, sym, ap, _∙_, arith, true, leb, not-true, not-false, every, every-none, every-more, every-not}
-use Rattle.tables.proofs.Prelude.{back, rewardIn}
+use Rattle.tables.proofs.Prelude.{back, rewardIn, rows-stored}
 use lib.IntN.{ℤ, natAbs}
 use Rattle.tables.proofs.judge.rewards_within.Statement.{statement}
 use Rattle.tables.proofs.judge.rewards_within.Tie as tie
@@ -26,7 +26,9 @@ loop2-holds : tie.Need-loop2-holds Inv-loop2 μ-loop2 Inv-loop μ-loop
 loop2-holds c = (omega arith, every-none _)
 
 reward-at-requires : tie.Need-reward-at-requires Inv-loop2 μ-loop2 Inv-loop μ-loop
-reward-at-requires c κs = ((omega arith, omega arith), omega arith)
+reward-at-requires c κs =
+    let a = c .before .before .before .before in
+    ((omega arith, omega arith), (omega arith, rows-stored (a .args .n) (c .before .before .before .loop .a) (a .args .m) (omega arith) (a .pre .1)))
 
 returns : tie.Need-returns Inv-loop2 μ-loop2 Inv-loop μ-loop
 returns c = sym (every-not _ _ (c .before .before .before .before .before .before .loop .a) (omega arith) (every-not _ _ (c .before .before .before .before .loop2 .s) (omega arith) (sym (said (c .before)) ∙ not-true _ (c .if1 .taken))))

@@ -34,12 +34,16 @@ row-here c =
     rw (c .row .ensures .0) (omega (arith, row-below _ _ (c .before .before .before .before .before .before .args .w) r, c .before .before .before .before .before .before .pre .1))
 
 -- the total, by the row's own number
-said :
-    (c : tie.After-row-total Inv-loop μ-loop Inv-rows μ-rows) →
-    c .row-total .result ≡ totalTo (c .before .before .before .before .before .before .before .args .w) (λ x. getD (c .before .before .before .before .before .before .before .args .cells .now) ((c .before .before .before .before .before .rows .a * c .before .before .before .before .before .before .before .args .n + c .before .before .before .loop .s) * c .before .before .before .before .before .before .before .args .w + x) 0)
+at-is : (c : tie.After-start Inv-loop μ-loop Inv-rows μ-rows)
+    → let a = c .before .before .before .before .before .before .before .args in c .start .result ≡ (c .before .before .before .before .before .rows .a * a .n + c .before .before .before .loop .s) * a .w
+at-is c = c .start .ensures ∙ ap (λ (r : ℕ). r * c .before .before .before .before .before .before .before .args .w) (c .before .row .ensures .0)
+
+said : (c : tie.After-row-total Inv-loop μ-loop Inv-rows μ-rows)
+    → let a = c .before .before .before .before .before .before .before .before .args in
+    c .row-total .result ≡ totalTo (a .w) (λ x. getD (a .cells .now) ((c .before .before .before .before .before .before .rows .a * a .n + c .before .before .before .before .loop .s) * a .w + x) 0)
 said c =
-    c .row-total .ensures
-    ∙ ap (λ (r : ℕ). totalTo (c .before .before .before .before .before .before .before .args .w) (λ x. getD (c .before .before .before .before .before .before .before .args .cells .now) (r * c .before .before .before .before .before .before .before .args .w + x) 0)) (c .before .row .ensures .0)
+    let a = c .before .before .before .before .before .before .before .before .args in
+    c .row-total .ensures ∙ ap (λ (z : ℕ). totalTo (a .w) (λ x. getD (a .cells .now) (z + x) 0)) (at-is (c .before))
 
 rows-holds : tie.Need-rows-holds Inv-loop μ-loop Inv-rows μ-rows
 rows-holds c = (omega arith, (refl, first-none _))
@@ -47,14 +51,11 @@ rows-holds c = (omega arith, (refl, first-none _))
 loop-holds : tie.Need-loop-holds Inv-loop μ-loop Inv-rows μ-rows
 loop-holds c = (omega arith, (c .before .rows .inv .1 .0, first-none _))
 
-mul-row-total : tie.Need-mul-row-total Inv-loop μ-loop Inv-rows μ-rows
-mul-row-total c = omega (arith, row-here c)
-
 row-total-requires : tie.Need-row-total-requires Inv-loop μ-loop Inv-rows μ-rows
-row-total-requires c κs = omega (arith, row-here c)
+row-total-requires c κs = rw (c .start .ensures) (omega (arith, row-here (c .before)))
 
 loop-again : tie.Need-loop-again Inv-loop μ-loop Inv-rows μ-rows
-loop-again c = (omega arith, (c .before .before .before .before .loop .inv .1 .0, first-more _ _ (c .before .before .before .before .loop .inv .1 .1) (ap (λ (b : Bool). unless b (c .before .before .before .before .before .before .before .before .args .number) (c .before .before .before .before .before .before .rows .a * c .before .before .before .before .before .before .before .before .args .n + c .before .before .before .before .loop .s)) (eq-eqb _ 1000 (sym (said (c .before)) ∙ c .if1 .left)))))
+loop-again c = (omega arith, (c .before .before .before .before .before .loop .inv .1 .0, first-more _ _ (c .before .before .before .before .before .loop .inv .1 .1) (ap (λ (b : Bool). unless b (c .before .before .before .before .before .before .before .before .before .args .number) (c .before .before .before .before .before .before .before .rows .a * c .before .before .before .before .before .before .before .before .before .args .n + c .before .before .before .before .before .loop .s)) (eq-eqb _ 1000 (sym (said (c .before)) ∙ c .if1 .left)))))
 
 rows-again : tie.Need-rows-again Inv-loop μ-loop Inv-rows μ-rows
 rows-again c = let e : c .before .loop .s ≡ c .before .before .before .before .before .args .n = omega arith in (omega arith, (c .before .loop .inv .1 .0, first-more _ _ (c .before .before .before .rows .inv .1 .1) (rw e at (c .before .loop .inv .1 .1))))
@@ -68,13 +69,13 @@ returns c =
 returns-2 : tie.Need-returns-2 Inv-loop μ-loop Inv-rows μ-rows
 unfolding rowsTotal
 returns-2 c =
-    ap (Refused (c .before .before .before .before .before .before .before .before .args .number)) (c .before .before .row .ensures .0)
+    ap (Refused (c .before .before .before .before .before .before .before .before .before .args .number)) (c .before .before .before .row .ensures .0)
     ∙ sym
-    (first-here _ _ (c .before .before .before .before .before .before .rows .a) (omega arith) (c .before .before .before .before .before .before .rows .inv .1 .1)
-    (first-here _ _ (c .before .before .before .before .loop .s) (omega arith) (c .before .before .before .before .loop .inv .1 .1)
-    (ap (λ (b : Bool). unless b (c .before .before .before .before .before .before .before .before .args .number) (c .before .before .before .before .before .before .rows .a * c .before .before .before .before .before .before .before .before .args .n + c .before .before .before .before .loop .s)) (ne-eqb _ 1000 (λ e. c .if1 .taken (said (c .before) ∙ e))))))
+    (first-here _ _ (c .before .before .before .before .before .before .before .rows .a) (omega arith) (c .before .before .before .before .before .before .before .rows .inv .1 .1)
+    (first-here _ _ (c .before .before .before .before .before .loop .s) (omega arith) (c .before .before .before .before .before .loop .inv .1 .1)
+    (ap (λ (b : Bool). unless b (c .before .before .before .before .before .before .before .before .before .args .number) (c .before .before .before .before .before .before .before .rows .a * c .before .before .before .before .before .before .before .before .before .args .n + c .before .before .before .before .before .loop .s)) (ne-eqb _ 1000 (λ e. c .if1 .taken (said (c .before) ∙ e))))))
 
 pub rows-total-spec : {M : Type 1} → statement M
 rows-total-spec =
-    tie.close (tie.spec Inv-loop μ-loop Inv-rows μ-rows rows-holds loop-holds (λ c κs. omega arith) mul-row-total row-total-requires
-    (λ c. omega arith) (λ c. omega arith) loop-again (λ c. omega arith) (λ c. omega arith) rows-again returns returns-2)
+    tie.close (tie.spec Inv-loop μ-loop Inv-rows μ-rows rows-holds loop-holds (λ c κs. omega arith) (λ c κs. omega arith) row-total-requires (λ c. omega arith)
+    (λ c. omega arith) loop-again (λ c. omega arith) (λ c. omega arith) rows-again returns returns-2)

@@ -1,4 +1,4 @@
-use Rattle.tables.proofs.Prelude.{_+_, _*_, _<_, refl, arith, cell-below, maxStates}
+use Rattle.tables.proofs.Prelude.{_+_, _*_, _<_, arith, needs, cell-below, maxStates}
 use Rattle.tables.specs.Limits.{maxActions}
 use Rattle.tables.proofs.read.cell.Statement.{statement}
 use Rattle.tables.proofs.read.cell.Tie as tie
@@ -6,15 +6,12 @@ use Rattle.tables.proofs.read.cell.Tie as tie
 in-table : (c : tie.Start) → c .args .row * c .args .w + c .args .x < maxActions * maxStates * c .args .w
 in-table c = cell-below (c .args .row) (maxActions * maxStates) (c .args .x) (c .args .w) (c .pre .0) (c .pre .1 .1)
 
-mul-result : tie.Need-mul-result
-mul-result c = omega (arith, in-table c)
-
 add-result : tie.Need-add-result
-add-result c = omega (arith, in-table c)
+add-result c = omega (arith, c .start .ensures, in-table (c .before), c .before .pre)
 
 returns : tie.Need-returns
-returns c = (refl, in-table c)
+returns c = (rw (c .start .ensures), rw (c .start .ensures) (in-table (c .before)))
 
 pub cell-spec : {M : Type 1} → statement M
 cell-spec =
-    tie.close (tie.spec mul-result add-result returns)
+    tie.close (tie.spec (λ c κs. search needs) add-result returns)

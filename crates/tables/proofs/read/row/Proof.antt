@@ -1,22 +1,19 @@
-use Rattle.tables.proofs.Prelude.{_+_, _*_, _<_, refl, arith, cell-below}
+use Rattle.tables.proofs.Prelude.{_+_, _*_, _<_, arith, cell-below}
 use native.Mathlib.Nat.{mul-le-mul-left}
 use Rattle.tables.proofs.read.row.Statement.{statement}
 use Rattle.tables.proofs.read.row.Tie as tie
 
-in-block : (c : tie.Start) → c .args .b * c .args .n + c .args .s < (c .args .b + 1) * 16
+in-block : (c : tie.Start) → c .args .r * c .args .w + c .args .x < (c .args .r + 1) * 16
 in-block c =
-    let h : c .args .b < c .args .b + 1 = omega arith in
-    omega (arith, cell-below (c .args .b) (c .args .b + 1) (c .args .s) (c .args .n) h (c .pre .1 .1), mul-le-mul-left (c .args .b + 1) (c .pre .1 .0))
-
-mul-result : tie.Need-mul-result
-mul-result c = omega (arith, in-block c)
+    let h : c .args .r < c .args .r + 1 = omega arith in
+    omega (arith, cell-below (c .args .r) (c .args .r + 1) (c .args .x) (c .args .w) h (c .pre .1 .1), mul-le-mul-left (c .args .r + 1) (c .pre .1 .0))
 
 add-result : tie.Need-add-result
-add-result c = omega (arith, in-block c)
+add-result c = omega (arith, c .start .ensures, in-block (c .before))
 
 returns : tie.Need-returns
-returns c = (refl, in-block c)
+returns c = (rw (c .start .ensures), rw (c .start .ensures) (in-block (c .before)))
 
 pub row-spec : {M : Type 1} → statement M
 row-spec =
-    tie.close (tie.spec mul-result add-result returns)
+    tie.close (tie.spec (λ c κs. omega arith) add-result returns)

@@ -1,7 +1,7 @@
 use Rattle.tables.proofs.Prelude.{_≤_, _-_, _≡_, refl, sym, arith, needs, lit<, w64, toZ, _·_, sumTo, sum-none, maxWeight, weightIn, rewardIn}
 use Rattle.tables.proofs.Prelude.{Terms, term-fits, term-added, answer}
 use Rattle.tables.specs.Limits.{maxReward}
-use Rattle.tables.specs.Storage.{expectedIn}
+use Rattle.tables.specs.Steps.{expectedIn}
 use Rattle.tables.proofs.sums.expected_reward.Statement.{statement}
 use Rattle.tables.proofs.sums.expected_reward.Tie as tie
 
@@ -20,21 +20,21 @@ loop-holds c = (search needs, sym (sum-none _))
 
 add-scaled-requires : tie.Need-add-scaled-requires Inv-loop μ-loop
 add-scaled-requires c κs =
-    term-fits (terms (c .before .before .before .before)) _ (c .before .before .before .loop .inv .1) refl (answer (c .before .reward-at .ok) (c .before .reward-at .ensures)) (omega arith) (lit< tt) (omega arith)
+    term-fits (terms (c .before .before .before .before .before)) _ (c .before .before .before .loop .inv .1) refl (answer (c .before .reward-at .ok) (c .before .reward-at .ensures)) (omega arith) (lit< tt) (omega arith)
 
 loop-again : tie.Need-loop-again Inv-loop μ-loop
 loop-again c = (
   search needs,
-  term-added (terms (c .before .before .before .before .before)) _ (c .before .before .before .before .loop .inv .1) refl (answer (c .before .before .reward-at .ok) (c .before .before .reward-at .ensures)) (answer (c .add-scaled .ok) (c .add-scaled .ensures)),
+  term-added (terms (c .before .before .before .before .before .before)) _ (c .before .before .before .before .loop .inv .1) refl (answer (c .before .before .reward-at .ok) (c .before .before .reward-at .ensures)) (answer (c .add-scaled .ok) (c .add-scaled .ensures)),
 )
 
 returns : tie.Need-returns Inv-loop μ-loop
 unfolding expectedIn
 returns c =
-    let e : c .before .loop .s ≡ c .before .before .args .n = omega arith in
+    let e : c .before .loop .s ≡ c .before .before .before .args .n = omega arith in
     rw e at (c .before .loop .inv .1)
 
 pub expected-reward-spec : {M : Type 1} → statement M
 expected-reward-spec =
-    tie.close (tie.spec Inv-loop μ-loop loop-holds (λ c κs. search needs) (λ c. search needs) (λ c. search needs) add-scaled-requires
-    (λ c. search needs) (λ c. search needs) loop-again returns)
+    tie.close (tie.spec Inv-loop μ-loop loop-holds (λ c κs. search needs) (λ c. search needs) (λ c. search needs) add-scaled-requires (λ c. search needs)
+    (λ c. search needs) loop-again returns)

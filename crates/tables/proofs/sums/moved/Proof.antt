@@ -16,7 +16,7 @@ loop-again c = (search needs, padded-turn _ _ _ _ (c .before .before .loop .inv 
 
 returns : tie.Need-returns Inv-loop μ-loop
 returns c =
-    let e : c .before .loop .to ≡ c .before .before .args .n = omega arith in
+    let e : c .before .loop .to ≡ c .before .before .before .before .args .n = omega arith in
     rw e at (c .before .loop .inv .1)
 
 pub moved-spec : {M : Type 1} → statement M

@@ -14,7 +14,7 @@ loop-holds c = (search needs, sym (total-none _))
 
 add-moved-requires : tie.Need-add-moved-requires Inv-loop μ-loop
 add-moved-requires c κs =
-    let a = c .before .before .before .before in
+    let a = c .before .before .before .before .before .before in
     let s = c .before .before .before .loop .s in (
       rw (c .before .before .before .loop .inv .1) (moved-part (a .pre .1 .1) (a .pre .1 .0) (a .pre .0 .1 .1) (a .pre .0 .0) s (omega arith)),
       (
@@ -32,10 +32,10 @@ loop-again c = (
 returns : tie.Need-returns Inv-loop μ-loop
 unfolding movedIn
 returns c =
-    let e : c .before .loop .s ≡ c .before .before .args .n = omega arith in
+    let e : c .before .loop .s ≡ c .before .before .before .before .args .n = omega arith in
     rw e at (c .before .loop .inv .1)
 
 pub moved-to-spec : {M : Type 1} → statement M
 moved-to-spec =
-    tie.close (tie.spec Inv-loop μ-loop loop-holds (λ c κs. search needs) (λ c. search needs) (λ c. search needs) add-moved-requires
-    (λ c. search needs) (λ c. search needs) loop-again returns)
+    tie.close (tie.spec Inv-loop μ-loop loop-holds (λ c κs. search needs) (λ c. search needs) (λ c. search needs) add-moved-requires (λ c. search needs)
+    (λ c. search needs) loop-again returns)

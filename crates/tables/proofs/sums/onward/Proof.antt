@@ -1,6 +1,6 @@
 use Rattle.tables.proofs.Prelude.{_≤_, _-_, _≡_, sym, arith, needs, lit<, getD, pos, w64, toZ, _·_, sumTo, sum-none, back, answer, one}
 use Rattle.tables.proofs.Prelude.{transitionIn, onwardIn, Terms, term-fits, term-added}
-use Rattle.tables.specs.Storage.{foreseenLimit}
+use Rattle.tables.specs.Steps.{foreseenLimit}
 use Rattle.tables.proofs.Regroup.{onward-terms}
 use Rattle.tables.proofs.sums.onward.Statement.{statement}
 use Rattle.tables.proofs.sums.onward.Tie as tie
@@ -21,23 +21,23 @@ loop-holds c = (search needs, sym (sum-none _))
 
 add-scaled-requires : tie.Need-add-scaled-requires Inv-loop μ-loop
 add-scaled-requires c κs =
-    term-fits (terms (c .before .before .before .before)) _ (c .before .before .before .loop .inv .1)
+    term-fits (terms (c .before .before .before .before .before)) _ (c .before .before .before .loop .inv .1)
     (c .before .transition-at .ensures) (back _ (c .add-scaled-arg .given)) (omega arith) (lit< tt) (omega arith)
 
 loop-again : tie.Need-loop-again Inv-loop μ-loop
 loop-again c = (
   search needs,
-  term-added (terms (c .before .before .before .before .before)) _ (c .before .before .before .before .loop .inv .1)
+  term-added (terms (c .before .before .before .before .before .before)) _ (c .before .before .before .before .loop .inv .1)
       (c .before .before .transition-at .ensures) (back _ (c .before .add-scaled-arg .given)) (answer (c .add-scaled .ok) (c .add-scaled .ensures)),
 )
 
 returns : tie.Need-returns Inv-loop μ-loop
 unfolding onwardIn
 returns c =
-    let e : c .before .loop .to ≡ c .before .before .args .n = omega arith in
+    let e : c .before .loop .to ≡ c .before .before .before .args .n = omega arith in
     rw e at (c .before .loop .inv .1)
 
 pub onward-spec : {M : Type 1} → statement M
 onward-spec =
-    tie.close (tie.spec Inv-loop μ-loop loop-holds (λ c κs. search needs) (λ c. search needs) (λ c. search needs) add-scaled-requires
-    (λ c. search needs) (λ c. search needs) loop-again returns)
+    tie.close (tie.spec Inv-loop μ-loop loop-holds (λ c κs. search needs) (λ c. search needs) (λ c. search needs) add-scaled-requires (λ c. search needs)
+    (λ c. search needs) loop-again returns)

@@ -1,5 +1,5 @@
 use Rattle.tables.proofs.Prelude.{_≤_, _-_, _≡_, sym, _∙_, arith, needs, padded, padded-none, padded-turn, maxStates}
-use Rattle.tables.specs.Storage.{seenIn}
+use Rattle.tables.specs.Steps.{seenIn}
 use Rattle.tables.proofs.sums.successors.Statement.{statement}
 use Rattle.tables.proofs.sums.successors.Tie as tie
 
@@ -14,7 +14,7 @@ loop-holds c = (search needs, sym (padded-none _ _ _))
 
 share-requires : tie.Need-share-requires Inv-loop μ-loop
 share-requires c κs =
-    let a = c .before .before .before .before in
+    let a = c .before .before .before .before .before .before in
     let to = c .before .before .before .loop .to in (
       a .pre .1 .0 .below to (omega arith),
       rw (c .observation-at .ensures) (a .pre .1 .1 .observation to (omega arith) (a .args .o .0) (a .pre .0 .1 .1 .1)),
@@ -28,7 +28,7 @@ loop-again c = (
 
 returns : tie.Need-returns Inv-loop μ-loop
 returns c =
-    let e : c .before .loop .to ≡ c .before .before .args .n = omega arith in
+    let e : c .before .loop .to ≡ c .before .before .before .before .args .n = omega arith in
     rw e at (c .before .loop .inv .1)
 
 pub successors-spec : {M : Type 1} → statement M

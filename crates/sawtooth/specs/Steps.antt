@@ -1,7 +1,7 @@
 -- The ceiling over storage: gains once for a level, then drops and ceilings at any weights.
 use Prim.Native.Nat.{ℕ, _+_, _*_, _≤_, _<_}
 use mathlib.Core.List.{List}
-use lib.ListN.{getD}
+use lib.ListN.{length, getD}
 use lib.IntN.{ℤ, pos, negsuc, natAbs, _-ℤ_}
 use Rattle.integers.specs.Whole.{largestTo}
 use Rattle.tables.specs.Limits.{maxStates, maxEntry}
@@ -27,16 +27,19 @@ dropIn n weights gains q i = orNone (smallest n (pointIn n weights i) (weightIn 
 unfoldable pub ceilingIn : ℕ → List ℤ → List ℕ → List ℕ → ℕ → List ℕ → ℤ
 ceilingIn n corners weights gains points q = product n (weightIn q) (cornerIn corners) -ℤ pos (largestTo points (dropIn n weights gains q))
 
--- ---- what is within the limits, so that nothing overflows
+-- ---- what is stored within the limits, so that nothing overflows
 
 pub record CornersFit (n : ℕ) (corners : List ℤ) : Type 0 where
+  pub long : n ≤ length corners
   pub corner : (s : ℕ) → s < n → natAbs (cornerIn corners s) ≤ maxEntry
 
 pub record PointsFit (n points : ℕ) (weights : List ℕ) : Type 0 where
   pub few : points ≤ maxPoints
+  pub stored : points * n ≤ length weights
   pub weight : (i : ℕ) → i < points → (s : ℕ) → s < n → pointIn n weights i s ≤ pointTotal
 
 pub record ValuesFit (points : ℕ) (values : List ℤ) : Type 0 where
+  pub long : points ≤ length values
   pub value : (i : ℕ) → i < points → natAbs (getD values i (pos 0)) ≤ pointTotal * maxEntry
 
 -- the largest gain

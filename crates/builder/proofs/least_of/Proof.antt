@@ -1,0 +1,51 @@
+use Rattle.builder.proofs.Prelude.{_-_, _≤_, ⊎-elim, _≡_, sym, ap, arith, needs, w64, toZ, K}
+use mathlib.Core.Path.{_∙_}
+use lib.Dec.{lit<}
+use lib.IntN.{ℤ}
+use mir.Val.{ofZ}
+use Rattle.integers.specs.Whole.{ceilDiv}
+use Rattle.integers.specs.Search.{firstLargest}
+use Rattle.integers.proofs.Searches.{largest-first}
+use Rattle.integers.proofs.Words.{answer, back}
+use Rattle.builder.specs.Steps.{leastFrom}
+use Rattle.builder.proofs.Levels.{more-here, no-more-here}
+use Rattle.builder.proofs.least_of.Statement.{statement}
+use Rattle.builder.proofs.least_of.Tie as tie
+
+abbrev Inv-loop : tie.InvT-loop
+Inv-loop backups actions most₀ a₀ most a = ((1 ≤ a) × (a ≤ actions)) × (toZ w64 most ≡ leastFrom backups (firstLargest a (leastFrom backups)))
+
+abbrev μ-loop : tie.MeasureT-loop
+μ-loop backups actions most₀ a₀ most a = actions - a
+
+-- the least value of the first action
+most-first : (c : tie.After-ceil-div Inv-loop μ-loop) → toZ w64 (ofZ w64 (c .ceil-div .result)) ≡ leastFrom (c .before .before .args .backups .now) 0
+unfolding K
+most-first c = answer (c .ceil-div .ok) (c .ceil-div .ensures ∙ ap (λ (z : ℤ). ceilDiv z K) (back _ (c .before .ceil-div-arg .given)))
+
+loop-holds : tie.Need-loop-holds Inv-loop μ-loop
+loop-holds c = ((omega arith, omega arith), most-first c ∙ ap (leastFrom (c .before .before .args .backups .now)) (sym (largest-first _)))
+
+-- the least value of the turn's action
+here : (c : tie.After-ceil-div2 Inv-loop μ-loop) → toZ w64 (ofZ w64 (c .ceil-div2 .result)) ≡ leastFrom (c .before .before .before .before .before .before .args .backups .now) (c .before .before .before .loop .a)
+unfolding K
+here c = answer (c .ceil-div2 .ok) (c .ceil-div2 .ensures ∙ ap (λ (z : ℤ). ceilDiv z K) (back _ (c .before .ceil-div-arg2 .given)))
+
+loop-again : tie.Need-loop-again Inv-loop μ-loop
+loop-again c =
+    let l = c .before .before .before .before .loop in
+    let f = leastFrom (c .before .before .before .before .before .before .before .args .backups .now) in (
+      (omega arith, omega (arith, c .before .before .before .loop-test .taken)),
+      ⊎-elim
+          (λ w. ap (toZ w64) (w .1) ∙ more-here f (l .a) (l .inv .1) (here (c .before)) (w .0 .taken))
+          (λ w. ap (toZ w64) (w .1) ∙ no-more-here f (l .a) (l .inv .1) (here (c .before)) (w .0 .left))
+          (c .if1 .came),
+    )
+
+returns : tie.Need-returns Inv-loop μ-loop
+returns c = let e : c .before .loop .a ≡ c .before .before .before .before .args .actions = omega arith in rw e at (c .before .loop .inv .1)
+
+pub least-of-spec : {M : Type 1} → statement M
+least-of-spec =
+    tie.close (tie.spec Inv-loop μ-loop (λ c. search needs) (λ c κs. (lit< tt, lit< tt)) loop-holds (λ c. search needs) (λ c. search needs)
+    (λ c κs. (lit< tt, lit< tt)) (λ c. search needs) (λ c. search needs) loop-again returns)
