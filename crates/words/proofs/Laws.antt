@@ -12,7 +12,8 @@ use lib.Seq.{drop-cons, drop-length}
 use Rattle.words.specs.declared.Class.{Class}
 use Rattle.words.specs.declared.Class.the-variants.{Space, Colon, Hash, Digit, Point, Minus, Star, Rest}
 use Rattle.words.specs.Class.{classOf}
-use Rattle.words.specs.Words.{Role, parts, alone, opens, belongs, roleOf, Words, word, end, run, whereBelongs, Mode, between, inside, comment, step, wordsOf, wordsIn, Run}
+use Rattle.words.specs.Words.{Role, parts, alone, opens, belongs, roleOf, Words, word, end, run, whereBelongs, Mode, between, inside, comment, step, wordsOf, wordsIn}
+use Rattle.words.specs.Steps.{Run}
 
 -- ---- the class of a byte, by its tests
 test : (P : Class → Type 0) (t : Bool) (x y : Class) → (t ≡ true → P x) → P y → P (cond t x y)
