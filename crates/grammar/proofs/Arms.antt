@@ -15,10 +15,9 @@ use Rattle.numerals.specs.declared.Amount.the-variants.{Is, Not}
 use Rattle.numerals.proofs.Amount as amount-type
 use Rattle.grammar.specs.declared.Read.{Read}
 use Rattle.grammar.specs.declared.Read.the-variants.{Value, Refused}
-use Rattle.grammar.specs.Grammar.{Answer, _then_, choose}
-use Rattle.grammar.specs.Steps.{answerOf, Onward, Tells, Reads}
+use Rattle.grammar.specs.Grammar.{Answer, _then_}
+use Rattle.grammar.specs.Steps.{answerOf, Onward, Tells}
 use Rattle.grammar.proofs.Read as read-type
-use Rattle.grammar.proofs.Laws.{other-is}
 
 pub no-word : (s : List ℕ) (at : ℕ) (w : Word) → tagOf word-type.the-type w ≡ 1 → Worded s at w → wordsIn between s at ≡ end (length s)
 no-word s at (At a b) e h = absurd (omega arith)
@@ -41,8 +40,3 @@ back-is {A} f g s (Refused n p) k e h = ap (λ (a : Answer A). a then k) h
 pub reads-back : {A B : Type 0} {f : ℕ → A} {s : List ℕ} {at l : ℕ} {r : Read} {a : Answer A} (g : ℕ → B) (most : ℕ) (k : A → Words → Answer B)
     → Tells f s at l r a → tagOf read-type.the-type r ≡ 1 → Tells g s at most r (a then k)
 reads-back {f = f} {s} {at} {r = r} g most k h e = record { is = back-is f g s r k e (h .is); onward = back-onward s at most r e }
-
--- or it leaves the other choice
-pub choose-back : {B : Type 0} {g : ℕ → B} {s : List ℕ} {at l most : ℕ} {r r' : Read} {a : Answer ℕ} {o : Answer B} (k : Words → Answer B)
-    → Reads s at l r a → tagOf read-type.the-type r ≡ 1 → Tells g s at most r' o → Tells g s at most r' (choose a k o)
-choose-back {s = s} {r = r} {o = o} k h e t = record { is = t .is ∙ other-is s r k o e (h .is); onward = t .onward }

@@ -5,7 +5,7 @@ use mathlib.Core.List.{List}
 use Rattle.words.specs.Words.{Words, word, end}
 use Rattle.numerals.specs.declared.Form.{Form}
 use Rattle.numerals.specs.Numeral.{amountOf, unsigned}
-use Rattle.grammar.specs.Grammar.{Answer, got, refused, _then_, choose, Finding, fits, unfit, outside, answered, oneWord, limited, number, magnitude, named, field}
+use Rattle.grammar.specs.Grammar.{Answer, got, refused, _then_, Finding, fits, unfit, outside, answered, oneWord, limited, number, magnitude, named, field}
 use Rattle.grammar.proofs.Laws.{OfValue, limited-within, limited-below}
 
 abbrev pub Gives : {A : Type 0} → (A → Type 0) → Answer A → Type 0
@@ -21,10 +21,6 @@ gives-then P Q (refused n p) k g h = tt
 pub gives-after : {A B : Type 0} (Q : B → Type 0) (a : Answer A) (k : A → Words → Answer B) → ((x : A) (ws : Words) → Gives Q (k x ws)) → Gives Q (a then k)
 gives-after Q (got x ws) k h = h x ws
 gives-after Q (refused n p) k h = tt
-
-pub gives-choose : {B : Type 0} (Q : B → Type 0) (a : Answer ℕ) (k : Words → Answer B) (o : Answer B) → ((ws : Words) → Gives Q (k ws)) → Gives Q o → Gives Q (choose a k o)
-gives-choose Q (got v ws) k o h g = h ws
-gives-choose Q (refused n p) k o h g = g
 
 -- of a value that was given
 pub given-value : {A : Type 0} (P : A → Type 0) {x : A} {ws : Words} {a : Answer A} → Gives P a → got x ws ≡ a → P x

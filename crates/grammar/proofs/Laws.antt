@@ -158,10 +158,6 @@ pub onward-earlier : (s : List ℕ) (at next most : ℕ) (r : Read) → at ≤ n
 onward-earlier s at next most (Value v n) h (a, (b, c)) = (a, (omega arith, c))
 onward-earlier s at next most (Refused n p) h e = tt
 
-pub onward-most : (s : List ℕ) (at less most : ℕ) (r : Read) → less ≤ most → Onward s at less r → Onward s at most r
-onward-most s at less most (Value v n) h (a, b) = (omega arith, b)
-onward-most s at less most (Refused n p) h e = tt
-
 module _ {A : Type 0} {f : ℕ → A} {s : List ℕ} {at l : ℕ} {r : Read} {a : Answer A} where
   -- what was read, and where reading goes on
   pub value-is : (v next : ℕ) → Tells f s at l r a → r ≡ Value v next → got (f v) (wordsIn between s next) ≡ a
@@ -169,10 +165,6 @@ module _ {A : Type 0} {f : ℕ → A} {s : List ℕ} {at l : ℕ} {r : Read} {a 
 
   pub value-next : (v next : ℕ) → Tells f s at l r a → r ≡ Value v next → (v ≤ l) × ((at < next) × (next ≤ length s))
   value-next v next h e = subst (Onward s at l) e (h .onward)
-
-  -- the same reading from an earlier offset
-  pub earlier : {b : Answer A} (from : ℕ) → Tells f s at l r a → from ≤ at → a ≡ b → Tells f s from l r b
-  earlier from h k e = record { is = h .is ∙ e; onward = onward-earlier s from at l r k (h .onward) }
 
   module _ {B : Type 0} {g : ℕ → B} {most : ℕ} where
     -- a part, and what follows it
@@ -183,23 +175,7 @@ module _ {A : Type 0} {f : ℕ → A} {s : List ℕ} {at l : ℕ} {r : Read} {a 
       onward = onward-earlier s at next most r' (omega (arith, value-next v next h e)) (t .onward);
     }
 
-    -- a part, of which the last value is made
-    pub reads-done : (h : A → B) (v next w : ℕ) → Tells f s at l r a → r ≡ Value v next → w ≤ most → g w ≡ h (f v)
-        → Tells g s at most (Value w next) (a then λ x ws. got (h x) ws)
-    reads-done h v next w t e k q = record {
-      is = ap (λ (x : B). got x (wordsIn between s next)) q ∙ ap (λ (a : Answer A). a then λ x ws. got (h x) ws) (value-is v next t e);
-      onward = (k, value-next v next t e .1);
-    }
-
--- a part that only chooses what follows
-pub choose-on : {B : Type 0} {g : ℕ → B} {s : List ℕ} {at l most : ℕ} {r r' : Read} {a : Answer ℕ} (v next : ℕ) (k : Words → Answer B) (o : Answer B)
-    → Reads s at l r a → r ≡ Value v next → Tells g s next most r' (k (wordsIn between s next)) → Tells g s at most r' (choose a k o)
-choose-on {s = s} {at} {most = most} {r' = r'} v next k o h e t = record {
-  is = t .is ∙ ap (λ (a : Answer ℕ). choose a k o) (value-is v next h e);
-  onward = onward-earlier s at next most r' (omega (arith, value-next v next h e)) (t .onward);
-}
-
-pub other-is : {B : Type 0} (s : List ℕ) {a : Answer ℕ} (r : Read) (k : Words → Answer B) (o : Answer B) → tagOf read-type.the-type r ≡ 1
+pub other-is : {X : Type 0} (s : List ℕ) {a : Answer ℕ} (r : Read) (k : Words → X) (o : X) → tagOf read-type.the-type r ≡ 1
     → answerOf (λ v. v) s r ≡ a → o ≡ choose a k o
 other-is s (Value v next) k o e h = absurd (omega arith)
 other-is s (Refused n p) k o e h = ap (λ (a : Answer ℕ). choose a k o) h
@@ -229,17 +205,3 @@ takes-on {s} {w} {l} n o v next t e = record {
   is = ap (λ (x : Answer ℕ). choose x (λ ws. got n ws) o) (sym (ap (answerOf (λ v. v) s) e) ∙ t .is);
   follows = follows-value w l n v n next (omega arith) (subst (Follows w l) e (t .follows));
 }
-
--- what was read, made into something else
-made-is : {A B : Type 0} (f : ℕ → A) (h : A → B) (s : List ℕ) (r : Read) → answerOf (λ v. h (f v)) s r ≡ (answerOf f s r then λ x ws. got (h x) ws)
-made-is f h s (Value v next) = refl
-made-is f h s (Refused n p) = refl
-
-pub reads-made : {A B : Type 0} {f : ℕ → A} {s : List ℕ} {at most : ℕ} {r : Read} {a : Answer A} (h : A → B) → Tells f s at most r a
-    → Tells (λ v. h (f v)) s at most r (a then λ x ws. got (h x) ws)
-reads-made {A} {f = f} {s} {r = r} h t = record { is = made-is f h s r ∙ ap (λ (a : Answer A). a then λ x ws. got (h x) ws) (t .is); onward = t .onward }
-
--- three in a row
-pub then-then : {A B C : Type 0} (a : Answer A) (f : A → Words → Answer B) (g : B → Words → Answer C) → ((a then f) then g) ≡ (a then λ x ws. f x ws then g)
-then-then (got x ws) f g = refl
-then-then (refused n p) f g = refl

@@ -19,7 +19,7 @@ use Rattle.grammar.specs.declared.Read.the-variants.{Value, Refused}
 use Rattle.grammar.specs.Grammar.{Answer, got, refused, _then_, choose, magnitude, minus, signedNumber}
 use Rattle.grammar.specs.Steps.{answerOf, Onward, Tells, Reads, Follows, Takes}
 use Rattle.grammar.proofs.Read as read-type
-use Rattle.grammar.proofs.Laws.{value-is, value-next, onward, onward-earlier}
+use Rattle.grammar.proofs.Laws.{value-is, value-next, onward, onward-earlier, other-is}
 use Rattle.grammar.proofs.Arms.{no-word, back-onward}
 use Rattle.statements.specs.Statements.{Outcome, filled, stopped, upon, further, within, row, reward, Draft, oneStatement, unlessEnd, statements}
 use Rattle.statements.specs.Steps.{CellsFit, outcomeOf, Leaves, begin}
@@ -51,14 +51,10 @@ module _ {A C : Type 0} {f : ℕ → A} {s : List ℕ} {at l : ℕ} {r : Read} {
     onward = (omega arith, value-next v next t e .1);
   }
 
-other : {C : Type 0} (s : List ℕ) {a : Answer ℕ} (k : Words → Outcome C) (o : Outcome C) (r : Read) → tagOf read-type.the-type r ≡ 1 → answerOf (λ v. v) s r ≡ a → o ≡ choose a k o
-other s k o (Value v next) e h = absurd (omega arith)
-other s k o (Refused n p) e h = ap (λ (a : Answer ℕ). choose a k o) h
-
 -- a word that only chooses what follows
 module _ {C : Type 0} {s : List ℕ} {at l : ℕ} {r r' : Read} {a : Answer ℕ} {cells : C} (k : Words → Outcome C) (o : Outcome C) where
   pub chooses-back : Reads s at l r a → tagOf read-type.the-type r ≡ 1 → Leaves s at r' cells o → Leaves s at r' cells (choose a k o)
-  chooses-back t e h = record { is = h .is ∙ other s k o r e (t .is); onward = h .onward }
+  chooses-back t e h = record { is = h .is ∙ other-is s r k o e (t .is); onward = h .onward }
 
   pub chooses-on : (v next : ℕ) → Reads s at l r a → r ≡ Value v next → Leaves s next r' cells (k (wordsIn between s next)) → Leaves s at r' cells (choose a k o)
   chooses-on v next t e h = record {
