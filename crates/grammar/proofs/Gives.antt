@@ -5,14 +5,16 @@ use mathlib.Core.List.{List}
 use Rattle.words.specs.Words.{Words, word, end}
 use Rattle.numerals.specs.declared.Form.{Form}
 use Rattle.numerals.specs.Numeral.{amountOf, unsigned}
-use Rattle.grammar.specs.Grammar.{Answer, got, refused, _then_, Finding, fits, unfit, outside, answered, oneWord, limited, number, magnitude, named, field}
+use Rattle.grammar.specs.Grammar.{Answer, got, refused, _then_, Finding, fits, unfit, outside, answered, oneWord, limited, number, magnitude, named}
+use Rattle.grammar.specs.Grammar.{field}
 use Rattle.grammar.proofs.Laws.{OfValue, limited-within, limited-below}
 
 abbrev pub Gives : {A : Type 0} → (A → Type 0) → Answer A → Type 0
 Gives P (got x ws) = P x
 Gives P (refused n p) = Unit
 
-pub gives-then : {A B : Type 0} (P : A → Type 0) (Q : B → Type 0) (a : Answer A) (k : A → Words → Answer B) → Gives P a → ((x : A) (ws : Words) → P x → Gives Q (k x ws))
+pub gives-then : {A B : Type 0} (P : A → Type 0) (Q : B → Type 0) (a : Answer A) (k : A → Words → Answer B) → Gives P a
+    → ((x : A) (ws : Words) → P x → Gives Q (k x ws))
     → Gives Q (a then k)
 gives-then P Q (got x ws) k g h = h x ws g
 gives-then P Q (refused n p) k g h = tt

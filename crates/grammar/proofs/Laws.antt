@@ -147,7 +147,8 @@ same-end a b i e f =
     ap (λ (n : ℕ). same (drop n a) (drop i b)) e ∙ ap (λ (n : ℕ). same (drop (length a) a) (drop n b)) f
     ∙ ap (λ (l : List ℕ). same l (drop (length b) b)) (drop-length a) ∙ ap (λ (l : List ℕ). same [] l) (drop-length b)
 
-pub same-in : (a b : List ℕ) (i : ℕ) → i < length a → i < length b → same (drop i a) (drop i b) ≡ (eqb (getD a i 0) (getD b i 0) && same (drop (i + 1) a) (drop (i + 1) b))
+pub same-in : (a b : List ℕ) (i : ℕ) → i < length a → i < length b
+    → same (drop i a) (drop i b) ≡ (eqb (getD a i 0) (getD b i 0) && same (drop (i + 1) a) (drop (i + 1) b))
 unfolding same
 same-in a b i h k =
     rw add-one (ap (λ (l : List ℕ). same l (drop i b)) (drop-cons a i 0 h) ∙ ap (λ (l : List ℕ). same (getD a i 0 ∷ drop (suc i) a) l) (drop-cons b i 0 k))

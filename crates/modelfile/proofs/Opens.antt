@@ -27,7 +27,8 @@ use Rattle.grammar.proofs.Gives.{Gives, gives-then, gives-after, field-gives}
 use Rattle.statements.specs.Statements.{wholly, startTotal, startNumber, row, Draft, statements}
 use Rattle.statements.proofs.Small.{Small, fills-gives, statements-small}
 use Rattle.modelfile.specs.declared.ModelFile.{ModelFile}
-use Rattle.modelfile.specs.ModelFile.{maxBytes, discountName, valuesName, rewardWord, statesName, actionsName, observationsName, startName, Text, textOf, noCells, body, counted, headed, placed, sumsVerdict, refusedFile, judgedFile, ended, modelFile}
+use Rattle.modelfile.specs.ModelFile.{maxBytes, discountName, valuesName, rewardWord, statesName, actionsName, observationsName, startName, Text, textOf}
+use Rattle.modelfile.specs.ModelFile.{noCells, body, counted, headed, placed, sumsVerdict, refusedFile, judgedFile, ended, modelFile}
 
 abbrev Within : ℕ → ℕ → Type 0
 Within limit v = (1 ≤ v) × (v ≤ limit)
@@ -68,12 +69,15 @@ none-small = record {
   rewards = zero-rewards (maxActions * maxStates);
 }
 
-body-limited : (fuel d n m k : ℕ) (ws : Words) → d ≤ one → Within maxStates n → Within maxActions m → Within maxObservations k → Gives Limited (body fuel d n m k ws)
+body-limited : (fuel d n m k : ℕ) (ws : Words) → d ≤ one → Within maxStates n → Within maxActions m → Within maxObservations k
+    → Gives Limited (body fuel d n m k ws)
 unfolding body
 body-limited fuel d n m k ws hd hn hm hk =
     gives-after Limited (named startName ws)
-    (λ _ ws. wholly (row startNumber (stated 1 1 n 0 0) 0 n (replicate maxStates 0) ws) then λ start ws. wholly (statements fuel m n k noCells ws) then λ cells ws. got (textOf d n m k start cells) ws) (λ _ ws.
-    gives-after Limited (wholly (row startNumber (stated 1 1 n 0 0) 0 n (replicate maxStates 0) ws)) (λ start ws. wholly (statements fuel m n k noCells ws) then λ cells ws. got (textOf d n m k start cells) ws)
+    (λ _ ws. wholly (row startNumber (stated 1 1 n 0 0) 0 n (replicate maxStates 0) ws) then λ start ws. wholly (statements fuel m n k noCells ws) then
+    λ cells ws. got (textOf d n m k start cells) ws) (λ _ ws.
+    gives-after Limited (wholly (row startNumber (stated 1 1 n 0 0) 0 n (replicate maxStates 0) ws))
+    (λ start ws. wholly (statements fuel m n k noCells ws) then λ cells ws. got (textOf d n m k start cells) ws)
     (λ start ws. gives-then Small Limited (wholly (statements fuel m n k noCells ws)) (λ cells ws. got (textOf d n m k start cells) ws)
     (fills-gives Small (statements fuel m n k noCells ws) (statements-small fuel m n k noCells ws none-small))
     (λ cells ws small. small-limited d n m k start cells hd hn hm hk small)))
@@ -82,16 +86,20 @@ counted-limited : (fuel d : ℕ) (ws : Words) → d ≤ one → Gives Limited (c
 unfolding counted
 counted-limited fuel d ws hd =
     gives-then (Within maxStates) Limited (field statesName countForm 1 maxStates ws)
-    (λ n ws. field actionsName countForm 1 maxActions ws then λ m ws. field observationsName countForm 1 maxObservations ws then λ k ws. body fuel d n m k ws) (field-gives statesName countForm 1 maxStates ws)
-    (λ n ws hn. gives-then (Within maxActions) Limited (field actionsName countForm 1 maxActions ws) (λ m ws. field observationsName countForm 1 maxObservations ws then λ k ws. body fuel d n m k ws)
+    (λ n ws. field actionsName countForm 1 maxActions ws then λ m ws. field observationsName countForm 1 maxObservations ws then λ k ws. body fuel d n m k ws)
+    (field-gives statesName countForm 1 maxStates ws)
+    (λ n ws hn. gives-then (Within maxActions) Limited (field actionsName countForm 1 maxActions ws)
+    (λ m ws. field observationsName countForm 1 maxObservations ws then λ k ws. body fuel d n m k ws)
     (field-gives actionsName countForm 1 maxActions ws)
-    (λ m ws hm. gives-then (Within maxObservations) Limited (field observationsName countForm 1 maxObservations ws) (λ k ws. body fuel d n m k ws) (field-gives observationsName countForm 1 maxObservations ws)
+    (λ m ws hm. gives-then (Within maxObservations) Limited (field observationsName countForm 1 maxObservations ws) (λ k ws. body fuel d n m k ws)
+    (field-gives observationsName countForm 1 maxObservations ws)
     (λ k ws hk. body-limited fuel d n m k ws hd hn hm hk)))
 
 headed-limited : (fuel : ℕ) (ws : Words) → Gives Limited (headed fuel ws)
 unfolding headed
 headed-limited fuel ws =
-    gives-then (λ v. (0 ≤ v) × (v ≤ one)) Limited (field discountName probabilityForm 0 one ws) (λ d ws. named valuesName ws then λ _ ws. key rewardWord ws then λ _ ws. counted fuel d ws)
+    gives-then (λ v. (0 ≤ v) × (v ≤ one)) Limited (field discountName probabilityForm 0 one ws)
+    (λ d ws. named valuesName ws then λ _ ws. key rewardWord ws then λ _ ws. counted fuel d ws)
     (field-gives discountName probabilityForm 0 one ws)
     (λ d ws hd. gives-after Limited (named valuesName ws) (λ _ ws. key rewardWord ws then λ _ ws. counted fuel d ws)
     (λ _ ws. gives-after Limited (key rewardWord ws) (λ _ ws. counted fuel d ws) (λ _ ws. counted-limited fuel d ws (hd .1))))
@@ -130,9 +138,11 @@ ended-opens : (size : ℕ) (a : Answer Text) → Gives Limited a → ended size 
 ended-opens size (got t ws) l e = judged-opens size t (sumsVerdict size t) l refl e
 ended-opens size (refused n p) l e = never e
 
-short-opens : (file : List ℕ) (short : Bool) → cond short (ended (length file) (headed (length file + 1) (wordsIn between file 0))) (refusedFile 1 0) .verdict ≡ Fine
+short-opens : (file : List ℕ) (short : Bool) → cond short (ended (length file) (headed (length file + 1) (wordsIn between file 0))) (refusedFile 1 0) .verdict
+    ≡ Fine
     → FileOpens (cond short (ended (length file) (headed (length file + 1) (wordsIn between file 0))) (refusedFile 1 0))
-short-opens file true e = ended-opens (length file) (headed (length file + 1) (wordsIn between file 0)) (headed-limited (length file + 1) (wordsIn between file 0)) e
+short-opens file true e = ended-opens (length file) (headed (length file + 1) (wordsIn between file 0))
+    (headed-limited (length file + 1) (wordsIn between file 0)) e
 short-opens file false e = never e
 
 -- Each word kept its own limit when it was read, later statements only put such words into cells, and the totals were tested last. Qed.

@@ -20,9 +20,13 @@ use Rattle.words.specs.Words.{Role, parts, alone, opens, belongs, roleOf, Words
 use Rattle.drafts.specs.Drafts.{stated}
 use Rattle.numerals.specs.declared.Form.{Form}
 use Rattle.numerals.specs.Numeral.{countForm, probabilityForm, startForm, rewardForm, amountOf, unsigned}
-use Rattle.grammar.specs.Grammar.{Answer, got, refused, _then_, choose, Finding, fits, unfit, outside, answered, oneWord, limited, number, magnitude, minus, signedNumber, key, keys, colon, star, named, field, index}
-use Rattle.statements.specs.Statements.{Outcome, filled, stopped, upon, further, within, wholly, probability, startTotal, startNumber, rewardNumber, indexed, starred, row, entry, table, reward, rewards, Draft, draft, rewardStatement, observationOrReward, oneStatement, unlessEnd, statements}
-use Rattle.modelfile.specs.ModelFile.{maxBytes, startName, Text, noCells, body, counted, headed, placed, sumsVerdict, refusedFile, judgedFile, ended, modelFile}
+use Rattle.grammar.specs.Grammar.{Answer, got, refused, _then_, choose, Finding, fits, unfit, outside, answered, oneWord, limited, number, magnitude, minus}
+use Rattle.grammar.specs.Grammar.{signedNumber, key, keys, colon, star, named, field, index}
+use Rattle.statements.specs.Statements.{Outcome, filled, stopped, upon, further, within, wholly, probability, startTotal, startNumber, rewardNumber, indexed}
+use Rattle.statements.specs.Statements.{starred, row, entry, table, reward, rewards, Draft, draft, rewardStatement, observationOrReward, oneStatement}
+use Rattle.statements.specs.Statements.{unlessEnd, statements}
+use Rattle.modelfile.specs.ModelFile.{maxBytes, startName, Text, noCells, body, counted, headed, placed, sumsVerdict, refusedFile, judgedFile, ended}
+use Rattle.modelfile.specs.ModelFile.{modelFile}
 
 -- ---- words: at most c of them, none past the end of a file of so many bytes
 
@@ -37,7 +41,8 @@ up-more size zero (word at w rest) h = absurd h
 up-more size (suc c) (word at w rest) (h, k) = (h, up-more size c rest k)
 
 -- each byte begins one word at most
-step-up : (size c at b : ℕ) (s : List ℕ) (m : Mode) (r : Role) (next : Mode → Words) → at ≤ size → ((m : Mode) → UpTo size c (next m)) → UpTo size (suc c) (step m r at b s next)
+step-up : (size c at b : ℕ) (s : List ℕ) (m : Mode) (r : Role) (next : Mode → Words) → at ≤ size → ((m : Mode) → UpTo size c (next m))
+    → UpTo size (suc c) (step m r at b s next)
 step-up size c at b s between parts next h k = up-more size c (next between) (k between)
 step-up size c at b s between alone next h k = (h, k between)
 step-up size c at b s between opens next h k = up-more size c (next comment) (k comment)
@@ -83,20 +88,24 @@ module _ (size : ℕ) where
   one-named c find (word at w rest) (h, k) = answered-named c at rest (find w) h k
   one-named c find (end at) h = record { low = omega arith; high = omega arith; place = h }
 
-  then-named : {A B : Type 0} (c d : ℕ) (a : Answer A) (k : A → Words → Answer B) → Named c a → ((x : A) (ws : Words) → UpTo size c ws → Named d (k x ws)) → Named d (a then k)
+  then-named : {A B : Type 0} (c d : ℕ) (a : Answer A) (k : A → Words → Answer B) → Named c a → ((x : A) (ws : Words) → UpTo size c ws → Named d (k x ws))
+      → Named d (a then k)
   then-named c d (got x ws) k h g = g x ws h
   then-named c d (refused n p) k h g = h
 
-  choose-named : {B : Type 0} (c d : ℕ) (a : Answer ℕ) (k : Words → Answer B) (o : Answer B) → Named c a → ((ws : Words) → UpTo size c ws → Named d (k ws)) → Named d o
+  choose-named : {B : Type 0} (c d : ℕ) (a : Answer ℕ) (k : Words → Answer B) (o : Answer B) → Named c a → ((ws : Words) → UpTo size c ws → Named d (k ws))
+      → Named d o
       → Named d (choose a k o)
   choose-named c d (got v ws) k o h g l = g ws h
   choose-named c d (refused n p) k o h g l = l
 
-  upon-left : {A C : Type 0} (c d : ℕ) (cells : C) (a : Answer A) (k : A → Words → Outcome C) → Named c a → ((x : A) (ws : Words) → UpTo size c ws → Left d (k x ws)) → Left d (upon cells a k)
+  upon-left : {A C : Type 0} (c d : ℕ) (cells : C) (a : Answer A) (k : A → Words → Outcome C) → Named c a
+      → ((x : A) (ws : Words) → UpTo size c ws → Left d (k x ws)) → Left d (upon cells a k)
   upon-left c d cells (got x ws) k h g = g x ws h
   upon-left c d cells (refused n p) k h g = h
 
-  choose-left : {C : Type 0} (c d : ℕ) (a : Answer ℕ) (k : Words → Outcome C) (o : Outcome C) → Named c a → ((ws : Words) → UpTo size c ws → Left d (k ws)) → Left d o → Left d (choose a k o)
+  choose-left : {C : Type 0} (c d : ℕ) (a : Answer ℕ) (k : Words → Outcome C) (o : Outcome C) → Named c a → ((ws : Words) → UpTo size c ws → Left d (k ws))
+      → Left d o → Left d (choose a k o)
   choose-left c d (got v ws) k o h g l = g ws h
   choose-left c d (refused n p) k o h g l = l
 
@@ -104,7 +113,8 @@ module _ (size : ℕ) where
   within-left c f (filled cells ws) h = h
   within-left c f (stopped n p cells) h = h
 
-  further-left : {C : Type 0} (c d : ℕ) (o : Outcome C) (k : C → Words → Outcome C) → Left c o → ((cells : C) (ws : Words) → UpTo size c ws → Left d (k cells ws)) → Left d (further o k)
+  further-left : {C : Type 0} (c d : ℕ) (o : Outcome C) (k : C → Words → Outcome C) → Left c o
+      → ((cells : C) (ws : Words) → UpTo size c ws → Left d (k cells ws)) → Left d (further o k)
   further-left c d (filled cells ws) k h g = g cells ws h
   further-left c d (stopped n p cells) k h g = h
 
@@ -154,12 +164,14 @@ module _ (size : ℕ) where
     unfolding row
     row-left one-number put g x zero cells ws h = h
     row-left one-number put g x (suc k) cells ws h =
-        upon-left c c cells (one-number ws) (λ p ws. row one-number put (x + 1) k (put x p cells) ws) (g ws h) (λ p ws. row-left one-number put g (x + 1) k (put x p cells) ws)
+        upon-left c c cells (one-number ws) (λ p ws. row one-number put (x + 1) k (put x p cells) ws) (g ws h)
+        (λ p ws. row-left one-number put g (x + 1) k (put x p cells) ws)
 
     entry-left : (m n w a s : ℕ) (cells : List ℕ) (ws : Words) → UpTo size c ws → Left c (entry m n w a s cells ws)
     unfolding entry
     entry-left m n w a s cells ws h =
-        upon-left c c cells (index w ws) _ (index-named w ws h) (λ x ws k. upon-left c c cells (probability ws) _ (number-named c probabilityForm 0 _ ws k) (λ p ws l. l))
+        upon-left c c cells (index w ws) _ (index-named w ws h)
+        (λ x ws k. upon-left c c cells (probability ws) _ (number-named c probabilityForm 0 _ ws k) (λ p ws l. l))
 
     table-left : (m n w : ℕ) (cells : List ℕ) (ws : Words) → UpTo size c ws → Left c (table m n w cells ws)
     unfolding table
@@ -180,7 +192,8 @@ module _ (size : ℕ) where
     unfolding oneStatement observationOrReward rewardStatement
     one-left m n k d ws h =
         choose-left c c (key _ ws) _ _ (key-named c _ ws h) (λ ws l. within-left c _ (table m n n (d .transition) ws) (table-left m n n (d .transition) ws l))
-        (choose-left c c (key _ ws) _ _ (key-named c _ ws h) (λ ws l. within-left c _ (table m n k (d .observation) ws) (table-left m n k (d .observation) ws l))
+        (choose-left c c (key _ ws) _ _ (key-named c _ ws h) (λ ws l. within-left c _ (table m n k (d .observation) ws)
+        (table-left m n k (d .observation) ws l))
         (upon-left c c d (key _ ws) _ (key-named c _ ws h) (λ _ ws l. within-left c _ (rewards m n (d .reward) ws) (rewards-left m n (d .reward) ws l))))
 
   -- as many statements as there are words are enough
@@ -206,8 +219,10 @@ module _ (size : ℕ) where
         then-named c c (named startName ws) _ (keys-named c startName colon ws h) (λ _ ws h.
         let start = row startNumber (stated 1 1 n 0 0) 0 n (replicate maxStates 0) ws in
         then-named c c (wholly start) _
-        (wholly-named c start (row-left c startNumber (stated 1 1 n 0 0) (λ ws. number-named c startForm 0 startTotal ws) 0 n (replicate maxStates 0) ws h)) (λ start ws h.
-        then-named c c (wholly (statements c m n k noCells ws)) _ (wholly-named c (statements c m n k noCells ws) (statements-left c m n k noCells ws h)) (λ cells ws h. h)))
+        (wholly-named c start (row-left c startNumber (stated 1 1 n 0 0) (λ ws. number-named c startForm 0 startTotal ws) 0 n (replicate maxStates 0) ws h))
+        (λ start ws h.
+        then-named c c (wholly (statements c m n k noCells ws)) _ (wholly-named c (statements c m n k noCells ws) (statements-left c m n k noCells ws h))
+        (λ cells ws h. h)))
 
     counted-named : (d : ℕ) (ws : Words) → UpTo size c ws → Named c (counted c d ws)
     unfolding counted
@@ -272,7 +287,8 @@ says-sums size t =
     (says-unless (RefusedAt size) (eqb (totalTo (m .states) (λ s. getD (t .start) s 0)) startTotal) 4 size (total-at size 4 (omega arith) (omega arith)))
     (says-before (RefusedAt size) (placed size moves) (placed size seen)
     (says-placed size 5 moves (omega arith) (omega arith) (says-rows 5 (m .actions) (m .states) (m .states) (cellIn (m .states) (m .states) (m .transition))))
-    (says-placed size 6 seen (omega arith) (omega arith) (says-rows 6 (m .actions) (m .states) (m .observations) (cellIn (m .states) (m .observations) (m .observation)))))
+    (says-placed size 6 seen (omega arith) (omega arith) (says-rows 6 (m .actions) (m .states) (m .observations)
+    (cellIn (m .states) (m .observations) (m .observation)))))
 
 says-judged : (size : ℕ) (v : Verdict) (t : Text) → Says (RefusedAt size) v → Says (RefusedAt size) (judgedFile v t .verdict)
 says-judged size Fine t h = tt
@@ -281,17 +297,28 @@ says-judged size (Refused n p) t h = h
 says-ended : (size c : ℕ) (a : Answer Text) → Named size c a → Says (RefusedAt size) (ended size a .verdict)
 says-ended size c (got t ws) h = says-judged size (sumsVerdict size t) t (says-sums size t)
 says-ended size c (refused n p) h =
-    record { low = omega (arith, h .low); high = omega (arith, h .high); long = λ e. absurd (omega (arith, h .low)); word = λ l m. h .place; total = λ l. absurd (omega (arith, h .high)) }
+    record {
+      low = omega (arith, h .low);
+      high = omega (arith, h .high);
+      long = λ e. absurd (omega (arith, h .low));
+      word = λ l m. h .place;
+      total =
+          λ l. absurd (omega (arith, h .high));
+    }
 
-says-file : (file : List ℕ) (short : Bool) → Says (RefusedAt (length file)) (cond short (ended (length file) (headed (length file + 1) (wordsIn between file 0))) (refusedFile 1 0) .verdict)
+says-file : (file : List ℕ) (short : Bool) → Says (RefusedAt (length file))
+    (cond short (ended (length file) (headed (length file + 1) (wordsIn between file 0))) (refusedFile 1 0) .verdict)
 unfolding wordsIn
 says-file file true =
     let words = words-up between (length file) 0 file (omega arith) in
-    let more : UpTo (length file) (length file + 1) (wordsOf between 0 file) = subst (λ (c : ℕ). UpTo (length file) c (wordsOf between 0 file)) (sym (add-one (length file))) (up-more (length file) (length file) (wordsOf between 0 file) words) in
-    says-ended (length file) (length file + 1) (headed (length file + 1) (wordsOf between 0 file)) (headed-named (length file) (length file + 1) (wordsOf between 0 file) more)
+    let more : UpTo (length file) (length file + 1) (wordsOf between 0 file) = subst (λ (c : ℕ). UpTo (length file) c (wordsOf between 0 file))
+    (sym (add-one (length file))) (up-more (length file) (length file) (wordsOf between 0 file) words) in
+    says-ended (length file) (length file + 1) (headed (length file + 1) (wordsOf between 0 file))
+    (headed-named (length file) (length file + 1) (wordsOf between 0 file) more)
 says-file file false = record { low = omega arith; high = omega arith; long = λ e. refl; word = λ l m. absurd (omega arith); total = λ l. absurd (omega arith) }
 
--- A word is refused by 2 or 3 where it stands, or at the end if it is missing. A file has no more words than bytes and a statement takes one or more, so that the
+-- A word is refused by 2 or 3 where it stands, or at the end if it is missing. A file has no more words than bytes and a statement takes one or more, so that
+-- the
 -- statements, of which one more than the file has bytes are allowed, never run out. What is left is 1 for the length, and 4, 5 and 6 at the end. Qed.
 pub read-refused : (file : List ℕ) (n p : ℕ) → modelFile file .verdict ≡ Refused n p → RefusedAt (length file) n p
 unfolding modelFile

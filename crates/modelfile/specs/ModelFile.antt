@@ -77,7 +77,8 @@ textOf d n m k start cells = record {
 -- unstated entries are 0
 abbrev pub noCells : Draft
 noCells =
-    draft (replicate (maxActions * maxStates * maxStates) 0) (replicate (maxActions * maxStates * maxObservations) 0) (replicate (maxActions * maxStates) (pos 0))
+    draft (replicate (maxActions * maxStates * maxStates) 0) (replicate (maxActions * maxStates * maxObservations) 0)
+    (replicate (maxActions * maxStates) (pos 0))
 
 -- `start:` with n numbers, then the statements
 unfoldable pub body : ℕ → ℕ → ℕ → ℕ → ℕ → Words → Answer Text

@@ -25,7 +25,8 @@ never : {A : Type 0} → false ≡ true → A
 never e = absurd (false≢true e)
 
 digit-byte : (b : ℕ) → isDigit (classOf b) ≡ true → (48 ≤ b) × (b ≤ 57)
-digit-byte b = by-class (λ k. isDigit k ≡ true → (48 ≤ b) × (b ≤ 57)) b never (λ h. never) (λ h. never) (λ l h e. (l, h)) (λ h. never) (λ h. never) (λ h. never) never
+digit-byte b = by-class (λ k. isDigit k ≡ true → (48 ≤ b) × (b ≤ 57)) b never (λ h. never) (λ h. never) (λ l h e. (l, h)) (λ h. never) (λ h. never)
+    (λ h. never) never
 
 pub negative-none : (w : List ℕ) → length w ≡ 0 → negative w ≡ false
 negative-none [] e = refl
@@ -169,7 +170,8 @@ module _ (form : Form) (w : List ℕ) where
   unfolding amountOf
   amount-not n =
       refused (leb 1 (digits w) && leb (digits w) (form .digits)) _
-      (λ e. let p = and-eq-true-iff (leb 1 (digits w)) (leb (digits w) (form .digits)) .0 e in n (leb-true 1 (digits w) (p .0)) (leb-true (digits w) (form .digits) (p .1)))
+      (λ e. let p = and-eq-true-iff (leb 1 (digits w)) (leb (digits w) (form .digits)) .0 e in n (leb-true 1 (digits w) (p .0))
+      (leb-true (digits w) (form .digits) (p .1)))
 
 -- ---- worked examples
 -- "0.5" is 500 thousandths, and "1000.00" is 100000 hundredths

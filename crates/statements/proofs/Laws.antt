@@ -26,7 +26,8 @@ use Rattle.statements.specs.Steps.{CellsFit, outcomeOf, Leaves, begin}
 
 -- ---- a part of a statement, with the cells that it leaves
 
-stopped-is : {A C : Type 0} (f : ℕ → A) (s : List ℕ) {a : Answer A} (cells : C) (k : A → Words → Outcome C) (r : Read) → tagOf read-type.the-type r ≡ 1 → answerOf f s r ≡ a
+stopped-is : {A C : Type 0} (f : ℕ → A) (s : List ℕ) {a : Answer A} (cells : C) (k : A → Words → Outcome C) (r : Read) → tagOf read-type.the-type r ≡ 1
+    → answerOf f s r ≡ a
     → outcomeOf cells s r ≡ upon cells a k
 stopped-is f s cells k (Value v next) e h = absurd (omega arith)
 stopped-is {A} f s cells k (Refused n p) e h = ap (λ (a : Answer A). upon cells a k) h
@@ -56,7 +57,8 @@ module _ {C : Type 0} {s : List ℕ} {at l : ℕ} {r r' : Read} {a : Answer ℕ}
   pub chooses-back : Reads s at l r a → tagOf read-type.the-type r ≡ 1 → Leaves s at r' cells o → Leaves s at r' cells (choose a k o)
   chooses-back t e h = record { is = h .is ∙ other-is s r k o e (t .is); onward = h .onward }
 
-  pub chooses-on : (v next : ℕ) → Reads s at l r a → r ≡ Value v next → Leaves s next r' cells (k (wordsIn between s next)) → Leaves s at r' cells (choose a k o)
+  pub chooses-on : (v next : ℕ) → Reads s at l r a → r ≡ Value v next → Leaves s next r' cells (k (wordsIn between s next))
+      → Leaves s at r' cells (choose a k o)
   chooses-on v next t e h = record {
     is = h .is ∙ ap (λ (a : Answer ℕ). choose a k o) (value-is v next t e);
     onward = onward-earlier s at next 0 r' (omega (arith, value-next v next t e)) (h .onward);
@@ -67,11 +69,13 @@ within-is f cells s (Value v next) = refl
 within-is f cells s (Refused n p) = refl
 
 -- cells as a part of more
-pub leaves-within : {C D : Type 0} {s : List ℕ} {at : ℕ} {r : Read} {cells : C} {o : Outcome C} (f : C → D) → Leaves s at r cells o → Leaves s at r (f cells) (within f o)
+pub leaves-within : {C D : Type 0} {s : List ℕ} {at : ℕ} {r : Read} {cells : C} {o : Outcome C} (f : C → D) → Leaves s at r cells o
+    → Leaves s at r (f cells) (within f o)
 leaves-within {s = s} {r = r} {cells} f h = record { is = within-is f cells s r ∙ ap (within f) (h .is); onward = h .onward }
 
 -- the same from an earlier offset
-pub leaves-earlier : {C : Type 0} {s : List ℕ} {at : ℕ} {r : Read} {cells : C} {o o' : Outcome C} (from : ℕ) → Leaves s at r cells o → from ≤ at → o ≡ o' → Leaves s from r cells o'
+pub leaves-earlier : {C : Type 0} {s : List ℕ} {at : ℕ} {r : Read} {cells : C} {o o' : Outcome C} (from : ℕ) → Leaves s at r cells o → from ≤ at → o ≡ o'
+    → Leaves s from r cells o'
 leaves-earlier {s = s} {at} {r} from h k e = record { is = h .is ∙ e; onward = onward-earlier s from at 0 r k (h .onward) }
 
 -- a word that was found, read from where it begins
@@ -124,7 +128,8 @@ module _ (one-number : Words → Answer ℕ) (put : ℕ → ℕ → List ℕ →
     pub row-back : {l : ℕ} {r : Read} → x < w → Reads file at l r (one-number (wordsIn between file at)) → tagOf read-type.the-type r ≡ 1
         → Leaves file from r cells (row one-number put 0 w whole (wordsIn between file from))
     row-back h t e =
-        leaves-earlier from (leaves-back cells (λ p ws. row one-number put (x + 1) (w - (x + 1)) (put x p cells) ws) t e) (omega (arith, left .on)) (next-number h)
+        leaves-earlier from (leaves-back cells (λ p ws. row one-number put (x + 1) (w - (x + 1)) (put x p cells) ws) t e) (omega (arith, left .on))
+        (next-number h)
 
     pub row-on : {l : ℕ} {r : Read} {cells' : List ℕ} (p next : ℕ) → x < w → Reads file at l r (one-number (wordsIn between file at)) → r ≡ Value p next
         → cells' ≡ put x p cells → length cells' ≡ length cells → RowLeft (x + 1) next cells'
@@ -161,7 +166,8 @@ reward-by m n a s cells ws = signed-upon cells (signed (minus ws)) (magnitude re
 statements-end : (f m n k : ℕ) (d : Draft) (ws : Words) (p : ℕ) → ws ≡ end p → filled d ws ≡ statements f m n k d ws
 unfolding statements
 statements-end zero m n k d ws p e = sym (ap (λ (x : Words). unlessEnd x (filled d ws) (stopped 0 0 d)) e)
-statements-end (suc f) m n k d ws p e = sym (ap (λ (x : Words). unlessEnd x (filled d ws) (further (oneStatement m n k d ws) (λ d ws. statements f m n k d ws))) e)
+statements-end (suc f) m n k d ws p e = sym (ap (λ (x : Words). unlessEnd x (filled d ws)
+    (further (oneStatement m n k d ws) (λ d ws. statements f m n k d ws))) e)
 
 statements-more : (f m n k : ℕ) (d : Draft) (ws : Words) (p : ℕ) (w : List ℕ) (rest : Words) → 0 < f → ws ≡ word p w rest
     → further (oneStatement m n k d ws) (λ d ws. statements (f - 1) m n k d ws) ≡ statements f m n k d ws
@@ -192,10 +198,12 @@ module _ (m n k : ℕ) (file : List ℕ) (from : ℕ) (whole : Draft) where
         ≡ statements (length file + 1) m n k whole (wordsIn between file from)
     next-statement e = at-word w worded e ∙ left .same
       where
-        at-word : (w : Word) → Worded file at w → tagOf word-type.the-type w ≡ 0 → further (oneStatement m n k d (wordsIn between file at)) (λ d ws. statements (left .fuel - 1) m n k d ws)
+        at-word : (w : Word) → Worded file at w → tagOf word-type.the-type w ≡ 0
+            → further (oneStatement m n k d (wordsIn between file at)) (λ d ws. statements (left .fuel - 1) m n k d ws)
             ≡ statements (left .fuel) m n k d (wordsIn between file at)
         at-word (At a b) h e =
-            statements-more (left .fuel) m n k d (wordsIn between file at) a (take (b - a) (drop a file)) (wordsIn between file b) (omega (arith, left .enough, left .inside)) (h .is)
+            statements-more (left .fuel) m n k d (wordsIn between file at) a (take (b - a) (drop a file)) (wordsIn between file b)
+            (omega (arith, left .enough, left .inside)) (h .is)
         at-word End h e = absurd (omega arith)
 
     -- a statement that is refused, or read
@@ -216,9 +224,11 @@ module _ (m n k : ℕ) (file : List ℕ) (from : ℕ) (whole : Draft) where
     pub left-back : {r : Read} {d' : Draft} → tagOf word-type.the-type w ≡ 0 → Leaves file (begin w) r d' (oneStatement m n k d (told file w))
         → tagOf read-type.the-type r ≡ 1 → outcomeOf d' file r ≡ statements (length file + 1) m n k whole (wordsIn between file from)
     left-back {r} {d'} e h b =
-        further-back d' (oneStatement m n k d (wordsIn between file at)) (λ d ws. statements (left .fuel - 1) m n k d ws) r b (whole-statement e h .is) ∙ next-statement e
+        further-back d' (oneStatement m n k d (wordsIn between file at)) (λ d ws. statements (left .fuel - 1) m n k d ws) r b (whole-statement e h .is) ∙
+        next-statement e
 
-    module _ {r : Read} {d' : Draft} (v next : ℕ) (e : tagOf word-type.the-type w ≡ 0) (h : Leaves file (begin w) r d' (oneStatement m n k d (told file w))) (q : r ≡ Value v next) where
+    module _ {r : Read} {d' : Draft} (v next : ℕ) (e : tagOf word-type.the-type w ≡ 0) (h : Leaves file (begin w) r d' (oneStatement m n k d (told file w)))
+        (q : r ≡ Value v next) where
       pub left-next : (at < next) × (next ≤ length file)
       left-next = subst (Onward file at 0) q (whole-statement e h .onward) .1
 
@@ -227,5 +237,6 @@ module _ (m n k : ℕ) (file : List ℕ) (from : ℕ) (whole : Draft) where
         fuel = left .fuel - 1;
         enough = omega (arith, left .enough, left .inside, left-next);
         inside = left-next .1;
-        same = ap (λ (o : Outcome Draft). further o (λ d ws. statements (left .fuel - 1) m n k d ws)) (sym (ap (outcomeOf d' file) q) ∙ whole-statement e h .is) ∙ next-statement e;
+        same = ap (λ (o : Outcome Draft). further o (λ d ws. statements (left .fuel - 1) m n k d ws))
+            (sym (ap (outcomeOf d' file) q) ∙ whole-statement e h .is) ∙ next-statement e;
       }

@@ -12,7 +12,9 @@ use Rattle.drafts.proofs.Marks.{marked-all}
 use Rattle.numerals.specs.Numeral.{probabilityForm, rewardForm, signed}
 use Rattle.grammar.specs.Grammar.{Answer, got, refused, choose, key, colon, index, magnitude, minus, signedNumber}
 use Rattle.grammar.proofs.Gives.{Gives, gives-then, number-gives, magnitude-gives}
-use Rattle.statements.specs.Statements.{Outcome, filled, stopped, upon, further, within, wholly, probability, rewardNumber, indexed, starred, row, entry, table, reward, rewards, Draft, draft, transitionKey, observationKey, rewardKey, rewardStatement, observationOrReward, oneStatement, unlessEnd, statements}
+use Rattle.statements.specs.Statements.{Outcome, filled, stopped, upon, further, within, wholly, probability, rewardNumber, indexed, starred, row, entry}
+use Rattle.statements.specs.Statements.{table, reward, rewards, Draft, draft, transitionKey, observationKey, rewardKey, rewardStatement}
+use Rattle.statements.specs.Statements.{observationOrReward, oneStatement, unlessEnd, statements}
 
 -- ---- what holds of the cells that are read whole
 
@@ -29,19 +31,23 @@ fills-upon : {A C : Type 0} (P : A → Type 0) (Q : C → Type 0) (cells : C) (a
 fills-upon P Q cells (got x ws) k g h = h x ws g
 fills-upon P Q cells (refused n p) k g h = tt
 
-fills-after : {A C : Type 0} (Q : C → Type 0) (cells : C) (a : Answer A) (k : A → Words → Outcome C) → ((x : A) (ws : Words) → Fills Q (k x ws)) → Fills Q (upon cells a k)
+fills-after : {A C : Type 0} (Q : C → Type 0) (cells : C) (a : Answer A) (k : A → Words → Outcome C) → ((x : A) (ws : Words) → Fills Q (k x ws))
+    → Fills Q (upon cells a k)
 fills-after Q cells (got x ws) k h = h x ws
 fills-after Q cells (refused n p) k h = tt
 
-fills-choose : {C : Type 0} (Q : C → Type 0) (a : Answer ℕ) (k : Words → Outcome C) (o : Outcome C) → ((ws : Words) → Fills Q (k ws)) → Fills Q o → Fills Q (choose a k o)
+fills-choose : {C : Type 0} (Q : C → Type 0) (a : Answer ℕ) (k : Words → Outcome C) (o : Outcome C) → ((ws : Words) → Fills Q (k ws)) → Fills Q o
+    → Fills Q (choose a k o)
 fills-choose Q (got v ws) k o h g = h ws
 fills-choose Q (refused n p) k o h g = g
 
-fills-within : {C D : Type 0} (P : C → Type 0) (Q : D → Type 0) (f : C → D) (o : Outcome C) → Fills P o → ((cells : C) → P cells → Q (f cells)) → Fills Q (within f o)
+fills-within : {C D : Type 0} (P : C → Type 0) (Q : D → Type 0) (f : C → D) (o : Outcome C) → Fills P o → ((cells : C) → P cells → Q (f cells))
+    → Fills Q (within f o)
 fills-within P Q f (filled cells ws) h g = g cells h
 fills-within P Q f (stopped n p cells) h g = tt
 
-fills-further : {C : Type 0} (P Q : C → Type 0) (o : Outcome C) (k : C → Words → Outcome C) → Fills P o → ((cells : C) (ws : Words) → P cells → Fills Q (k cells ws)) → Fills Q (further o k)
+fills-further : {C : Type 0} (P Q : C → Type 0) (o : Outcome C) (k : C → Words → Outcome C) → Fills P o
+    → ((cells : C) (ws : Words) → P cells → Fills Q (k cells ws)) → Fills Q (further o k)
 fills-further P Q (filled cells ws) k h g = g cells ws h
 fills-further P Q (stopped n p cells) k h g = tt
 
@@ -71,7 +77,8 @@ entry-small : (m n w a s : ℕ) (cells : List ℕ) (ws : Words) → AtMost one c
 unfolding entry
 entry-small m n w a s cells ws h =
     fills-after (AtMost one) cells (index w ws) (λ x ws. upon cells (probability ws) (λ p ws. filled (stated m n w a s x p cells) ws)) (λ x ws.
-    fills-upon (λ v. (0 ≤ v) × (v ≤ one)) (AtMost one) cells (probability ws) (λ p ws. filled (stated m n w a s x p cells) ws) (number-gives probabilityForm 0 one ws)
+    fills-upon (λ v. (0 ≤ v) × (v ≤ one)) (AtMost one) cells (probability ws) (λ p ws. filled (stated m n w a s x p cells) ws)
+    (number-gives probabilityForm 0 one ws)
     (λ p ws l. stated-small one m n w a s x p cells (l .1) h))
 
 -- what follows `: a : s`
@@ -83,7 +90,8 @@ unfolding table
 table-small m n w cells ws h =
     fills-after (AtMost one) cells (indexed m ws) (λ a ws. upon cells (indexed n ws) (cells-after m n w cells a)) (λ a ws.
     fills-after (AtMost one) cells (indexed n ws) (cells-after m n w cells a) (λ s ws.
-    fills-choose (AtMost one) (key colon ws) (λ ws. entry m n w a s cells ws) (row probability (stated m n w a s) 0 w cells ws) (λ ws. entry-small m n w a s cells ws h)
+    fills-choose (AtMost one) (key colon ws) (λ ws. entry m n w a s cells ws) (row probability (stated m n w a s) 0 w cells ws)
+    (λ ws. entry-small m n w a s cells ws h)
     (row-small one probability (stated m n w a s) (λ ws. number-gives probabilityForm 0 one ws) (stated-small one m n w a s) 0 w cells ws h)))
 
 -- ---- rewards
@@ -96,7 +104,8 @@ signed-small false v limit h = h
 reward-gives : (ws : Words) → Gives (λ r. natAbs r ≤ maxReward) (rewardNumber ws)
 unfolding signedNumber
 reward-gives ws =
-    gives-then (λ v. v ≤ maxReward) (λ r. natAbs r ≤ maxReward) (magnitude rewardForm maxReward ws) (λ v rest. got (signed (minus ws) v) rest) (magnitude-gives rewardForm maxReward ws)
+    gives-then (λ v. v ≤ maxReward) (λ r. natAbs r ≤ maxReward) (magnitude rewardForm maxReward ws) (λ v rest. got (signed (minus ws) v) rest)
+    (magnitude-gives rewardForm maxReward ws)
     (λ v rest l. signed-small (minus ws) v maxReward l)
 
 pub rewards-small : (m n : ℕ) (cells : List ℤ) (ws : Words) → WithinMost maxReward cells → Fills (WithinMost maxReward) (rewards m n cells ws)
@@ -119,14 +128,19 @@ pub record Small (d : Draft) : Type 0 where
 one-small : (m n k : ℕ) (d : Draft) (ws : Words) → Small d → Fills Small (oneStatement m n k d ws)
 unfolding oneStatement observationOrReward rewardStatement
 one-small m n k d ws h =
-    fills-choose Small (key transitionKey ws) (λ ws. within (λ cells. draft cells (d .observation) (d .reward)) (table m n n (d .transition) ws)) (observationOrReward m n k d ws)
-    (λ ws. fills-within (AtMost one) Small (λ cells. draft cells (d .observation) (d .reward)) (table m n n (d .transition) ws) (table-small m n n (d .transition) ws (h .transitions))
+    fills-choose Small (key transitionKey ws) (λ ws. within (λ cells. draft cells (d .observation) (d .reward)) (table m n n (d .transition) ws))
+    (observationOrReward m n k d ws)
+    (λ ws. fills-within (AtMost one) Small (λ cells. draft cells (d .observation) (d .reward)) (table m n n (d .transition) ws)
+    (table-small m n n (d .transition) ws (h .transitions))
     (λ cells l. record { transitions = l; observations = h .observations; rewards = h .rewards }))
-    (fills-choose Small (key observationKey ws) (λ ws. within (λ cells. draft (d .transition) cells (d .reward)) (table m n k (d .observation) ws)) (rewardStatement m n d ws)
-    (λ ws. fills-within (AtMost one) Small (λ cells. draft (d .transition) cells (d .reward)) (table m n k (d .observation) ws) (table-small m n k (d .observation) ws (h .observations))
+    (fills-choose Small (key observationKey ws) (λ ws. within (λ cells. draft (d .transition) cells (d .reward)) (table m n k (d .observation) ws))
+    (rewardStatement m n d ws)
+    (λ ws. fills-within (AtMost one) Small (λ cells. draft (d .transition) cells (d .reward)) (table m n k (d .observation) ws)
+    (table-small m n k (d .observation) ws (h .observations))
     (λ cells l. record { transitions = h .transitions; observations = l; rewards = h .rewards }))
     (fills-after Small d (key rewardKey ws) (λ _ ws. within (λ cells. draft (d .transition) (d .observation) cells) (rewards m n (d .reward) ws)) (λ _ ws.
-    fills-within (WithinMost maxReward) Small (λ cells. draft (d .transition) (d .observation) cells) (rewards m n (d .reward) ws) (rewards-small m n (d .reward) ws (h .rewards))
+    fills-within (WithinMost maxReward) Small (λ cells. draft (d .transition) (d .observation) cells) (rewards m n (d .reward) ws)
+    (rewards-small m n (d .reward) ws (h .rewards))
     (λ cells l. record { transitions = h .transitions; observations = h .observations; rewards = l }))))
 
 unless-small : (ws : Words) (a b : Outcome Draft) → Fills Small a → Fills Small b → Fills Small (unlessEnd ws a b)

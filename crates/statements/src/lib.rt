@@ -10,7 +10,8 @@ ghost use Rattle.numerals.specs.Steps.{Short};
 ghost use Rattle.drafts.specs.Drafts.{stated};
 ghost use Rattle.grammar.specs.Grammar.{number};
 ghost use Rattle.grammar.specs.Steps.{Reads};
-ghost use Rattle.statements.specs.Statements.{indexed, row, entry, table, reward, rewards, draft, rewardStatement, observationOrReward, oneStatement, statements};
+ghost use Rattle.statements.specs.Statements.{indexed, row, entry, table, reward, rewards, draft, rewardStatement, observationOrReward};
+ghost use Rattle.statements.specs.Statements.{oneStatement, statements};
 ghost use Rattle.statements.specs.Steps.{CellsFit, outcomeOf, Leaves, begin};
 use grammar::Read;
 use numerals::Form;
@@ -47,7 +48,8 @@ pub fn row_at(
 ) -> Read
     requires { ⌜ (from ≤ length (now file)) × (CellsFit m n w (now cells)) ⌝ }
     requires { ⌜ (a ≤ m) × ((s ≤ n) × ((Short form) × (most ≤ one))) ⌝ }
-    ensures { λ r. ⌜ Leaves (now (file .entry)) from r (now (cells .exit)) (row (number form 0 most) (stated m n w a s) 0 w (now (cells .entry)) (wordsIn between (now (file .entry)) from)) ⌝ }
+    ensures { λ r. ⌜ Leaves (now (file .entry)) from r (now (cells .exit))
+        (row (number form 0 most) (stated m n w a s) 0 w (now (cells .entry)) (wordsIn between (now (file .entry)) from)) ⌝ }
 {
     let mut at = from;
     for x in 0..w {
@@ -172,7 +174,8 @@ fn rewards_at(file: &[u8], at: usize, cells: &mut [i64], m: usize, n: usize) -> 
 
 fn reward_statement_at(file: &[u8], w: Word, reward: &mut [i64], m: usize, n: usize) -> Read
     requires { ⌜ (Inside (now file) 0 w) × (CellsFit m n 1 (now reward)) ⌝ }
-    ensures { λ r. ⌜ ((t o : List ℕ) → Leaves (now (file .entry)) (begin w) r (draft t o (now (reward .exit))) (rewardStatement m n (draft t o (now (reward .entry))) (told (now (file .entry)) w))) ⌝ }
+    ensures { λ r. ⌜ ((t o : List ℕ) → Leaves (now (file .entry)) (begin w) r (draft t o (now (reward .exit)))
+        (rewardStatement m n (draft t o (now (reward .entry))) (told (now (file .entry)) w))) ⌝ }
 {
     let x = grammar::key_of(file, w, b"R");
     let Read::Value(_, next) = x else {
@@ -191,7 +194,8 @@ fn other_statement_at(
     k: usize,
 ) -> Read
     requires { ⌜ (Inside (now file) 0 w) × ((CellsFit m n k (now observation)) × (CellsFit m n 1 (now reward))) ⌝ }
-    ensures { λ r. ⌜ ((t : List ℕ) → Leaves (now (file .entry)) (begin w) r (draft t (now (observation .exit)) (now (reward .exit))) (observationOrReward m n k (draft t (now (observation .entry)) (now (reward .entry))) (told (now (file .entry)) w))) ⌝ }
+    ensures { λ r. ⌜ ((t : List ℕ) → Leaves (now (file .entry)) (begin w) r (draft t (now (observation .exit)) (now (reward .exit)))
+        (observationOrReward m n k (draft t (now (observation .entry)) (now (reward .entry))) (told (now (file .entry)) w))) ⌝ }
 {
     let x = grammar::key_of(file, w, b"O");
     let Read::Value(_, next) = x else {
@@ -211,7 +215,8 @@ fn statement_at(
     k: usize,
 ) -> Read
     requires { ⌜ (Inside (now file) 0 w) × ((CellsFit m n n (now transition)) × ((CellsFit m n k (now observation)) × (CellsFit m n 1 (now reward)))) ⌝ }
-    ensures { λ r. ⌜ Leaves (now (file .entry)) (begin w) r (draft (now (transition .exit)) (now (observation .exit)) (now (reward .exit))) (oneStatement m n k (draft (now (transition .entry)) (now (observation .entry)) (now (reward .entry))) (told (now (file .entry)) w)) ⌝ }
+    ensures { λ r. ⌜ Leaves (now (file .entry)) (begin w) r (draft (now (transition .exit)) (now (observation .exit)) (now (reward .exit)))
+        (oneStatement m n k (draft (now (transition .entry)) (now (observation .entry)) (now (reward .entry))) (told (now (file .entry)) w)) ⌝ }
 {
     let x = grammar::key_of(file, w, b"T");
     let Read::Value(_, next) = x else {
@@ -232,7 +237,9 @@ pub fn statements_at(
     k: usize,
 ) -> Read
     requires { ⌜ (from ≤ length (now file)) × ((CellsFit m n n (now transition)) × ((CellsFit m n k (now observation)) × (CellsFit m n 1 (now reward)))) ⌝ }
-    ensures { λ r. ⌜ outcomeOf (draft (now (transition .exit)) (now (observation .exit)) (now (reward .exit))) (now (file .entry)) r ≡ statements (length (now (file .entry)) + 1) m n k (draft (now (transition .entry)) (now (observation .entry)) (now (reward .entry))) (wordsIn between (now (file .entry)) from) ⌝ }
+    ensures { λ r. ⌜ outcomeOf (draft (now (transition .exit)) (now (observation .exit)) (now (reward .exit))) (now (file .entry)) r ≡ statements
+        (length (now (file .entry)) + 1) m n k (draft (now (transition .entry)) (now (observation .entry)) (now (reward .entry)))
+        (wordsIn between (now (file .entry)) from) ⌝ }
 {
     let mut at = from;
     loop {

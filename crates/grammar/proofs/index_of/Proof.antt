@@ -8,7 +8,8 @@ use Rattle.grammar.proofs.index_of.Tie as tie
 
 returns : tie.Need-returns
 unfolding index
-returns c = takes-choose (λ ws. got (c .before .before .before .before .before .before .args .n) ws) (c .before .before .before .key-of .ensures) (c .before .before .match .keys2) (takes-most (c .before .before .before .before .before .before .args .n) (omega arith) (c .number-of .ensures))
+returns c = takes-choose (λ ws. got (c .before .before .before .before .before .before .args .n) ws) (c .before .before .before .key-of .ensures)
+    (c .before .before .match .keys2) (takes-most (c .before .before .before .before .before .before .args .n) (omega arith) (c .number-of .ensures))
 
 returns-2 : tie.Need-returns-2
 unfolding index

@@ -6,7 +6,8 @@ key-of-requires : tie.Need-key-of-requires
 key-of-requires c κs = inside (c .word-from .ensures .within (c .before .before .before .pre))
 
 returns : tie.Need-returns
-returns c = takes-reads (key (c .before .before .before .before .args .k .now)) (c .before .word-from .ensures .within (c .before .before .before .before .pre)) (c .key-of .ensures)
+returns c = takes-reads (key (c .before .before .before .before .args .k .now))
+    (c .before .word-from .ensures .within (c .before .before .before .before .pre)) (c .key-of .ensures)
 
 pub key-at-spec : {M : Type 1} → statement M
 key-at-spec =

@@ -24,28 +24,45 @@ key-found k s start stop t e q =
 
 returns : tie.Need-returns
 unfolding key
-returns c = takes-end (finding (c .before .before .before .before .args .k .now)) (c .before .before .before .before .args .file .now) (c .before .before .before .before .args .w) 0 (c .before .match .keys2)
+returns c = takes-end (finding (c .before .before .before .before .args .k .now)) (c .before .before .before .before .args .file .now)
+    (c .before .before .before .before .args .w) 0 (c .before .match .keys2)
 
 sub-is-same : tie.Need-sub-is-same
-sub-is-same c = omega (arith, lies-in (c .before .before .before .before .before .args .file .now) _ _ (c .before .before .before .before .before .pre) (c .before .w .given .1))
+sub-is-same c = omega (
+  arith,
+  lies-in (c .before .before .before .before .before .args .file .now) _ _ (c .before .before .before .before .before .pre)
+      (c .before .w .given .1),
+)
 
 part-is-same-start : tie.Need-part-is-same-start
-part-is-same-start c = omega (arith, lies-in (c .before .before .before .before .before .args .file .now) _ _ (c .before .before .before .before .before .pre) (c .before .w .given .1))
+part-is-same-start c = omega (
+  arith,
+  lies-in (c .before .before .before .before .before .args .file .now) _ _ (c .before .before .before .before .before .pre)
+      (c .before .w .given .1),
+)
 
 part-is-same-end : tie.Need-part-is-same-end
-part-is-same-end c = omega (arith, lies-in (c .before .before .before .before .before .args .file .now) _ _ (c .before .before .before .before .before .pre) (c .before .w .given .1))
+part-is-same-end c = omega (
+  arith,
+  lies-in (c .before .before .before .before .before .args .file .now) _ _ (c .before .before .before .before .before .pre)
+      (c .before .w .given .1),
+)
 
 returns-2 : tie.Need-returns-2
 unfolding key
 returns-2 c =
     let g = c .before .before .before .before .w .given in
-    key-found (c .before .before .before .before .before .before .before .before .args .k .now) (c .before .before .before .before .before .before .before .before .args .file .now) (g .0 .0) (g .0 .1 .0) true (g .1) (sym (c .before .is-same .ensures) ∙ c .if1 .taken)
+    key-found (c .before .before .before .before .before .before .before .before .args .k .now)
+    (c .before .before .before .before .before .before .before .before .args .file .now) (g .0 .0) (g .0 .1 .0) true (g .1)
+    (sym (c .before .is-same .ensures) ∙ c .if1 .taken)
 
 returns-3 : tie.Need-returns-3
 unfolding key
 returns-3 c =
     let g = c .before .before .before .before .w .given in
-    key-found (c .before .before .before .before .before .before .before .before .args .k .now) (c .before .before .before .before .before .before .before .before .args .file .now) (g .0 .0) (g .0 .1 .0) false (g .1) (sym (c .before .is-same .ensures) ∙ c .if1 .left)
+    key-found (c .before .before .before .before .before .before .before .before .args .k .now)
+    (c .before .before .before .before .before .before .before .before .args .file .now) (g .0 .0) (g .0 .1 .0) false (g .1)
+    (sym (c .before .is-same .ensures) ∙ c .if1 .left)
 
 pub key-of-spec : {M : Type 1} → statement M
 key-of-spec =

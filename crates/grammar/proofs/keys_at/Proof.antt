@@ -9,18 +9,26 @@ key-of-requires c κs = inside (c .pair-from .ensures .first .within (c .before 
 
 returns : tie.Need-returns
 unfolding keys
-returns c = reads-back (λ v. v) 0 (λ _ ws. key (c .before .before .before .before .before .before .before .args .second .now) ws) (takes-reads (key (c .before .before .before .before .before .before .before .args .first .now)) (c .before .before .before .pair-from .ensures .first .within (c .before .before .before .before .before .before .before .pre)) (c .before .before .key-of .ensures)) (c .before .match .keys2)
+returns c = reads-back (λ v. v) 0 (λ _ ws. key (c .before .before .before .before .before .before .before .args .second .now) ws)
+    (takes-reads (key (c .before .before .before .before .before .before .before .args .first .now))
+    (c .before .before .before .pair-from .ensures .first .within (c .before .before .before .before .before .before .before .pre))
+    (c .before .before .key-of .ensures)) (c .before .match .keys2)
 
 key-of-requires-2 : tie.Need-key-of-requires-2
-key-of-requires-2 c κs = inside (second-word _ _ (c .before .before .before .pair-from .ensures) (c .before .before .before .before .before .before .before .pre) (c .before .before .key-of .ensures) (c .enum-told .given .1))
+key-of-requires-2 c κs = inside (second-word _ _ (c .before .before .before .pair-from .ensures)
+    (c .before .before .before .before .before .before .before .pre) (c .before .before .key-of .ensures) (c .enum-told .given .1))
 
 returns-2 : tie.Need-returns-2
 unfolding keys
 returns-2 c =
     let g = c .before .enum-told .given in
     let p = c .before .before .before .before .pair-from .ensures in
-    reads-on (g .0 .0) (g .0 .1 .0) (λ _ ws. key (c .before .before .before .before .before .before .before .before .args .second .now) ws) (takes-reads (key (c .before .before .before .before .before .before .before .before .args .first .now)) (p .first .within (c .before .before .before .before .before .before .before .before .pre)) (c .before .before .before .key-of .ensures)) (g .1)
-    (takes-reads (key (c .before .before .before .before .before .before .before .before .args .second .now)) (second-word (g .0 .0) (g .0 .1 .0) p (c .before .before .before .before .before .before .before .before .pre) (c .before .before .before .key-of .ensures) (g .1)) (c .key-of2 .ensures))
+    reads-on (g .0 .0) (g .0 .1 .0) (λ _ ws. key (c .before .before .before .before .before .before .before .before .args .second .now) ws)
+    (takes-reads (key (c .before .before .before .before .before .before .before .before .args .first .now))
+    (p .first .within (c .before .before .before .before .before .before .before .before .pre)) (c .before .before .before .key-of .ensures)) (g .1)
+    (takes-reads (key (c .before .before .before .before .before .before .before .before .args .second .now))
+    (second-word (g .0 .0) (g .0 .1 .0) p (c .before .before .before .before .before .before .before .before .pre)
+    (c .before .before .before .key-of .ensures) (g .1)) (c .key-of2 .ensures))
 
 pub keys-at-spec : {M : Type 1} → statement M
 keys-at-spec =

@@ -6,16 +6,29 @@ use Rattle.grammar.proofs.minus_of.Statement.{statement}
 use Rattle.grammar.proofs.minus_of.Tie as tie
 
 sub-is-negative : tie.Need-sub-is-negative
-sub-is-negative c = omega (arith, lies-in (c .before .before .before .before .args .file .now) _ _ (c .before .before .before .before .pre) (c .before .w .given .1))
+sub-is-negative c = omega (
+  arith,
+  lies-in (c .before .before .before .before .args .file .now) _ _ (c .before .before .before .before .pre)
+      (c .before .w .given .1),
+)
 
 part-is-negative-start : tie.Need-part-is-negative-start
-part-is-negative-start c = omega (arith, lies-in (c .before .before .before .before .args .file .now) _ _ (c .before .before .before .before .pre) (c .before .w .given .1))
+part-is-negative-start c = omega (
+  arith,
+  lies-in (c .before .before .before .before .args .file .now) _ _ (c .before .before .before .before .pre)
+      (c .before .w .given .1),
+)
 
 part-is-negative-end : tie.Need-part-is-negative-end
-part-is-negative-end c = omega (arith, lies-in (c .before .before .before .before .args .file .now) _ _ (c .before .before .before .before .pre) (c .before .w .given .1))
+part-is-negative-end c = omega (
+  arith,
+  lies-in (c .before .before .before .before .args .file .now) _ _ (c .before .before .before .before .pre)
+      (c .before .w .given .1),
+)
 
 returns-2 : tie.Need-returns-2
-returns-2 c = c .is-negative .ensures ∙ sym (ap (λ (w : Word). minus (told (c .before .before .before .before .before .before .args .file .now) w)) (c .before .before .before .w .given .1))
+returns-2 c = c .is-negative .ensures ∙ sym (ap (λ (w : Word). minus (told (c .before .before .before .before .before .before .args .file .now) w))
+    (c .before .before .before .w .given .1))
 
 pub minus-of-spec : {M : Type 1} → statement M
 minus-of-spec =

@@ -37,20 +37,33 @@ returns-2 : tie.Need-returns-2
 unfolding sumsVerdict
 returns-2 c =
     let size = c .before .before .before .before .before .before .before .before .before .before .args .size in
-    passes 4 size (eq-eqb _ startTotal (sym (total (c .before .before .before .before .before .before .before .before .before .before .args .t3) (c .before .before .before .before .before .before .before .before .before .before .args .t2 .states)) ∙ sym (c .before .before .before .before .before .before .before .before .row-total .ensures) ∙ c .before .before .before .before .before .before .before .if1 .left))
-    (stops _ (c .placed-at .ensures ∙ ap (placed size) (c .before .before .before .rows-total .ensures)) (c .placed-at .ensures ∙ ap (placed size) (c .before .enum-told2 .given .1)))
+    passes 4 size (eq-eqb _ startTotal (sym (total (c .before .before .before .before .before .before .before .before .before .before .args .t3)
+    (c .before .before .before .before .before .before .before .before .before .before .args .t2 .states)) ∙ sym
+    (c .before .before .before .before .before .before .before .before .row-total .ensures) ∙
+    c .before .before .before .before .before .before .before .if1 .left))
+    (stops _ (c .placed-at .ensures ∙ ap (placed size) (c .before .before .before .rows-total .ensures))
+    (c .placed-at .ensures ∙ ap (placed size) (c .before .enum-told2 .given .1)))
 
 rows-total-requires-2 : tie.Need-rows-total-requires-2
 rows-total-requires-2 c κs =
-    let f = few (c .before .before .before .before .before .before .before .before .before .before .before .before) in
-    ((f .actions, (f .states, omega (arith, f .observations))), omega (arith, sizes f, long (c .before .before .before .before .before .before .before .before .before .before .before .before)))
+    let f = few (c .before .before .before .before .before .before .before .before .before .before .before .before) in (
+      (f .actions, (f .states, omega (arith, f .observations))),
+      omega
+          (arith, sizes f, long (c .before .before .before .before .before .before .before .before .before .before .before .before)),
+    )
 
 returns-3 : tie.Need-returns-3
 unfolding sumsVerdict
 returns-3 c =
     let size = c .before .before .before .before .before .before .before .before .before .before .before .before .before .before .args .size in
-    passes 4 size (eq-eqb _ startTotal (sym (total (c .before .before .before .before .before .before .before .before .before .before .before .before .before .before .args .t3) (c .before .before .before .before .before .before .before .before .before .before .before .before .before .before .args .t2 .states)) ∙ sym (c .before .before .before .before .before .before .before .before .before .before .before .before .row-total .ensures) ∙ c .before .before .before .before .before .before .before .before .before .before .before .if1 .left))
-    (goes (ap (placed size) (c .before .before .before .before .before .before .before .rows-total .ensures)) (ap (placed size) (c .before .before .before .before .before .enum-told .given .1)) (c .placed-at2 .ensures ∙ ap (placed size) (c .before .rows-total2 .ensures)))
+    passes 4 size (eq-eqb
+    _ startTotal (sym (total (c .before .before .before .before .before .before .before .before .before .before .before .before .before .before .args .t3)
+    (c .before .before .before .before .before .before .before .before .before .before .before .before .before .before .args .t2 .states)) ∙ sym
+    (c .before .before .before .before .before .before .before .before .before .before .before .before .row-total .ensures) ∙
+    c .before .before .before .before .before .before .before .before .before .before .before .if1 .left))
+    (goes (ap (placed size) (c .before .before .before .before .before .before .before .rows-total .ensures))
+    (ap (placed size) (c .before .before .before .before .before .enum-told .given .1))
+    (c .placed-at2 .ensures ∙ ap (placed size) (c .before .rows-total2 .ensures)))
 
 pub totals-of-spec : {M : Type 1} → statement M
 totals-of-spec =

@@ -13,11 +13,21 @@ returns c =
     sym (amount-not (a .form) (drop (a .from) (a .w .now)) (λ some few. omega (arith, d .count, d .cut (omega (arith, d .count)))))
 
 mul-fraction-of : tie.Need-mul-fraction-of
-mul-fraction-of c = omega (arith, product _ 4 (c .before .before .before .before .digits-from .ensures .small) (omega (arith, c .before .before .before .before .digits-from .ensures .few)) (c .before .scale .ensures .1))
+mul-fraction-of c = omega (
+  arith,
+  product _ 4 (c .before .before .before .before .digits-from .ensures .small)
+      (omega (arith, c .before .before .before .before .digits-from .ensures .few)) (c .before .scale .ensures .1),
+)
 
 fraction-of-requires : tie.Need-fraction-of-requires
-fraction-of-requires c κs =
-    (c .before .before .before .before .digits-from .ensures .low, (c .before .before .before .before .before .before .pre .1 .few-places, product _ 4 (c .before .before .before .before .digits-from .ensures .small) (omega (arith, c .before .before .before .before .digits-from .ensures .few)) (c .before .scale .ensures .1)))
+fraction-of-requires c κs = (
+  c .before .before .before .before .digits-from .ensures .low,
+  (
+    c .before .before .before .before .before .before .pre .1 .few-places,
+    product _ 4 (c .before .before .before .before .digits-from .ensures .small)
+        (omega (arith, c .before .before .before .before .digits-from .ensures .few)) (c .before .scale .ensures .1),
+  ),
+)
 
 returns-2 : tie.Need-returns-2
 returns-2 c =
@@ -32,7 +42,8 @@ returns-2 c =
       | no none ↦
           let all = written-all (a .w .now) (d .ensures) (omega arith) in
           let whole : d .result .value * u .result ≡ value 0 w * 10 ^ (a .form .places) = cc (all .1, u .ensures .0) in
-          let rest : drop (d .result .end) (a .w .now) ≡ drop (digits w) w = ap (λ (n : ℕ). drop n (a .w .now)) (all .0) ∙ sym (drop-drop (digits w) (a .from) (a .w .now)) in
+          let rest : drop (d .result .end) (a .w .now) ≡ drop (digits w) w = ap (λ (n : ℕ). drop n (a .w .now)) (all .0) ∙ sym
+          (drop-drop (digits w) (a .from) (a .w .now)) in
           c .fraction-of .ensures ∙ rw (whole, rest) (sym (amount-is (a .form) w (omega (arith, all .0)) (omega (arith, all .0, d .ensures .few))))
     ]
 

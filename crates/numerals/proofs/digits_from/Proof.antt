@@ -88,13 +88,19 @@ mul-v c = omega (arith, under (c .before .before .before .before .before .loop .
 sub-v : tie.Need-sub-v Inv-loop μ-loop
 sub-v c =
     let d = by-keys (λ (k : Class). isDigit k ≡ true) (3 ∷ []) (c .before .before .class-of .ensures) (refl, tt) (c .before .match .keys1) in
-    turn (c .before .before .before .before .before .before .before .before .args .w .now) (c .before .before .before .before .before .loop .at) (omega (arith, c .before .before .before .before .before .loop .inv .bound)) d .byte .0
+    turn (c .before .before .before .before .before .before .before .before .args .w .now) (c .before .before .before .before .before .loop .at)
+    (omega (arith, c .before .before .before .before .before .loop .inv .bound)) d .byte .0
 
 cast-v : tie.Need-cast-v Inv-loop μ-loop
 cast-v c = omega (arith, c .before .before .before .shared-slice-known2 .given (c .before .before .before .before .before .loop .at))
 
 add-v : tie.Need-add-v Inv-loop μ-loop
-add-v c = omega (arith, under (c .before .before .before .before .before .loop .inv), c .before .before .before .shared-slice-known2 .given (c .before .before .before .before .before .loop .at))
+add-v c = omega (
+  arith,
+  under (c .before .before .before .before .before .loop .inv),
+  c .before .before .before .shared-slice-known2 .given
+      (c .before .before .before .before .before .loop .at),
+)
 
 loop-again : tie.Need-loop-again Inv-loop μ-loop
 loop-again c =

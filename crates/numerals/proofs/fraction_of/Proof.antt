@@ -24,7 +24,8 @@ returns-3 c =
     let a = c .before .before .before .before .before .before .before .before .before .args in
     let d = c .before .before .digits-from .ensures in
     let l = length-drop (a .from + 1) (a .w .now) in
-    sym (fraction-not (a .places) (a .whole) (a .w .now) (a .from) (omega arith) (λ x. cut-short (a .w .now) d (omega (arith, x .few)) (omega (arith, x .all)) (c .if2 .taken)))
+    sym (fraction-not (a .places) (a .whole) (a .w .now) (a .from) (omega arith)
+    (λ x. cut-short (a .w .now) d (omega (arith, x .few)) (omega (arith, x .all)) (c .if2 .taken)))
 
 returns-4 : tie.Need-returns-4
 returns-4 c =
@@ -33,10 +34,18 @@ returns-4 c =
     sym (fraction-not (a .places) (a .whole) (a .w .now) (a .from) (omega arith) (λ x. omega (arith, x .some, written-end (a .w .now) d (omega arith))))
 
 mul-t14 : tie.Need-mul-t14
-mul-t14 c = omega (arith, product _ 3 (c .before .before .before .before .before .before .before .digits-from .ensures .small) (omega (arith, c .before .before .before .before .before .before .before .digits-from .ensures .few)) (c .before .scale .ensures .1))
+mul-t14 c = omega (
+  arith,
+  product _ 3 (c .before .before .before .before .before .before .before .digits-from .ensures .small)
+      (omega (arith, c .before .before .before .before .before .before .before .digits-from .ensures .few)) (c .before .scale .ensures .1),
+)
 
 add-t15 : tie.Need-add-t15
-add-t15 c = omega (arith, product _ 3 (c .before .before .before .before .before .before .before .digits-from .ensures .small) (omega (arith, c .before .before .before .before .before .before .before .digits-from .ensures .few)) (c .before .scale .ensures .1))
+add-t15 c = omega (
+  arith,
+  product _ 3 (c .before .before .before .before .before .before .before .digits-from .ensures .small)
+      (omega (arith, c .before .before .before .before .before .before .before .digits-from .ensures .few)) (c .before .scale .ensures .1),
+)
 
 returns-5 : tie.Need-returns-5
 returns-5 c =
@@ -47,12 +56,16 @@ returns-5 c =
     let whole = written-end (a .w .now) (d .ensures) (omega arith) in
     let n : d .result .end - (a .from + 1) ≡ digits w = omega (arith, whole .0) in
     let u : c .before .scale .result ≡ 10 ^ (a .places - digits w) = rw n at (c .before .scale .ensures .0) in
-    let p = by-keys (λ (k : Class). isPoint k ≡ true) (4 ∷ []) (c .before .before .before .before .before .before .before .before .before .before .class-of .ensures) (refl, tt) (c .before .before .before .before .before .before .before .before .before .match .keys1) in
-    let x : Decimals (a .places) (a .w .now) (a .from) = record { point = p; all = omega (arith, whole .0); some = omega (arith, whole .0); few = omega (arith, whole .0, d .ensures .few) } in
+    let p = by-keys (λ (k : Class). isPoint k ≡ true) (4 ∷ [])
+    (c .before .before .before .before .before .before .before .before .before .before .class-of .ensures) (refl, tt)
+    (c .before .before .before .before .before .before .before .before .before .match .keys1) in
+    let x : Decimals (a .places) (a .w .now) (a .from) = record
+    { point = p; all = omega (arith, whole .0); some = omega (arith, whole .0); few = omega (arith, whole .0, d .ensures .few) } in
     ap (λ (y : ℕ). Is (a .whole + y * c .before .scale .result)) (whole .1) ∙ ap (λ (y : ℕ). Is (a .whole + value 0 w * y)) u
     ∙ sym (fraction-is (a .places) (a .whole) (a .w .now) (a .from) (omega arith) x)
 
 pub fraction-of-spec : {M : Type 1} → statement M
 fraction-of-spec =
     tie.close (tie.spec returns (λ c. search needs) (λ c κs. search needs) (λ c. search needs) returns-2 (λ c. search needs) (λ c κs. omega arith)
-    returns-3 returns-4 (λ c. omega arith) (λ c. omega (arith, c .before .before .before .before .before .digits-from .ensures .few)) (λ c κs. search needs) mul-t14 add-t15 returns-5)
+    returns-3 returns-4 (λ c. omega arith) (λ c. omega (arith, c .before .before .before .before .before .digits-from .ensures .few)) (λ c κs. search needs)
+    mul-t14 add-t15 returns-5)

@@ -12,7 +12,11 @@ use Rattle.statements.proofs.reward_at.Statement.{statement}
 use Rattle.statements.proofs.reward_at.Tie as tie
 
 magnitude-of-requires : tie.Need-magnitude-of-requires
-magnitude-of-requires c κs = (inside (c .word-from .ensures .within (c .before .before .pre .0 .0)), record { few-digits = omega arith; few-places = omega arith })
+magnitude-of-requires c κs = (
+  inside (c .word-from .ensures .within (c .before .before .pre .0 .0)),
+  record
+      { few-digits = omega arith; few-places = omega arith },
+)
 
 returns : tie.Need-returns
 returns c =
@@ -20,7 +24,8 @@ returns c =
     let ws = wordsIn between (a .file .now) (a .at) in
     leaves-earlier (a .at)
     (leaves-back (a .cells .now) (λ v rest. filled (rewarded (a .m) (a .n) (a .a) (a .s) (signed (minus ws) v) (a .cells .now)) rest)
-    (takes-reads (magnitude rewardForm maxReward) (c .before .before .before .word-from .ensures .within (c .before .before .before .before .before .pre .0 .0)) (c .before .before .magnitude-of .ensures)) (c .before .match .keys2))
+    (takes-reads (magnitude rewardForm maxReward) (c .before .before .before .word-from .ensures .within
+    (c .before .before .before .before .before .pre .0 .0)) (c .before .before .magnitude-of .ensures)) (c .before .match .keys2))
     (omega arith) (reward-by (a .m) (a .n) (a .a) (a .s) (a .cells .now) ws)
 
 minus-of-requires : tie.Need-minus-of-requires
@@ -28,16 +33,23 @@ minus-of-requires c κs = inside (c .before .before .before .before .word-from .
 
 with-sign-requires : tie.Need-with-sign-requires
 with-sign-requires c κs =
-    omega (arith, value-next _ _ (takes-reads (magnitude rewardForm maxReward) (c .before .before .before .before .before .word-from .ensures .within (c .before .before .before .before .before .before .before .pre .0 .0)) (c .before .before .before .before .magnitude-of .ensures)) (c .before .before .x .given .1) .0)
+    omega (
+      arith,
+      value-next _ _ (takes-reads (magnitude rewardForm maxReward)
+          (c .before .before .before .before .before .word-from .ensures .within (c .before .before .before .before .before .before .before .pre .0 .0))
+          (c .before .before .before .before .magnitude-of .ensures)) (c .before .before .x .given .1) .0,
+    )
 
 returns-2 : tie.Need-returns-2
 returns-2 c =
     let a = c .before .before .before .before .before .before .before .before .before .before .before .args in
     let g = c .before .before .before .before .before .before .x .given in
-    let w = c .before .before .before .before .before .before .before .before .before .word-from .ensures .within (c .before .before .before .before .before .before .before .before .before .before .before .pre .0 .0) in
+    let w = c .before .before .before .before .before .before .before .before .before .word-from .ensures .within
+    (c .before .before .before .before .before .before .before .before .before .before .before .pre .0 .0) in
     let ws = wordsIn between (a .file .now) (a .at) in
     let sign = c .before .before .before .with-sign in
-    let e = answer (sign .ok) (sign .ensures ∙ ap (λ (t : Bool). signed t (g .0 .0)) (c .before .before .before .before .minus-of .ensures ∙ sym (ap minus (w .is)))) in
+    let e = answer (sign .ok) (sign .ensures ∙ ap (λ (t : Bool). signed t (g .0 .0))
+    (c .before .before .before .before .minus-of .ensures ∙ sym (ap minus (w .is)))) in
     leaves-earlier (a .at)
     (leaves-done (a .cells .now) (λ v. rewarded (a .m) (a .n) (a .a) (a .s) (signed (minus ws) v) (a .cells .now)) (g .0 .0) (g .0 .1 .0)
     (takes-reads (magnitude rewardForm maxReward) w (c .before .before .before .before .before .before .before .before .magnitude-of .ensures)) (g .1)

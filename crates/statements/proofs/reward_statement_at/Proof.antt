@@ -7,10 +7,15 @@ unfolding rewardStatement
 returns c =
     λ t o.
     let a = c .before .before .before .before .before .args in
-    leaves-back (draft t o (a .reward .now)) (λ _ ws. within (draft t o) (rewards (a .m) (a .n) (a .reward .now) ws)) (takes-begin (c .before .before .before .before .before .pre .0) (c .before .before .key-of .ensures)) (c .before .match .keys2)
+    leaves-back (draft t o (a .reward .now)) (λ _ ws. within (draft t o) (rewards (a .m) (a .n) (a .reward .now) ws))
+    (takes-begin (c .before .before .before .before .before .pre .0) (c .before .before .key-of .ensures)) (c .before .match .keys2)
 
 rewards-at-requires : tie.Need-rewards-at-requires
-rewards-at-requires c κs = (value-next _ _ (takes-begin (c .before .before .before .before .before .before .before .pre .0) (c .before .before .before .before .key-of .ensures)) (c .before .before .x .given .1) .1 .1, c .before .before .before .before .before .before .before .pre .1)
+rewards-at-requires c κs = (
+  value-next _ _ (takes-begin (c .before .before .before .before .before .before .before .pre .0)
+      (c .before .before .before .before .key-of .ensures)) (c .before .before .x .given .1) .1 .1,
+  c .before .before .before .before .before .before .before .pre .1,
+)
 
 returns-2 : tie.Need-returns-2
 unfolding rewardStatement
@@ -18,7 +23,9 @@ returns-2 c =
     λ t o.
     let a = c .before .before .before .before .before .before .before .before .before .args in
     let g = c .before .before .before .before .x .given in
-    leaves-on (draft t o (a .reward .now)) (g .0 .0) (g .0 .1 .0) (λ _ ws. within (draft t o) (rewards (a .m) (a .n) (a .reward .now) ws)) (takes-begin (c .before .before .before .before .before .before .before .before .before .pre .0) (c .before .before .before .before .before .before .key-of .ensures)) (g .1)
+    leaves-on (draft t o (a .reward .now)) (g .0 .0) (g .0 .1 .0) (λ _ ws. within (draft t o) (rewards (a .m) (a .n) (a .reward .now) ws))
+    (takes-begin (c .before .before .before .before .before .before .before .before .before .pre .0)
+    (c .before .before .before .before .before .before .key-of .ensures)) (g .1)
     (leaves-within (draft t o) (c .before .rewards-at .ensures))
 
 pub reward-statement-at-spec : {M : Type 1} → statement M

@@ -24,7 +24,18 @@ record Plain (b : ℕ) : Type 0 where
 
 rest : (b : ℕ) → Plain b → (leb 48 b && leb b 57) ≡ false → Rest ≡ classOf b
 rest b p r =
-    sym (simp (ne-eqb b 9 (p .tab), ne-eqb b 10 (p .line), ne-eqb b 13 (p .return), ne-eqb b 32 (p .space), ne-eqb b 35 (p .hash), ne-eqb b 42 (p .star), ne-eqb b 45 (p .minus), ne-eqb b 46 (p .point), ne-eqb b 58 (p .colon), r))
+    sym (simp (
+      ne-eqb b 9 (p .tab),
+      ne-eqb b 10 (p .line),
+      ne-eqb b 13 (p .return),
+      ne-eqb b 32 (p .space),
+      ne-eqb b 35 (p .hash),
+      ne-eqb b 42 (p .star),
+      ne-eqb b 45 (p .minus),
+      ne-eqb b 46 (p .point),
+      ne-eqb b 58 (p .colon),
+      r,
+    ))
 
 below : (b : ℕ) → b < 48 → (leb 48 b && leb b 57) ≡ false
 below b h = simp (lt-leb 48 b h)
@@ -35,7 +46,17 @@ above b h = let l : 48 ≤ b = omega arith in simp (le-leb 48 b l, lt-leb b 57 h
 digit : (b : ℕ) → 48 ≤ b → b < 58 → Digit ≡ classOf b
 digit b h k =
     let l : b ≤ 57 = omega arith in
-    sym (simp (ne-eqb b 9 (omega arith), ne-eqb b 10 (omega arith), ne-eqb b 13 (omega arith), ne-eqb b 32 (omega arith), ne-eqb b 35 (omega arith), ne-eqb b 58 (omega arith), le-leb 48 b h, le-leb b 57 l))
+    sym (simp (
+      ne-eqb b 9 (omega arith),
+      ne-eqb b 10 (omega arith),
+      ne-eqb b 13 (omega arith),
+      ne-eqb b 32 (omega arith),
+      ne-eqb b 35 (omega arith),
+      ne-eqb b
+          58 (omega arith),
+      le-leb 48 b h,
+      le-leb b 57 l,
+    ))
 
 returns : tie.Need-returns
 returns c = sym (ap classOf (c .match .keys1))

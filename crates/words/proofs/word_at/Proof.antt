@@ -64,7 +64,8 @@ returns-2 c =
     let s = c .before .before .before .before .before .before .before .args .s .now in
     let l = c .before .before .before .before .before .loop in
     let w = c .word-end .ensures in
-    let e = by-keys (λ (k : Class). roleOf k ≡ belongs) (3 ∷ 4 ∷ 5 ∷ 6 ∷ 7 ∷ []) (c .before .before .class-of .ensures) (search needs) (c .before .match .keys4) in
+    let e = by-keys (λ (k : Class). roleOf k ≡ belongs) (3 ∷ 4 ∷ 5 ∷ 6 ∷ 7 ∷ []) (c .before .before .class-of .ensures) (search needs)
+    (c .before .match .keys4) in
     found (l .inv) (omega arith) (record { is = plain-word s (l .at) (omega arith) e w; lies = (omega arith, (omega (arith, w .up), w .low)) })
 
 returns-3 : tie.Need-returns-3 Inv-loop μ-loop
