@@ -7,14 +7,16 @@ use denote.Enum.Declared.{tagOf}
 use lib.ListN.{length}
 use Rattle.words.specs.declared.Word.{Word}
 use Rattle.words.specs.declared.Word.the-variants.{At, End}
-use Rattle.words.specs.Words.{Words, end, wordsIn, between, Worded}
+use Rattle.words.specs.Words.{Words, end, wordsIn, between}
+use Rattle.words.specs.Steps.{Worded}
 use Rattle.words.proofs.Word as word-type
 use Rattle.numerals.specs.declared.Amount.{Amount}
 use Rattle.numerals.specs.declared.Amount.the-variants.{Is, Not}
 use Rattle.numerals.proofs.Amount as amount-type
 use Rattle.grammar.specs.declared.Read.{Read}
 use Rattle.grammar.specs.declared.Read.the-variants.{Value, Refused}
-use Rattle.grammar.specs.Grammar.{Answer, _then_, choose, answerOf, Ahead, Tells, Reads}
+use Rattle.grammar.specs.Grammar.{Answer, _then_}
+use Rattle.grammar.specs.Steps.{answerOf, Onward, Tells}
 use Rattle.grammar.proofs.Read as read-type
 
 pub no-word : (s : List ℕ) (at : ℕ) (w : Word) → tagOf word-type.the-type w ≡ 1 → Worded s at w → wordsIn between s at ≡ end (length s)
@@ -25,9 +27,9 @@ pub is-not : (a : Amount) → tagOf amount-type.the-type a ≡ 1 → a ≡ Not
 is-not (Is v) e = absurd (omega arith)
 is-not Not e = refl
 
-back-ahead : (s : List ℕ) (at most : ℕ) (r : Read) → tagOf read-type.the-type r ≡ 1 → Ahead s at most r
-back-ahead s at most (Value v next) e = absurd (omega arith)
-back-ahead s at most (Refused n p) e = tt
+pub back-onward : (s : List ℕ) (at most : ℕ) (r : Read) → tagOf read-type.the-type r ≡ 1 → Onward s at most r
+back-onward s at most (Value v next) e = absurd (omega arith)
+back-onward s at most (Refused n p) e = tt
 
 -- a refusal that is handed back is the answer of the whole
 pub back-is : {A B : Type 0} (f : ℕ → A) (g : ℕ → B) (s : List ℕ) {a : Answer A} (r : Read) (k : A → Words → Answer B) → tagOf read-type.the-type r ≡ 1
@@ -37,14 +39,4 @@ back-is {A} f g s (Refused n p) k e h = ap (λ (a : Answer A). a then k) h
 
 pub reads-back : {A B : Type 0} {f : ℕ → A} {s : List ℕ} {at l : ℕ} {r : Read} {a : Answer A} (g : ℕ → B) (most : ℕ) (k : A → Words → Answer B)
     → Tells f s at l r a → tagOf read-type.the-type r ≡ 1 → Tells g s at most r (a then k)
-reads-back {f = f} {s} {at} {r = r} g most k h e = record { is = back-is f g s r k e (h .is); ahead = back-ahead s at most r e }
-
-other-is : {B : Type 0} (s : List ℕ) {a : Answer ℕ} (r : Read) (k : Words → Answer B) (o : Answer B) → tagOf read-type.the-type r ≡ 1
-    → answerOf (λ v. v) s r ≡ a → o ≡ choose a k o
-other-is s (Value v next) k o e h = absurd (omega arith)
-other-is s (Refused n p) k o e h = ap (λ (a : Answer ℕ). choose a k o) h
-
--- or it leaves the other choice
-pub choose-back : {B : Type 0} {g : ℕ → B} {s : List ℕ} {at l most : ℕ} {r r' : Read} {a : Answer ℕ} {o : Answer B} (k : Words → Answer B)
-    → Reads s at l r a → tagOf read-type.the-type r ≡ 1 → Tells g s at most r' o → Tells g s at most r' (choose a k o)
-choose-back {s = s} {r = r} {o = o} k h e t = record { is = t .is ∙ other-is s r k o e (h .is); ahead = t .ahead }
+reads-back {f = f} {s} {at} {r = r} g most k h e = record { is = back-is f g s r k e (h .is); onward = back-onward s at most r e }

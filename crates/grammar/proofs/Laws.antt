@@ -1,33 +1,32 @@
 -- One word, and several after each other. Assumes nothing.
 use Prim.Native.Nat.{ℕ, suc, _+_, _≤_, _<_}
-use mathlib.Core.Path.{_≡_, refl, sym, ap, subst, _∙_}
+use mathlib.Core.Path.{_≡_, refl, sym, ap, subst, subst⁻¹, _∙_}
 use mathlib.Core.Bool.{Bool, true, false, _&&_, cond}
 use mathlib.Core.List.{List, [], _∷_}
 use native.Mathlib.Omega.{arith}
 use native.Mathlib.Numerals.{add-one}
 use borrow.Author.Tests.{leb-true, le-leb, lt-leb}
+use denote.Enum.Declared.{tagOf}
 use lib.ListN.{length, getD, drop}
 use lib.Seq.{drop-cons, drop-length}
 use lib.Dec.{eqb, leb}
 use Rattle.integers.proofs.Searches.{and-true}
 use Rattle.words.specs.declared.Word.{Word}
-use Rattle.words.specs.declared.Word.the-variants.{At}
-use Rattle.words.specs.Words.{Words, end, wordsIn, between, Worded}
+use Rattle.words.specs.declared.Word.the-variants.{At, End}
+use Rattle.words.specs.Words.{Words, wordsIn, between, told}
+use Rattle.words.specs.Steps.{Inside, Worded}
+use Rattle.words.proofs.Word as word-type
+use Rattle.reader.specs.declared.Pair.{Pair}
+use Rattle.reader.specs.Pair.{after, Paired}
 use Rattle.numerals.specs.declared.Amount.{Amount}
 use Rattle.numerals.specs.declared.Amount.the-variants.{Is, Not}
 use Rattle.grammar.specs.declared.Read.{Read}
 use Rattle.grammar.specs.declared.Read.the-variants.{Value, Refused}
-use Rattle.grammar.specs.Grammar.{Answer, got, refused, _then_, choose, Finding, fits, unfit, outside, answered, oneWord, limited, same, answerOf, Ahead, Tells, Reads, found, bytesOf}
+use Rattle.grammar.specs.Grammar.{Answer, got, refused, _then_, choose, Finding, fits, unfit, outside, answered, oneWord, limited, same}
+use Rattle.grammar.proofs.Read as read-type
+use Rattle.grammar.specs.Steps.{answerOf, Onward, Tells, Reads, Follows, Takes, found, bytesOf}
 
--- ---- one word
-
--- none is left
-pub one-end : (find : List ℕ → Finding) (s : List ℕ) (at most : ℕ) → wordsIn between s at ≡ end (length s) → Reads s at most (Refused 2 (length s)) (oneWord find (wordsIn between s at))
-one-end find s at most e = record { is = sym (ap (oneWord find) e); ahead = tt }
-
--- what the word function told, of the word that it found
-pub worded-at : {s : List ℕ} {at : ℕ} {w : Word} (a b : ℕ) → Worded s at w → w ≡ At a b → Worded s at (At a b)
-worded-at {s} {at} a b h e = subst (λ (w : Word). Worded s at w) e h
+-- ---- a word that was found
 
 -- what holds of the value of a finding, if it has one
 abbrev pub OfValue : (ℕ → Type 0) → Finding → Type 0
@@ -40,18 +39,65 @@ found-is s start stop (fits v) = refl
 found-is s start stop unfit = refl
 found-is s start stop outside = refl
 
-found-ahead : (s : List ℕ) (at most start stop : ℕ) (f : Finding) → OfValue (λ v. v ≤ most) f → at < stop → stop ≤ length s → Ahead s at most (found start stop f)
-found-ahead s at most start stop (fits v) k a b = (k, (a, b))
-found-ahead s at most start stop unfit k a b = tt
-found-ahead s at most start stop outside k a b = tt
+found-follows : (most start stop : ℕ) (f : Finding) → OfValue (λ v. v ≤ most) f → Follows (At start stop) most (found start stop f)
+found-follows most start stop (fits v) k = (k, refl)
+found-follows most start stop unfit k = tt
+found-follows most start stop outside k = tt
 
--- the next word, as it is found
-pub one-word : (find : List ℕ → Finding) {s : List ℕ} {at : ℕ} {r : Read} (most start stop : ℕ) → Worded s at (At start stop)
-    → OfValue (λ v. v ≤ most) (find (bytesOf s start stop)) → r ≡ found start stop (find (bytesOf s start stop)) → Reads s at most r (oneWord find (wordsIn between s at))
-one-word find {s} {at} most start stop w k e = record {
-  is = ap (answerOf (λ v. v) s) e ∙ found-is s start stop (find (bytesOf s start stop)) ∙ sym (ap (oneWord find) (w .is));
-  ahead = subst (Ahead s at most) (sym e) (found-ahead s at most start stop (find (bytesOf s start stop)) k (omega (arith, w .lies)) (w .lies .1 .1));
-}
+-- it is taken as it is found
+pub takes-word : (find : List ℕ → Finding) {s : List ℕ} {w : Word} {r : Read} (most start stop : ℕ) → w ≡ At start stop
+    → OfValue (λ v. v ≤ most) (find (bytesOf s start stop)) → r ≡ found start stop (find (bytesOf s start stop)) → Takes s w most r (oneWord find (told s w))
+takes-word find {s} {r = r} most start stop e k q =
+    subst⁻¹ (λ (w : Word). Takes s w most r (oneWord find (told s w))) e
+    (record {
+      is = ap (answerOf (λ v. v) s) q ∙ found-is s start stop (find (bytesOf s start stop));
+      follows = subst⁻¹ (Follows (At start stop) most) q (found-follows most start stop (find (bytesOf s start stop)) k);
+    })
+
+-- or there is none
+pub takes-end : (find : List ℕ → Finding) (s : List ℕ) (w : Word) (most : ℕ) → tagOf word-type.the-type w ≡ 1
+    → Takes s w most (Refused 2 (length s)) (oneWord find (told s w))
+takes-end find s (At a b) most e = absurd (omega arith)
+takes-end find s End most e = record { is = refl; follows = tt }
+
+pub lies-in : (s : List ℕ) {w : Word} (a b : ℕ) → Inside s 0 w → w ≡ At a b → (a < b) × (b ≤ length s)
+lies-in s a b h e = subst (Inside s 0) e h .1
+
+-- ---- the next word from an offset
+
+inside-from : (s : List ℕ) (at : ℕ) (w : Word) → Inside s at w → Inside s 0 w
+inside-from s at (At a b) (h, k) = (omega arith, k)
+inside-from s at End e = tt
+
+pub inside : {s : List ℕ} {at : ℕ} {w : Word} → Worded s at w → Inside s 0 w
+inside {s} {at} {w} h = inside-from s at w (h .lies)
+
+pub onward : (s : List ℕ) (at most : ℕ) (w : Word) (r : Read) → Inside s at w → Follows w most r → Onward s at most r
+onward s at most (At a b) (Value v next) (h, (k, l)) (m, e) = (m, (omega arith, omega arith))
+onward s at most (At a b) (Refused n p) h f = tt
+onward s at most End (Value v next) h f = absurd f
+onward s at most End (Refused n p) h f = tt
+
+pub takes-reads : {s : List ℕ} {at most : ℕ} {w : Word} {r : Read} (f : Words → Answer ℕ) → Worded s at w → Takes s w most r (f (told s w))
+    → Reads s at most r (f (wordsIn between s at))
+takes-reads {s} {at} {most} {w} {r} f h t = record { is = t .is ∙ ap f (sym (h .is)); onward = onward s at most w r (h .lies) (t .follows) }
+
+-- ---- two words after each other
+
+follows-next : (w : Word) (at most v next : ℕ) → Follows w most (Value v next) → next ≡ after w at
+follows-next (At a b) at most v next f = f .1
+follows-next End at most v next f = absurd f
+
+after-in : (s : List ℕ) (at : ℕ) (w : Word) → at ≤ length s → Inside s at w → after w at ≤ length s
+after-in s at (At a b) h k = k .1 .1
+after-in s at End h k = h
+
+-- the second is the next word from where the first was read to
+pub second-word : {s : List ℕ} {at most : ℕ} {p : Pair} {r : Read} {a : Answer ℕ} (v next : ℕ) → Paired s at p → at ≤ length s → Takes s (p .first) most r a
+    → r ≡ Value v next → Worded s next (p .second)
+second-word {s} {at} {most} {p} v next d h t e =
+    subst⁻¹ (λ (k : ℕ). Worded s k (p .second)) (follows-next (p .first) at most v next (subst (Follows (p .first) most) e (t .follows)))
+    (d .second .within (after-in s at (p .first) h (d .first .within h .lies)))
 
 -- ---- a number within its limits
 
@@ -101,20 +147,17 @@ same-end a b i e f =
     ap (λ (n : ℕ). same (drop n a) (drop i b)) e ∙ ap (λ (n : ℕ). same (drop (length a) a) (drop n b)) f
     ∙ ap (λ (l : List ℕ). same l (drop (length b) b)) (drop-length a) ∙ ap (λ (l : List ℕ). same [] l) (drop-length b)
 
-pub same-in : (a b : List ℕ) (i : ℕ) → i < length a → i < length b → same (drop i a) (drop i b) ≡ (eqb (getD a i 0) (getD b i 0) && same (drop (i + 1) a) (drop (i + 1) b))
+pub same-in : (a b : List ℕ) (i : ℕ) → i < length a → i < length b
+    → same (drop i a) (drop i b) ≡ (eqb (getD a i 0) (getD b i 0) && same (drop (i + 1) a) (drop (i + 1) b))
 unfolding same
 same-in a b i h k =
     rw add-one (ap (λ (l : List ℕ). same l (drop i b)) (drop-cons a i 0 h) ∙ ap (λ (l : List ℕ). same (getD a i 0 ∷ drop (suc i) a) l) (drop-cons b i 0 k))
 
 -- ---- several words after each other
 
-pub ahead-earlier : (s : List ℕ) (at next most : ℕ) (r : Read) → at ≤ next → Ahead s next most r → Ahead s at most r
-ahead-earlier s at next most (Value v n) h (a, (b, c)) = (a, (omega arith, c))
-ahead-earlier s at next most (Refused n p) h e = tt
-
-pub ahead-most : (s : List ℕ) (at less most : ℕ) (r : Read) → less ≤ most → Ahead s at less r → Ahead s at most r
-ahead-most s at less most (Value v n) h (a, b) = (omega arith, b)
-ahead-most s at less most (Refused n p) h e = tt
+pub onward-earlier : (s : List ℕ) (at next most : ℕ) (r : Read) → at ≤ next → Onward s next most r → Onward s at most r
+onward-earlier s at next most (Value v n) h (a, (b, c)) = (a, (omega arith, c))
+onward-earlier s at next most (Refused n p) h e = tt
 
 module _ {A : Type 0} {f : ℕ → A} {s : List ℕ} {at l : ℕ} {r : Read} {a : Answer A} where
   -- what was read, and where reading goes on
@@ -122,11 +165,7 @@ module _ {A : Type 0} {f : ℕ → A} {s : List ℕ} {at l : ℕ} {r : Read} {a 
   value-is v next h e = sym (ap (answerOf f s) e) ∙ h .is
 
   pub value-next : (v next : ℕ) → Tells f s at l r a → r ≡ Value v next → (v ≤ l) × ((at < next) × (next ≤ length s))
-  value-next v next h e = subst (Ahead s at l) e (h .ahead)
-
-  -- the same reading from an earlier offset
-  pub earlier : {b : Answer A} (from : ℕ) → Tells f s at l r a → from ≤ at → a ≡ b → Tells f s from l r b
-  earlier from h k e = record { is = h .is ∙ e; ahead = ahead-earlier s from at l r k (h .ahead) }
+  value-next v next h e = subst (Onward s at l) e (h .onward)
 
   module _ {B : Type 0} {g : ℕ → B} {most : ℕ} where
     -- a part, and what follows it
@@ -134,35 +173,36 @@ module _ {A : Type 0} {f : ℕ → A} {s : List ℕ} {at l : ℕ} {r : Read} {a 
         → Tells g s next most r' (k (f v) (wordsIn between s next)) → Tells g s at most r' (a then k)
     reads-on {r'} v next k h e t = record {
       is = t .is ∙ ap (λ (a : Answer A). a then k) (value-is v next h e);
-      ahead = ahead-earlier s at next most r' (omega (arith, value-next v next h e)) (t .ahead);
+      onward = onward-earlier s at next most r' (omega (arith, value-next v next h e)) (t .onward);
     }
 
-    -- a part, of which the last value is made
-    pub reads-done : (h : A → B) (v next w : ℕ) → Tells f s at l r a → r ≡ Value v next → w ≤ most → g w ≡ h (f v)
-        → Tells g s at most (Value w next) (a then λ x ws. got (h x) ws)
-    reads-done h v next w t e k q = record {
-      is = ap (λ (x : B). got x (wordsIn between s next)) q ∙ ap (λ (a : Answer A). a then λ x ws. got (h x) ws) (value-is v next t e);
-      ahead = (k, value-next v next t e .1);
-    }
+pub other-is : {X : Type 0} (s : List ℕ) {a : Answer ℕ} (r : Read) (k : Words → X) (o : X) → tagOf read-type.the-type r ≡ 1
+    → answerOf (λ v. v) s r ≡ a → o ≡ choose a k o
+other-is s (Value v next) k o e h = absurd (omega arith)
+other-is s (Refused n p) k o e h = ap (λ (a : Answer ℕ). choose a k o) h
 
--- a part that only chooses what follows
-pub choose-on : {B : Type 0} {g : ℕ → B} {s : List ℕ} {at l most : ℕ} {r r' : Read} {a : Answer ℕ} (v next : ℕ) (k : Words → Answer B) (o : Answer B)
-    → Reads s at l r a → r ≡ Value v next → Tells g s next most r' (k (wordsIn between s next)) → Tells g s at most r' (choose a k o)
-choose-on {s = s} {at} {most = most} {r' = r'} v next k o h e t = record {
-  is = t .is ∙ ap (λ (a : Answer ℕ). choose a k o) (value-is v next h e);
-  ahead = ahead-earlier s at next most r' (omega (arith, value-next v next h e)) (t .ahead);
+-- one word that is taken two ways: the second where the first is refused
+pub takes-choose : {s : List ℕ} {w : Word} {l most : ℕ} {r r' : Read} {a o : Answer ℕ} (k : Words → Answer ℕ) → Takes s w l r a → tagOf read-type.the-type r ≡ 1
+    → Takes s w most r' o → Takes s w most r' (choose a k o)
+takes-choose {s} {r = r} {o = o} k h e t = record { is = t .is ∙ other-is s r k o e (h .is); follows = t .follows }
+
+follows-most : (w : Word) (less most : ℕ) (r : Read) → less ≤ most → Follows w less r → Follows w most r
+follows-most (At a b) less most (Value v next) h (k, e) = (omega arith, e)
+follows-most (At a b) less most (Refused n p) h f = tt
+follows-most End less most (Value v next) h f = absurd f
+follows-most End less most (Refused n p) h f = tt
+
+pub takes-most : {s : List ℕ} {w : Word} {less : ℕ} (most : ℕ) {r : Read} {a : Answer ℕ} → less ≤ most → Takes s w less r a → Takes s w most r a
+takes-most {w = w} {less} most {r} h t = record { is = t .is; follows = follows-most w less most r h (t .follows) }
+
+follows-value : (w : Word) (less most v v' next : ℕ) → v' ≤ most → Follows w less (Value v next) → Follows w most (Value v' next)
+follows-value (At a b) less most v v' next h f = (h, f .1)
+follows-value End less most v v' next h f = absurd f
+
+-- or another value, where the first is taken
+pub takes-on : {s : List ℕ} {w : Word} {l : ℕ} {r : Read} {a : Answer ℕ} (n : ℕ) (o : Answer ℕ) (v next : ℕ) → Takes s w l r a → r ≡ Value v next
+    → Takes s w n (Value n next) (choose a (λ ws. got n ws) o)
+takes-on {s} {w} {l} n o v next t e = record {
+  is = ap (λ (x : Answer ℕ). choose x (λ ws. got n ws) o) (sym (ap (answerOf (λ v. v) s) e) ∙ t .is);
+  follows = follows-value w l n v n next (omega arith) (subst (Follows w l) e (t .follows));
 }
-
--- what was read, made into something else
-made-is : {A B : Type 0} (f : ℕ → A) (h : A → B) (s : List ℕ) (r : Read) → answerOf (λ v. h (f v)) s r ≡ (answerOf f s r then λ x ws. got (h x) ws)
-made-is f h s (Value v next) = refl
-made-is f h s (Refused n p) = refl
-
-pub reads-made : {A B : Type 0} {f : ℕ → A} {s : List ℕ} {at most : ℕ} {r : Read} {a : Answer A} (h : A → B) → Tells f s at most r a
-    → Tells (λ v. h (f v)) s at most r (a then λ x ws. got (h x) ws)
-reads-made {A} {f = f} {s} {r = r} h t = record { is = made-is f h s r ∙ ap (λ (a : Answer A). a then λ x ws. got (h x) ws) (t .is); ahead = t .ahead }
-
--- three in a row
-pub then-then : {A B C : Type 0} (a : Answer A) (f : A → Words → Answer B) (g : B → Words → Answer C) → ((a then f) then g) ≡ (a then λ x ws. f x ws then g)
-then-then (got x ws) f g = refl
-then-then (refused n p) f g = refl

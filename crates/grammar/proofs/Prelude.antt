@@ -1,8 +1,9 @@
 -- What more than one proof of this crate names.
 pub use Prim.Native.Nat.{_-_, _≤_, ℕ}
-pub use Rattle.grammar.proofs.Arms.{no-word, reads-back}
-pub use Rattle.grammar.proofs.Laws.{limited-below, one-end, one-word, reads-on, value-next, worded-at}
-pub use Rattle.grammar.specs.Grammar.{bytesOf, found, limited, same}
+pub use Rattle.grammar.proofs.Arms.{reads-back}
+pub use Rattle.grammar.proofs.Laws.{inside, lies-in, limited-below, reads-on, takes-end, takes-reads, takes-word, value-next}
+pub use Rattle.grammar.specs.Grammar.{limited, same}
+pub use Rattle.grammar.specs.Steps.{bytesOf, found}
 pub use Rattle.numerals.specs.Numeral.{amountOf}
 pub use Rattle.words.specs.Words.{between, wordsIn}
 pub use borrow.Author.Needs.{needs}

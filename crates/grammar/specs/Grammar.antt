@@ -1,17 +1,14 @@
 -- One word at a time: its form (2), then its limit (3).
-use Prim.Native.Nat.{ℕ, _-_, _≤_, _<_}
-use mathlib.Core.Path.{_≡_}
+use Prim.Native.Nat.{ℕ, _-_}
 use mathlib.Core.Bool.{Bool, true, false, _&&_, cond}
 use mathlib.Core.List.{List, [], _∷_}
-use lib.ListN.{length, take, drop}
 use lib.IntN.{ℤ}
 use lib.Dec.{eqb, leb}
-use Rattle.words.specs.Words.{Words, word, end, wordsIn, between}
+use Rattle.words.specs.Words.{Words, word, end}
 use Rattle.numerals.specs.declared.Amount.{Amount}
 use Rattle.numerals.specs.declared.Amount.the-variants.{Is, Not}
-use Rattle.numerals.specs.Numeral.{amountOf, negative, unsigned, signed}
-use Rattle.grammar.specs.declared.Read.{Read}
-use Rattle.grammar.specs.declared.Read.the-variants.{Value, Refused}
+use Rattle.numerals.specs.declared.Form.{Form}
+use Rattle.numerals.specs.Numeral.{countForm, amountOf, negative, unsigned, signed}
 
 -- what reading gives: a value and the words that are left, or a refusal's number and place
 pub data Answer (A : Type 0) : Type 0 where
@@ -24,7 +21,7 @@ got a ws then k = k a ws
 refused n p then k = refused n p
 
 -- where the first can be read, what follows it; else the other
-abbrev pub choose : {B : Type 0} → Answer ℕ → (Words → Answer B) → Answer B → Answer B
+abbrev pub choose : {X : Type 0} → Answer ℕ → (Words → X) → X → X
 choose (got v ws) k other = k ws
 choose (refused n p) k other = other
 
@@ -49,13 +46,13 @@ abbrev pub limited : ℕ → ℕ → Amount → Finding
 limited least most (Is v) = cond (leb least v && leb v most) (fits v) outside
 limited least most Not = unfit
 
--- a number of one to `digits` digits and up to `places` decimals, from `least` to `most`
-unfoldable pub number : ℕ → ℕ → ℕ → ℕ → Words → Answer ℕ
-number digits places least most = oneWord (λ w. limited least most (amountOf digits places w))
+-- a number of a form, from `least` to `most`
+unfoldable pub number : Form → ℕ → ℕ → Words → Answer ℕ
+number form least most = oneWord (λ w. limited least most (amountOf form w))
 
 -- the same after an optional minus, without its sign
-unfoldable pub magnitude : ℕ → ℕ → ℕ → Words → Answer ℕ
-magnitude digits places most = oneWord (λ w. limited 0 most (amountOf digits places (unsigned w)))
+unfoldable pub magnitude : Form → ℕ → Words → Answer ℕ
+magnitude form most = oneWord (λ w. limited 0 most (amountOf form (unsigned w)))
 
 -- whether the next word has a minus
 abbrev pub minus : Words → Bool
@@ -63,8 +60,8 @@ minus (word at w rest) = negative w
 minus (end at) = false
 
 -- a number with its sign
-unfoldable pub signedNumber : ℕ → ℕ → ℕ → Words → Answer ℤ
-signedNumber digits places most ws = magnitude digits places most ws then λ v rest. got (signed (minus ws) v) rest
+unfoldable pub signedNumber : Form → ℕ → Words → Answer ℤ
+signedNumber form most ws = magnitude form most ws then λ v rest. got (signed (minus ws) v) rest
 
 unfoldable pub same : List ℕ → List ℕ → Bool
 same [] [] = true
@@ -94,37 +91,9 @@ abbrev pub named : List ℕ → Words → Answer ℕ
 named name = keys name colon
 
 -- a name, a colon and a number
-unfoldable pub field : List ℕ → ℕ → ℕ → ℕ → ℕ → Words → Answer ℕ
-field name digits places least most ws = named name ws then λ _ ws. number digits places least most ws
+unfoldable pub field : List ℕ → Form → ℕ → ℕ → Words → Answer ℕ
+field name form least most ws = named name ws then λ _ ws. number form least most ws
 
--- one of n, by its number of one or two digits; n itself for a star, which stands for all of them
+-- one of n, by its number; n itself for a star, which stands for all of them
 unfoldable pub index : ℕ → Words → Answer ℕ
-index n ws = choose (key star ws) (λ ws. got n ws) (number 2 0 0 (n - 1) ws)
-
--- ---- what the code's answer says, with f v for its value v
-
-abbrev pub answerOf : {A : Type 0} → (ℕ → A) → List ℕ → Read → Answer A
-answerOf f s (Value v next) = got (f v) (wordsIn between s next)
-answerOf f s (Refused n p) = refused n p
-
--- the value is at most `most`, and reading goes on past `at`
-abbrev pub Ahead : List ℕ → ℕ → ℕ → Read → Type 0
-Ahead s at most (Value v next) = (v ≤ most) × ((at < next) × (next ≤ length s))
-Ahead s at most (Refused n p) = Unit
-
-pub record Tells {A : Type 0} (f : ℕ → A) (s : List ℕ) (at most : ℕ) (r : Read) (a : Answer A) : Type 0 where
-  pub is : answerOf f s r ≡ a
-  pub ahead : Ahead s at most r
-
-abbrev pub Reads : List ℕ → ℕ → ℕ → Read → Answer ℕ → Type 0
-Reads s at most r a = Tells (λ v. v) s at most r a
-
--- what is answered for a word from start to stop
-abbrev pub found : ℕ → ℕ → Finding → Read
-found start stop (fits v) = Value v stop
-found start stop unfit = Refused 2 start
-found start stop outside = Refused 3 start
-
--- the bytes of that word
-abbrev pub bytesOf : List ℕ → ℕ → ℕ → List ℕ
-bytesOf s start stop = take (stop - start) (drop start s)
+index n ws = choose (key star ws) (λ ws. got n ws) (number countForm 0 (n - 1) ws)

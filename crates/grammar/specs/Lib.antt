@@ -1,2 +1,3 @@
 -- Words to numbers, keys and indices.
 pub mod Grammar
+pub mod Steps

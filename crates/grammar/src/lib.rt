@@ -2,10 +2,14 @@
 ghost use mathlib.Core.Path.{_≡_};
 ghost use Prim.Native.Nat.{_+_, _≤_};
 ghost use lib.ListN.{length, drop};
-ghost use Rattle.words.specs.Words.{wordsIn, between};
+ghost use Rattle.words.specs.Words.{wordsIn, between, told};
+ghost use Rattle.words.specs.Steps.{Inside};
 ghost use Rattle.numerals.specs.Numeral.{amountOf};
-ghost use Rattle.grammar.specs.Grammar.{number, magnitude, minus, same, key, keys, field, index, limited, found, bytesOf, Reads};
+ghost use Rattle.numerals.specs.Steps.{Short};
+ghost use Rattle.grammar.specs.Grammar.{number, magnitude, minus, same, key, keys, field, index, limited};
+ghost use Rattle.grammar.specs.Steps.{found, bytesOf, Reads, Takes};
 use numerals::Amount;
+use numerals::Form;
 use words::Word;
 
 // A value and the offset after it, or a refusal's number and place.
@@ -14,21 +18,22 @@ pub enum Read {
     Refused(u8, usize),
 }
 
-// The number that a word writes from an offset in it on: 2 for its form, 3 for its limit.
+// ---- a word that was found, from start to stop
+
+// The number that it writes from an offset in it on: 2 for its form, 3 for its limit.
 fn amount_in(
     file: &[u8],
     start: usize,
     stop: usize,
     from: usize,
-    digits: usize,
-    places: usize,
+    form: Form,
     least: u64,
     most: u64,
 ) -> Read
-    requires { ⌜ (start + from ≤ stop) × ((stop ≤ length (now file)) × ((digits ≤ 4) × (places ≤ 3))) ⌝ }
-    ensures { λ r. ⌜ r ≡ found start stop (limited least most (amountOf digits places (drop from (bytesOf (now (file .entry)) start stop)))) ⌝ }
+    requires { ⌜ (start + from ≤ stop) × ((stop ≤ length (now file)) × (Short form)) ⌝ }
+    ensures { λ r. ⌜ r ≡ found start stop (limited least most (amountOf form (drop from (bytesOf (now (file .entry)) start stop)))) ⌝ }
 {
-    let a = numerals::amount_of(&file[start..stop], from, digits, places);
+    let a = numerals::amount_of(&file[start..stop], from, form);
     let Amount::Is(v) = a else {
         return Read::Refused(2, start);
     };
@@ -41,45 +46,35 @@ fn amount_in(
     Read::Value(v, stop)
 }
 
-// The next word as a number.
-pub fn number_at(
-    file: &[u8],
-    at: usize,
-    digits: usize,
-    places: usize,
-    least: u64,
-    most: u64,
-) -> Read
-    requires { ⌜ (at ≤ length (now file)) × ((digits ≤ 4) × (places ≤ 3)) ⌝ }
-    ensures { λ r. ⌜ Reads (now (file .entry)) at most r (number digits places least most (wordsIn between (now (file .entry)) at)) ⌝ }
+// It as a number.
+pub fn number_of(file: &[u8], w: Word, form: Form, least: u64, most: u64) -> Read
+    requires { ⌜ (Inside (now file) 0 w) × (Short form) ⌝ }
+    ensures { λ r. ⌜ Takes (now (file .entry)) w most r (number form least most (told (now (file .entry)) w)) ⌝ }
 {
-    let x = reader::word_from(file, at);
-    let Word::At(start, stop) = x else {
+    let Word::At(start, stop) = w else {
         return Read::Refused(2, file.len());
     };
-    amount_in(file, start, stop, 0, digits, places, least, most)
+    amount_in(file, start, stop, 0, form, least, most)
 }
 
-// The next word as a number after an optional minus, without its sign.
-pub fn magnitude_at(file: &[u8], at: usize, digits: usize, places: usize, most: u64) -> Read
-    requires { ⌜ (at ≤ length (now file)) × ((digits ≤ 4) × (places ≤ 3)) ⌝ }
-    ensures { λ r. ⌜ Reads (now (file .entry)) at most r (magnitude digits places most (wordsIn between (now (file .entry)) at)) ⌝ }
+// It as a number after an optional minus, without its sign.
+pub fn magnitude_of(file: &[u8], w: Word, form: Form, most: u64) -> Read
+    requires { ⌜ (Inside (now file) 0 w) × (Short form) ⌝ }
+    ensures { λ r. ⌜ Takes (now (file .entry)) w most r (magnitude form most (told (now (file .entry)) w)) ⌝ }
 {
-    let x = reader::word_from(file, at);
-    let Word::At(start, stop) = x else {
+    let Word::At(start, stop) = w else {
         return Read::Refused(2, file.len());
     };
     let from = numerals::is_negative(&file[start..stop]) as usize;
-    amount_in(file, start, stop, from, digits, places, 0, most)
+    amount_in(file, start, stop, from, form, 0, most)
 }
 
-// Whether the next word has a minus.
-pub fn minus_at(file: &[u8], at: usize) -> bool
-    requires { ⌜ at ≤ length (now file) ⌝ }
-    ensures { λ r. ⌜ r ≡ minus (wordsIn between (now (file .entry)) at) ⌝ }
+// Whether it has a minus.
+pub fn minus_of(file: &[u8], w: Word) -> bool
+    requires { ⌜ Inside (now file) 0 w ⌝ }
+    ensures { λ r. ⌜ r ≡ minus (told (now (file .entry)) w) ⌝ }
 {
-    let x = reader::word_from(file, at);
-    let Word::At(start, stop) = x else {
+    let Word::At(start, stop) = w else {
         return false;
     };
     numerals::is_negative(&file[start..stop])
@@ -102,13 +97,12 @@ pub fn is_same(a: &[u8], b: &[u8]) -> bool
     true
 }
 
-// The next word, where it is the one given.
-pub fn key_at(file: &[u8], at: usize, k: &[u8]) -> Read
-    requires { ⌜ at ≤ length (now file) ⌝ }
-    ensures { λ r. ⌜ Reads (now (file .entry)) at 0 r (key (now (k .entry)) (wordsIn between (now (file .entry)) at)) ⌝ }
+// It, where it is the one given.
+pub fn key_of(file: &[u8], w: Word, k: &[u8]) -> Read
+    requires { ⌜ Inside (now file) 0 w ⌝ }
+    ensures { λ r. ⌜ Takes (now (file .entry)) w 0 r (key (now (k .entry)) (told (now (file .entry)) w)) ⌝ }
 {
-    let x = reader::word_from(file, at);
-    let Word::At(start, stop) = x else {
+    let Word::At(start, stop) = w else {
         return Read::Refused(2, file.len());
     };
     if is_same(k, &file[start..stop]) {
@@ -117,46 +111,61 @@ pub fn key_at(file: &[u8], at: usize, k: &[u8]) -> Read
     Read::Refused(2, start)
 }
 
-// The next two words, where they are the ones given.
+// It as one of n by its number, or n for a star.
+pub fn index_of(file: &[u8], w: Word, n: usize) -> Read
+    requires { ⌜ (Inside (now file) 0 w) × ((1 ≤ n) × (n ≤ 64)) ⌝ }
+    ensures { λ r. ⌜ Takes (now (file .entry)) w n r (index n (told (now (file .entry)) w)) ⌝ }
+{
+    let x = key_of(file, w, b"*");
+    let Read::Value(_, next) = x else {
+        return number_of(file, w, Form::COUNT, 0, (n - 1) as u64);
+    };
+    Read::Value(n as u64, next)
+}
+
+// ---- the next words from an offset
+
+// A number.
+pub fn number_at(file: &[u8], at: usize, form: Form, least: u64, most: u64) -> Read
+    requires { ⌜ (at ≤ length (now file)) × (Short form) ⌝ }
+    ensures { λ r. ⌜ Reads (now (file .entry)) at most r (number form least most (wordsIn between (now (file .entry)) at)) ⌝ }
+{
+    let w = reader::word_from(file, at);
+    number_of(file, w, form, least, most)
+}
+
+// A word that is given.
+pub fn key_at(file: &[u8], at: usize, k: &[u8]) -> Read
+    requires { ⌜ at ≤ length (now file) ⌝ }
+    ensures { λ r. ⌜ Reads (now (file .entry)) at 0 r (key (now (k .entry)) (wordsIn between (now (file .entry)) at)) ⌝ }
+{
+    let w = reader::word_from(file, at);
+    key_of(file, w, k)
+}
+
+// Two words that are given.
 pub fn keys_at(file: &[u8], at: usize, first: &[u8], second: &[u8]) -> Read
     requires { ⌜ at ≤ length (now file) ⌝ }
     ensures { λ r. ⌜ Reads (now (file .entry)) at 0 r (keys (now (first .entry)) (now (second .entry)) (wordsIn between (now (file .entry)) at)) ⌝ }
 {
-    let x = key_at(file, at, first);
-    let Read::Value(_, next) = x else {
+    let p = reader::pair_from(file, at);
+    let w = p.first;
+    let x = key_of(file, w, first);
+    let Read::Value(_, _) = x else {
         return x;
     };
-    key_at(file, next, second)
+    let v = p.second;
+    key_of(file, v, second)
 }
 
 // A name, a colon and a number.
-pub fn field_at(
-    file: &[u8],
-    at: usize,
-    name: &[u8],
-    digits: usize,
-    places: usize,
-    least: u64,
-    most: u64,
-) -> Read
-    requires { ⌜ (at ≤ length (now file)) × ((digits ≤ 4) × (places ≤ 3)) ⌝ }
-    ensures { λ r. ⌜ Reads (now (file .entry)) at most r (field (now (name .entry)) digits places least most (wordsIn between (now (file .entry)) at)) ⌝ }
+pub fn field_at(file: &[u8], at: usize, name: &[u8], form: Form, least: u64, most: u64) -> Read
+    requires { ⌜ (at ≤ length (now file)) × (Short form) ⌝ }
+    ensures { λ r. ⌜ Reads (now (file .entry)) at most r (field (now (name .entry)) form least most (wordsIn between (now (file .entry)) at)) ⌝ }
 {
     let x = keys_at(file, at, name, b":");
     let Read::Value(_, next) = x else {
         return x;
     };
-    number_at(file, next, digits, places, least, most)
-}
-
-// One of n by its number, or n for a star.
-pub fn index_at(file: &[u8], at: usize, n: usize) -> Read
-    requires { ⌜ (at ≤ length (now file)) × ((1 ≤ n) × (n ≤ 64)) ⌝ }
-    ensures { λ r. ⌜ Reads (now (file .entry)) at n r (index n (wordsIn between (now (file .entry)) at)) ⌝ }
-{
-    let x = key_at(file, at, b"*");
-    let Read::Value(_, next) = x else {
-        return number_at(file, at, 2, 0, 0, (n - 1) as u64);
-    };
-    Read::Value(n as u64, next)
+    number_at(file, next, form, least, most)
 }

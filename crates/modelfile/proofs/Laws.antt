@@ -1,18 +1,23 @@
 -- A file is refused at its first word that is, or goes on to the next. Assumes nothing.
-use Prim.Native.Nat.{ℕ}
-use mathlib.Core.Path.{_≡_, refl, sym, ap, _∙_}
+use Prim.Native.Nat.{ℕ, _≤_, _<_}
+use mathlib.Core.Path.{_≡_, refl, sym, ap, subst, _∙_}
 use mathlib.Core.List.{List, []}
 use native.Mathlib.Omega.{arith}
+use lib.ListN.{length}
 use denote.Enum.Declared.{tagOf}
 use Rattle.tables.specs.Judged.{noTables}
 use Rattle.words.specs.Words.{Words, wordsIn, between}
 use Rattle.grammar.specs.declared.Read.{Read}
 use Rattle.grammar.specs.declared.Read.the-variants.{Value}
 use Rattle.grammar.specs.declared.Read.the-variants.{Refused as NotRead}
-use Rattle.grammar.specs.Grammar.{Answer, _then_, answerOf, Tells}
+use Rattle.grammar.specs.Grammar.{Answer, _then_}
+use Rattle.grammar.specs.Steps.{answerOf, Onward, Tells}
+use Rattle.statements.specs.Statements.{Outcome, wholly}
+use Rattle.statements.specs.Steps.{outcomeOf, Leaves}
 use Rattle.grammar.proofs.Arms.{back-is}
 use Rattle.grammar.proofs.Read as read-type
-use Rattle.modelfile.specs.ModelFile.{Text, refusedFile, ended, handed}
+use Rattle.modelfile.specs.ModelFile.{Text, refusedFile, ended}
+use Rattle.modelfile.specs.Steps.{handed}
 
 -- one of them, where a refusal leaves open which
 abbrev anyText : Text
@@ -36,6 +41,22 @@ module _ {A : Type 0} {f : ℕ → A} {s : List ℕ} {at l : ℕ} {r : Read} {a 
 
   pub goes-on : (v next : ℕ) → r ≡ Value v next → ended size (k (f v) (wordsIn between s next)) ≡ ended size (a then k)
   goes-on v next e = goes-further f s r size k (t .is) v next e
+
+-- words that are read into cells
+wholly-is : {C : Type 0} (cells : C) (s : List ℕ) (r : Read) → answerOf (λ _. cells) s r ≡ wholly (outcomeOf cells s r)
+wholly-is cells s (Value v next) = refl
+wholly-is cells s (NotRead number place) = refl
+
+module _ {C : Type 0} (cells : C) (s : List ℕ) (r : Read) {o : Outcome C} (size : ℕ) (k : C → Words → Answer Text) (h : outcomeOf cells s r ≡ o) where
+  pub stops-there : tagOf read-type.the-type r ≡ 1 → handed r ≡ ended size (wholly o then k)
+  stops-there e = ends-there (λ _. cells) s r size k (wholly-is cells s r ∙ ap wholly h) e
+
+  pub fills-further : (v next : ℕ) → r ≡ Value v next → ended size (k cells (wordsIn between s next)) ≡ ended size (wholly o then k)
+  fills-further v next e = goes-further (λ _. cells) s r size k (wholly-is cells s r ∙ ap wholly h) v next e
+
+pub leaves-next : {C : Type 0} {s : List ℕ} {at : ℕ} {r : Read} {cells : C} {o : Outcome C} (v next : ℕ) → Leaves s at r cells o → r ≡ Value v next
+    → (v ≤ 0) × ((at < next) × (next ≤ length s))
+leaves-next {s = s} {at} v next h e = subst (Onward s at 0) e (h .onward)
 
 -- a value hands back nothing
 pub hands-none : (r : Read) → tagOf read-type.the-type r ≡ 0 → refusedFile 0 0 ≡ handed r

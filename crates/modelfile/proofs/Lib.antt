@@ -2,3 +2,4 @@
 pub mod Laws
 pub mod Opens
 pub mod Prelude
+pub mod Refused

@@ -21,12 +21,14 @@ use Rattle.tables.proofs.Accepted.{valid}
 use Rattle.tables.proofs.Refusals.{never, before-fine, unless-fine}
 use Rattle.words.specs.Words.{Words, wordsIn, between}
 use Rattle.drafts.specs.Drafts.{stated}
+use Rattle.numerals.specs.Numeral.{countForm, probabilityForm}
 use Rattle.grammar.specs.Grammar.{Answer, got, refused, _then_, key, named, field}
 use Rattle.grammar.proofs.Gives.{Gives, gives-then, gives-after, field-gives}
-use Rattle.statements.specs.Statements.{startTotal, startNumber, row, Draft, statements}
-use Rattle.statements.proofs.Small.{Small, statements-small}
+use Rattle.statements.specs.Statements.{wholly, startTotal, startNumber, row, Draft, statements}
+use Rattle.statements.proofs.Small.{Small, fills-gives, statements-small}
 use Rattle.modelfile.specs.declared.ModelFile.{ModelFile}
-use Rattle.modelfile.specs.ModelFile.{maxBytes, discountName, valuesName, rewardWord, statesName, actionsName, observationsName, startName, Text, textOf, noCells, body, counted, headed, placed, totalsVerdict, refusedFile, judgedFile, ended, modelFile}
+use Rattle.modelfile.specs.ModelFile.{maxBytes, discountName, valuesName, rewardWord, statesName, actionsName, observationsName, startName, Text, textOf}
+use Rattle.modelfile.specs.ModelFile.{noCells, body, counted, headed, placed, sumsVerdict, refusedFile, judgedFile, ended, modelFile}
 
 abbrev Within : ℕ → ℕ → Type 0
 Within limit v = (1 ≤ v) × (v ≤ limit)
@@ -67,37 +69,45 @@ none-small = record {
   rewards = zero-rewards (maxActions * maxStates);
 }
 
-body-limited : (fuel d n m k : ℕ) (ws : Words) → d ≤ one → Within maxStates n → Within maxActions m → Within maxObservations k → Gives Limited (body fuel d n m k ws)
+body-limited : (fuel d n m k : ℕ) (ws : Words) → d ≤ one → Within maxStates n → Within maxActions m → Within maxObservations k
+    → Gives Limited (body fuel d n m k ws)
 unfolding body
 body-limited fuel d n m k ws hd hn hm hk =
     gives-after Limited (named startName ws)
-    (λ _ ws. row startNumber (stated 1 1 n 0 0) 0 n (replicate maxStates 0) ws then λ start ws. statements fuel m n k noCells ws then λ cells ws. got (textOf d n m k start cells) ws) (λ _ ws.
-    gives-after Limited (row startNumber (stated 1 1 n 0 0) 0 n (replicate maxStates 0) ws) (λ start ws. statements fuel m n k noCells ws then λ cells ws. got (textOf d n m k start cells) ws)
-    (λ start ws. gives-then Small Limited (statements fuel m n k noCells ws) (λ cells ws. got (textOf d n m k start cells) ws) (statements-small fuel m n k noCells ws none-small)
+    (λ _ ws. wholly (row startNumber (stated 1 1 n 0 0) 0 n (replicate maxStates 0) ws) then λ start ws. wholly (statements fuel m n k noCells ws) then
+    λ cells ws. got (textOf d n m k start cells) ws) (λ _ ws.
+    gives-after Limited (wholly (row startNumber (stated 1 1 n 0 0) 0 n (replicate maxStates 0) ws))
+    (λ start ws. wholly (statements fuel m n k noCells ws) then λ cells ws. got (textOf d n m k start cells) ws)
+    (λ start ws. gives-then Small Limited (wholly (statements fuel m n k noCells ws)) (λ cells ws. got (textOf d n m k start cells) ws)
+    (fills-gives Small (statements fuel m n k noCells ws) (statements-small fuel m n k noCells ws none-small))
     (λ cells ws small. small-limited d n m k start cells hd hn hm hk small)))
 
 counted-limited : (fuel d : ℕ) (ws : Words) → d ≤ one → Gives Limited (counted fuel d ws)
 unfolding counted
 counted-limited fuel d ws hd =
-    gives-then (Within maxStates) Limited (field statesName 2 0 1 maxStates ws)
-    (λ n ws. field actionsName 2 0 1 maxActions ws then λ m ws. field observationsName 2 0 1 maxObservations ws then λ k ws. body fuel d n m k ws) (field-gives statesName 2 0 1 maxStates ws)
-    (λ n ws hn. gives-then (Within maxActions) Limited (field actionsName 2 0 1 maxActions ws) (λ m ws. field observationsName 2 0 1 maxObservations ws then λ k ws. body fuel d n m k ws)
-    (field-gives actionsName 2 0 1 maxActions ws)
-    (λ m ws hm. gives-then (Within maxObservations) Limited (field observationsName 2 0 1 maxObservations ws) (λ k ws. body fuel d n m k ws) (field-gives observationsName 2 0 1 maxObservations ws)
+    gives-then (Within maxStates) Limited (field statesName countForm 1 maxStates ws)
+    (λ n ws. field actionsName countForm 1 maxActions ws then λ m ws. field observationsName countForm 1 maxObservations ws then λ k ws. body fuel d n m k ws)
+    (field-gives statesName countForm 1 maxStates ws)
+    (λ n ws hn. gives-then (Within maxActions) Limited (field actionsName countForm 1 maxActions ws)
+    (λ m ws. field observationsName countForm 1 maxObservations ws then λ k ws. body fuel d n m k ws)
+    (field-gives actionsName countForm 1 maxActions ws)
+    (λ m ws hm. gives-then (Within maxObservations) Limited (field observationsName countForm 1 maxObservations ws) (λ k ws. body fuel d n m k ws)
+    (field-gives observationsName countForm 1 maxObservations ws)
     (λ k ws hk. body-limited fuel d n m k ws hd hn hm hk)))
 
 headed-limited : (fuel : ℕ) (ws : Words) → Gives Limited (headed fuel ws)
 unfolding headed
 headed-limited fuel ws =
-    gives-then (λ v. (0 ≤ v) × (v ≤ one)) Limited (field discountName 1 3 0 one ws) (λ d ws. named valuesName ws then λ _ ws. key rewardWord ws then λ _ ws. counted fuel d ws)
-    (field-gives discountName 1 3 0 one ws)
+    gives-then (λ v. (0 ≤ v) × (v ≤ one)) Limited (field discountName probabilityForm 0 one ws)
+    (λ d ws. named valuesName ws then λ _ ws. key rewardWord ws then λ _ ws. counted fuel d ws)
+    (field-gives discountName probabilityForm 0 one ws)
     (λ d ws hd. gives-after Limited (named valuesName ws) (λ _ ws. key rewardWord ws then λ _ ws. counted fuel d ws)
     (λ _ ws. gives-after Limited (key rewardWord ws) (λ _ ws. counted fuel d ws) (λ _ ws. counted-limited fuel d ws (hd .1))))
 
 -- ---- and the totals are those of 4, 5 and 6
 
 -- tables that open, with start numbers that are a point's weights
-pub record Opens (f : ModelFile) : Type 0 where
+pub record FileOpens (f : ModelFile) : Type 0 where
   pub tables-fine : modelVerdict (modelOf (f .tables)) ≡ Fine
   pub start-total : totalTo (f .tables .states) (λ s. getD (f .start) s 0) ≡ startTotal
 
@@ -110,8 +120,8 @@ all-fine true Fine w e f g = g
 all-fine true (Refused k i) w e f g = f
 all-fine false v w e f g = let z : _≡_ {A = ℕ} 0 1 = cc in absurd (omega arith)
 
-judged-opens : (size : ℕ) (t : Text) (v : Verdict) → Limited t → totalsVerdict size t ≡ v → judgedFile v t .verdict ≡ Fine → Opens (judgedFile v t)
-unfolding totalsVerdict modelVerdict
+judged-opens : (size : ℕ) (t : Text) (v : Verdict) → Limited t → sumsVerdict size t ≡ v → judgedFile v t .verdict ≡ Fine → FileOpens (judgedFile v t)
+unfolding sumsVerdict modelVerdict
 judged-opens size t Fine l e f =
     let m = t .tables in
     let moves = rowsTotal 5 (m .actions) (m .states) (m .states) (cellIn (m .states) (m .states) (m .transition)) in
@@ -124,17 +134,19 @@ judged-opens size t Fine l e f =
     }
 judged-opens size t (Refused k i) l e f = never f
 
-ended-opens : (size : ℕ) (a : Answer Text) → Gives Limited a → ended size a .verdict ≡ Fine → Opens (ended size a)
-ended-opens size (got t ws) l e = judged-opens size t (totalsVerdict size t) l refl e
+ended-opens : (size : ℕ) (a : Answer Text) → Gives Limited a → ended size a .verdict ≡ Fine → FileOpens (ended size a)
+ended-opens size (got t ws) l e = judged-opens size t (sumsVerdict size t) l refl e
 ended-opens size (refused n p) l e = never e
 
-short-opens : (file : List ℕ) (short : Bool) → cond short (ended (length file) (headed (length file + 1) (wordsIn between file 0))) (refusedFile 1 0) .verdict ≡ Fine
-    → Opens (cond short (ended (length file) (headed (length file + 1) (wordsIn between file 0))) (refusedFile 1 0))
-short-opens file true e = ended-opens (length file) (headed (length file + 1) (wordsIn between file 0)) (headed-limited (length file + 1) (wordsIn between file 0)) e
+short-opens : (file : List ℕ) (short : Bool) → cond short (ended (length file) (headed (length file + 1) (wordsIn between file 0))) (refusedFile 1 0) .verdict
+    ≡ Fine
+    → FileOpens (cond short (ended (length file) (headed (length file + 1) (wordsIn between file 0))) (refusedFile 1 0))
+short-opens file true e = ended-opens (length file) (headed (length file + 1) (wordsIn between file 0))
+    (headed-limited (length file + 1) (wordsIn between file 0)) e
 short-opens file false e = never e
 
 -- Each word kept its own limit when it was read, later statements only put such words into cells, and the totals were tested last. Qed.
-pub read-opens : (file : List ℕ) → modelFile file .verdict ≡ Fine → Opens (modelFile file)
+pub read-opens : (file : List ℕ) → modelFile file .verdict ≡ Fine → FileOpens (modelFile file)
 unfolding modelFile
 read-opens file e = short-opens file (leb (length file) maxBytes) e
 

@@ -1,2 +1,3 @@
 -- The whole file.
 pub mod ModelFile
+pub mod Steps

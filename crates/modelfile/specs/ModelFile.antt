@@ -15,11 +15,9 @@ use Rattle.tables.specs.Verdicts.{_before_, unless}
 use Rattle.tables.specs.Judged.{rowsTotal, noTables}
 use Rattle.words.specs.Words.{Words, wordsIn, between}
 use Rattle.drafts.specs.Drafts.{stated}
-use Rattle.grammar.specs.declared.Read.{Read}
-use Rattle.grammar.specs.declared.Read.the-variants.{Value}
-use Rattle.grammar.specs.declared.Read.the-variants.{Refused as NotRead}
+use Rattle.numerals.specs.Numeral.{countForm, probabilityForm}
 use Rattle.grammar.specs.Grammar.{Answer, got, refused, _then_, key, named, field}
-use Rattle.statements.specs.Statements.{startTotal, startNumber, row, Draft, draft, statements}
+use Rattle.statements.specs.Statements.{wholly, startTotal, startNumber, row, Draft, draft, statements}
 use Rattle.modelfile.specs.declared.ModelFile.{ModelFile}
 
 abbrev pub maxBytes : ℕ
@@ -79,24 +77,25 @@ textOf d n m k start cells = record {
 -- unstated entries are 0
 abbrev pub noCells : Draft
 noCells =
-    draft (replicate (maxActions * maxStates * maxStates) 0) (replicate (maxActions * maxStates * maxObservations) 0) (replicate (maxActions * maxStates) (pos 0))
+    draft (replicate (maxActions * maxStates * maxStates) 0) (replicate (maxActions * maxStates * maxObservations) 0)
+    (replicate (maxActions * maxStates) (pos 0))
 
 -- `start:` with n numbers, then the statements
 unfoldable pub body : ℕ → ℕ → ℕ → ℕ → ℕ → Words → Answer Text
 body fuel d n m k ws =
-    named startName ws then λ _ ws. row startNumber (stated 1 1 n 0 0) 0 n (replicate maxStates 0) ws then λ start ws.
-    statements fuel m n k noCells ws then λ cells ws. got (textOf d n m k start cells) ws
+    named startName ws then λ _ ws. wholly (row startNumber (stated 1 1 n 0 0) 0 n (replicate maxStates 0) ws) then λ start ws.
+    wholly (statements fuel m n k noCells ws) then λ cells ws. got (textOf d n m k start cells) ws
 
--- `states:`, `actions:` and `observations:`, counts of one or two digits
+-- `states:`, `actions:` and `observations:`
 unfoldable pub counted : ℕ → ℕ → Words → Answer Text
 counted fuel d ws =
-    field statesName 2 0 1 maxStates ws then λ n ws. field actionsName 2 0 1 maxActions ws then λ m ws.
-    field observationsName 2 0 1 maxObservations ws then λ k ws. body fuel d n m k ws
+    field statesName countForm 1 maxStates ws then λ n ws. field actionsName countForm 1 maxActions ws then λ m ws.
+    field observationsName countForm 1 maxObservations ws then λ k ws. body fuel d n m k ws
 
 -- `discount:` in thousandths, `values: reward`, and all that follows
 unfoldable pub headed : ℕ → Words → Answer Text
 headed fuel ws =
-    field discountName 1 3 0 one ws then λ d ws. named valuesName ws then λ _ ws. key rewardWord ws then λ _ ws. counted fuel d ws
+    field discountName probabilityForm 0 one ws then λ d ws. named valuesName ws then λ _ ws. key rewardWord ws then λ _ ws. counted fuel d ws
 
 -- ---- the totals, after the last statement
 
@@ -106,8 +105,8 @@ placed size Fine = Fine
 placed size (Refused number place) = Refused number size
 
 -- 4, then 5, then 6
-unfoldable pub totalsVerdict : ℕ → Text → Verdict
-totalsVerdict size t =
+unfoldable pub sumsVerdict : ℕ → Text → Verdict
+sumsVerdict size t =
     let m = t .tables in
     unless (eqb (totalTo (m .states) (λ s. getD (t .start) s 0)) startTotal) 4 size
     before placed size (rowsTotal 5 (m .actions) (m .states) (m .states) (cellIn (m .states) (m .states) (m .transition)))
@@ -124,15 +123,10 @@ judgedFile Fine t = record { verdict = Fine; tables = t .tables; start = t .star
 judgedFile (Refused number place) t = refusedFile number place
 
 abbrev pub ended : ℕ → Answer Text → ModelFile
-ended size (got t ws) = judgedFile (totalsVerdict size t) t
+ended size (got t ws) = judgedFile (sumsVerdict size t) t
 ended size (refused number place) = refusedFile number place
 
 -- 1 for a file that is too long
 unfoldable pub modelFile : List ℕ → ModelFile
 modelFile file =
     cond (leb (length file) maxBytes) (ended (length file) (headed (length file + 1) (wordsIn between file 0))) (refusedFile 1 0)
-
--- what is handed back of a word that was refused
-abbrev pub handed : Read → ModelFile
-handed (Value v next) = refusedFile 0 0
-handed (NotRead number place) = refusedFile number place

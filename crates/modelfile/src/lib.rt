@@ -4,8 +4,10 @@ ghost use Prim.Native.Nat.{_+_, _≤_};
 ghost use lib.ListN.{length};
 ghost use Rattle.words.specs.Words.{wordsIn, between};
 ghost use Rattle.tables.specs.Limits.{maxStates, maxActions, maxObservations};
-ghost use Rattle.modelfile.specs.ModelFile.{body, counted, headed, placed, totalsVerdict, refusedFile, judgedFile, ended, modelFile, handed};
+ghost use Rattle.modelfile.specs.ModelFile.{body, counted, headed, placed, sumsVerdict, refusedFile, judgedFile, ended, modelFile};
+ghost use Rattle.modelfile.specs.Steps.{handed};
 use grammar::Read;
+use numerals::Form;
 use tables::Tables;
 use tables::Verdict;
 use tables::judge;
@@ -18,6 +20,11 @@ pub struct ModelFile {
 }
 
 pub type Start = [u16; Tables::STATES]; // in hundredths
+
+// The start numbers are a table of one block of one row.
+const ROWS: usize = 1;
+
+const FIRST: usize = 0;
 
 impl ModelFile {
     pub const BYTES: usize = 32_768;
@@ -59,7 +66,7 @@ fn placed_at(size: usize, v: Verdict) -> Verdict
 // 4, then 5, then 6.
 fn totals_of(size: usize, m: Tables, start: Start) -> Verdict
     requires { ⌜ (m .actions ≤ maxActions) × ((m .states ≤ maxStates) × (m .observations ≤ maxObservations)) ⌝ }
-    ensures { λ r. ⌜ r ≡ totalsVerdict size (record { tables = m; start = start }) ⌝ }
+    ensures { λ r. ⌜ r ≡ sumsVerdict size (record { tables = m; start = start }) ⌝ }
 {
     let n = m.states;
     let actions = m.actions;
@@ -77,7 +84,7 @@ fn totals_of(size: usize, m: Tables, start: Start) -> Verdict
 // The file whose words have all been read.
 fn finished(size: usize, m: Tables, start: Start) -> ModelFile
     requires { ⌜ (m .actions ≤ maxActions) × ((m .states ≤ maxStates) × (m .observations ≤ maxObservations)) ⌝ }
-    ensures { λ r. ⌜ r ≡ judgedFile (totalsVerdict size (record { tables = m; start = start })) (record { tables = m; start = start }) ⌝ }
+    ensures { λ r. ⌜ r ≡ judgedFile (sumsVerdict size (record { tables = m; start = start })) (record { tables = m; start = start }) ⌝ }
 {
     match totals_of(size, m, start) {
         Verdict::Fine => ModelFile {
@@ -100,7 +107,18 @@ fn body_at(file: &[u8], at: usize, discount: u64, n: usize, m: usize, k: usize) 
         return back(x);
     };
     let mut start = [0u16; Tables::STATES];
-    let y = statements::row_at(file, p, &mut start, 1, 1, n, 0, 0, 2, ModelFile::START);
+    let y = statements::row_at(
+        file,
+        p,
+        &mut start,
+        1,
+        1,
+        n,
+        0,
+        0,
+        Form::START,
+        ModelFile::START,
+    );
     let Read::Value(_, q) = y else {
         return back(y);
     };
@@ -137,11 +155,11 @@ fn counted_at(file: &[u8], at: usize, discount: u64) -> ModelFile
     requires { ⌜ at ≤ length (now file) ⌝ }
     ensures { λ r. ⌜ r ≡ ended (length (now (file .entry))) (counted (length (now (file .entry)) + 1) discount (wordsIn between (now (file .entry)) at)) ⌝ }
 {
-    let x = grammar::field_at(file, at, b"states", 2, 0, 1, Tables::STATES as u64);
+    let x = grammar::field_at(file, at, b"states", Form::COUNT, 1, Tables::STATES as u64);
     let Read::Value(n, p) = x else {
         return back(x);
     };
-    let y = grammar::field_at(file, p, b"actions", 2, 0, 1, Tables::ACTIONS as u64);
+    let y = grammar::field_at(file, p, b"actions", Form::COUNT, 1, Tables::ACTIONS as u64);
     let Read::Value(m, q) = y else {
         return back(y);
     };
@@ -149,8 +167,7 @@ fn counted_at(file: &[u8], at: usize, discount: u64) -> ModelFile
         file,
         q,
         b"observations",
-        2,
-        0,
+        Form::COUNT,
         1,
         Tables::OBSERVATIONS as u64,
     );
@@ -164,7 +181,7 @@ fn counted_at(file: &[u8], at: usize, discount: u64) -> ModelFile
 fn headed_at(file: &[u8]) -> ModelFile
     ensures { λ r. ⌜ r ≡ ended (length (now (file .entry))) (headed (length (now (file .entry)) + 1) (wordsIn between (now (file .entry)) 0)) ⌝ }
 {
-    let x = grammar::field_at(file, 0, b"discount", 1, 3, 0, Tables::ONE);
+    let x = grammar::field_at(file, 0, b"discount", Form::PROBABILITY, 0, Tables::ONE);
     let Read::Value(discount, p) = x else {
         return back(x);
     };

@@ -1,2 +1,3 @@
 -- Words to numbers.
 pub mod Numeral
+pub mod Steps

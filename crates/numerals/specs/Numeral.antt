@@ -8,8 +8,29 @@ use lib.Dec.{eqb, leb}
 use Rattle.words.specs.Class.{classOf}
 use Rattle.words.specs.declared.Class.{Class}
 use Rattle.words.specs.declared.Class.the-variants.{Space, Colon, Hash, Digit, Point, Minus, Star, Rest}
+use Rattle.numerals.specs.declared.Form.{Form}
 use Rattle.numerals.specs.declared.Amount.{Amount}
 use Rattle.numerals.specs.declared.Amount.the-variants.{Is, Not}
+
+-- ---- forms: so many digits, then so many decimals
+
+-- counts and indices
+abbrev pub countForm : Form
+countForm = record { digits = 2; places = 0 }
+
+-- probabilities and the discount, in thousandths
+abbrev pub probabilityForm : Form
+probabilityForm = record { digits = 1; places = 3 }
+
+-- start numbers, in hundredths
+abbrev pub startForm : Form
+startForm = record { digits = 1; places = 2 }
+
+-- rewards, in ticks
+abbrev pub rewardForm : Form
+rewardForm = record { digits = 4; places = 2 }
+
+-- ---- a number of a form
 
 abbrev pub isDigit : Class → Bool
 isDigit Digit = true
@@ -31,6 +52,16 @@ unfoldable pub value : ℕ → List ℕ → ℕ
 value v [] = v
 value v (b ∷ w) = cond (isDigit (classOf b)) (value (v * 10 + (b - 48)) w) v
 
+abbrev pub isPoint : Class → Bool
+isPoint Point = true
+isPoint Space = false
+isPoint Colon = false
+isPoint Hash = false
+isPoint Digit = false
+isPoint Minus = false
+isPoint Star = false
+isPoint Rest = false
+
 abbrev pub fitting : Bool → Amount → Amount
 fitting true a = a
 fitting false a = Not
@@ -39,13 +70,14 @@ fitting false a = Not
 unfoldable pub fraction : ℕ → ℕ → List ℕ → Amount
 fraction places whole [] = Is whole
 fraction places whole (b ∷ w) =
-    fitting (eqb b 46 && (eqb (digits w) (length w) && (leb 1 (digits w) && leb (digits w) places)))
+    fitting (isPoint (classOf b) && (eqb (digits w) (length w) && (leb 1 (digits w) && leb (digits w) places)))
     (Is (whole + value 0 w * 10 ^ (places - digits w)))
 
--- one to `most` digits, then optionally a point and one to `places` digits; in units of which 10 ^ places make 1
-unfoldable pub amountOf : ℕ → ℕ → List ℕ → Amount
-amountOf most places w =
-    fitting (leb 1 (digits w) && leb (digits w) most) (fraction places (value 0 w * 10 ^ places) (drop (digits w) w))
+-- a word that has the form, in units of which 10 ^ places make 1
+unfoldable pub amountOf : Form → List ℕ → Amount
+amountOf form w =
+    fitting (leb 1 (digits w) && leb (digits w) (form .digits))
+    (fraction (form .places) (value 0 w * 10 ^ form .places) (drop (digits w) w))
 
 -- ---- an optional minus
 

@@ -1,6 +1,6 @@
 -- What more than one proof of this crate names.
 pub use Prim.Native.Nat.{_<_, _^_, ℕ}
-pub use Rattle.reader.specs.Next.{Next}
+pub use Rattle.words.specs.Steps.{Next}
 pub use Rattle.reader.specs.declared.Reader.{Reader}
 pub use Rattle.words.specs.declared.Word.{Word}
 pub use base.Fml.{Fml, Lft, Share, flft, ftrue}

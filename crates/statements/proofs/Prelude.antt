@@ -1,11 +1,12 @@
 -- What more than one proof of this crate names.
 pub use Prim.Native.Nat.{_-_, ℕ}
 pub use Rattle.drafts.specs.Drafts.{stated}
-pub use Rattle.grammar.proofs.Arms.{choose-back, reads-back}
-pub use Rattle.grammar.proofs.Laws.{choose-on, reads-done, reads-made, reads-on, value-next}
-pub use Rattle.grammar.specs.Grammar.{Answer, _then_, got}
-pub use Rattle.statements.specs.Statements.{draft, probability, reward}
-pub use Rattle.words.specs.Words.{Words, between, wordsIn}
+pub use Rattle.grammar.proofs.Arms.{reads-back}
+pub use Rattle.grammar.proofs.Laws.{inside, reads-on, second-word, takes-reads, value-next}
+pub use Rattle.grammar.specs.Grammar.{colon, index, key}
+pub use Rattle.statements.proofs.Laws.{chooses-back, chooses-on, leaves-back, leaves-done, leaves-on, leaves-within, takes-begin}
+pub use Rattle.statements.specs.Statements.{Outcome, draft, filled, probability, reward, upon, within}
+pub use Rattle.words.specs.Words.{Words, between, told, wordsIn}
 pub use borrow.Author.Needs.{needs}
 pub use lib.IntN.{ℤ}
 pub use mathlib.Core.List.{List}

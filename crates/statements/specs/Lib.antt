@@ -1,2 +1,3 @@
 -- Statements to tables.
 pub mod Statements
+pub mod Steps

@@ -1,14 +1,20 @@
 // The statements of a model file: T, O and R, read into the cells of their tables.
-ghost use mathlib.Core.Path.{_≡_};
 ghost use mathlib.Core.List.{List};
+ghost use mathlib.Core.Path.{_≡_};
 ghost use Prim.Native.Nat.{ℕ, _+_, _≤_};
 ghost use lib.ListN.{length};
-ghost use Rattle.words.specs.Words.{wordsIn, between};
+ghost use Rattle.words.specs.Words.{wordsIn, between, told};
+ghost use Rattle.words.specs.Steps.{Inside};
 ghost use Rattle.tables.specs.Limits.{maxStates, one};
+ghost use Rattle.numerals.specs.Steps.{Short};
 ghost use Rattle.drafts.specs.Drafts.{stated};
-ghost use Rattle.grammar.specs.Grammar.{number, Reads, Tells, answerOf};
-ghost use Rattle.statements.specs.Statements.{indexed, row, entry, table, reward, rewards, draft, rewardStatement, observationOrReward, oneStatement, statements, Room};
+ghost use Rattle.grammar.specs.Grammar.{number};
+ghost use Rattle.grammar.specs.Steps.{Reads};
+ghost use Rattle.statements.specs.Statements.{indexed, row, entry, table, reward, rewards, draft, rewardStatement, observationOrReward};
+ghost use Rattle.statements.specs.Statements.{oneStatement, statements};
+ghost use Rattle.statements.specs.Steps.{CellsFit, outcomeOf, Leaves, begin};
 use grammar::Read;
+use numerals::Form;
 use tables::Tables;
 use words::Word;
 
@@ -17,11 +23,14 @@ fn indexed_at(file: &[u8], at: usize, n: usize) -> Read
     requires { ⌜ (at ≤ length (now file)) × ((1 ≤ n) × (n ≤ maxStates)) ⌝ }
     ensures { λ r. ⌜ Reads (now (file .entry)) at n r (indexed n (wordsIn between (now (file .entry)) at)) ⌝ }
 {
-    let x = grammar::key_at(file, at, b":");
-    let Read::Value(_, next) = x else {
+    let p = reader::pair_from(file, at);
+    let w = p.first;
+    let x = grammar::key_of(file, w, b":");
+    let Read::Value(_, _) = x else {
         return x;
     };
-    grammar::index_at(file, next, n)
+    let v = p.second;
+    grammar::index_of(file, v, n)
 }
 
 // A number for each place of the rows that a and s stand for.
@@ -34,16 +43,17 @@ pub fn row_at(
     w: usize,
     a: usize,
     s: usize,
-    places: usize,
+    form: Form,
     most: u64,
 ) -> Read
-    requires { ⌜ (from ≤ length (now file)) × (Room m n w (now cells)) ⌝ }
-    requires { ⌜ (a ≤ m) × ((s ≤ n) × ((places ≤ 3) × (most ≤ one))) ⌝ }
-    ensures { λ r. ⌜ Tells (λ _. now (cells .exit)) (now (file .entry)) from 0 r (row (number 1 places 0 most) (stated m n w a s) 0 w (now (cells .entry)) (wordsIn between (now (file .entry)) from)) ⌝ }
+    requires { ⌜ (from ≤ length (now file)) × (CellsFit m n w (now cells)) ⌝ }
+    requires { ⌜ (a ≤ m) × ((s ≤ n) × ((Short form) × (most ≤ one))) ⌝ }
+    ensures { λ r. ⌜ Leaves (now (file .entry)) from r (now (cells .exit))
+        (row (number form 0 most) (stated m n w a s) 0 w (now (cells .entry)) (wordsIn between (now (file .entry)) from)) ⌝ }
 {
     let mut at = from;
     for x in 0..w {
-        let p = grammar::number_at(file, at, 1, places, 0, most);
+        let p = grammar::number_at(file, at, form, 0, most);
         let Read::Value(v, next) = p else {
             return p;
         };
@@ -64,15 +74,18 @@ fn entry_at(
     a: usize,
     s: usize,
 ) -> Read
-    requires { ⌜ (at ≤ length (now file)) × (Room m n w (now cells)) ⌝ }
+    requires { ⌜ (at ≤ length (now file)) × (CellsFit m n w (now cells)) ⌝ }
     requires { ⌜ (a ≤ m) × (s ≤ n) ⌝ }
-    ensures { λ r. ⌜ Tells (λ _. now (cells .exit)) (now (file .entry)) at 0 r (entry m n w a s (now (cells .entry)) (wordsIn between (now (file .entry)) at)) ⌝ }
+    ensures { λ r. ⌜ Leaves (now (file .entry)) at r (now (cells .exit)) (entry m n w a s (now (cells .entry)) (wordsIn between (now (file .entry)) at)) ⌝ }
 {
-    let i = grammar::index_at(file, at, w);
-    let Read::Value(x, next) = i else {
+    let both = reader::pair_from(file, at);
+    let first = both.first;
+    let i = grammar::index_of(file, first, w);
+    let Read::Value(x, _) = i else {
         return i;
     };
-    let p = grammar::number_at(file, next, 1, 3, 0, Tables::ONE);
+    let second = both.second;
+    let p = grammar::number_of(file, second, Form::PROBABILITY, 0, Tables::ONE);
     let Read::Value(v, end) = p else {
         return p;
     };
@@ -82,8 +95,8 @@ fn entry_at(
 
 // After `T` or `O`.
 fn table_at(file: &[u8], at: usize, cells: &mut [u16], m: usize, n: usize, w: usize) -> Read
-    requires { ⌜ (at ≤ length (now file)) × (Room m n w (now cells)) ⌝ }
-    ensures { λ r. ⌜ Tells (λ _. now (cells .exit)) (now (file .entry)) at 0 r (table m n w (now (cells .entry)) (wordsIn between (now (file .entry)) at)) ⌝ }
+    requires { ⌜ (at ≤ length (now file)) × (CellsFit m n w (now cells)) ⌝ }
+    ensures { λ r. ⌜ Leaves (now (file .entry)) at r (now (cells .exit)) (table m n w (now (cells .entry)) (wordsIn between (now (file .entry)) at)) ⌝ }
 {
     let i = indexed_at(file, at, m);
     let Read::Value(a, p) = i else {
@@ -104,7 +117,7 @@ fn table_at(file: &[u8], at: usize, cells: &mut [u16], m: usize, n: usize, w: us
             w,
             a as usize,
             s as usize,
-            3,
+            Form::PROBABILITY,
             Tables::ONE,
         );
     };
@@ -121,23 +134,24 @@ fn reward_at(
     a: usize,
     s: usize,
 ) -> Read
-    requires { ⌜ (at ≤ length (now file)) × (Room m n 1 (now cells)) ⌝ }
+    requires { ⌜ (at ≤ length (now file)) × (CellsFit m n 1 (now cells)) ⌝ }
     requires { ⌜ (a ≤ m) × (s ≤ n) ⌝ }
-    ensures { λ r. ⌜ Tells (λ _. now (cells .exit)) (now (file .entry)) at 0 r (reward m n a s (now (cells .entry)) (wordsIn between (now (file .entry)) at)) ⌝ }
+    ensures { λ r. ⌜ Leaves (now (file .entry)) at r (now (cells .exit)) (reward m n a s (now (cells .entry)) (wordsIn between (now (file .entry)) at)) ⌝ }
 {
-    let x = grammar::magnitude_at(file, at, 4, 2, Tables::REWARD);
+    let w = reader::word_from(file, at);
+    let x = grammar::magnitude_of(file, w, Form::REWARD, Tables::REWARD);
     let Read::Value(v, next) = x else {
         return x;
     };
-    let r = numerals::with_sign(grammar::minus_at(file, at), v);
+    let r = numerals::with_sign(grammar::minus_of(file, w), v);
     drafts::state_reward(cells, m, n, a, s, r);
     Read::Value(0, next)
 }
 
 // After `R`.
 fn rewards_at(file: &[u8], at: usize, cells: &mut [i64], m: usize, n: usize) -> Read
-    requires { ⌜ (at ≤ length (now file)) × (Room m n 1 (now cells)) ⌝ }
-    ensures { λ r. ⌜ Tells (λ _. now (cells .exit)) (now (file .entry)) at 0 r (rewards m n (now (cells .entry)) (wordsIn between (now (file .entry)) at)) ⌝ }
+    requires { ⌜ (at ≤ length (now file)) × (CellsFit m n 1 (now cells)) ⌝ }
+    ensures { λ r. ⌜ Leaves (now (file .entry)) at r (now (cells .exit)) (rewards m n (now (cells .entry)) (wordsIn between (now (file .entry)) at)) ⌝ }
 {
     let i = indexed_at(file, at, m);
     let Read::Value(a, p) = i else {
@@ -158,11 +172,12 @@ fn rewards_at(file: &[u8], at: usize, cells: &mut [i64], m: usize, n: usize) -> 
     reward_at(file, next, cells, m, n, a as usize, s as usize)
 }
 
-fn reward_statement_at(file: &[u8], at: usize, reward: &mut [i64], m: usize, n: usize) -> Read
-    requires { ⌜ (at ≤ length (now file)) × (Room m n 1 (now reward)) ⌝ }
-    ensures { λ r. ⌜ ((t o : List ℕ) → Tells (λ _. draft t o (now (reward .exit))) (now (file .entry)) at 0 r (rewardStatement m n (draft t o (now (reward .entry))) (wordsIn between (now (file .entry)) at))) ⌝ }
+fn reward_statement_at(file: &[u8], w: Word, reward: &mut [i64], m: usize, n: usize) -> Read
+    requires { ⌜ (Inside (now file) 0 w) × (CellsFit m n 1 (now reward)) ⌝ }
+    ensures { λ r. ⌜ ((t o : List ℕ) → Leaves (now (file .entry)) (begin w) r (draft t o (now (reward .exit)))
+        (rewardStatement m n (draft t o (now (reward .entry))) (told (now (file .entry)) w))) ⌝ }
 {
-    let x = grammar::key_at(file, at, b"R");
+    let x = grammar::key_of(file, w, b"R");
     let Read::Value(_, next) = x else {
         return x;
     };
@@ -171,26 +186,27 @@ fn reward_statement_at(file: &[u8], at: usize, reward: &mut [i64], m: usize, n: 
 
 fn other_statement_at(
     file: &[u8],
-    at: usize,
+    w: Word,
     observation: &mut [u16],
     reward: &mut [i64],
     m: usize,
     n: usize,
     k: usize,
 ) -> Read
-    requires { ⌜ (at ≤ length (now file)) × ((Room m n k (now observation)) × (Room m n 1 (now reward))) ⌝ }
-    ensures { λ r. ⌜ ((t : List ℕ) → Tells (λ _. draft t (now (observation .exit)) (now (reward .exit))) (now (file .entry)) at 0 r (observationOrReward m n k (draft t (now (observation .entry)) (now (reward .entry))) (wordsIn between (now (file .entry)) at))) ⌝ }
+    requires { ⌜ (Inside (now file) 0 w) × ((CellsFit m n k (now observation)) × (CellsFit m n 1 (now reward))) ⌝ }
+    ensures { λ r. ⌜ ((t : List ℕ) → Leaves (now (file .entry)) (begin w) r (draft t (now (observation .exit)) (now (reward .exit)))
+        (observationOrReward m n k (draft t (now (observation .entry)) (now (reward .entry))) (told (now (file .entry)) w))) ⌝ }
 {
-    let x = grammar::key_at(file, at, b"O");
+    let x = grammar::key_of(file, w, b"O");
     let Read::Value(_, next) = x else {
-        return reward_statement_at(file, at, reward, m, n);
+        return reward_statement_at(file, w, reward, m, n);
     };
     table_at(file, next, observation, m, n, k)
 }
 
 fn statement_at(
     file: &[u8],
-    at: usize,
+    w: Word,
     transition: &mut [u16],
     observation: &mut [u16],
     reward: &mut [i64],
@@ -198,12 +214,13 @@ fn statement_at(
     n: usize,
     k: usize,
 ) -> Read
-    requires { ⌜ (at ≤ length (now file)) × ((Room m n n (now transition)) × ((Room m n k (now observation)) × (Room m n 1 (now reward)))) ⌝ }
-    ensures { λ r. ⌜ Tells (λ _. draft (now (transition .exit)) (now (observation .exit)) (now (reward .exit))) (now (file .entry)) at 0 r (oneStatement m n k (draft (now (transition .entry)) (now (observation .entry)) (now (reward .entry))) (wordsIn between (now (file .entry)) at)) ⌝ }
+    requires { ⌜ (Inside (now file) 0 w) × ((CellsFit m n n (now transition)) × ((CellsFit m n k (now observation)) × (CellsFit m n 1 (now reward)))) ⌝ }
+    ensures { λ r. ⌜ Leaves (now (file .entry)) (begin w) r (draft (now (transition .exit)) (now (observation .exit)) (now (reward .exit)))
+        (oneStatement m n k (draft (now (transition .entry)) (now (observation .entry)) (now (reward .entry))) (told (now (file .entry)) w)) ⌝ }
 {
-    let x = grammar::key_at(file, at, b"T");
+    let x = grammar::key_of(file, w, b"T");
     let Read::Value(_, next) = x else {
-        return other_statement_at(file, at, observation, reward, m, n, k);
+        return other_statement_at(file, w, observation, reward, m, n, k);
     };
     table_at(file, next, transition, m, n, n)
 }
@@ -219,8 +236,10 @@ pub fn statements_at(
     n: usize,
     k: usize,
 ) -> Read
-    requires { ⌜ (from ≤ length (now file)) × ((Room m n n (now transition)) × ((Room m n k (now observation)) × (Room m n 1 (now reward)))) ⌝ }
-    ensures { λ r. ⌜ answerOf (λ _. draft (now (transition .exit)) (now (observation .exit)) (now (reward .exit))) (now (file .entry)) r ≡ statements (length (now (file .entry)) + 1) m n k (draft (now (transition .entry)) (now (observation .entry)) (now (reward .entry))) (wordsIn between (now (file .entry)) from) ⌝ }
+    requires { ⌜ (from ≤ length (now file)) × ((CellsFit m n n (now transition)) × ((CellsFit m n k (now observation)) × (CellsFit m n 1 (now reward)))) ⌝ }
+    ensures { λ r. ⌜ outcomeOf (draft (now (transition .exit)) (now (observation .exit)) (now (reward .exit))) (now (file .entry)) r ≡ statements
+        (length (now (file .entry)) + 1) m n k (draft (now (transition .entry)) (now (observation .entry)) (now (reward .entry)))
+        (wordsIn between (now (file .entry)) from) ⌝ }
 {
     let mut at = from;
     loop {
@@ -228,7 +247,7 @@ pub fn statements_at(
         let Word::At(_, _) = w else {
             return Read::Value(0, at);
         };
-        let x = statement_at(file, at, transition, observation, reward, m, n, k);
+        let x = statement_at(file, w, transition, observation, reward, m, n, k);
         let Read::Value(_, next) = x else {
             return x;
         };

@@ -12,7 +12,9 @@ use lib.Seq.{drop-cons, drop-length}
 use Rattle.words.specs.declared.Class.{Class}
 use Rattle.words.specs.declared.Class.the-variants.{Space, Colon, Hash, Digit, Point, Minus, Star, Rest}
 use Rattle.words.specs.Class.{classOf}
-use Rattle.words.specs.Words.{Role, parts, alone, opens, belongs, roleOf, Words, word, end, run, whereBelongs, Mode, between, inside, comment, step, wordsOf, wordsIn, Run}
+use Rattle.words.specs.Words.{Role, parts, alone, opens, belongs, roleOf, Words, word, end, run, whereBelongs, Mode, between, inside, comment, step}
+use Rattle.words.specs.Words.{wordsOf, wordsIn}
+use Rattle.words.specs.Steps.{Run}
 
 -- ---- the class of a byte, by its tests
 test : (P : Class → Type 0) (t : Bool) (x y : Class) → (t ≡ true → P x) → P y → P (cond t x y)
@@ -97,7 +99,13 @@ module _ (s : List ℕ) (at : ℕ) (h : at < length s) where
 
   pub run-more : {r : ℕ} → roleIn s at ≡ belongs → Run s (at + 1) r → Run s at r
   run-more {r} e w =
-      record { up = omega arith; low = w .low; same = step-by inside e ∙ w .same; bytes = run-on e ∙ ap (λ (l : List ℕ). getD s at 0 ∷ l) (w .bytes) ∙ took r (w .up) }
+      record {
+        up = omega arith;
+        low = w .low;
+        same = step-by inside e ∙ w .same;
+        bytes = run-on e ∙ ap (λ (l : List ℕ). getD s at 0 ∷ l) (w .bytes) ∙ took r
+            (w .up);
+      }
 
   -- any other ends it
   pub run-ends : Ends (roleIn s at) → Run s at at

@@ -2,7 +2,7 @@
 pub use Prim.Native.Nat.{_-_, _<_, _≤_, ℕ}
 pub use Rattle.words.proofs.Keys.{by-keys}
 pub use Rattle.words.proofs.Laws.{at-end}
-pub use Rattle.words.specs.Words.{Begins, belongs, between, roleOf, wordsIn}
+pub use Rattle.words.specs.Words.{belongs, between, roleOf, wordsIn}
 pub use Rattle.words.specs.declared.Class.{Class}
 pub use borrow.Author.Needs.{needs}
 pub use lib.ListN.{length}

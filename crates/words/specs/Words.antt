@@ -2,11 +2,10 @@
 --
 -- Spaces part words, a colon is a word by itself, and a hash ends a word and opens a comment up to the next LF or the file's end. The file is
 -- taken byte by byte; a byte stands between words, inside a word that began before it, or in a comment.
-use Prim.Native.Nat.{ℕ, _+_, _-_, _≤_, _<_}
-use mathlib.Core.Path.{_≡_}
+use Prim.Native.Nat.{ℕ, _+_, _-_}
 use mathlib.Core.Bool.{cond}
 use mathlib.Core.List.{List, [], _∷_}
-use lib.ListN.{length, getD, take, drop}
+use lib.ListN.{length, take, drop}
 use lib.Dec.{eqb}
 use Rattle.words.specs.declared.Class.{Class}
 use Rattle.words.specs.declared.Class.the-variants.{Space, Colon, Hash, Digit, Point, Minus, Star, Rest}
@@ -67,39 +66,7 @@ wordsOf m at (b ∷ s) = step m (roleOf (classOf b)) at b s (λ m'. wordsOf m' (
 unfoldable pub wordsIn : Mode → List ℕ → ℕ → Words
 wordsIn m s at = wordsOf m at (drop at s)
 
--- ---- what the word function's answer says
-
+-- the words from the one that the word function answers
 abbrev pub told : List ℕ → Word → Words
 told s (At start stop) = word start (take (stop - start) (drop start s)) (wordsIn between s stop)
 told s End = end (length s)
-
-abbrev pub Inside : List ℕ → ℕ → Word → Type 0
-Inside s a (At start stop) = (a ≤ start) × ((start < stop) × (stop ≤ length s))
-Inside s a End = Unit
-
--- w is the next word from a, and lies between a and the end of the file
-pub record Worded (s : List ℕ) (a : ℕ) (w : Word) : Type 0 where
-  pub is : wordsIn between s a ≡ told s w
-  pub lies : Inside s a w
-
--- ---- what its steps say
-
-abbrev pub Begins : Role → Type 0
-Begins parts = ⊥
-Begins alone = Unit
-Begins opens = ⊥
-Begins belongs = Unit
-
--- no word begins from a up to r, and one begins at r unless the file ends there
-pub record Skipped (s : List ℕ) (a r : ℕ) : Type 0 where
-  pub up : a ≤ r
-  pub low : r ≤ length s
-  pub same : wordsIn between s a ≡ wordsIn between s r
-  pub begins : r < length s → Begins (roleOf (classOf (getD s r 0)))
-
--- the bytes from a up to r are the rest of a word that began before a
-pub record Run (s : List ℕ) (a r : ℕ) : Type 0 where
-  pub up : a ≤ r
-  pub low : r ≤ length s
-  pub same : wordsIn inside s a ≡ wordsIn between s r
-  pub bytes : run (drop a s) ≡ take (r - a) (drop a s)

@@ -3,7 +3,8 @@ ghost use mathlib.Core.Path.{_≡_};
 ghost use Prim.Native.Nat.{_≤_};
 ghost use lib.ListN.{length};
 ghost use Rattle.words.specs.Class.{classOf};
-ghost use Rattle.words.specs.Words.{wordsIn, between, comment, Skipped, Run, Worded};
+ghost use Rattle.words.specs.Words.{wordsIn, between, comment};
+ghost use Rattle.words.specs.Steps.{Run, Next};
 
 pub enum Class {
     Space,
@@ -20,7 +21,10 @@ pub fn class_of(b: u8) -> Class
     ensures { λ r. ⌜ r ≡ classOf b ⌝ }
 {
     match b {
-        b' ' | b'\t' | b'\r' | b'\n' => Class::Space,
+        b'\0'..=b' ' => match b {
+            b' ' | b'\t' | b'\r' | b'\n' => Class::Space,
+            _ => Class::Rest,
+        },
         b':' => Class::Colon,
         b'#' => Class::Hash,
         b'0'..=b'9' => Class::Digit,
@@ -52,29 +56,6 @@ fn line_end(s: &[u8], from: usize) -> usize
     at
 }
 
-// The start of the next word, past spaces and comments, or the end of the file.
-fn skip(s: &[u8], from: usize) -> usize
-    requires { ⌜ from ≤ length (now s) ⌝ }
-    ensures { λ r. ⌜ Skipped (now (s .entry)) from r ⌝ }
-{
-    let mut at = from;
-    while at < s.len() {
-        let k = class_of(s[at]);
-        match k {
-            Class::Space => {
-                at += 1;
-            }
-            Class::Hash => {
-                at = line_end(s, at + 1);
-            }
-            _ => {
-                return at;
-            }
-        }
-    }
-    at
-}
-
 // The end of a word that began before `from`.
 fn word_end(s: &[u8], from: usize) -> usize
     requires { ⌜ from ≤ length (now s) ⌝ }
@@ -95,18 +76,27 @@ fn word_end(s: &[u8], from: usize) -> usize
     at
 }
 
-// The next word from an offset.
+// The next word from an offset; none from past the end.
 pub fn word_at(s: &[u8], from: usize) -> Word
-    requires { ⌜ from ≤ length (now s) ⌝ }
-    ensures { λ r. ⌜ Worded (now (s .entry)) from r ⌝ }
+    ensures { λ r. ⌜ Next (now (s .entry)) from r ⌝ }
 {
-    let at = skip(s, from);
-    if s.len() <= at {
-        return Word::End;
+    let mut at = from;
+    while at < s.len() {
+        let k = class_of(s[at]);
+        match k {
+            Class::Space => {
+                at += 1;
+            }
+            Class::Hash => {
+                at = line_end(s, at + 1);
+            }
+            Class::Colon => {
+                return Word::At(at, at + 1);
+            }
+            _ => {
+                return Word::At(at, word_end(s, at + 1));
+            }
+        }
     }
-    let k = class_of(s[at]);
-    let Class::Colon = k else {
-        return Word::At(at, word_end(s, at + 1));
-    };
-    Word::At(at, at + 1)
+    Word::End
 }

@@ -7,17 +7,21 @@ returns : tie.Need-returns
 unfolding field
 returns c =
     let a = c .before .before .before .before .before .before .args in
-    reads-back (λ v. v) (a .most) (λ _ ws. number (a .digits) (a .places) (a .least) (a .most) ws) (c .before .before .keys-at .ensures) (c .before .match .keys2)
+    reads-back (λ v. v) (a .most) (λ _ ws. number (a .form) (a .least) (a .most) ws) (c .before .before .keys-at .ensures) (c .before .match .keys2)
 
 number-at-requires : tie.Need-number-at-requires
-number-at-requires c κs = (value-next _ _ (c .before .before .before .keys-at .ensures) (c .before .x .given .1) .1 .1, c .before .before .before .before .before .before .before .pre .1)
+number-at-requires c κs = (
+  value-next _ _ (c .before .before .before .keys-at .ensures) (c .before .x .given .1) .1 .1,
+  c .before .before .before .before .before .before .before .pre .1,
+)
 
 returns-2 : tie.Need-returns-2
 unfolding field
 returns-2 c =
     let a = c .before .before .before .before .before .before .before .before .args in
     let g = c .before .before .x .given in
-    reads-on (g .0 .0) (g .0 .1 .0) (λ _ ws. number (a .digits) (a .places) (a .least) (a .most) ws) (c .before .before .before .before .keys-at .ensures) (g .1) (c .number-at .ensures)
+    reads-on (g .0 .0) (g .0 .1 .0) (λ _ ws. number (a .form) (a .least) (a .most) ws) (c .before .before .before .before .keys-at .ensures) (g .1)
+    (c .number-at .ensures)
 
 pub field-at-spec : {M : Type 1} → statement M
 field-at-spec =

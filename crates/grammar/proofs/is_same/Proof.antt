@@ -24,7 +24,8 @@ returns-2 c =
     let l = c .before .before .before .before .loop in
     let a = c .before .before .before .before .before .before .args .a .now in
     let b = c .before .before .before .before .before .before .args .b .now in
-    sym (ap (λ (t : Bool). t && same (drop (l .i + 1) a) (drop (l .i + 1) b)) (ne-eqb _ _ (c .if2 .taken))) ∙ sym (same-in a b (l .i) (omega arith) (omega arith)) ∙ l .inv .1 .1
+    sym (ap (λ (t : Bool). t && same (drop (l .i + 1) a) (drop (l .i + 1) b)) (ne-eqb _ _ (c .if2 .taken))) ∙ sym
+    (same-in a b (l .i) (omega arith) (omega arith)) ∙ l .inv .1 .1
 
 loop-again : tie.Need-loop-again Inv-loop μ-loop
 loop-again c =
@@ -34,7 +35,8 @@ loop-again c =
       omega arith,
       (
         omega arith,
-        sym (ap (λ (t : Bool). t && same (drop (l .i + 1) a) (drop (l .i + 1) b)) (eq-eqb _ _ (c .if2 .left))) ∙ sym (same-in a b (l .i) (omega arith) (omega arith)) ∙ l .inv .1 .1,
+        sym (ap (λ (t : Bool). t && same (drop (l .i + 1) a) (drop (l .i + 1) b)) (eq-eqb _ _ (c .if2 .left))) ∙ sym
+            (same-in a b (l .i) (omega arith) (omega arith)) ∙ l .inv .1 .1,
       ),
     )
 

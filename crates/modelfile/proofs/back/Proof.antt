@@ -1,5 +1,5 @@
 use Rattle.modelfile.proofs.Prelude.{sym, ap, _∙_, needs}
-use Rattle.modelfile.specs.ModelFile.{handed}
+use Rattle.modelfile.specs.Steps.{handed}
 use Rattle.modelfile.proofs.Laws.{hands-none}
 use Rattle.modelfile.proofs.back.Statement.{statement}
 use Rattle.modelfile.proofs.back.Tie as tie

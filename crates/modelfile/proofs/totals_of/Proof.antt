@@ -1,7 +1,7 @@
 use Rattle.modelfile.proofs.Prelude.{ℕ, _+_, _≡_, sym, ap, _∙_, List, arith, needs, placed, sizes}
 use borrow.Author.Tests.{eq-eqb, ne-eqb}
 use Rattle.statements.specs.Statements.{startTotal}
-use Rattle.modelfile.specs.ModelFile.{totalsVerdict}
+use Rattle.modelfile.specs.ModelFile.{sumsVerdict}
 use lib.ListN.{getD}
 use Rattle.integers.specs.Whole.{totalTo}
 use Rattle.integers.proofs.Sums.{total-cong}
@@ -22,7 +22,7 @@ total : (start : List ℕ) (n : ℕ) → totalTo n (λ s. getD start (0 + s) 0) 
 total start n = total-cong n _ _ (λ s l. let e : 0 + s ≡ s = omega arith in ap (λ (j : ℕ). getD start j 0) e)
 
 returns : tie.Need-returns
-unfolding totalsVerdict
+unfolding sumsVerdict
 returns c =
     let t = c .before .row-total in
     let start = c .before .before .before .args .t3 in
@@ -34,23 +34,36 @@ rows-total-requires c κs =
     ((f .actions, (f .states, f .states)), omega (arith, sizes f, long (c .before .before .before .before .before .before)))
 
 returns-2 : tie.Need-returns-2
-unfolding totalsVerdict
+unfolding sumsVerdict
 returns-2 c =
     let size = c .before .before .before .before .before .before .before .before .before .before .args .size in
-    passes 4 size (eq-eqb _ startTotal (sym (total (c .before .before .before .before .before .before .before .before .before .before .args .t3) (c .before .before .before .before .before .before .before .before .before .before .args .t2 .states)) ∙ sym (c .before .before .before .before .before .before .before .before .row-total .ensures) ∙ c .before .before .before .before .before .before .before .if1 .left))
-    (stops _ (c .placed-at .ensures ∙ ap (placed size) (c .before .before .before .rows-total .ensures)) (c .placed-at .ensures ∙ ap (placed size) (c .before .enum-told2 .given .1)))
+    passes 4 size (eq-eqb _ startTotal (sym (total (c .before .before .before .before .before .before .before .before .before .before .args .t3)
+    (c .before .before .before .before .before .before .before .before .before .before .args .t2 .states)) ∙ sym
+    (c .before .before .before .before .before .before .before .before .row-total .ensures) ∙
+    c .before .before .before .before .before .before .before .if1 .left))
+    (stops _ (c .placed-at .ensures ∙ ap (placed size) (c .before .before .before .rows-total .ensures))
+    (c .placed-at .ensures ∙ ap (placed size) (c .before .enum-told2 .given .1)))
 
 rows-total-requires-2 : tie.Need-rows-total-requires-2
 rows-total-requires-2 c κs =
-    let f = few (c .before .before .before .before .before .before .before .before .before .before .before .before) in
-    ((f .actions, (f .states, omega (arith, f .observations))), omega (arith, sizes f, long (c .before .before .before .before .before .before .before .before .before .before .before .before)))
+    let f = few (c .before .before .before .before .before .before .before .before .before .before .before .before) in (
+      (f .actions, (f .states, omega (arith, f .observations))),
+      omega
+          (arith, sizes f, long (c .before .before .before .before .before .before .before .before .before .before .before .before)),
+    )
 
 returns-3 : tie.Need-returns-3
-unfolding totalsVerdict
+unfolding sumsVerdict
 returns-3 c =
     let size = c .before .before .before .before .before .before .before .before .before .before .before .before .before .before .args .size in
-    passes 4 size (eq-eqb _ startTotal (sym (total (c .before .before .before .before .before .before .before .before .before .before .before .before .before .before .args .t3) (c .before .before .before .before .before .before .before .before .before .before .before .before .before .before .args .t2 .states)) ∙ sym (c .before .before .before .before .before .before .before .before .before .before .before .before .row-total .ensures) ∙ c .before .before .before .before .before .before .before .before .before .before .before .if1 .left))
-    (goes (ap (placed size) (c .before .before .before .before .before .before .before .rows-total .ensures)) (ap (placed size) (c .before .before .before .before .before .enum-told .given .1)) (c .placed-at2 .ensures ∙ ap (placed size) (c .before .rows-total2 .ensures)))
+    passes 4 size (eq-eqb
+    _ startTotal (sym (total (c .before .before .before .before .before .before .before .before .before .before .before .before .before .before .args .t3)
+    (c .before .before .before .before .before .before .before .before .before .before .before .before .before .before .args .t2 .states)) ∙ sym
+    (c .before .before .before .before .before .before .before .before .before .before .before .before .row-total .ensures) ∙
+    c .before .before .before .before .before .before .before .before .before .before .before .if1 .left))
+    (goes (ap (placed size) (c .before .before .before .before .before .before .before .rows-total .ensures))
+    (ap (placed size) (c .before .before .before .before .before .enum-told .given .1))
+    (c .placed-at2 .ensures ∙ ap (placed size) (c .before .rows-total2 .ensures)))
 
 pub totals-of-spec : {M : Type 1} → statement M
 totals-of-spec =

@@ -1,31 +1,50 @@
-use Rattle.statements.proofs.Prelude.{ℕ, List, needs, ℤ, Words, Answer, _then_, value-next, reads-on, reads-back, indexed, reward, rewards}
+use Rattle.statements.proofs.Prelude.{ℕ, ℤ, List, needs, Words, value-next, indexed, reward, rewards, Outcome, upon, leaves-back, leaves-on}
 use Rattle.statements.specs.Statements.{starred}
 use Rattle.statements.proofs.rewards_at.Statement.{statement}
 use Rattle.statements.proofs.rewards_at.Tie as tie
 
--- what follows `: s`, and `: a`
-abbrev stars-after : ℕ → ℕ → List ℤ → ℕ → ℕ → Words → Answer (List ℤ)
-stars-after m n cells a s ws = starred ws then λ _ ws. starred ws then λ _ ws. reward m n a s cells ws
+-- the place of each call, from the next
+abbrev before-indexed-at : tie.After-indexed-at → tie.Start
+before-indexed-at c = c .before .before
 
-abbrev after : ℕ → ℕ → List ℤ → ℕ → Words → Answer (List ℤ)
-after m n cells a ws = indexed n ws then λ s ws. stars-after m n cells a s ws
+abbrev before-indexed-at2 : tie.After-indexed-at2 → tie.After-indexed-at
+before-indexed-at2 c = c .before .before .before .before
+
+abbrev before-keys-at : tie.After-keys-at → tie.After-indexed-at2
+before-keys-at c = c .before .before .before .before .before .before
+
+abbrev before-keys-at2 : tie.After-keys-at2 → tie.After-keys-at
+before-keys-at2 c = c .before .before .before .before .before .before
+
+-- what follows the first `: *`, `: s` and `: a`
+abbrev star-after : ℕ → ℕ → List ℤ → ℕ → ℕ → ℕ → Words → Outcome (List ℤ)
+star-after m n cells a s _ ws = upon cells (starred ws) (λ _ ws. reward m n a s cells ws)
+
+abbrev stars-after : ℕ → ℕ → List ℤ → ℕ → ℕ → Words → Outcome (List ℤ)
+stars-after m n cells a s ws = upon cells (starred ws) (star-after m n cells a s)
+
+abbrev after : ℕ → ℕ → List ℤ → ℕ → Words → Outcome (List ℤ)
+after m n cells a ws = upon cells (indexed n ws) (stars-after m n cells a)
 
 returns : tie.Need-returns
 unfolding rewards
 returns c =
-    let a = c .before .before .before .before .args in
-    reads-back _ 0 (after (a .m) (a .n) (a .cells .now)) (c .before .before .indexed-at .ensures) (c .before .match .keys2)
+    let a = before-indexed-at (c .before .before) .args in
+    leaves-back (a .cells .now) (after (a .m) (a .n) (a .cells .now)) (c .before .before .indexed-at .ensures) (c .before .match .keys2)
 
 indexed-at-requires-2 : tie.Need-indexed-at-requires-2
-indexed-at-requires-2 c κs = (value-next _ _ (c .before .before .before .indexed-at .ensures) (c .before .i .given .1) .1 .1, (c .before .before .before .before .before .pre .1 .some-rows, c .before .before .before .before .before .pre .1 .few-rows))
+indexed-at-requires-2 c κs = (
+  value-next _ _ (c .before .before .before .indexed-at .ensures) (c .before .i .given .1) .1 .1,
+  (before-indexed-at (c .before .before .before) .pre .1 .some-rows, before-indexed-at (c .before .before .before) .pre .1 .few-rows),
+)
 
 returns-2 : tie.Need-returns-2
 unfolding rewards
 returns-2 c =
-    let a = c .before .before .before .before .before .before .before .before .args in
+    let a = before-indexed-at (before-indexed-at2 (c .before .before)) .args in
     let g = c .before .before .before .before .i .given in
-    reads-on (g .0 .0) (g .0 .1 .0) (after (a .m) (a .n) (a .cells .now)) (c .before .before .before .before .before .before .indexed-at .ensures) (g .1)
-    (reads-back _ 0 (stars-after (a .m) (a .n) (a .cells .now) (g .0 .0)) (c .before .before .indexed-at2 .ensures) (c .before .match2 .keys2))
+    leaves-on (a .cells .now) (g .0 .0) (g .0 .1 .0) (after (a .m) (a .n) (a .cells .now)) (before-indexed-at2 (c .before .before) .indexed-at .ensures) (g .1)
+    (leaves-back (a .cells .now) (stars-after (a .m) (a .n) (a .cells .now) (g .0 .0)) (c .before .before .indexed-at2 .ensures) (c .before .match2 .keys2))
 
 keys-at-requires : tie.Need-keys-at-requires
 keys-at-requires c κs = value-next _ _ (c .before .before .before .before .before .indexed-at2 .ensures) (c .before .before .before .j .given .1) .1 .1
@@ -33,12 +52,15 @@ keys-at-requires c κs = value-next _ _ (c .before .before .before .before .befo
 returns-3 : tie.Need-returns-3
 unfolding rewards
 returns-3 c =
-    let a = c .before .before .before .before .before .before .before .before .before .before .before .before .before .before .args in
-    let g = c .before .before .before .before .before .before .before .before .before .before .i .given in
+    let a = before-indexed-at (before-indexed-at2 (before-keys-at (c .before .before))) .args in
+    let g = before-keys-at (c .before .before) .before .before .i .given in
     let h = c .before .before .before .before .before .before .j .given in
-    reads-on (g .0 .0) (g .0 .1 .0) (after (a .m) (a .n) (a .cells .now)) (c .before .before .before .before .before .before .before .before .before .before .before .before .indexed-at .ensures) (g .1)
-    (reads-on (h .0 .0) (h .0 .1 .0) (stars-after (a .m) (a .n) (a .cells .now) (g .0 .0)) (c .before .before .before .before .before .before .before .before .indexed-at2 .ensures) (h .1)
-    (reads-back _ 0 (λ _ ws. starred ws then λ _ ws. reward (a .m) (a .n) (g .0 .0) (h .0 .0) (a .cells .now) ws) (c .before .before .keys-at .ensures) (c .before .match3 .keys2)))
+    leaves-on (a .cells .now) (g .0 .0) (g .0 .1 .0) (after (a .m) (a .n) (a .cells .now))
+    (before-indexed-at2 (before-keys-at (c .before .before)) .indexed-at .ensures) (g .1)
+    (leaves-on (a .cells .now) (h .0 .0) (h .0 .1 .0) (stars-after (a .m) (a .n) (a .cells .now) (g .0 .0))
+    (before-keys-at (c .before .before) .indexed-at2 .ensures) (h .1)
+    (leaves-back (a .cells .now) (star-after (a .m) (a .n) (a .cells .now) (g .0 .0) (h .0 .0)) (c .before .before .keys-at .ensures)
+    (c .before .match3 .keys2)))
 
 keys-at-requires-2 : tie.Need-keys-at-requires-2
 keys-at-requires-2 c κs = value-next _ _ (c .before .before .before .before .before .keys-at .ensures) (c .before .before .before .first .given .1) .1 .1
@@ -46,33 +68,49 @@ keys-at-requires-2 c κs = value-next _ _ (c .before .before .before .before .be
 returns-4 : tie.Need-returns-4
 unfolding rewards
 returns-4 c =
-    let a = c .before .before .before .before .before .before .before .before .before .before .before .before .before .before .before .before .before .before .before .before .args in
-    let g = c .before .before .before .before .before .before .before .before .before .before .before .before .before .before .before .before .i .given in
-    let h = c .before .before .before .before .before .before .before .before .before .before .before .before .j .given in
+    let a = before-indexed-at (before-indexed-at2 (before-keys-at (before-keys-at2 (c .before .before)))) .args in
+    let g = before-keys-at (before-keys-at2 (c .before .before)) .before .before .i .given in
+    let h = before-keys-at2 (c .before .before) .before .before .before .before .j .given in
     let e = c .before .before .before .before .before .before .first .given in
-    reads-on (g .0 .0) (g .0 .1 .0) (after (a .m) (a .n) (a .cells .now)) (c .before .before .before .before .before .before .before .before .before .before .before .before .before .before .before .before .before .before .indexed-at .ensures) (g .1)
-    (reads-on (h .0 .0) (h .0 .1 .0) (stars-after (a .m) (a .n) (a .cells .now) (g .0 .0)) (c .before .before .before .before .before .before .before .before .before .before .before .before .before .before .indexed-at2 .ensures) (h .1)
-    (reads-on (e .0 .0) (e .0 .1 .0) (λ _ ws. starred ws then λ _ ws. reward (a .m) (a .n) (g .0 .0) (h .0 .0) (a .cells .now) ws) (c .before .before .before .before .before .before .before .before .keys-at .ensures) (e .1)
-    (reads-back _ 0 (λ _ ws. reward (a .m) (a .n) (g .0 .0) (h .0 .0) (a .cells .now) ws) (c .before .before .keys-at2 .ensures) (c .before .match4 .keys2))))
+    leaves-on (a .cells .now) (g .0 .0) (g .0 .1 .0) (after (a .m) (a .n) (a .cells .now))
+    (before-indexed-at2 (before-keys-at (before-keys-at2 (c .before .before))) .indexed-at .ensures) (g .1)
+    (leaves-on (a .cells .now) (h .0 .0) (h .0 .1 .0) (stars-after (a .m) (a .n) (a .cells .now) (g .0 .0))
+    (before-keys-at (before-keys-at2 (c .before .before)) .indexed-at2 .ensures) (h .1)
+    (leaves-on (a .cells .now) (e .0 .0) (e .0 .1 .0) (star-after (a .m) (a .n) (a .cells .now) (g .0 .0) (h .0 .0))
+    (before-keys-at2 (c .before .before) .keys-at .ensures) (e .1)
+    (leaves-back (a .cells .now) (λ _ ws. reward (a .m) (a .n) (g .0 .0) (h .0 .0) (a .cells .now) ws) (c .before .before .keys-at2 .ensures)
+    (c .before .match4 .keys2))))
 
 reward-at-requires : tie.Need-reward-at-requires
 reward-at-requires c κs =
-    let i = value-next _ _ (c .before .before .before .before .before .before .before .before .before .before .before .before .before .before .before .before .before .before .before .before .indexed-at .ensures) (c .before .before .before .before .before .before .before .before .before .before .before .before .before .before .before .before .before .before .i .given .1) in
-    let j = value-next _ _ (c .before .before .before .before .before .before .before .before .before .before .before .before .before .before .before .before .indexed-at2 .ensures) (c .before .before .before .before .before .before .before .before .before .before .before .before .before .before .j .given .1) in
-    ((value-next _ _ (c .before .before .before .before .keys-at2 .ensures) (c .before .before .second .given .1) .1 .1, c .before .before .before .before .before .before .before .before .before .before .before .before .before .before .before .before .before .before .before .before .before .before .pre .1), (i .0, j .0))
+    let i = value-next _ _ (before-indexed-at2 (before-keys-at (before-keys-at2 (c .before .before .before .before))) .indexed-at .ensures)
+    (before-keys-at (before-keys-at2 (c .before .before .before .before)) .before .before .i .given .1) in
+    let j = value-next _ _ (before-keys-at (before-keys-at2 (c .before .before .before .before)) .indexed-at2 .ensures)
+    (before-keys-at2 (c .before .before .before .before) .before .before .before .before .j .given .1) in (
+      (
+        value-next _ _ (c .before .before .before .before .keys-at2 .ensures) (c .before .before .second .given .1) .1 .1,
+        before-indexed-at
+            (before-indexed-at2 (before-keys-at (before-keys-at2 (c .before .before .before .before)))) .pre .1,
+      ),
+      (i .0, j .0),
+    )
 
 returns-5 : tie.Need-returns-5
 unfolding rewards
 returns-5 c =
-    let a = c .before .before .before .before .before .before .before .before .before .before .before .before .before .before .before .before .before .before .before .before .before .before .before .before .args in
-    let g = c .before .before .before .before .before .before .before .before .before .before .before .before .before .before .before .before .before .before .before .before .i .given in
-    let h = c .before .before .before .before .before .before .before .before .before .before .before .before .before .before .before .before .j .given in
+    let a = before-indexed-at (before-indexed-at2 (before-keys-at (before-keys-at2 (c .before .before .before .before .before .before)))) .args in
+    let g = before-keys-at (before-keys-at2 (c .before .before .before .before .before .before)) .before .before .i .given in
+    let h = before-keys-at2 (c .before .before .before .before .before .before) .before .before .before .before .j .given in
     let e = c .before .before .before .before .before .before .before .before .before .before .first .given in
     let f = c .before .before .before .before .second .given in
-    reads-on (g .0 .0) (g .0 .1 .0) (after (a .m) (a .n) (a .cells .now)) (c .before .before .before .before .before .before .before .before .before .before .before .before .before .before .before .before .before .before .before .before .before .before .indexed-at .ensures) (g .1)
-    (reads-on (h .0 .0) (h .0 .1 .0) (stars-after (a .m) (a .n) (a .cells .now) (g .0 .0)) (c .before .before .before .before .before .before .before .before .before .before .before .before .before .before .before .before .before .before .indexed-at2 .ensures) (h .1)
-    (reads-on (e .0 .0) (e .0 .1 .0) (λ _ ws. starred ws then λ _ ws. reward (a .m) (a .n) (g .0 .0) (h .0 .0) (a .cells .now) ws) (c .before .before .before .before .before .before .before .before .before .before .before .before .keys-at .ensures) (e .1)
-    (reads-on (f .0 .0) (f .0 .1 .0) (λ _ ws. reward (a .m) (a .n) (g .0 .0) (h .0 .0) (a .cells .now) ws) (c .before .before .before .before .before .before .keys-at2 .ensures) (f .1) (c .before .reward-at .ensures))))
+    leaves-on (a .cells .now) (g .0 .0) (g .0 .1 .0) (after (a .m) (a .n) (a .cells .now))
+    (before-indexed-at2 (before-keys-at (before-keys-at2 (c .before .before .before .before .before .before))) .indexed-at .ensures) (g .1)
+    (leaves-on (a .cells .now) (h .0 .0) (h .0 .1 .0) (stars-after (a .m) (a .n) (a .cells .now) (g .0 .0))
+    (before-keys-at (before-keys-at2 (c .before .before .before .before .before .before)) .indexed-at2 .ensures) (h .1)
+    (leaves-on (a .cells .now) (e .0 .0) (e .0 .1 .0) (star-after (a .m) (a .n) (a .cells .now) (g .0 .0) (h .0 .0))
+    (before-keys-at2 (c .before .before .before .before .before .before) .keys-at .ensures) (e .1)
+    (leaves-on (a .cells .now) (f .0 .0) (f .0 .1 .0) (λ _ ws. reward (a .m) (a .n) (g .0 .0) (h .0 .0) (a .cells .now) ws)
+    (c .before .before .before .before .before .before .keys-at2 .ensures) (f .1) (c .before .reward-at .ensures))))
 
 pub rewards-at-spec : {M : Type 1} → statement M
 rewards-at-spec =

@@ -1,5 +1,5 @@
-use Rattle.statements.proofs.Prelude.{needs, wordsIn, between, got, _then_, value-next, reads-made, choose-on, choose-back, table, reward}
-use Rattle.statements.proofs.Prelude.{draft, observationOrReward}
+use Rattle.statements.proofs.Prelude.{needs, told, value-next, table, draft, observationOrReward, within}
+use Rattle.statements.proofs.Prelude.{chooses-back, chooses-on, leaves-within, takes-begin}
 use Rattle.statements.specs.Statements.{oneStatement}
 use Rattle.statements.proofs.statement_at.Statement.{statement}
 use Rattle.statements.proofs.statement_at.Tie as tie
@@ -8,20 +8,29 @@ returns : tie.Need-returns
 unfolding oneStatement
 returns c =
     let a = c .before .before .before .before .before .before .before .before .before .before .before .before .before .args in
-    choose-back (λ ws. table (a .m) (a .n) (a .n) (a .transition .now) ws then λ cells ws. got (draft cells (a .observation .now) (a .reward .now)) ws) (c .before .before .before .before .before .before .before .before .key-at .ensures) (c .before .before .before .before .before .before .before .match .keys2)
+    chooses-back (λ ws. within (λ cells. draft cells (a .observation .now) (a .reward .now)) (table (a .m) (a .n) (a .n) (a .transition .now) ws)) _
+    (takes-begin (c .before .before .before .before .before .before .before .before .before .before .before .before .before .pre .0)
+    (c .before .before .before .before .before .before .before .before .key-of .ensures))
+    (c .before .before .before .before .before .before .before .match .keys2)
     (c .before .before .before .other-statement-at .ensures (a .transition .now))
 
 table-at-requires : tie.Need-table-at-requires
-table-at-requires c κs = (value-next _ _ (c .before .before .before .before .key-at .ensures) (c .before .before .x .given .1) .1 .1, c .before .before .before .before .before .before .before .before .before .pre .1 .0)
+table-at-requires c κs = (
+  value-next _ _ (takes-begin (c .before .before .before .before .before .before .before .before .before .pre .0)
+      (c .before .before .before .before .key-of .ensures)) (c .before .before .x .given .1) .1 .1,
+  c .before .before .before .before .before .before .before .before .before .pre .1 .0,
+)
 
 returns-2 : tie.Need-returns-2
 unfolding oneStatement
 returns-2 c =
     let a = c .before .before .before .before .before .before .before .before .before .before .before .before .args in
     let g = c .before .before .before .before .before .x .given in
-    choose-on (g .0 .0) (g .0 .1 .0) (λ ws. table (a .m) (a .n) (a .n) (a .transition .now) ws then λ cells ws. got (draft cells (a .observation .now) (a .reward .now)) ws)
-    (observationOrReward (a .m) (a .n) (a .k) (draft (a .transition .now) (a .observation .now) (a .reward .now)) (wordsIn between (a .file .now) (a .at))) (c .before .before .before .before .before .before .before .key-at .ensures) (g .1)
-    (reads-made (λ cells. draft cells (a .observation .now) (a .reward .now)) (c .before .before .table-at .ensures))
+    chooses-on (λ ws. within (λ cells. draft cells (a .observation .now) (a .reward .now)) (table (a .m) (a .n) (a .n) (a .transition .now) ws))
+    (observationOrReward (a .m) (a .n) (a .k) (draft (a .transition .now) (a .observation .now) (a .reward .now)) (told (a .file .now) (a .w)))
+    (g .0 .0) (g .0 .1 .0) (takes-begin (c .before .before .before .before .before .before .before .before .before .before .before .before .pre .0)
+    (c .before .before .before .before .before .before .before .key-of .ensures)) (g .1)
+    (leaves-within (λ cells. draft cells (a .observation .now) (a .reward .now)) (c .before .before .table-at .ensures))
 
 pub statement-at-spec : {M : Type 1} → statement M
 statement-at-spec =

@@ -1,15 +1,16 @@
-use Rattle.statements.proofs.Prelude.{ℕ, _-_, _∙_, List, arith, needs, ℤ, value-next, reward, draft, reward, draft}
+use Rattle.statements.proofs.Prelude.{ℕ, _-_, _∙_, List, arith, needs, ℤ, reward, draft, inside}
 use mathlib.Core.Path.{_≡_, refl}
 use lib.ListN.{length}
-use Rattle.statements.proofs.Laws.{room-kept, Left, left-start, left-end, left-back, left-on}
-use Rattle.statements.specs.Statements.{Room}
+use Rattle.statements.proofs.Laws.{fit-kept, Left, left-start, left-end, left-back, left-next, left-on}
+use Rattle.statements.specs.Steps.{CellsFit}
 use Rattle.statements.proofs.statements_at.Statement.{statement}
 use Rattle.statements.proofs.statements_at.Tie as tie
 
-record Going (file : List ℕ) (from : ℕ) (transition₀ observation₀ : List ℕ) (reward₀ : List ℤ) (m n k : ℕ) (transition observation : List ℕ) (reward : List ℤ) (at : ℕ) : Type 0 where
-  transition-room : Room m n n transition
-  observation-room : Room m n k observation
-  reward-room : Room m n 1 reward
+record Going (file : List ℕ) (from : ℕ) (transition₀ observation₀ : List ℕ) (reward₀ : List ℤ) (m n k : ℕ) (transition observation : List ℕ) (reward : List ℤ)
+    (at : ℕ) : Type 0 where
+  transition-fits : CellsFit m n n transition
+  observation-fits : CellsFit m n k observation
+  reward-fits : CellsFit m n 1 reward
   transition-long : length transition ≡ length transition₀
   observation-long : length observation ≡ length observation₀
   reward-long : length reward ≡ length reward₀
@@ -25,7 +26,15 @@ abbrev μ-loop : tie.MeasureT-loop
 loop-holds : tie.Need-loop-holds Inv-loop μ-loop
 loop-holds c =
     let p = c .before .before .before .pre .1 in
-    record { transition-room = p .0; observation-room = p .1 .0; reward-room = p .1 .1; transition-long = refl; observation-long = refl; reward-long = refl; left = left-start _ _ _ _ _ _ (c .before .before .before .pre .0) }
+    record {
+      transition-fits = p .0;
+      observation-fits = p .1 .0;
+      reward-fits = p .1 .1;
+      transition-long = refl;
+      observation-long = refl;
+      reward-long = refl;
+      left = left-start _ _ _ _ _ _ (c .before .before .before .pre .0);
+    }
 
 same-length : tie.Need-same-length Inv-loop μ-loop
 same-length c = c .before .before .before .loop .inv .transition-long
@@ -39,31 +48,48 @@ same-length-3 c = c .before .before .before .loop .inv .reward-long
 returns : tie.Need-returns Inv-loop μ-loop
 returns c =
     let i = c .before .before .before .loop .inv .left in
-    left-end _ _ _ _ _ _ i (c .before .before .word-from .result) (c .before .before .word-from .ensures (i .inside)) (c .before .match .keys2)
+    left-end _ _ _ _ _ _ i (c .before .before .word-from .result) (c .before .before .word-from .ensures .within (i .inside)) (c .before .match .keys2)
 
 statement-at-requires : tie.Need-statement-at-requires Inv-loop μ-loop
 statement-at-requires c κs =
-    let i = c .before .before .before .before .before .before .loop .inv in
-    (i .left .inside, (i .transition-room, (i .observation-room, i .reward-room)))
+    let i = c .before .before .before .before .before .before .loop .inv in (
+      inside (c .before .before .before .before .before .word-from .ensures .within (i .left .inside)),
+      (i .transition-fits, (i .observation-fits, i .reward-fits)),
+    )
 
 same-length-4 : tie.Need-same-length-4 Inv-loop μ-loop
-same-length-4 c = c .before .before .before .before .before .before .before .statement-at .kept .1 .1 .0 ∙ c .before .before .before .before .before .before .before .before .before .before .before .before .before .before .loop .inv .transition-long
+same-length-4 c = c .before .before .before .before .before .before .before .statement-at .kept .1 .1 .0 ∙
+    c .before .before .before .before .before .before .before .before .before .before .before .before .before .before .loop .inv .transition-long
 
 same-length-5 : tie.Need-same-length-5 Inv-loop μ-loop
-same-length-5 c = c .before .before .before .before .before .before .before .statement-at .kept .1 .1 .1 .0 ∙ c .before .before .before .before .before .before .before .before .before .before .before .before .before .before .loop .inv .observation-long
+same-length-5 c = c .before .before .before .before .before .before .before .statement-at .kept .1 .1 .1 .0 ∙
+    c .before .before .before .before .before .before .before .before .before .before .before .before .before .before .loop .inv .observation-long
 
 same-length-6 : tie.Need-same-length-6 Inv-loop μ-loop
-same-length-6 c = c .before .before .before .before .before .before .before .statement-at .kept .1 .1 .1 .1 .0 ∙ c .before .before .before .before .before .before .before .before .before .before .before .before .before .before .loop .inv .reward-long
+same-length-6 c = c .before .before .before .before .before .before .before .statement-at .kept .1 .1 .1 .1 .0 ∙
+    c .before .before .before .before .before .before .before .before .before .before .before .before .before .before .loop .inv .reward-long
 
 returns-2 : tie.Need-returns-2 Inv-loop μ-loop
 returns-2 c =
     let i = c .before .before .before .before .before .before .before .before .before .before .before .before .before .before .loop .inv .left in
-    left-back _ _ _ _ _ _ i (c .before .before .before .before .before .before .before .before .before .before .before .before .before .word-from .result) (c .before .before .before .before .before .before .before .before .before .before .before .before .before .word-from .ensures (i .inside)) _ (c .before .before .before .before .before .before .before .before .before .before .before .before .match .keys1) (c .before .before .before .before .before .before .before .statement-at .ensures) (c .before .match2 .keys2)
+    left-back _ _ _ _ _ _ i (c .before .before .before .before .before .before .before .before .before .before .before .before .before .word-from .result)
+    (c .before .before .before .before .before .before .before .before .before .before .before .before .before .word-from .ensures .within (i .inside))
+    (c .before .before .before .before .before .before .before .before .before .before .before .before .match .keys1)
+    (c .before .before .before .before .before .before .before .statement-at .ensures) (c .before .match2 .keys2)
 
 loop-less : tie.Need-loop-less Inv-loop μ-loop
 loop-less c =
-    let g = value-next _ _ (c .before .before .before .before .before .before .before .before .statement-at .ensures) (c .before .x .given .1) in
-    omega (arith, g)
+    let i = c .before .before .before .before .before .before .before .before .before .before .before .before .before .before .before .loop .inv .left in
+    let g = c .before .x .given in
+    omega (
+      arith,
+      left-next
+          _ _ _ _ _ _ i (c .before .before .before .before .before .before .before .before .before .before .before .before .before .before .word-from .result)
+          (c .before .before .before .before .before .before .before .before .before .before .before .before .before .before .word-from .ensures .within
+          (i .inside)) (g .0 .0)
+          (g .0 .1 .0) (c .before .before .before .before .before .before .before .before .before .before .before .before .before .match .keys1)
+          (c .before .before .before .before .before .before .before .before .statement-at .ensures) (g .1),
+    )
 
 loop-again : tie.Need-loop-again Inv-loop μ-loop
 loop-again c =
@@ -71,13 +97,18 @@ loop-again c =
     let s = c .before .before .before .before .before .before .before .before .statement-at in
     let g = c .before .x .given in
     record {
-      transition-room = room-kept (i .transition-room) (s .kept .1 .1 .0);
-      observation-room = room-kept (i .observation-room) (s .kept .1 .1 .1 .0);
-      reward-room = room-kept (i .reward-room) (s .kept .1 .1 .1 .1 .0);
+      transition-fits = fit-kept (i .transition-fits) (s .kept .1 .1 .0);
+      observation-fits = fit-kept (i .observation-fits) (s .kept .1 .1 .1 .0);
+      reward-fits = fit-kept (i .reward-fits) (s .kept .1 .1 .1 .1 .0);
       transition-long = s .kept .1 .1 .0 ∙ i .transition-long;
       observation-long = s .kept .1 .1 .1 .0 ∙ i .observation-long;
       reward-long = s .kept .1 .1 .1 .1 .0 ∙ i .reward-long;
-      left = left-on _ _ _ _ _ _ (i .left) (c .before .before .before .before .before .before .before .before .before .before .before .before .before .before .word-from .result) (c .before .before .before .before .before .before .before .before .before .before .before .before .before .before .word-from .ensures (i .left .inside)) (g .0 .0) (g .0 .1 .0) (c .before .before .before .before .before .before .before .before .before .before .before .before .before .match .keys1) (s .ensures) (g .1);
+      left = left-on _ _ _ _
+          _ _ (i .left) (c .before .before .before .before .before .before .before .before .before .before .before .before .before .before .word-from .result)
+          (c .before .before .before .before .before .before .before .before .before .before .before .before .before .before .word-from .ensures .within
+          (i .left .inside)) (g .0 .0)
+          (g .0 .1 .0) (c .before .before .before .before .before .before .before .before .before .before .before .before .before .match .keys1) (s .ensures)
+          (g .1);
     }
 
 pub statements-at-spec : {M : Type 1} → statement M

@@ -1,69 +1,104 @@
-use Rattle.statements.proofs.Prelude.{ℕ, List, arith, needs, Words, wordsIn, between, stated, Answer, _then_, value-next, reads-on, choose-on}
-use Rattle.statements.proofs.Prelude.{reads-back, choose-back, probability, indexed, entry, table}
-use Rattle.grammar.specs.Grammar.{choose, key, colon}
+use Rattle.statements.proofs.Prelude.{ℕ, List, arith, needs, Words, wordsIn, between, stated, key, colon, value-next, probability, indexed, entry, table}
+use Rattle.statements.proofs.Prelude.{Outcome, upon, leaves-back, leaves-on, chooses-back, chooses-on}
+use Rattle.grammar.specs.Grammar.{choose}
 use Rattle.statements.specs.Statements.{row}
 use Rattle.statements.proofs.table_at.Statement.{statement}
 use Rattle.statements.proofs.table_at.Tie as tie
 
+-- the place of each call, from the next
+abbrev before-indexed-at : tie.After-indexed-at → tie.Start
+before-indexed-at c = c .before .before .before
+
+abbrev before-indexed-at2 : tie.After-indexed-at2 → tie.After-indexed-at
+before-indexed-at2 c = c .before .before .before .before
+
+abbrev before-key-at : tie.After-key-at → tie.After-indexed-at2
+before-key-at c = c .before .before .before .before .before
+
 -- what follows `: s`, and `: a`
-abbrev cells-after : ℕ → ℕ → ℕ → List ℕ → ℕ → ℕ → Words → Answer (List ℕ)
+abbrev cells-after : ℕ → ℕ → ℕ → List ℕ → ℕ → ℕ → Words → Outcome (List ℕ)
 cells-after m n w cells a s ws = choose (key colon ws) (λ ws. entry m n w a s cells ws) (row probability (stated m n w a s) 0 w cells ws)
 
-abbrev after : ℕ → ℕ → ℕ → List ℕ → ℕ → Words → Answer (List ℕ)
-after m n w cells a ws = indexed n ws then λ s ws. cells-after m n w cells a s ws
+abbrev after : ℕ → ℕ → ℕ → List ℕ → ℕ → Words → Outcome (List ℕ)
+after m n w cells a ws = upon cells (indexed n ws) (λ s ws. cells-after m n w cells a s ws)
 
 returns : tie.Need-returns
 unfolding table
 returns c =
-    let a = c .before .before .before .before .before .args in
-    reads-back _ 0 (after (a .m) (a .n) (a .w) (a .cells .now)) (c .before .before .indexed-at .ensures) (c .before .match .keys2)
+    let a = before-indexed-at (c .before .before) .args in
+    leaves-back (a .cells .now) (after (a .m) (a .n) (a .w) (a .cells .now)) (c .before .before .indexed-at .ensures) (c .before .match .keys2)
 
 indexed-at-requires-2 : tie.Need-indexed-at-requires-2
-indexed-at-requires-2 c κs = (value-next _ _ (c .before .before .before .indexed-at .ensures) (c .before .i .given .1) .1 .1, (c .before .before .before .before .before .before .pre .1 .some-rows, c .before .before .before .before .before .before .pre .1 .few-rows))
+indexed-at-requires-2 c κs = (
+  value-next _ _ (c .before .before .before .indexed-at .ensures) (c .before .i .given .1) .1 .1,
+  (before-indexed-at (c .before .before .before) .pre .1 .some-rows, before-indexed-at (c .before .before .before) .pre .1 .few-rows),
+)
 
 returns-2 : tie.Need-returns-2
 unfolding table
 returns-2 c =
-    let a = c .before .before .before .before .before .before .before .before .before .args in
+    let a = before-indexed-at (before-indexed-at2 (c .before .before)) .args in
     let g = c .before .before .before .before .i .given in
-    reads-on (g .0 .0) (g .0 .1 .0) (after (a .m) (a .n) (a .w) (a .cells .now)) (c .before .before .before .before .before .before .indexed-at .ensures) (g .1)
-    (reads-back _ 0 (cells-after (a .m) (a .n) (a .w) (a .cells .now) (g .0 .0)) (c .before .before .indexed-at2 .ensures) (c .before .match2 .keys2))
+    leaves-on (a .cells .now) (g .0 .0) (g .0 .1 .0) (after (a .m) (a .n) (a .w) (a .cells .now))
+    (before-indexed-at2 (c .before .before) .indexed-at .ensures) (g .1)
+    (leaves-back (a .cells .now) (cells-after (a .m) (a .n) (a .w) (a .cells .now) (g .0 .0)) (c .before .before .indexed-at2 .ensures)
+    (c .before .match2 .keys2))
 
 key-at-requires : tie.Need-key-at-requires
 key-at-requires c κs = value-next _ _ (c .before .before .before .before .indexed-at2 .ensures) (c .before .before .j .given .1) .1 .1
 
 row-at-requires : tie.Need-row-at-requires
 row-at-requires c κs =
-    let i = value-next _ _ (c .before .before .before .before .before .before .before .before .before .before .before .before .indexed-at .ensures) (c .before .before .before .before .before .before .before .before .before .before .i .given .1) in
-    let j = value-next _ _ (c .before .before .before .before .before .before .before .before .indexed-at2 .ensures) (c .before .before .before .before .before .before .j .given .1) in
-    ((j .1 .1, c .before .before .before .before .before .before .before .before .before .before .before .before .before .before .before .pre .1), (i .0, (j .0, (omega arith, omega arith))))
+    let i = value-next _ _ (before-indexed-at2 (before-key-at (c .before .before .before)) .indexed-at .ensures)
+    (before-key-at (c .before .before .before) .before .before .i .given .1) in
+    let h = c .before .before .before .before .before .before .j .given in
+    let j = value-next (h .0 .0) (h .0 .1 .0) (before-key-at (c .before .before .before) .indexed-at2 .ensures) (h .1) in (
+      (j .1 .1, before-indexed-at (before-indexed-at2 (before-key-at (c .before .before .before))) .pre .1),
+      (i .0, (j .0, (record { few-digits = omega arith; few-places = omega arith }, omega arith))),
+    )
 
 returns-3 : tie.Need-returns-3
 unfolding table
 returns-3 c =
-    let a = c .before .before .before .before .before .before .before .before .before .before .before .before .before .before .before .before .before .before .args in
-    let g = c .before .before .before .before .before .before .before .before .before .before .before .before .before .i .given in
+    let a = before-indexed-at (before-indexed-at2 (before-key-at (c .before .before .before .before .before .before))) .args in
+    let g = before-key-at (c .before .before .before .before .before .before) .before .before .i .given in
     let h = c .before .before .before .before .before .before .before .before .before .j .given in
-    reads-on (g .0 .0) (g .0 .1 .0) (after (a .m) (a .n) (a .w) (a .cells .now)) (c .before .before .before .before .before .before .before .before .before .before .before .before .before .before .before .indexed-at .ensures) (g .1)
-    (reads-on (h .0 .0) (h .0 .1 .0) (cells-after (a .m) (a .n) (a .w) (a .cells .now) (g .0 .0)) (c .before .before .before .before .before .before .before .before .before .before .before .indexed-at2 .ensures) (h .1)
-    (choose-back (λ ws. entry (a .m) (a .n) (a .w) (g .0 .0) (h .0 .0) (a .cells .now) ws) (c .before .before .before .before .before .before .key-at .ensures) (c .before .before .before .before .before .match3 .keys2) (c .before .before .row-at .ensures)))
+    leaves-on (a .cells .now) (g .0 .0) (g .0 .1 .0) (after (a .m) (a .n) (a .w) (a .cells .now))
+    (before-indexed-at2 (before-key-at (c .before .before .before .before .before .before)) .indexed-at .ensures) (g .1)
+    (leaves-on (a .cells .now) (h .0 .0) (h .0 .1 .0) (cells-after (a .m) (a .n) (a .w) (a .cells .now) (g .0 .0))
+    (before-key-at (c .before .before .before .before .before .before) .indexed-at2 .ensures) (h .1)
+    (chooses-back (λ ws. entry (a .m) (a .n) (a .w) (g .0 .0) (h .0 .0) (a .cells .now) ws) _
+    (c .before .before .before .before .before .before .key-at .ensures) (c .before .before .before .before .before .match3 .keys2)
+    (c .before .before .row-at .ensures)))
 
 entry-at-requires : tie.Need-entry-at-requires
 entry-at-requires c κs =
-    let i = value-next _ _ (c .before .before .before .before .before .before .before .before .before .before .before .before .before .indexed-at .ensures) (c .before .before .before .before .before .before .before .before .before .before .before .i .given .1) in
-    let j = value-next _ _ (c .before .before .before .before .before .before .before .before .before .indexed-at2 .ensures) (c .before .before .before .before .before .before .before .j .given .1) in
-    ((value-next _ _ (c .before .before .before .before .key-at .ensures) (c .before .before .c .given .1) .1 .1, c .before .before .before .before .before .before .before .before .before .before .before .before .before .before .before .before .pre .1), (i .0, j .0))
+    let i = value-next _ _ (before-indexed-at2 (before-key-at (c .before .before .before .before)) .indexed-at .ensures)
+    (before-key-at (c .before .before .before .before) .before .before .i .given .1) in
+    let j = value-next _ _ (before-key-at (c .before .before .before .before) .indexed-at2 .ensures)
+    (c .before .before .before .before .before .before .before .j .given .1) in (
+      (
+        value-next _ _ (c .before .before .before .before .key-at .ensures) (c .before .before .c .given .1) .1 .1,
+        before-indexed-at
+            (before-indexed-at2 (before-key-at (c .before .before .before .before))) .pre .1,
+      ),
+      (i .0, j .0),
+    )
 
 returns-4 : tie.Need-returns-4
 unfolding table
 returns-4 c =
-    let a = c .before .before .before .before .before .before .before .before .before .before .before .before .before .before .before .before .before .before .before .args in
-    let g = c .before .before .before .before .before .before .before .before .before .before .before .before .before .before .i .given in
+    let a = before-indexed-at (before-indexed-at2 (before-key-at (c .before .before .before .before .before .before .before))) .args in
+    let g = before-key-at (c .before .before .before .before .before .before .before) .before .before .i .given in
     let e = c .before .before .before .before .before .c .given in
     let h = c .before .before .before .before .before .before .before .before .before .before .j .given in
-    reads-on (g .0 .0) (g .0 .1 .0) (after (a .m) (a .n) (a .w) (a .cells .now)) (c .before .before .before .before .before .before .before .before .before .before .before .before .before .before .before .before .indexed-at .ensures) (g .1)
-    (reads-on (h .0 .0) (h .0 .1 .0) (cells-after (a .m) (a .n) (a .w) (a .cells .now) (g .0 .0)) (c .before .before .before .before .before .before .before .before .before .before .before .before .indexed-at2 .ensures) (h .1)
-    (choose-on (e .0 .0) (e .0 .1 .0) (λ ws. entry (a .m) (a .n) (a .w) (g .0 .0) (h .0 .0) (a .cells .now) ws) (row probability (stated (a .m) (a .n) (a .w) (g .0 .0) (h .0 .0)) 0 (a .w) (a .cells .now) (wordsIn between (a .file .now) (h .0 .1 .0))) (c .before .before .before .before .before .before .before .key-at .ensures) (e .1) (c .before .before .entry-at .ensures)))
+    leaves-on (a .cells .now) (g .0 .0) (g .0 .1 .0) (after (a .m) (a .n) (a .w) (a .cells .now))
+    (before-indexed-at2 (before-key-at (c .before .before .before .before .before .before .before)) .indexed-at .ensures) (g .1)
+    (leaves-on (a .cells .now) (h .0 .0) (h .0 .1 .0) (cells-after (a .m) (a .n) (a .w) (a .cells .now) (g .0 .0))
+    (before-key-at (c .before .before .before .before .before .before .before) .indexed-at2 .ensures) (h .1)
+    (chooses-on (λ ws. entry (a .m) (a .n) (a .w) (g .0 .0) (h .0 .0) (a .cells .now) ws)
+    (row probability (stated (a .m) (a .n) (a .w) (g .0 .0) (h .0 .0)) 0 (a .w) (a .cells .now) (wordsIn between (a .file .now) (h .0 .1 .0)))
+    (e .0 .0) (e .0 .1 .0) (c .before .before .before .before .before .before .before .key-at .ensures) (e .1) (c .before .before .entry-at .ensures)))
 
 pub table-at-spec : {M : Type 1} → statement M
 table-at-spec =

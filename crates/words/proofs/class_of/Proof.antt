@@ -24,7 +24,18 @@ record Plain (b : ℕ) : Type 0 where
 
 rest : (b : ℕ) → Plain b → (leb 48 b && leb b 57) ≡ false → Rest ≡ classOf b
 rest b p r =
-    sym (simp (ne-eqb b 9 (p .tab), ne-eqb b 10 (p .line), ne-eqb b 13 (p .return), ne-eqb b 32 (p .space), ne-eqb b 35 (p .hash), ne-eqb b 42 (p .star), ne-eqb b 45 (p .minus), ne-eqb b 46 (p .point), ne-eqb b 58 (p .colon), r))
+    sym (simp (
+      ne-eqb b 9 (p .tab),
+      ne-eqb b 10 (p .line),
+      ne-eqb b 13 (p .return),
+      ne-eqb b 32 (p .space),
+      ne-eqb b 35 (p .hash),
+      ne-eqb b 42 (p .star),
+      ne-eqb b 45 (p .minus),
+      ne-eqb b 46 (p .point),
+      ne-eqb b 58 (p .colon),
+      r,
+    ))
 
 below : (b : ℕ) → b < 48 → (leb 48 b && leb b 57) ≡ false
 below b h = simp (lt-leb 48 b h)
@@ -35,41 +46,77 @@ above b h = let l : 48 ≤ b = omega arith in simp (le-leb 48 b l, lt-leb b 57 h
 digit : (b : ℕ) → 48 ≤ b → b < 58 → Digit ≡ classOf b
 digit b h k =
     let l : b ≤ 57 = omega arith in
-    sym (simp (ne-eqb b 9 (omega arith), ne-eqb b 10 (omega arith), ne-eqb b 13 (omega arith), ne-eqb b 32 (omega arith), ne-eqb b 35 (omega arith), ne-eqb b 58 (omega arith), le-leb 48 b h, le-leb b 57 l))
+    sym (simp (
+      ne-eqb b 9 (omega arith),
+      ne-eqb b 10 (omega arith),
+      ne-eqb b 13 (omega arith),
+      ne-eqb b 32 (omega arith),
+      ne-eqb b 35 (omega arith),
+      ne-eqb b
+          58 (omega arith),
+      le-leb 48 b h,
+      le-leb b 57 l,
+    ))
 
 returns : tie.Need-returns
-returns c = sym (ap classOf (c .match .keys2))
+returns c = sym (ap classOf (c .match .keys1))
 
 returns-2 : tie.Need-returns-2
-returns-2 c = sym (ap classOf (c .match .keys3))
+returns-2 c = sym (ap classOf (c .match .keys2))
 
 returns-3 : tie.Need-returns-3
-returns-3 c = sym (ap classOf (c .match .keys4))
+returns-3 c = sym (ap classOf (c .match .keys3))
 
 returns-4 : tie.Need-returns-4
-returns-4 c = sym (ap classOf (c .match .keys5))
+returns-4 c = sym (ap classOf (c .match .keys4))
 
 returns-5 : tie.Need-returns-5
-returns-5 c = sym (ap classOf (c .match .keys6))
+returns-5 c = sym (ap classOf (c .match .keys5))
 
 returns-6 : tie.Need-returns-6
-returns-6 c = digit (c .before .before .before .before .before .args .b) (omega arith) (omega arith)
+returns-6 c =
+    let b = c .before .before .before .before .args .b in
+    rest b (omega arith) (below b (omega arith))
 
 returns-7 : tie.Need-returns-7
 returns-7 c =
-    let b = c .before .before .args .b in
-    rest b (omega arith) (below b (omega arith))
-
-returns-8 : tie.Need-returns-8
-returns-8 c =
-    let b = c .before .before .before .before .args .b in
-    let r = c .before .before .before .match .rest in
+    let b = c .before .before .before .before .before .args .b in
+    let r = c .before .before .match2 .rest in
     rest b
     (record {
       tab = omega arith;
       line = omega arith;
-      return = λ e. r .0 .0 .0 .0 .0 .1 (inl e);
-      space = λ e. r .0 .0 .0 .0 .0 .1 (inr e);
+      return = λ e. r .1 (inl e);
+      space = λ e. r .1 (inr e);
+      hash = omega arith;
+      star = omega arith;
+      minus = omega arith;
+      point = omega arith;
+      colon = omega arith;
+    })
+    (below b (omega arith))
+
+returns-8 : tie.Need-returns-8
+returns-8 c = ⊎-elim (λ e. sym (ap classOf e)) (λ e. sym (ap classOf e)) (c .match2 .keys1)
+
+returns-9 : tie.Need-returns-9
+returns-9 c =
+    let b = c .before .before .before .before .before .args .b in
+    elim (decLe b 9) [ yes l ↦ let e : b ≡ 9 = omega arith in sym (ap classOf e) | no n ↦ let e : b ≡ 10 = omega arith in sym (ap classOf e) ]
+
+returns-10 : tie.Need-returns-10
+returns-10 c = digit (c .before .before .before .before .args .b) (omega arith) (omega arith)
+
+returns-11 : tie.Need-returns-11
+returns-11 c =
+    let b = c .before .before .before .args .b in
+    let r = c .before .before .match .rest in
+    rest b
+    (record {
+      tab = omega arith;
+      line = omega arith;
+      return = omega arith;
+      space = omega arith;
       hash = r .0 .0 .0 .1;
       star = r .1;
       minus = r .0 .1;
@@ -78,20 +125,12 @@ returns-8 c =
     })
     (below b (omega arith))
 
-returns-9 : tie.Need-returns-9
-returns-9 c =
-    let b = c .before .before .before .before .before .args .b in
-    let l : 58 < b = omega (arith, c .before .before .before .before .match .rest .0 .0 .0 .0 .1) in
+returns-12 : tie.Need-returns-12
+returns-12 c =
+    let b = c .before .before .before .before .args .b in
+    let l : 58 < b = omega (arith, c .before .before .before .match .rest .0 .0 .0 .0) in
     rest b (omega arith) (above b (omega arith))
-
-returns-10 : tie.Need-returns-10
-returns-10 c = ⊎-elim (λ e. sym (ap classOf e)) (λ e. sym (ap classOf e)) (c .match .keys1)
-
-returns-11 : tie.Need-returns-11
-returns-11 c =
-    let b = c .before .before .before .args .b in
-    elim (decLe b 9) [ yes l ↦ let e : b ≡ 9 = omega arith in sym (ap classOf e) | no n ↦ let e : b ≡ 10 = omega arith in sym (ap classOf e) ]
 
 pub class-of-spec : {M : Type 1} → statement M
 class-of-spec =
-    tie.close (tie.spec returns returns-2 returns-3 returns-4 returns-5 returns-6 returns-7 returns-8 returns-9 returns-10 returns-11)
+    tie.close (tie.spec returns returns-2 returns-3 returns-4 returns-5 returns-6 returns-7 returns-8 returns-9 returns-10 returns-11 returns-12)

@@ -1,5 +1,5 @@
 use Rattle.words.proofs.Prelude.{ℕ, _-_, _≤_, _≡_, [], _∷_, arith, needs, length, Class, belongs, roleOf, by-keys}
-use Rattle.words.specs.Words.{Run}
+use Rattle.words.specs.Steps.{Run}
 use Rattle.words.proofs.Laws.{Ends, end-run, run-more, run-ends}
 use Rattle.words.proofs.word_end.Statement.{statement}
 use Rattle.words.proofs.word_end.Tie as tie

@@ -1,0 +1,24 @@
+use Rattle.grammar.proofs.Prelude.{_-_, arith, number, needs}
+use Rattle.numerals.specs.Numeral.{countForm}
+use Rattle.words.specs.Words.{told}
+use Rattle.grammar.specs.Grammar.{choose, Answer, got, index}
+use Rattle.grammar.proofs.Laws.{takes-choose, takes-most, takes-on}
+use Rattle.grammar.proofs.index_of.Statement.{statement}
+use Rattle.grammar.proofs.index_of.Tie as tie
+
+returns : tie.Need-returns
+unfolding index
+returns c = takes-choose (λ ws. got (c .before .before .before .before .before .before .args .n) ws) (c .before .before .before .key-of .ensures)
+    (c .before .before .match .keys2) (takes-most (c .before .before .before .before .before .before .args .n) (omega arith) (c .number-of .ensures))
+
+returns-2 : tie.Need-returns-2
+unfolding index
+returns-2 c =
+    let a = c .before .before .before .before .before .before .args in
+    let g = c .before .x .given in
+    takes-on (a .n) (number countForm 0 (a .n - 1) (told (a .file .now) (a .w))) (g .0 .0) (g .0 .1 .0) (c .before .before .before .key-of .ensures) (g .1)
+
+pub index-of-spec : {M : Type 1} → statement M
+index-of-spec =
+    tie.close (tie.spec (λ c. search needs) (λ c κs. search needs) (λ c. search needs) (λ c. search needs) (λ c. search needs) (λ c κs. search needs)
+    returns returns-2)

@@ -1,0 +1,65 @@
+use Rattle.grammar.proofs.Prelude.{ℕ, _≤_, _≡_, refl, ap, _∙_, Bool, true, false, cond, List, arith, drop, amountOf, limited, found, bytesOf}
+use Rattle.grammar.proofs.Prelude.{takes-end, takes-word, lies-in, limited-below, needs}
+use mir.Val.{boolByte}
+use Rattle.numerals.specs.Numeral.{negative, unsigned}
+use Rattle.grammar.specs.Grammar.{magnitude}
+use Rattle.grammar.proofs.magnitude_of.Statement.{statement}
+use Rattle.grammar.proofs.magnitude_of.Tie as tie
+
+byte-small : (t : Bool) → boolByte t ≤ 1
+byte-small true = omega arith
+byte-small false = omega arith
+
+past-minus : (t : Bool) (w : List ℕ) → drop (boolByte t) w ≡ cond t (drop 1 w) w
+past-minus true w = refl
+past-minus false w = refl
+
+returns : tie.Need-returns
+unfolding magnitude
+returns c =
+    let a = c .before .before .before .args in
+    takes-end (λ (w : List ℕ). limited 0 (a .most) (amountOf (a .form) (unsigned w))) (a .file .now) (a .w) (a .most) (c .before .match .keys2)
+
+sub-is-negative : tie.Need-sub-is-negative
+sub-is-negative c = omega (
+  arith,
+  lies-in (c .before .before .before .before .args .file .now) _ _ (c .before .before .before .before .pre .0)
+      (c .before .w .given .1),
+)
+
+part-is-negative-start : tie.Need-part-is-negative-start
+part-is-negative-start c = omega (
+  arith,
+  lies-in (c .before .before .before .before .args .file .now) _ _ (c .before .before .before .before .pre .0)
+      (c .before .w .given .1),
+)
+
+part-is-negative-end : tie.Need-part-is-negative-end
+part-is-negative-end c = omega (
+  arith,
+  lies-in (c .before .before .before .before .args .file .now) _ _ (c .before .before .before .before .pre .0)
+      (c .before .w .given .1),
+)
+
+amount-in-requires : tie.Need-amount-in-requires
+amount-in-requires c κs =
+    let l = lies-in (c .before .before .before .before .before .before .args .file .now) _ _ (c .before .before .before .before .before .before .pre .0)
+    (c .before .before .before .w .given .1) in
+    (omega (arith, byte-small (c .is-negative .result), l), (l .1, c .before .before .before .before .before .before .pre .1))
+
+returns-2 : tie.Need-returns-2
+unfolding magnitude
+returns-2 c =
+    let a = c .before .before .before .before .before .before .before .args in
+    let g = c .before .before .before .before .w .given in
+    let b = bytesOf (a .file .now) (g .0 .0) (g .0 .1 .0) in
+    let e : drop (boolByte (c .before .is-negative .result)) b ≡ unsigned b = ap (λ (t : Bool). drop (boolByte t) b) (c .before .is-negative .ensures) ∙
+    past-minus (negative b) b in
+    takes-word (λ (w : List ℕ). limited 0 (a .most) (amountOf (a .form) (unsigned w))) (a .most) (g .0 .0) (g .0 .1 .0) (g .1)
+    (limited-below 0 (a .most) (amountOf (a .form) (unsigned b)))
+    (c .amount-in .ensures ∙ ap (λ (x : List ℕ). found (g .0 .0) (g .0 .1 .0) (limited 0 (a .most) (amountOf (a .form) x))) e)
+
+pub magnitude-of-spec : {M : Type 1} → statement M
+magnitude-of-spec =
+    tie.close (tie.spec (λ c. search needs) (λ c. search needs) returns sub-is-negative part-is-negative-start part-is-negative-end
+    (λ c κs. search needs) (λ c. search needs) amount-in-requires returns-2)

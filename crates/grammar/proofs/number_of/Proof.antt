@@ -1,0 +1,26 @@
+use Rattle.grammar.proofs.Prelude.{ℕ, List, arith, amountOf, limited, number, bytesOf, takes-end, takes-word, lies-in, limited-below, needs}
+use Rattle.grammar.proofs.number_of.Statement.{statement}
+use Rattle.grammar.proofs.number_of.Tie as tie
+
+returns : tie.Need-returns
+unfolding number
+returns c =
+    let a = c .before .before .before .args in
+    takes-end (λ (w : List ℕ). limited (a .least) (a .most) (amountOf (a .form) w)) (a .file .now) (a .w) (a .most) (c .before .match .keys2)
+
+amount-in-requires : tie.Need-amount-in-requires
+amount-in-requires c κs =
+    let l = lies-in (c .before .before .before .before .args .file .now) _ _ (c .before .before .before .before .pre .0) (c .before .w .given .1) in
+    (omega (arith, l), (l .1, c .before .before .before .before .pre .1))
+
+returns-2 : tie.Need-returns-2
+unfolding number
+returns-2 c =
+    let a = c .before .before .before .before .before .args in
+    let g = c .before .before .w .given in
+    takes-word (λ (w : List ℕ). limited (a .least) (a .most) (amountOf (a .form) w)) (a .most) (g .0 .0) (g .0 .1 .0) (g .1)
+    (limited-below (a .least) (a .most) (amountOf (a .form) (bytesOf (a .file .now) (g .0 .0) (g .0 .1 .0)))) (c .amount-in .ensures)
+
+pub number-of-spec : {M : Type 1} → statement M
+number-of-spec =
+    tie.close (tie.spec (λ c. search needs) (λ c. search needs) returns amount-in-requires returns-2)

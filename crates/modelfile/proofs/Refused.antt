@@ -1,0 +1,325 @@
+-- What a refused file is answered: its number is 1 to 6, and where its place lies. Assumes nothing.
+use Prim.Native.Nat.{ℕ, zero, suc, _+_, _*_, _≤_}
+use mathlib.Core.Path.{_≡_, refl, sym, ap, subst, _∙_}
+use mathlib.Core.Bool.{Bool, true, false, cond}
+use mathlib.Core.List.{List, [], _∷_}
+use native.Mathlib.Omega.{arith}
+use native.Mathlib.Numerals.{add-one}
+use lib.Dec.{eqb, leb}
+use lib.ListN.{length, getD, replicate}
+use lib.IntN.{ℤ}
+use Rattle.integers.specs.Whole.{totalTo}
+use Rattle.tables.specs.declared.Verdict.{Verdict}
+use Rattle.tables.specs.declared.Verdict.the-variants.{Fine, Refused}
+use Rattle.tables.specs.Limits.{maxStates, one}
+use Rattle.tables.specs.Storage.{cellIn}
+use Rattle.tables.specs.Verdicts.{_before_, unless, firstOf}
+use Rattle.tables.specs.Judged.{rowsTotal}
+use Rattle.words.specs.Class.{classOf}
+use Rattle.words.specs.Words.{Role, parts, alone, opens, belongs, roleOf, Words, word, end, run, Mode, between, inside, comment, step, wordsOf, wordsIn}
+use Rattle.drafts.specs.Drafts.{stated}
+use Rattle.numerals.specs.declared.Form.{Form}
+use Rattle.numerals.specs.Numeral.{countForm, probabilityForm, startForm, rewardForm, amountOf, unsigned}
+use Rattle.grammar.specs.Grammar.{Answer, got, refused, _then_, choose, Finding, fits, unfit, outside, answered, oneWord, limited, number, magnitude, minus}
+use Rattle.grammar.specs.Grammar.{signedNumber, key, keys, colon, star, named, field, index}
+use Rattle.statements.specs.Statements.{Outcome, filled, stopped, upon, further, within, wholly, probability, startTotal, startNumber, rewardNumber, indexed}
+use Rattle.statements.specs.Statements.{starred, row, entry, table, reward, rewards, Draft, draft, rewardStatement, observationOrReward, oneStatement}
+use Rattle.statements.specs.Statements.{unlessEnd, statements}
+use Rattle.modelfile.specs.ModelFile.{maxBytes, startName, Text, noCells, body, counted, headed, placed, sumsVerdict, refusedFile, judgedFile, ended}
+use Rattle.modelfile.specs.ModelFile.{modelFile}
+
+-- ---- words: at most c of them, none past the end of a file of so many bytes
+
+abbrev UpTo : ℕ → ℕ → Words → Type 0
+UpTo size c (end at) = at ≤ size
+UpTo size zero (word at w rest) = ⊥
+UpTo size (suc c) (word at w rest) = (at ≤ size) × UpTo size c rest
+
+up-more : (size c : ℕ) (ws : Words) → UpTo size c ws → UpTo size (suc c) ws
+up-more size c (end at) h = h
+up-more size zero (word at w rest) h = absurd h
+up-more size (suc c) (word at w rest) (h, k) = (h, up-more size c rest k)
+
+-- each byte begins one word at most
+step-up : (size c at b : ℕ) (s : List ℕ) (m : Mode) (r : Role) (next : Mode → Words) → at ≤ size → ((m : Mode) → UpTo size c (next m))
+    → UpTo size (suc c) (step m r at b s next)
+step-up size c at b s between parts next h k = up-more size c (next between) (k between)
+step-up size c at b s between alone next h k = (h, k between)
+step-up size c at b s between opens next h k = up-more size c (next comment) (k comment)
+step-up size c at b s between belongs next h k = (h, k inside)
+step-up size c at b s inside parts next h k = up-more size c (next between) (k between)
+step-up size c at b s inside alone next h k = (h, k between)
+step-up size c at b s inside opens next h k = up-more size c (next comment) (k comment)
+step-up size c at b s inside belongs next h k = up-more size c (next inside) (k inside)
+step-up size c at b s comment r next h k = either (eqb b 10)
+  where
+    either : (t : Bool) → UpTo size (suc c) (cond t (next between) (next comment))
+    either true = up-more size c (next between) (k between)
+    either false = up-more size c (next comment) (k comment)
+
+words-up : (m : Mode) (size at : ℕ) (s : List ℕ) → at + length s ≤ size → UpTo size (length s) (wordsOf m at s)
+unfolding wordsOf
+words-up m size at [] h = omega arith
+words-up m size at (b ∷ s) h =
+    step-up size (length s) at b s m (roleOf (classOf b)) (λ m'. wordsOf m' (at + 1) s) (omega arith) (λ m'. words-up m' size (at + 1) s (omega arith))
+
+-- ---- reading: a refused word gets 2 or 3 at a place in the file
+
+record Word-refused (size n p : ℕ) : Type 0 where
+  low : 2 ≤ n
+  high : n ≤ 3
+  place : p ≤ size
+
+module _ (size : ℕ) where
+  abbrev Named : {A : Type 0} → ℕ → Answer A → Type 0
+  Named c (got x ws) = UpTo size c ws
+  Named c (refused n p) = Word-refused size n p
+
+  abbrev Left : {C : Type 0} → ℕ → Outcome C → Type 0
+  Left c (filled cells ws) = UpTo size c ws
+  Left c (stopped n p cells) = Word-refused size n p
+
+  answered-named : (c at : ℕ) (rest : Words) (f : Finding) → at ≤ size → UpTo size c rest → Named c (answered at rest f)
+  answered-named c at rest (fits v) h k = k
+  answered-named c at rest unfit h k = record { low = omega arith; high = omega arith; place = h }
+  answered-named c at rest outside h k = record { low = omega arith; high = omega arith; place = h }
+
+  one-named : (c : ℕ) (find : List ℕ → Finding) (ws : Words) → UpTo size (suc c) ws → Named c (oneWord find ws)
+  one-named c find (word at w rest) (h, k) = answered-named c at rest (find w) h k
+  one-named c find (end at) h = record { low = omega arith; high = omega arith; place = h }
+
+  then-named : {A B : Type 0} (c d : ℕ) (a : Answer A) (k : A → Words → Answer B) → Named c a → ((x : A) (ws : Words) → UpTo size c ws → Named d (k x ws))
+      → Named d (a then k)
+  then-named c d (got x ws) k h g = g x ws h
+  then-named c d (refused n p) k h g = h
+
+  choose-named : {B : Type 0} (c d : ℕ) (a : Answer ℕ) (k : Words → Answer B) (o : Answer B) → Named c a → ((ws : Words) → UpTo size c ws → Named d (k ws))
+      → Named d o
+      → Named d (choose a k o)
+  choose-named c d (got v ws) k o h g l = g ws h
+  choose-named c d (refused n p) k o h g l = l
+
+  upon-left : {A C : Type 0} (c d : ℕ) (cells : C) (a : Answer A) (k : A → Words → Outcome C) → Named c a
+      → ((x : A) (ws : Words) → UpTo size c ws → Left d (k x ws)) → Left d (upon cells a k)
+  upon-left c d cells (got x ws) k h g = g x ws h
+  upon-left c d cells (refused n p) k h g = h
+
+  choose-left : {C : Type 0} (c d : ℕ) (a : Answer ℕ) (k : Words → Outcome C) (o : Outcome C) → Named c a → ((ws : Words) → UpTo size c ws → Left d (k ws))
+      → Left d o → Left d (choose a k o)
+  choose-left c d (got v ws) k o h g l = g ws h
+  choose-left c d (refused n p) k o h g l = l
+
+  within-left : {C D : Type 0} (c : ℕ) (f : C → D) (o : Outcome C) → Left c o → Left c (within f o)
+  within-left c f (filled cells ws) h = h
+  within-left c f (stopped n p cells) h = h
+
+  further-left : {C : Type 0} (c d : ℕ) (o : Outcome C) (k : C → Words → Outcome C) → Left c o
+      → ((cells : C) (ws : Words) → UpTo size c ws → Left d (k cells ws)) → Left d (further o k)
+  further-left c d (filled cells ws) k h g = g cells ws h
+  further-left c d (stopped n p cells) k h g = h
+
+  wholly-named : {C : Type 0} (c : ℕ) (o : Outcome C) → Left c o → Named c (wholly o)
+  wholly-named c (filled cells ws) h = h
+  wholly-named c (stopped n p cells) h = h
+
+  -- ---- a word
+
+  key-named : (c : ℕ) (k : List ℕ) (ws : Words) → UpTo size (suc c) ws → Named c (key k ws)
+  unfolding key
+  key-named c k ws h = one-named c _ ws h
+
+  number-named : (c : ℕ) (form : Form) (least most : ℕ) (ws : Words) → UpTo size c ws → Named c (number form least most ws)
+  unfolding number
+  number-named c form least most ws h = one-named c _ ws (up-more size c ws h)
+
+  module _ (c : ℕ) where
+    keyed : (k : List ℕ) (ws : Words) → UpTo size c ws → Named c (key k ws)
+    keyed k ws h = key-named c k ws (up-more size c ws h)
+
+    keys-named : (first second : List ℕ) (ws : Words) → UpTo size c ws → Named c (keys first second ws)
+    unfolding keys
+    keys-named first second ws h = then-named c c (key first ws) (λ _ ws. key second ws) (keyed first ws h) (λ _ ws. keyed second ws)
+
+    field-named : (name : List ℕ) (form : Form) (least most : ℕ) (ws : Words) → UpTo size c ws → Named c (field name form least most ws)
+    unfolding field
+    field-named name form least most ws h =
+        then-named c c (named name ws) (λ _ ws. number form least most ws) (keys-named name colon ws h) (λ _ ws. number-named c form least most ws)
+
+    index-named : (n : ℕ) (ws : Words) → UpTo size c ws → Named c (index n ws)
+    unfolding index
+    index-named n ws h = choose-named c c (key star ws) _ _ (keyed star ws h) (λ ws k. k) (number-named c countForm 0 _ ws h)
+
+    indexed-named : (n : ℕ) (ws : Words) → UpTo size c ws → Named c (indexed n ws)
+    unfolding indexed
+    indexed-named n ws h = then-named c c (key colon ws) (λ _ ws. index n ws) (keyed colon ws h) (λ _ ws. index-named n ws)
+
+    reward-named : (ws : Words) → UpTo size c ws → Named c (rewardNumber ws)
+    unfolding signedNumber magnitude
+    reward-named ws h = then-named c c (magnitude rewardForm _ ws) _ (one-named c _ ws (up-more size c ws h)) (λ v rest k. k)
+
+    -- ---- a statement
+
+    row-left : (one-number : Words → Answer ℕ) (put : ℕ → ℕ → List ℕ → List ℕ) → ((ws : Words) → UpTo size c ws → Named c (one-number ws))
+        → (x k : ℕ) (cells : List ℕ) (ws : Words) → UpTo size c ws → Left c (row one-number put x k cells ws)
+    unfolding row
+    row-left one-number put g x zero cells ws h = h
+    row-left one-number put g x (suc k) cells ws h =
+        upon-left c c cells (one-number ws) (λ p ws. row one-number put (x + 1) k (put x p cells) ws) (g ws h)
+        (λ p ws. row-left one-number put g (x + 1) k (put x p cells) ws)
+
+    entry-left : (m n w a s : ℕ) (cells : List ℕ) (ws : Words) → UpTo size c ws → Left c (entry m n w a s cells ws)
+    unfolding entry
+    entry-left m n w a s cells ws h =
+        upon-left c c cells (index w ws) _ (index-named w ws h)
+        (λ x ws k. upon-left c c cells (probability ws) _ (number-named c probabilityForm 0 _ ws k) (λ p ws l. l))
+
+    table-left : (m n w : ℕ) (cells : List ℕ) (ws : Words) → UpTo size c ws → Left c (table m n w cells ws)
+    unfolding table
+    table-left m n w cells ws h =
+        upon-left c c cells (indexed m ws) _ (indexed-named m ws h) (λ a ws k. upon-left c c cells (indexed n ws) _ (indexed-named n ws k) (λ s ws l.
+        choose-left c c (key colon ws) _ _ (keyed colon ws l) (λ ws. entry-left m n w a s cells ws)
+        (row-left probability _ (λ ws. number-named c probabilityForm 0 _ ws) 0 w cells ws l)))
+
+    rewards-left : (m n : ℕ) (cells : List ℤ) (ws : Words) → UpTo size c ws → Left c (rewards m n cells ws)
+    unfolding rewards reward
+    rewards-left m n cells ws h =
+        upon-left c c cells (indexed m ws) _ (indexed-named m ws h) (λ a ws h. upon-left c c cells (indexed n ws) _ (indexed-named n ws h) (λ s ws h.
+        upon-left c c cells (starred ws) _ (keys-named colon star ws h) (λ _ ws h. upon-left c c cells (starred ws) _ (keys-named colon star ws h) (λ _ ws h.
+        upon-left c c cells (rewardNumber ws) _ (reward-named ws h) (λ r ws k. k)))))
+
+    -- it takes a word or more
+    one-left : (m n k : ℕ) (d : Draft) (ws : Words) → UpTo size (suc c) ws → Left c (oneStatement m n k d ws)
+    unfolding oneStatement observationOrReward rewardStatement
+    one-left m n k d ws h =
+        choose-left c c (key _ ws) _ _ (key-named c _ ws h) (λ ws l. within-left c _ (table m n n (d .transition) ws) (table-left m n n (d .transition) ws l))
+        (choose-left c c (key _ ws) _ _ (key-named c _ ws h) (λ ws l. within-left c _ (table m n k (d .observation) ws)
+        (table-left m n k (d .observation) ws l))
+        (upon-left c c d (key _ ws) _ (key-named c _ ws h) (λ _ ws l. within-left c _ (rewards m n (d .reward) ws) (rewards-left m n (d .reward) ws l))))
+
+  -- as many statements as there are words are enough
+  statements-left : (f m n k : ℕ) (d : Draft) (ws : Words) → UpTo size f ws → Left f (statements f m n k d ws)
+  unfolding statements
+  statements-left zero m n k d (end at) h = h
+  statements-left zero m n k d (word at w rest) h = absurd h
+  statements-left (suc f) m n k d (end at) h = h
+  statements-left (suc f) m n k d (word at w rest) h =
+      further-left f (suc f) (oneStatement m n k d (word at w rest)) (λ d ws. statements f m n k d ws) (one-left f m n k d (word at w rest) h)
+      (λ d ws l. left-more f (statements f m n k d ws) (statements-left f m n k d ws l))
+    where
+      left-more : (c : ℕ) (o : Outcome Draft) → Left c o → Left (suc c) o
+      left-more c (filled cells ws) h = up-more size c ws h
+      left-more c (stopped n p cells) h = h
+
+  -- ---- the file
+
+  module _ (c : ℕ) where
+    body-named : (d n m k : ℕ) (ws : Words) → UpTo size c ws → Named c (body c d n m k ws)
+    unfolding body
+    body-named d n m k ws h =
+        then-named c c (named startName ws) _ (keys-named c startName colon ws h) (λ _ ws h.
+        let start = row startNumber (stated 1 1 n 0 0) 0 n (replicate maxStates 0) ws in
+        then-named c c (wholly start) _
+        (wholly-named c start (row-left c startNumber (stated 1 1 n 0 0) (λ ws. number-named c startForm 0 startTotal ws) 0 n (replicate maxStates 0) ws h))
+        (λ start ws h.
+        then-named c c (wholly (statements c m n k noCells ws)) _ (wholly-named c (statements c m n k noCells ws) (statements-left c m n k noCells ws h))
+        (λ cells ws h. h)))
+
+    counted-named : (d : ℕ) (ws : Words) → UpTo size c ws → Named c (counted c d ws)
+    unfolding counted
+    counted-named d ws h =
+        then-named c c (field _ countForm 1 _ ws) _ (field-named c _ countForm 1 _ ws h) (λ n ws h.
+        then-named c c (field _ countForm 1 _ ws) _ (field-named c _ countForm 1 _ ws h) (λ m ws h.
+        then-named c c (field _ countForm 1 _ ws) _ (field-named c _ countForm 1 _ ws h) (λ k ws. body-named d n m k ws)))
+
+    headed-named : (ws : Words) → UpTo size c ws → Named c (headed c ws)
+    unfolding headed
+    headed-named ws h =
+        then-named c c (field _ probabilityForm 0 _ ws) _ (field-named c _ probabilityForm 0 _ ws h) (λ d ws h.
+        then-named c c (named _ ws) _ (keys-named c _ colon ws h) (λ _ ws h. then-named c c (key _ ws) _ (keyed c _ ws h) (λ _ ws. counted-named d ws)))
+
+-- ---- the totals
+
+abbrev Says : (ℕ → ℕ → Type 0) → Verdict → Type 0
+Says P Fine = Unit
+Says P (Refused n p) = P n p
+
+says-before : (P : ℕ → ℕ → Type 0) (v w : Verdict) → Says P v → Says P w → Says P (v before w)
+says-before P Fine w h k = k
+says-before P (Refused n p) w h k = h
+
+says-unless : (P : ℕ → ℕ → Type 0) (b : Bool) (n p : ℕ) → P n p → Says P (unless b n p)
+says-unless P true n p h = tt
+says-unless P false n p h = h
+
+says-first : (P : ℕ → ℕ → Type 0) (n : ℕ) (v : ℕ → Verdict) → ((i : ℕ) → Says P (v i)) → Says P (firstOf n v)
+unfolding firstOf
+says-first P zero v h = tt
+says-first P (suc n) v h = says-before P (firstOf n v) (v n) (says-first P n v h) (h n)
+
+says-rows : (number m n w : ℕ) (cell : ℕ → ℕ → ℕ → ℕ) → Says (λ k p. k ≡ number) (rowsTotal number m n w cell)
+unfolding rowsTotal
+says-rows number m n w cell =
+    says-first (λ k p. k ≡ number) m _ (λ a.
+    says-first (λ k p. k ≡ number) n _ (λ s. says-unless (λ k p. k ≡ number) (eqb (totalTo w (λ x. cell a s x)) one) number (a * n + s) refl))
+
+-- ---- what a refusal says: its number, and its place in a file of so many bytes
+pub record RefusedAt (size n p : ℕ) : Type 0 where
+  pub low : 1 ≤ n
+  pub high : n ≤ 6
+  pub long : n ≡ 1 → p ≡ 0
+  pub word : 2 ≤ n → n ≤ 3 → p ≤ size
+  pub total : 4 ≤ n → p ≡ size
+
+total-at : (size n : ℕ) → 4 ≤ n → n ≤ 6 → RefusedAt size n size
+total-at size n h k = record { low = omega arith; high = k; long = λ e. absurd (omega arith); word = λ l m. omega arith; total = λ l. refl }
+
+says-placed : (size number : ℕ) (v : Verdict) → 4 ≤ number → number ≤ 6 → Says (λ k p. k ≡ number) v → Says (RefusedAt size) (placed size v)
+says-placed size number Fine h k e = tt
+says-placed size number (Refused n p) h k e = total-at size n (omega arith) (omega arith)
+
+says-sums : (size : ℕ) (t : Text) → Says (RefusedAt size) (sumsVerdict size t)
+unfolding sumsVerdict
+says-sums size t =
+    let m = t .tables in
+    let moves = rowsTotal 5 (m .actions) (m .states) (m .states) (cellIn (m .states) (m .states) (m .transition)) in
+    let seen = rowsTotal 6 (m .actions) (m .states) (m .observations) (cellIn (m .states) (m .observations) (m .observation)) in
+    says-before (RefusedAt size) (unless (eqb (totalTo (m .states) (λ s. getD (t .start) s 0)) startTotal) 4 size) (placed size moves before placed size seen)
+    (says-unless (RefusedAt size) (eqb (totalTo (m .states) (λ s. getD (t .start) s 0)) startTotal) 4 size (total-at size 4 (omega arith) (omega arith)))
+    (says-before (RefusedAt size) (placed size moves) (placed size seen)
+    (says-placed size 5 moves (omega arith) (omega arith) (says-rows 5 (m .actions) (m .states) (m .states) (cellIn (m .states) (m .states) (m .transition))))
+    (says-placed size 6 seen (omega arith) (omega arith) (says-rows 6 (m .actions) (m .states) (m .observations)
+    (cellIn (m .states) (m .observations) (m .observation)))))
+
+says-judged : (size : ℕ) (v : Verdict) (t : Text) → Says (RefusedAt size) v → Says (RefusedAt size) (judgedFile v t .verdict)
+says-judged size Fine t h = tt
+says-judged size (Refused n p) t h = h
+
+says-ended : (size c : ℕ) (a : Answer Text) → Named size c a → Says (RefusedAt size) (ended size a .verdict)
+says-ended size c (got t ws) h = says-judged size (sumsVerdict size t) t (says-sums size t)
+says-ended size c (refused n p) h =
+    record {
+      low = omega (arith, h .low);
+      high = omega (arith, h .high);
+      long = λ e. absurd (omega (arith, h .low));
+      word = λ l m. h .place;
+      total =
+          λ l. absurd (omega (arith, h .high));
+    }
+
+says-file : (file : List ℕ) (short : Bool) → Says (RefusedAt (length file))
+    (cond short (ended (length file) (headed (length file + 1) (wordsIn between file 0))) (refusedFile 1 0) .verdict)
+unfolding wordsIn
+says-file file true =
+    let words = words-up between (length file) 0 file (omega arith) in
+    let more : UpTo (length file) (length file + 1) (wordsOf between 0 file) = subst (λ (c : ℕ). UpTo (length file) c (wordsOf between 0 file))
+    (sym (add-one (length file))) (up-more (length file) (length file) (wordsOf between 0 file) words) in
+    says-ended (length file) (length file + 1) (headed (length file + 1) (wordsOf between 0 file))
+    (headed-named (length file) (length file + 1) (wordsOf between 0 file) more)
+says-file file false = record { low = omega arith; high = omega arith; long = λ e. refl; word = λ l m. absurd (omega arith); total = λ l. absurd (omega arith) }
+
+-- A word is refused by 2 or 3 where it stands, or at the end if it is missing. A file has no more words than bytes and a statement takes one or more, so that
+-- the
+-- statements, of which one more than the file has bytes are allowed, never run out. What is left is 1 for the length, and 4, 5 and 6 at the end. Qed.
+pub read-refused : (file : List ℕ) (n p : ℕ) → modelFile file .verdict ≡ Refused n p → RefusedAt (length file) n p
+unfolding modelFile
+read-refused file n p e = subst (Says (RefusedAt (length file))) e (says-file file (leb (length file) maxBytes))

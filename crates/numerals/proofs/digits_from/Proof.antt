@@ -1,0 +1,132 @@
+use Rattle.numerals.proofs.Prelude.{ℕ, suc, _+_, _-_, _*_, _^_, _≤_, _<_, _≡_, refl, sym, _∙_, arith, needs, drop, digits, value}
+use mathlib.Core.Bool.{true, false}
+use mathlib.Core.List.{List, [], _∷_}
+use native.Mathlib.Decide.{decLt}
+use native.Mathlib.Nat.{pow-suc, pow-zero, pow-le-pow-right}
+use lib.ListN.{length, getD}
+use Rattle.words.specs.declared.Class.{Class}
+use Rattle.words.proofs.Keys.{by-keys}
+use Rattle.numerals.specs.Numeral.{isDigit}
+use Rattle.numerals.specs.Steps.{mostDigits, Written}
+use Rattle.numerals.proofs.Laws.{digits-end, digits-stop, turn}
+use Rattle.numerals.proofs.digits_from.Statement.{statement}
+use Rattle.numerals.proofs.digits_from.Tie as tie
+
+grown : (n v d : ℕ) → v < 10 ^ n → d ≤ 9 → v * 10 + d < 10 ^ suc n
+grown n v d h k = rw pow-suc (omega arith)
+
+small : (n v : ℕ) → v < 10 ^ n → n ≤ mostDigits → v < 10 ^ mostDigits
+small n v h k = omega (arith, pow-le-pow-right {n = 10} (omega arith) {i = n} {j = mostDigits} k)
+
+-- v is what the digits up to `at` write, of those before `stop`
+record Reading (w : List ℕ) (from most stop v at : ℕ) : Type 0 where
+  bound : (stop ≤ length w) × ((stop ≤ from + most) × (most ≤ mostDigits))
+  cut : stop < length w → stop ≡ from + most
+  up : from ≤ at
+  low : at ≤ stop
+  count : at + digits (drop at w) ≡ from + digits (drop from w)
+  worth : value v (drop at w) ≡ value 0 (drop from w)
+  few : v < 10 ^ (at - from)
+
+abbrev Inv-loop : tie.InvT-loop
+Inv-loop w from most stop v₀ at₀ v at = Reading w from most stop v at
+
+abbrev μ-loop : tie.MeasureT-loop
+μ-loop w from most stop v₀ at₀ v at = stop - at
+
+-- no more digits, or no room for them
+module _ {w : List ℕ} {from most stop v at : ℕ} (r : Reading w from most stop v at) where
+  done : (0 < digits (drop at w) → at ≡ from + most) → Written w from most at v
+  done cut = record {
+    up = r .up;
+    low = omega (arith, r .low, r .bound);
+    few = omega (arith, r .low, r .bound);
+    count = r .count;
+    cut = cut;
+    worth = r .worth;
+    small = r .few;
+  }
+
+  -- at the end of the word there are none
+  at-stop : at ≡ stop → 0 < digits (drop at w) → at ≡ from + most
+  at-stop e h =
+      elim (decLt stop (length w)) [
+        | yes l ↦ e ∙ r .cut l
+        | no n ↦ absurd (omega (arith, r .bound, digits-end w at (omega (arith, r .bound))))
+      ]
+
+  under : v < 10 ^ mostDigits
+  under = small (at - from) v (r .few) (omega (arith, r .low, r .bound))
+
+loop-holds : tie.Need-loop-holds Inv-loop μ-loop
+loop-holds c =
+    let a = c .before .before .args in
+    let b = c .bounded .ensures in
+    let e : a .from - a .from ≡ 0 = omega arith in
+    record {
+      bound = (b .1 .0, (b .1 .1 .0, c .before .before .pre .1));
+      cut = b .1 .1 .1;
+      up = omega arith;
+      low = b .0;
+      count = refl;
+      worth = refl;
+      few = rw (e, pow-zero) (omega arith);
+    }
+
+returns : tie.Need-returns Inv-loop μ-loop
+returns c =
+    let w = c .before .before .before .before .before .before .before .args .w .now in
+    let l = c .before .before .before .before .loop in
+    let d = by-keys (λ (k : Class). isDigit k ≡ false) (0 ∷ 1 ∷ 2 ∷ 4 ∷ 5 ∷ 6 ∷ 7 ∷ []) (c .before .class-of .ensures) (search needs) (c .match .keys2) in
+    let e = digits-stop w (l .at) (omega arith) d in
+    done (l .inv) (λ h. absurd (omega arith))
+
+mul-v : tie.Need-mul-v Inv-loop μ-loop
+mul-v c = omega (arith, under (c .before .before .before .before .before .loop .inv))
+
+-- the byte is a digit
+sub-v : tie.Need-sub-v Inv-loop μ-loop
+sub-v c =
+    let d = by-keys (λ (k : Class). isDigit k ≡ true) (3 ∷ []) (c .before .before .class-of .ensures) (refl, tt) (c .before .match .keys1) in
+    turn (c .before .before .before .before .before .before .before .before .args .w .now) (c .before .before .before .before .before .loop .at)
+    (omega (arith, c .before .before .before .before .before .loop .inv .bound)) d .byte .0
+
+cast-v : tie.Need-cast-v Inv-loop μ-loop
+cast-v c = omega (arith, c .before .before .before .shared-slice-known2 .given (c .before .before .before .before .before .loop .at))
+
+add-v : tie.Need-add-v Inv-loop μ-loop
+add-v c = omega (
+  arith,
+  under (c .before .before .before .before .before .loop .inv),
+  c .before .before .before .shared-slice-known2 .given
+      (c .before .before .before .before .before .loop .at),
+)
+
+loop-again : tie.Need-loop-again Inv-loop μ-loop
+loop-again c =
+    let w = c .before .before .before .before .before .before .before .before .args .w .now in
+    let from = c .before .before .before .before .before .before .before .before .args .from in
+    let l = c .before .before .before .before .before .loop in
+    let i = l .inv in
+    let d = by-keys (λ (k : Class). isDigit k ≡ true) (3 ∷ []) (c .before .before .class-of .ensures) (refl, tt) (c .before .match .keys1) in
+    let t = turn w (l .at) (omega (arith, i .bound)) d in
+    let e : (l .at + 1) - from ≡ suc (l .at - from) = omega arith in
+    record {
+      bound = i .bound;
+      cut = i .cut;
+      up = omega arith;
+      low = omega arith;
+      count = omega (arith, t .fewer, i .count);
+      worth = sym (t .goes (l .v)) ∙ i .worth;
+      few = rw e (grown (l .at - from) (l .v) (getD w (l .at) 0 - 48) (i .few) (omega (arith, t .byte)));
+    }
+
+returns-2 : tie.Need-returns-2 Inv-loop μ-loop
+returns-2 c =
+    let l = c .before .loop in
+    done (l .inv) (at-stop (l .inv) (omega arith))
+
+pub digits-from-spec : {M : Type 1} → statement M
+digits-from-spec =
+    tie.close (tie.spec Inv-loop μ-loop (λ c κs. search needs) loop-holds (λ c. omega arith) (λ c κs. search needs) (λ c. c .match .keys1) returns
+    mul-v sub-v cast-v add-v (λ c. omega arith) (λ c. omega arith) loop-again returns-2)
