@@ -202,3 +202,26 @@ pub fn backed_up<'a>(
 {
     integers::floor_div(backup(transition, reward, n, g, f, s, a), Tables::K)
 }
+
+// The same at each state.
+pub fn rounded<'a>(
+    transition: &'a [u16],
+    reward: &'a [i64],
+    f: &[i64],
+    n: usize,
+    g: u64,
+    a: Action,
+) -> Foreseen
+    requires { ⌜ (n ≤ maxStates) × ((a .0 < maxActions) × (g ≤ one)) ⌝ }
+    requires { ⌜ TransitionsFit n (now transition) (a .0) ⌝ }
+    requires { ⌜ RewardsFit n (now reward) (a .0) ⌝ }
+    requires { ⌜ Within foreseenLimit n (now f) ⌝ }
+    ensures { λ r. ⌜ r
+        ≡ padded (pos 0) maxStates n (λ s. floorDiv (backupIn n g (now (transition .entry)) (now (reward .entry)) (now (f .entry)) (a .0) s) K) ⌝ }
+{
+    let mut e = [0i64; Tables::STATES];
+    for s in 0..n {
+        e[s] = backed_up(transition, reward, n, g, f, State(s), a);
+    }
+    e
+}

@@ -1,80 +1,166 @@
--- How large worths are, how the sum over observations and the worth make each other, and what a graph that is not refused has. Assumes nothing.
-use mathlib.Core.Path.{_≡_, refl, ap}
+-- How large worths are, how one step makes them of those with a step less, and what a graph that is not refused has. Assumes nothing.
+use mathlib.Core.Path.{_≡_, refl, sym, _∙_, ap}
 use mathlib.Core.List.{List}
-use Prim.Native.Nat.{ℕ, zero, suc, _-_, _≤_, _<_}
+use Prim.Native.Nat.{ℕ, zero, suc, _+_, _*_, _-_, _≤_, _<_}
+use native.Mathlib.Nat.{mul-le-mul}
 use native.Mathlib.Omega.{arith}
+use native.Mathlib.Numerals.{add-one}
+use lib.ListN.{length, getD, replicate, replicate-append-replicate}
+use lib.Seq.{paste}
 use lib.IntN.{ℤ, pos, natAbs}
 use borrow.Author.Tests.{ltb-true, leb-true}
-use Rattle.integers.specs.Whole.{floorDiv}
-use Rattle.integers.specs.Cells.{padded}
-use Rattle.integers.proofs.Lists.{padded-at}
+use Rattle.integers.specs.Whole.{floorDiv, Within}
+use Rattle.integers.specs.Cells.{listed, padded, grid}
+use Rattle.integers.proofs.Lists.{padded-at, padded-cong, padded-none, padded-length, grid-at, grid-cong, grid-length, grid-more, filled-within}
 use Rattle.integers.proofs.Rounding.{floor-range}
 use Rattle.integers.proofs.Searches.{and-true}
-use Rattle.integers.proofs.Terms.{Terms, terms-limit}
 use Rattle.tables.specs.declared.Counts.{Counts}
 use Rattle.tables.specs.declared.Verdict.the-variants.{Fine}
-use Rattle.tables.specs.Limits.{maxStates, one, maxEntry, K}
+use Rattle.tables.specs.Limits.{maxStates, maxActions, maxVectors, maxEntry, K}
 use Rattle.tables.specs.Model.{Model, backedUp}
-use Rattle.tables.specs.Storage.{modelIn}
-use Rattle.tables.specs.Steps.{backupIn, foreseenLimit}
+use Rattle.tables.specs.Storage.{entryIn, modelIn}
+use Rattle.tables.specs.Steps.{foreseenIn, backupIn, TransitionsFit, ObservationsFit, RewardsFit, EntriesFit, ChosenFit, foreseenLimit}
 use Rattle.tables.proofs.Accepted.{valid, count-true}
+use Rattle.tables.proofs.Fitting.{rows-stored}
 use Rattle.tables.proofs.Refusals.{before-fine, unless-fine}
-use Rattle.tables.proofs.Regroup.{backup-foreseen}
+use Rattle.tables.proofs.Regroup.{backup-regrouped, foreseen-limit, transitions-fit, observations-fit, rewards-fit}
 use Rattle.plans.specs.Limits.{range}
+use Rattle.plans.proofs.Agreement.{backup-cong}
 use Rattle.plans.proofs.Built.{K-positive, backup-within, range-limit}
 use Rattle.levels.proofs.Laws.{numbers-in}
-use Rattle.worth.specs.Limits.{maxSteps}
-use Rattle.worth.specs.Graph.{PlanGraph, worthOf, observedOf, Sound, Accepted}
+use Rattle.worth.specs.Limits.{maxNodes, maxSteps}
+use Rattle.worth.specs.Graph.{PlanGraph, worthOf, Sound, Accepted}
 use Rattle.worth.specs.Storage.{graphIn}
+use Rattle.worth.specs.Steps.{Lent, backedUpOf, worthsBy}
 use Rattle.worth.specs.Judged.{worthVerdict}
 
-module _ (M : Model) (G : PlanGraph) (h : Sound M G) where
-  -- A worth with d steps left lies within the range of level d.
-  -- By induction on d: a backup of worths within range d is within K × range (d + 1), and rounding keeps a range with whole ends. Qed.
-  pub worth-range : (d v s : ℕ) → v < G .nodes → s < M .states → natAbs (worthOf M G d v s) ≤ range d
-  unfolding worthOf backedUp
-  worth-range zero v s lv ls = omega arith
-  worth-range (suc d) v s lv ls =
-      floor-range K K-positive (range (suc d)) _
-      (backup-within M d (h .valid) (G .action v) (h .action-in v lv) (λ o s'. worthOf M G d (G .next v o) s')
-      (λ o b s' l. worth-range d (G .next v o) s' (h .next-in v lv o b) l) s ls)
+-- a grid that is filled with what lies past it
+module _ {A : Type 0} where
+  listed-same : (z : A) (n : ℕ) → listed n (λ i. z) ≡ replicate n z
+  unfolding listed
+  listed-same z zero = refl
+  listed-same z (suc n) = rw (listed-same z n) (replicate-append-replicate n 1 z) ∙ ap (λ (k : ℕ). replicate k z) (add-one n)
 
-  module _ (d v : ℕ) (few : d ≤ maxSteps) (lv : v < G .nodes) where
-    -- what is observed at a state is made of terms within the limits
-    pub observed-terms : {s' : ℕ} → s' < M .states → Terms (M .observations) one maxEntry (M .observation (G .action v) s') (λ o. worthOf M G d (G .next v o) s')
-    observed-terms {s'} l = record {
-      weights = h .valid .observation-limit (G .action v) (h .action-in v lv) s' l;
-      values = λ o b. omega (arith, worth-range d (G .next v o) s' (h .next-in v lv o b) l, range-limit d (omega arith));
-    }
+  grid-zero : (z : A) (size rows w : ℕ) → rows * w ≤ size → grid z size rows w (λ r x. z) ≡ replicate size z
+  unfolding grid padded
+  grid-zero z size rows w h =
+      let e : rows * w + (size - rows * w) ≡ size = omega arith in
+      rw (listed-same z (rows * w)) (replicate-append-replicate (rows * w) (size - rows * w) z) ∙ ap (λ (k : ℕ). replicate k z) e
 
-    -- so it is within its limit
-    pub observed-limit : {s' : ℕ} → s' < M .states → natAbs (observedOf M G d v s') ≤ foreseenLimit
-    unfolding observedOf
-    observed-limit l = omega (arith, h .valid .few-observations, terms-limit (observed-terms l) (M .observations) (omega arith))
+-- A worth with d steps left lies within the range of level d.
+-- By induction on d: a backup of worths within range d is within K × range (d + 1), and rounding keeps a range with whole ends. Qed.
+worth-range : (M : Model) (G : PlanGraph) → Sound M G → (d v s : ℕ) → v < G .nodes → s < M .states → natAbs (worthOf M G d v s) ≤ range d
+unfolding worthOf backedUp
+worth-range M G h zero v s lv ls = omega arith
+worth-range M G h (suc d) v s lv ls =
+    floor-range K K-positive (range (suc d)) _
+    (backup-within M d (h .valid) (G .action v) (h .action-in v lv) (λ o s'. worthOf M G d (G .next v o) s')
+    (λ o b s' l. worth-range M G h d (G .next v o) s' (h .next-in v lv o b) l) s ls)
 
--- ---- lent arrays
-module _ (c : Counts) (T O : List ℕ) (R : List ℤ) (nodes : ℕ) (actions next : List ℕ) where
+-- no row is filled yet
+pub worths-none-yet : (n : ℕ) (worth : ℕ → ℕ → ℤ) → replicate (maxNodes * maxStates) (pos 0) ≡ worthsBy n 0 worth
+unfolding grid
+worths-none-yet n worth = let e : 0 * n ≡ 0 = omega arith in rw e (sym (padded-none (pos 0) (maxNodes * maxStates) _))
+
+-- the nodes' rows lie in the array
+pub worths-room : {n nodes : ℕ} → n ≤ maxStates → nodes ≤ maxNodes → nodes * n ≤ maxNodes * maxStates
+worths-room few some = mul-le-mul some few
+
+module _ {c : Counts} {nodes : ℕ} {T O : List ℕ} {R : List ℤ} {actions next : List ℕ} (h : Lent c nodes T O R actions next) where
   abbrev model : Model
   model = modelIn c T O R
 
   abbrev graph : PlanGraph
   graph = graphIn (c .observations) nodes actions next
 
-  pub worth-none : (d v s : ℕ) → d ≡ 0 → pos 0 ≡ worthOf model graph d v s
-  unfolding worthOf
-  worth-none zero v s e = refl
-  worth-none (suc d) v s e = absurd (omega arith)
+  pub few-states : c .states ≤ maxStates
+  few-states = h .sound .valid .few-states
 
-  -- with the sum over observations at each state, one step lower, the backup over K is the worth
-  pub worth-from : (d v s : ℕ) {f : List ℤ} → (d ≡ 0 → ⊥) → f ≡ padded (pos 0) maxStates (c .states) (observedOf model graph (d - 1) v)
-      → floorDiv (backupIn (c .states) (c .discount) T R f (graph .action v) s) K ≡ worthOf model graph d v s
-  unfolding worthOf backedUp observedOf
-  worth-from zero v s more e = absurd (more refl)
-  worth-from (suc d) v s {f} more e =
-      let less : suc d - 1 ≡ d = omega arith in
-      ap (λ (z : ℤ). floorDiv z K)
-      (backup-foreseen c T O R (λ o s'. worthOf model graph d (graph .next v o) s') f (graph .action v) s
-      (λ s' l. rw (e, less) (padded-at (pos 0) maxStates (c .states) (observedOf model graph d v) s' (pos 0) l)))
+  pub room : nodes * c .states ≤ maxNodes * maxStates
+  room = worths-room few-states (h .sound .few-nodes)
+
+  -- ---- one node, which exists, with its action a, over numbers within the limits
+  module _ {before : List ℤ} {v a : ℕ} (fit : EntriesFit (c .states) nodes before) (exists : v < nodes) (acts : a ≡ getD actions v 0) where
+    acts-in : a < c .actions
+    acts-in = rw acts (h .sound .action-in v exists)
+
+    pub action-below : a < maxActions
+    action-below = omega (arith, acts-in, h .sound .valid .few-actions)
+
+    pub chosen : ChosenFit (c .states) (c .observations) before next v
+    chosen = record {
+      vectors = nodes;
+      entries-fit = fit;
+      row = omega (arith, exists, h .sound .few-nodes);
+      stored = rows-stored (c .observations) v nodes exists (h .graph .next-stored);
+      vector = h .sound .next-in v exists;
+    }
+
+    pub observed : ObservationsFit (c .states) (c .observations) O a
+    observed = observations-fit c T O R (h .sound .valid) (h .tables) a acts-in
+
+    pub transitions : TransitionsFit (c .states) T a
+    transitions = transitions-fit c T O R (h .sound .valid) (h .tables) a acts-in
+
+    pub rewards : RewardsFit (c .states) R a
+    rewards = rewards-fit c T O R (h .sound .valid) (h .tables) a acts-in
+
+    module _ {f : List ℤ} (ahead : f ≡ padded (pos 0) maxStates (c .states) (foreseenIn (c .states) (c .observations) O before next v a)) where
+      pub foreseen-long : maxStates ≡ length f
+      foreseen-long = sym (rw ahead (padded-length (pos 0) maxStates _ _ few-states))
+
+      pub foreseen-within : Within foreseenLimit (c .states) f
+      foreseen-within = filled-within maxStates _ ahead few-states (λ s l. foreseen-limit observed chosen (h .sound .valid .few-observations) l)
+
+      -- what is foreseen, backed up and rounded, is the node's row
+      pub row-is : {r : List ℤ} → r ≡ padded (pos 0) maxStates (c .states) (λ s. floorDiv (backupIn (c .states) (c .discount) T R f a s) K)
+          → r ≡ padded (pos 0) maxStates (c .states) (backedUpOf c nodes T O R actions next before v)
+      unfolding backedUp
+      row-is e = e ∙ padded-cong (pos 0) maxStates (c .states) _ _ (λ s l. ap (λ (z : ℤ). floorDiv z K)
+          (backup-regrouped c T O R before next v f a s (λ s' b. rw ahead (padded-at (pos 0) maxStates _ _ s' (pos 0) b)) ∙ rw acts refl))
+
+  -- ---- all nodes
+  module _ (worth : ℕ → ℕ → ℤ) where
+    pub worths-long : {i : ℕ} {ws : List ℤ} → i ≤ nodes → ws ≡ worthsBy (c .states) i worth → length ws ≡ maxNodes * maxStates
+    worths-long {i} few e = rw e (grid-length (pos 0) (maxNodes * maxStates) i (c .states) worth
+        (worths-room few-states (omega (arith, few, h .sound .few-nodes))))
+
+    pub worths-more : {i : ℕ} {ws row ws' : List ℤ} → i < nodes → ws ≡ worthsBy (c .states) i worth → row ≡ padded (pos 0) maxStates (c .states) (worth i)
+        → ws' ≡ paste ws (i * c .states) row (c .states) → ws' ≡ worthsBy (c .states) (i + 1) worth
+    worths-more {i} {ws} {row} l e r p =
+        p ∙ rw e (grid-more (pos 0) (maxNodes * maxStates) i (c .states) worth row
+        (worths-room few-states (omega (arith, l, h .sound .few-nodes)))
+        (rw r (omega (arith, few-states, padded-length (pos 0) maxStates (c .states) (worth i) few-states)))
+        (λ x b. rw r (padded-at (pos 0) maxStates (c .states) (worth i) x (pos 0) b)))
+
+  -- ---- steps
+  -- with no step left all worths are 0
+  pub worths-none : replicate (maxNodes * maxStates) (pos 0) ≡ worthsBy (c .states) nodes (worthOf model graph 0)
+  unfolding worthOf
+  worths-none = sym (grid-zero (pos 0) (maxNodes * maxStates) nodes (c .states) room)
+
+  -- a worth is read where it is stored
+  pub worth-at : (d : ℕ) {ws : List ℤ} → ws ≡ worthsBy (c .states) nodes (worthOf model graph d)
+      → (v : ℕ) → v < nodes → (s : ℕ) → s < c .states → entryIn (c .states) ws v s ≡ worthOf model graph d v s
+  worth-at d e v l s b = rw e (grid-at (pos 0) (maxNodes * maxStates) nodes (c .states) (worthOf model graph d) v s (pos 0) l b)
+
+  -- worths with d steps left are within the limits, wherever they are stored
+  pub worths-fit : (d : ℕ) {ws : List ℤ} → d ≤ maxSteps → ws ≡ worthsBy (c .states) nodes (worthOf model graph d) → EntriesFit (c .states) nodes ws
+  worths-fit d {ws} few e = record {
+    few = omega (arith, h .sound .few-nodes);
+    stored = rw (worths-long (worthOf model graph d) (omega arith) e) room;
+    entry = λ v l s b. rw (worth-at d e v l s b) (omega (arith, worth-range model graph (h .sound) d v s l b, range-limit d (omega arith)));
+  }
+
+  -- One step more: the backups of the worths with d steps left are the worths with d + 1.
+  -- A backup reads the numbers before at next nodes, which exist, and there they are the worths. Qed.
+  pub worths-step : (d : ℕ) {ws ws' : List ℤ} → ws ≡ worthsBy (c .states) nodes (worthOf model graph d)
+      → ws' ≡ worthsBy (c .states) nodes (backedUpOf c nodes T O R actions next ws) → ws' ≡ worthsBy (c .states) nodes (worthOf model graph (d + 1))
+  unfolding backedUp worthOf
+  worths-step d e e' =
+      e' ∙ grid-cong (pos 0) (maxNodes * maxStates) nodes (c .states) _ _ (λ v l s b. ap (λ (z : ℤ). floorDiv z K)
+      (backup-cong model (graph .action v) _ _ s (λ o k s' k'. worth-at d e (graph .next v o) (h .sound .next-in v l o k) s' k')))
+      ∙ rw (add-one d) refl
 
 -- ---- what is not refused
 -- Each stage of a fine verdict is fine, so each of its tests passed. Qed.

@@ -1,10 +1,6 @@
 -- A plan graph, and the worth of its nodes by one backup for each step left.
---
---   worthOf      the worth of node v at state s with d steps left
---   observedOf   the sum over observations at the state reached, of worths with d steps left
 use Prim.Native.Nat.{ℕ, zero, suc, _≤_, _<_}
 use lib.IntN.{ℤ, pos}
-use Rattle.integers.specs.Whole.{_·_, sumTo}
 use Rattle.tables.specs.Model.{Model, Valid, backedUp}
 use Rattle.worth.specs.Limits.{maxNodes, maxSteps}
 
@@ -18,10 +14,6 @@ pub record PlanGraph : Type 0 where
 unfoldable pub worthOf : Model → PlanGraph → ℕ → ℕ → ℕ → ℤ
 worthOf M G zero v s = pos 0
 worthOf M G (suc d) v s = backedUp M (G .action v) (λ o s'. worthOf M G d (G .next v o) s') s
-
--- the sum over o of O(a,s',o) × the worth at s' of the node that follows o
-unfoldable pub observedOf : Model → PlanGraph → ℕ → ℕ → ℕ → ℤ
-observedOf M G d v s' = sumTo (M .observations) (λ o. M .observation (G .action v) s' o · worthOf M G d (G .next v o) s')
 
 -- what tables and a graph that are not refused have
 pub record Sound (M : Model) (G : PlanGraph) : Type 0 where

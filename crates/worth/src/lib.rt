@@ -1,21 +1,24 @@
-// A plan graph's worth, by two functions in turn: the worth of a node, and the sum over observations of what follows it.
+// A plan graph's worth: the worths of all nodes at all states with one step left, then with two, up to the steps asked for.
 ghost use mathlib.Core.Path.{_≡_};
 ghost use mathlib.Core.Bool.{true};
 ghost use Prim.Native.Nat.{_≤_, _<_};
 ghost use lib.ListN.{length, getD};
-ghost use Rattle.tables.specs.Limits.{maxObservations};
-ghost use Rattle.tables.specs.Storage.{choiceIn, modelIn};
-ghost use Rattle.tables.specs.Steps.{rowsTo, Stored};
+ghost use lib.IntN.{pos};
+ghost use Rattle.integers.specs.Cells.{padded};
+ghost use Rattle.tables.specs.Limits.{maxStates, maxObservations};
+ghost use Rattle.tables.specs.Storage.{modelIn};
+ghost use Rattle.tables.specs.Steps.{EntriesFit, Stored};
 ghost use Rattle.tables.specs.Judged.{countsWithin};
-ghost use Rattle.worth.specs.Limits.{maxNodes};
-ghost use Rattle.worth.specs.Graph.{worthOf, observedOf};
+ghost use Rattle.worth.specs.Limits.{maxNodes, maxSteps};
+ghost use Rattle.worth.specs.Graph.{worthOf};
 ghost use Rattle.worth.specs.Storage.{graphIn};
-ghost use Rattle.worth.specs.Steps.{GraphStored, Asked};
+ghost use Rattle.worth.specs.Steps.{GraphStored, Lent, backedUpOf, worthsBy};
 ghost use Rattle.worth.specs.Judged.{askedWithin, worthVerdict, worthAnswer};
+use integers::cells;
 use levels::shape;
 use tables::Action;
 use tables::Counts;
-use tables::Observation;
+use tables::Foreseen;
 use tables::State;
 use tables::Tables;
 use tables::Vector;
@@ -26,11 +29,18 @@ use tables::sums;
 
 pub struct Node(pub usize);
 
+pub type Actions = [u8; Graph::NODES];
+
+pub type NextNodes = [u16; Graph::NODES * Tables::OBSERVATIONS];
+
+// By node and state, packed by the number of states.
+type Worths = [i64; Graph::NODES * Tables::STATES];
+
 // A plan graph by value: next nodes by node and observation, packed by the counts.
 pub struct Graph {
     pub nodes: usize,
-    pub actions: [u8; Graph::NODES],
-    pub next: [u16; Graph::NODES * Tables::OBSERVATIONS],
+    pub actions: Actions,
+    pub next: NextNodes,
 }
 
 // The verdict on what is asked, with the worth.
@@ -53,100 +63,99 @@ fn action_at(actions: &[u8], v: Node) -> Action
     Action(shape::action(actions[i]))
 }
 
-// The node to go on with after an observation.
-fn next_at(next: &[u16], k: usize, v: Node, o: Observation) -> Node
-    requires { ⌜ (k ≤ maxObservations) × ((v .0 < maxNodes) × (o .0 < k)) ⌝ }
-    requires { ⌜ rowsTo k (v .0) ≤ length (now next) ⌝ }
-    ensures { λ r. ⌜ r .0 ≡ choiceIn k (now (next .entry)) (v .0) (o .0) ⌝ }
-{
-    let u = read::choice_at(next, k, Vector(v.0), o);
-    Node(u.0)
-}
-
-// The worth of a node at a state with d steps left.
-fn worth_at<'a, 'b>(
+// The worths of a node at each state: the backups, over K and rounded down, of worths with a step less. A graph's nodes are read as a level's vectors are.
+fn worths_of<'a, 'b>(
     transition: &'a [u16],
     observation: &'a [u16],
     reward: &'a [i64],
     actions: &'b [u8],
     next: &'b [u16],
+    before: &[i64],
     c: Counts,
     nodes: usize,
     v: Node,
-    s: State,
-    d: usize,
-) -> i64
-    requires { ⌜ Asked c (now transition) (now observation) (now reward) nodes (now actions) (now next) (v .0) (s .0) d ⌝ }
-    ensures { λ r. ⌜ r ≡ worthOf (modelIn c (now (transition .entry)) (now (observation .entry)) (now (reward .entry))) (graphIn (c .observations) nodes (now (actions .entry)) (now (next .entry))) d (v .0) (s .0) ⌝ }
-{
-    if d == 0 {
-        return 0;
-    }
-    let n = c.states;
-    let mut f = [0i64; Tables::STATES];
-    for to in 0..n {
-        f[to] = observed_at(
-            transition,
-            observation,
-            reward,
-            actions,
-            next,
-            c,
-            nodes,
-            v,
-            State(to),
-            d - 1,
-        );
-    }
-    sums::backed_up(
-        transition,
-        reward,
-        n,
-        c.discount,
-        &f,
-        s,
-        action_at(actions, v),
-    )
-}
-
-// The sum over o of O(a,s',o) × the worth at s' of the node that follows o, with d steps left.
-fn observed_at<'a, 'b>(
-    transition: &'a [u16],
-    observation: &'a [u16],
-    reward: &'a [i64],
-    actions: &'b [u8],
-    next: &'b [u16],
-    c: Counts,
-    nodes: usize,
-    v: Node,
-    to: State,
-    d: usize,
-) -> i64
-    requires { ⌜ Asked c (now transition) (now observation) (now reward) nodes (now actions) (now next) (v .0) (to .0) d ⌝ }
-    ensures { λ r. ⌜ r ≡ observedOf (modelIn c (now (transition .entry)) (now (observation .entry)) (now (reward .entry))) (graphIn (c .observations) nodes (now (actions .entry)) (now (next .entry))) d (v .0) (to .0) ⌝ }
+) -> Foreseen
+    requires { ⌜ Lent c nodes (now transition) (now observation) (now reward) (now actions) (now next) ⌝ }
+    requires { ⌜ (EntriesFit (c .states) nodes (now before)) × (v .0 < nodes) ⌝ }
+    ensures { λ r. ⌜ r
+        ≡ padded (pos 0) maxStates (c .states) (backedUpOf c nodes (now (transition .entry)) (now (observation .entry)) (now (reward .entry))
+        (now (actions .entry)) (now (next .entry)) (now (before .entry)) (v .0)) ⌝ }
 {
     let n = c.states;
     let k = c.observations;
     let a = action_at(actions, v);
-    let mut sum: i64 = 0;
-    for o in 0..k {
-        let w = read::observation_at(observation, n, k, a, to, Observation(o));
-        let u = next_at(next, k, v, Observation(o));
-        let e = worth_at(
+    let f = sums::foreseen(observation, n, k, before, next, Vector(v.0), a);
+    sums::rounded(transition, reward, &f, n, c.discount, a)
+}
+
+// The worths of all nodes at all states with one step more: each is worked out once.
+fn step<'a, 'b>(
+    transition: &'a [u16],
+    observation: &'a [u16],
+    reward: &'a [i64],
+    actions: &'b [u8],
+    next: &'b [u16],
+    earlier: Worths,
+    c: Counts,
+    nodes: usize,
+) -> Worths
+    requires { ⌜ Lent c nodes (now transition) (now observation) (now reward) (now actions) (now next) ⌝ }
+    requires { ⌜ EntriesFit (c .states) nodes earlier ⌝ }
+    ensures { λ r. ⌜ r
+        ≡ worthsBy (c .states) nodes (backedUpOf c nodes (now (transition .entry)) (now (observation .entry)) (now (reward .entry))
+        (now (actions .entry)) (now (next .entry)) earlier) ⌝ }
+{
+    let n = c.states;
+    let mut worths = [0i64; Graph::NODES * Tables::STATES];
+    for v in 0..nodes {
+        let row = worths_of(
             transition,
             observation,
             reward,
             actions,
             next,
+            &earlier,
             c,
             nodes,
-            u,
-            to,
-            d,
+            Node(v),
         );
-        sum = integers::add_scaled(sum, w, e);
+        cells::paste_i64(&mut worths, read::start(v, n), &row, n);
     }
-    sum
+    worths
+}
+
+// The worths of all nodes at all states with d steps left: those with no step left are 0, then one step after the other.
+fn worths<'a, 'b>(
+    transition: &'a [u16],
+    observation: &'a [u16],
+    reward: &'a [i64],
+    actions: &'b [u8],
+    next: &'b [u16],
+    c: Counts,
+    nodes: usize,
+    d: usize,
+) -> Worths
+    requires { ⌜ Lent c nodes (now transition) (now observation) (now reward) (now actions) (now next) ⌝ }
+    requires { ⌜ d ≤ maxSteps ⌝ }
+    ensures { λ r. ⌜ r
+        ≡ worthsBy (c .states) nodes (worthOf (modelIn c (now (transition .entry)) (now (observation .entry)) (now (reward .entry)))
+        (graphIn (c .observations) nodes (now (actions .entry)) (now (next .entry))) d) ⌝ }
+{
+    let mut worths = [0i64; Graph::NODES * Tables::STATES];
+    for _ in 0..d {
+        let more = step(
+            transition,
+            observation,
+            reward,
+            actions,
+            next,
+            worths,
+            c,
+            nodes,
+        );
+        worths = more;
+    }
+    worths
 }
 
 fn asked_within(nodes: usize, n: usize, v: Node, s: State, d: usize) -> bool
@@ -176,7 +185,9 @@ fn judge_worth<'a, 'b>(
 ) -> Verdict
     requires { ⌜ (countsWithin (c .states) (c .actions) (c .observations) ≡ true → Stored c (now transition) (now observation) (now reward)) ⌝ }
     requires { ⌜ (nodes ≤ maxNodes → c .observations ≤ maxObservations → GraphStored (c .observations) nodes (now actions) (now next)) ⌝ }
-    ensures { λ r. ⌜ r ≡ worthVerdict (modelIn c (now (transition .entry)) (now (observation .entry)) (now (reward .entry))) (graphIn (c .observations) nodes (now (actions .entry)) (now (next .entry))) (v .0) (s .0) d ⌝ }
+    ensures { λ r. ⌜ r
+        ≡ worthVerdict (modelIn c (now (transition .entry)) (now (observation .entry)) (now (reward .entry)))
+        (graphIn (c .observations) nodes (now (actions .entry)) (now (next .entry))) (v .0) (s .0) d ⌝ }
 {
     let tables = judge::judge_tables(transition, observation, reward, c);
     let Verdict::Fine = tables else {
@@ -220,7 +231,7 @@ pub fn worth(m: Tables, g: Graph, v: Node, s: State, d: usize) -> Valued
     );
     match verdict {
         Verdict::Fine => {
-            let ticks = worth_at(
+            let all = worths(
                 &m.transition,
                 &m.observation,
                 &m.reward,
@@ -228,10 +239,9 @@ pub fn worth(m: Tables, g: Graph, v: Node, s: State, d: usize) -> Valued
                 &g.next,
                 c,
                 nodes,
-                v,
-                s,
                 d,
             );
+            let ticks = read::entry_at(&all, c.states, Vector(v.0), s);
             Valued {
                 verdict: Verdict::Fine,
                 ticks: ticks,

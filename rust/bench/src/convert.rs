@@ -1,6 +1,6 @@
 //! One object in every form.
 
-use crate::limits::Tables;
+use crate::limits::{Graph, Tables};
 use crate::{floating, plain, tuned};
 
 /// The words of tables, as the library packs them.
@@ -32,6 +32,12 @@ pub fn certifier_words(certifier: &tuned::Certifier) -> Vec<i64> {
     words.extend(tables_words(&certifier.tables));
     words.extend(level_words(&certifier.level));
     words
+}
+
+/// The words of a plan graph.
+pub fn graph_words(graph: &Graph) -> Vec<i64> {
+    let numbers = graph.actions.iter().chain(&graph.next).map(|&number| number as i64);
+    std::iter::once(graph.actions.len() as i64).chain(numbers).collect()
 }
 
 /// The words of points.

@@ -2,6 +2,8 @@
 //!
 //! Tables are trusted once they are open, rows total 1 up to a tolerance, and nothing is rounded.
 
+use crate::limits::Graph;
+
 /// How far a row may be from 1, or an inequality from holding, in units of the numbers compared.
 const TOLERANCE: f64 = 1e-6;
 
@@ -29,7 +31,7 @@ pub struct Point {
     pub value: f64,
 }
 
-#[derive(Clone, Debug, PartialEq)]
+#[derive(Clone, Debug, Default, PartialEq)]
 pub struct Level {
     pub vectors: Vec<Vector>,
     pub corners: Vec<f64>,
@@ -312,4 +314,19 @@ pub fn read(file: &[u8]) -> Option<(Tables, Vec<f64>)> {
         words.statement(kind, &mut tables)?;
     }
     Some((tables, start))
+}
+
+/// What a node is worth at a state with some steps left.
+pub fn worth(tables: &Tables, graph: &Graph, node: usize, state: usize, steps: usize) -> f64 {
+    let nodes = graph.actions.iter().zip(graph.next.chunks(tables.observations));
+    let nodes: Vec<Vector> = nodes
+        .map(|(&action, next)| Vector { action, choices: next.to_vec(), entries: vec![0.0; tables.states] })
+        .collect();
+    let mut level = Level { vectors: nodes, ..Level::default() };
+    for _ in 0..steps {
+        let worths =
+            |node: &Vector| Vector { entries: tables.backups(&level, node.action, &node.choices), ..node.clone() };
+        level = Level { vectors: level.vectors.iter().map(worths).collect(), ..Level::default() };
+    }
+    level.vectors[node].entries[state]
 }

@@ -1,7 +1,7 @@
 //! Models, levels and files that leave a call as much work as there can be: no probability and no weight is 0, every level
 //! is accepted, and every point takes something off the corners.
 
-use crate::limits::{Tables, BUILT_POINTS, REWARD, THOUSAND, TOTAL};
+use crate::limits::{Graph, Tables, BUILT_POINTS, REWARD, THOUSAND, TOTAL};
 use crate::tuned::{self, Certifier, Level};
 use compare::rng::Rng;
 
@@ -34,6 +34,14 @@ pub fn tables(rng: &mut Rng, counts: Counts) -> Tables {
         transitions: (0..rows).flat_map(|_| shares(rng, states, THOUSAND)).collect(),
         sights: (0..rows).flat_map(|_| shares(rng, observations, THOUSAND)).collect(),
         rewards: (0..rows).map(|_| rng.within(-REWARD, REWARD)).collect(),
+    }
+}
+
+/// A plan graph with so many nodes.
+pub fn graph(rng: &mut Rng, counts: Counts, nodes: usize) -> Graph {
+    Graph {
+        actions: (0..nodes).map(|_| rng.index(counts.actions)).collect(),
+        next: (0..nodes * counts.observations).map(|_| rng.index(nodes)).collect(),
     }
 }
 

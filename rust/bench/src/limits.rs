@@ -48,6 +48,24 @@ impl Tables {
     }
 }
 
+/// A plan graph, packed: each node's action, and its next nodes by node and observation.
+#[derive(Clone, Debug)]
+pub struct Graph {
+    pub actions: Vec<usize>,
+    pub next: Vec<usize>,
+}
+
+impl Graph {
+    /// Whether the node count, the actions and the next nodes are within their limits.
+    pub fn fits(&self, tables: &Tables) -> bool {
+        let nodes = self.actions.len();
+        (1..=NODES).contains(&nodes)
+            && self.next.len() == nodes * tables.observations
+            && self.actions.iter().all(|&action| action < tables.actions)
+            && self.next.iter().all(|&node| node < nodes)
+    }
+}
+
 pub const STATES: usize = 16;
 pub const ACTIONS: usize = 8;
 pub const OBSERVATIONS: usize = 8;
@@ -55,6 +73,8 @@ pub const VECTORS: usize = 32;
 pub const POINTS: usize = 32;
 pub const BUILT_POINTS: usize = 16;
 pub const LEVELS: usize = 100;
+pub const NODES: usize = 32;
+pub const STEPS: usize = 4;
 pub const THOUSAND: i64 = 1_000;
 pub const REWARD: i64 = 100_000;
 /// What a point's weights total.

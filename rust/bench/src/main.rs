@@ -7,7 +7,7 @@
 //! ends with 1.
 
 use bench::inputs::{self, Counts};
-use bench::limits::{Tables, Totals, FILE_BYTES, POINTS, TOTAL, VECTORS};
+use bench::limits::{Graph, Tables, Totals, FILE_BYTES, NODES, POINTS, STEPS, TOTAL, VECTORS};
 use bench::{convert, floating, plain, plain_file, tuned, tuned_file};
 use biidhaqun::words;
 use compare::rng::Rng;
@@ -283,6 +283,26 @@ fn building(certifier: &tuned::Certifier, points: &[Vec<i64>]) -> Result<Forms, 
     ])
 }
 
+/// What the first node is worth at the first state.
+fn valuing(tables: &Tables, graph: &Graph, steps: usize) -> Result<Forms, String> {
+    let (handed, nodes) = (convert::tables_words(tables), convert::graph_words(graph));
+    let expected = tuned::worth(tables, graph, 0, 0, steps).map_err(|refused| format!("{:?}", refused))?;
+    agree("a worth", &Ok(expected), &plain::worth(tables, graph, 0, 0, steps))?;
+    let found = words::worth(&handed, &nodes, 0, 0, steps);
+    agree("a worth", &(found.number, found.ticks), &(0, expected))?;
+    let float = convert::floating_tables(tables);
+    close("a worth", expected as f64, floating::worth(&float, graph, 0, 0, steps))?;
+
+    let (first, second, third) = (graph.clone(), graph.clone(), graph.clone());
+    let (by_rows, packed) = (tables.clone(), tables.clone());
+    Ok([
+        repeat(move || words::worth(&handed, &nodes, 0, 0, steps).ticks),
+        repeat(move || plain::worth(&by_rows, &first, 0, 0, steps).unwrap_or(-1)),
+        repeat(move || tuned::worth(&packed, &second, 0, 0, steps).unwrap_or(-1)),
+        repeat(move || floating::worth(&float, &third, 0, 0, steps) as i64),
+    ])
+}
+
 fn head(title: &str, last: &str) {
     println!("\n{:<44} {:>9} {:>9} {:>9}  {}", title, "obvious", "tuned", "floating", last);
 }
@@ -293,18 +313,17 @@ fn line(name: &str, measured: &Measured, first: Option<f64>) {
     println!("{:<44} {:>9.2} {:>9.2} {:>9.2}  {}", name, obvious, tuned, floating, growth);
 }
 
-/// Offers over a list of sizes.
+/// A call over a list of sizes.
 fn growth(
     title: &str,
     rounds: usize,
     sizes: &[usize],
-    input: impl Fn(usize) -> (tuned::Certifier, tuned::Level),
+    forms: impl Fn(usize) -> Result<Forms, String>,
 ) -> Result<(), String> {
     head(title, "growth");
     let mut first = None;
     for &size in sizes {
-        let (certifier, level) = input(size);
-        let measured = measure(offering(&certifier, &level)?, rounds);
+        let measured = measure(forms(size)?, rounds);
         let least = *first.get_or_insert(measured.ours);
         line(&size.to_string(), &measured, Some(least));
     }
@@ -328,15 +347,26 @@ fn run(rounds: usize) -> Result<(), String> {
     line("totals", &measure(totals(&certifier, &mixture)?, rounds), None);
     let points = inputs::points(&mut rng(), 16, 16);
     line("building at 16 points", &measure(building(&certifier, &points)?, rounds), None);
+    let graph = inputs::graph(&mut rng(), LARGEST, NODES);
+    line("a plan's worth, 32 nodes, 4 steps", &measure(valuing(tables, &graph, STEPS)?, rounds), None);
 
+    let offer = |counts, vectors, points| {
+        let (certifier, level) = inputs::offer(&mut rng(), counts, vectors, points, false);
+        offering(&certifier, &level)
+    };
     growth("an offer by states, 32 vectors, 32 points", rounds, &[2, 4, 8, 16], |states| {
-        inputs::offer(&mut rng(), Counts { states, ..LARGEST }, VECTORS, POINTS, false)
+        offer(Counts { states, ..LARGEST }, VECTORS, POINTS)
     })?;
-    growth("an offer by vectors, no points", rounds, &[1, 8, 16, 32], |vectors| {
-        inputs::offer(&mut rng(), LARGEST, vectors, 0, false)
-    })?;
-    growth("an offer by points, 32 vectors", rounds, &[0, 8, 16, 32], |points| {
-        inputs::offer(&mut rng(), LARGEST, VECTORS, points, false)
+    growth("an offer by vectors, no points", rounds, &[1, 8, 16, 32], |vectors| offer(LARGEST, vectors, 0))?;
+    growth("an offer by points, 32 vectors", rounds, &[0, 8, 16, 32], |points| offer(LARGEST, VECTORS, points))?;
+
+    let worth = |counts, nodes, steps| {
+        valuing(&inputs::tables(&mut rng(), counts), &inputs::graph(&mut rng(), counts, nodes), steps)
+    };
+    growth("a worth by steps, 32 nodes", rounds, &[1, 2, 3, 4], |steps| worth(LARGEST, NODES, steps))?;
+    growth("a worth by nodes, 4 steps", rounds, &[4, 8, 16, 32], |nodes| worth(LARGEST, nodes, STEPS))?;
+    growth("a worth by states, 32 nodes, 4 steps", rounds, &[2, 4, 8, 16], |states| {
+        worth(Counts { states, ..LARGEST }, NODES, STEPS)
     })?;
 
     let words = convert::certifier_words(&certifier).len();

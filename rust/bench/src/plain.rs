@@ -21,7 +21,7 @@ pub struct Point {
 }
 
 /// A level of any content.
-#[derive(Clone, Debug, PartialEq, Eq)]
+#[derive(Clone, Debug, Default, PartialEq, Eq)]
 pub struct Level {
     pub vectors: Vec<Vector>,
     pub corners: Vec<i64>,
@@ -287,4 +287,25 @@ pub fn build(certifier: &Certifier, points: &[Vec<i64>]) -> Result<Level, Refuse
         corners: corners.iter().map(|p| least_value(tables, standing, p)).collect(),
         points: points.iter().map(point).collect(),
     })
+}
+
+/// What a node is worth at a state with some steps left: the equation as it stands, for all nodes and states at each step.
+pub fn worth(tables: &Tables, graph: &Graph, node: usize, state: usize, steps: usize) -> Result<i64, Refused> {
+    tables.judge()?;
+    if !graph.fits(tables) || node >= graph.actions.len() || state >= tables.states || steps > STEPS {
+        return Err(Refused::at(18, 0));
+    }
+    let nodes = graph.actions.iter().zip(graph.next.chunks(tables.observations));
+    let nodes: Vec<Vector> = nodes
+        .map(|(&action, next)| Vector { action, choices: next.to_vec(), entries: vec![0; tables.states] })
+        .collect();
+    let mut level = Level { vectors: nodes, ..Level::default() };
+    for _ in 0..steps {
+        let worths = |node: &Vector| {
+            let backup = |s| tables.vector_backup(&level, s, node.action, &node.choices).div_euclid(K);
+            Vector { entries: (0..tables.states).map(backup).collect(), ..node.clone() }
+        };
+        level = Level { vectors: level.vectors.iter().map(worths).collect(), ..Level::default() };
+    }
+    Ok(level.vectors[node].entries[state])
 }

@@ -382,3 +382,24 @@ fn add_vector(certifier: &Certifier, gains: &Gains, p: &[i64], built: &mut Level
     built.entries.extend_from_slice(&best_entries[..n]);
     value
 }
+
+/// What a node is worth at a state with some steps left.
+pub fn worth(tables: &Tables, graph: &Graph, node: usize, state: usize, steps: usize) -> Result<i64, Refused> {
+    judge(tables)?;
+    let (n, k, nodes) = (tables.states, tables.observations, graph.actions.len());
+    if !graph.fits(tables) || node >= nodes || state >= n || steps > STEPS {
+        return Err(Refused::at(18, 0));
+    }
+    let (mut worths, mut more) = ([0; NODES * STATES], [0; NODES * STATES]);
+    for _ in 0..steps {
+        for ((&a, next), row) in graph.actions.iter().zip(graph.next.chunks_exact(k)).zip(more.chunks_exact_mut(n)) {
+            let mut room = [0; STATES];
+            let f = foreseen(tables, &worths, a, next, &mut room);
+            for (worth, backup) in row.iter_mut().zip(backups(tables, a, f)) {
+                *worth = backup.div_euclid(K);
+            }
+        }
+        std::mem::swap(&mut worths, &mut more);
+    }
+    Ok(worths[node * n + state])
+}

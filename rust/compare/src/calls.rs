@@ -4,7 +4,7 @@ use crate::gen::{self, List, Question, Shape, Step, DOCUMENT};
 use crate::rng::Rng;
 use crate::show;
 use num_bigint::BigInt;
-use reference::{Certifier, Graph, Level, Points, Refusal, Rules, Tables, Totals, REWARD, STEPS};
+use reference::{Certifier, Graph, Level, Points, Refusal, Rules, Tables, Totals, NODES, REWARD, STEPS};
 
 /// What can be called. A library is compared with the reference by having these functions.
 pub trait Calls {
@@ -90,11 +90,12 @@ pub fn random(rng: &mut Rng, number: u64) -> Case {
 
 /// A random case at the ends of all ranges; now and then with all counts at their limits.
 pub fn at_ends(rng: &mut Rng, number: u64) -> Case {
-    let shape = if number % 250 == 0 { Shape::LARGEST } else { gen::shape(rng) };
+    let largest = number % 250 == 0 || number % 300 == 5;
+    let shape = if largest { Shape::LARGEST } else { gen::shape(rng) };
     if number % 6 == 5 {
         let mut tables = gen::tables(rng, shape);
         gen::at_ends(rng, &mut tables.rewards, REWARD);
-        let graph = gen::graph(rng, shape);
+        let graph = if largest { gen::graph_of(rng, shape, NODES) } else { gen::graph(rng, shape) };
         let asked = Question { steps: STEPS, ..gen::question(rng, &graph, shape) };
         return Case::Worth(tables, graph, asked);
     }

@@ -384,6 +384,11 @@ pub fn spoil_level(rng: &mut Rng, level: &mut Level, shape: Shape, t: u64, below
 /// A plan graph within the limits.
 pub fn graph(rng: &mut Rng, shape: Shape) -> Graph {
     let nodes = rng.pick(&[1, 2, 3, 4, NODES]);
+    graph_of(rng, shape, nodes)
+}
+
+/// One with so many nodes.
+pub fn graph_of(rng: &mut Rng, shape: Shape, nodes: usize) -> Graph {
     let mut graph = Graph { nodes: nodes as u64, ..Graph::zero() };
     for node in 0..nodes {
         graph.actions[node] = rng.below(shape.m as u64);

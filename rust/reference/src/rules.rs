@@ -107,6 +107,8 @@ traps! {
         SeventeenPoints: "17 points may be built upon",
         // The worth of a plan graph.
         WorthRoundedOnce: "a worth is rounded once at the end",
+        WorthInPlace: "a step reads worths that it has itself filled",
+        WorthStepTooFew: "one step less is made than is asked for",
         ReachedNodesOnly: "nodes that are not reached are not tested",
         FiveSteps: "five steps may be asked for",
     }

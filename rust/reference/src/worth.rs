@@ -64,29 +64,37 @@ pub fn worth(
 
     // With no step left every node is worth 0 at every state; each further step backs that up and rounds down.
     let mut worths = vec![vec![zero(); model.n]; graph.nodes as usize];
-    for left in 1..=steps as u32 {
-        let at_end = rules.has(Trap::WorthRoundedOnce);
-        let backed_up = |at: usize, s: usize| {
-            if !stands(&model, graph, at) {
-                return zero();
-            }
-            let next = graph.after(&model, at);
-            let action = graph.actions[at] as usize;
-            let backup = model.backup(s, action, |o, s2| &worths[next[o] as usize][s2]);
-            if at_end {
-                backup + (scale(left) - k()) * model.r(s, action)
-            } else {
-                round_down(&backup, &k(), rules)
-            }
-        };
-        let row = |at| (0..model.n).map(|s| backed_up(at, s)).collect();
-        worths = (0..graph.nodes as usize).map(row).collect();
+    for left in 1 + u32::from(rules.has(Trap::WorthStepTooFew))..=steps as u32 {
+        let mut more = worths.clone();
+        for at in 0..graph.nodes as usize {
+            let before = if rules.has(Trap::WorthInPlace) { &more } else { &worths };
+            more[at] = backed_up(&model, graph, before, at, left, rules);
+        }
+        worths = more;
     }
     let worth = &worths[node as usize][state as usize];
     if rules.has(Trap::WorthRoundedOnce) {
         return Ok(round_down(worth, &scale(steps as u32), &Rules::default()));
     }
     Ok(worth.clone())
+}
+
+/// The worths of a node at each state, from those of all nodes with a step less.
+fn backed_up(model: &Model, graph: &Graph, before: &[Vec<BigInt>], at: usize, left: u32, rules: &Rules) -> Vec<BigInt> {
+    if !stands(model, graph, at) {
+        return vec![zero(); model.n];
+    }
+    let next = graph.after(model, at);
+    let action = graph.actions[at] as usize;
+    let worth = |s| {
+        let backup = model.backup(s, action, |o, s2| &before[next[o] as usize][s2]);
+        if rules.has(Trap::WorthRoundedOnce) {
+            backup + (scale(left) - k()) * model.r(s, action)
+        } else {
+            round_down(&backup, &k(), rules)
+        }
+    };
+    (0..model.n).map(worth).collect()
 }
 
 /// Whether a node's action and next nodes exist: untested nodes of the trap about reached nodes may lack them.

@@ -1,0 +1,41 @@
+use Rattle.worth.proofs.Prelude.{_≤_, _≡_, arith, needs}
+use Prim.Native.Nat.{_-_}
+use Rattle.tables.specs.Storage.{modelIn}
+use Rattle.worth.specs.Graph.{worthOf}
+use Rattle.worth.specs.Storage.{graphIn}
+use Rattle.worth.specs.Steps.{worthsBy}
+use Rattle.worth.proofs.Laws.{worths-none, worths-fit, worths-step}
+use Rattle.worth.proofs.worths.Statement.{statement}
+use Rattle.worth.proofs.worths.Tie as tie
+
+abbrev Inv-loop : tie.InvT-loop
+Inv-loop T O R actions next c nodes d worths₀ i₀ worths i =
+    (i ≤ d) × (worths ≡ worthsBy (c .states) nodes (worthOf (modelIn c T O R) (graphIn (c .observations) nodes actions next) i))
+
+abbrev μ-loop : tie.MeasureT-loop
+μ-loop T O R actions next c nodes d worths₀ i₀ worths i = d - i
+
+loop-holds : tie.Need-loop-holds Inv-loop μ-loop
+loop-holds c = (search needs, worths-none (c .before .before .before .before .pre .0))
+
+abbrev begun : tie.In-loop Inv-loop μ-loop → tie.Start Inv-loop μ-loop
+begun c = c .before .before .before .before .before .before
+
+step-requires : tie.Need-step-requires Inv-loop μ-loop
+step-requires c κs =
+    let p = begun c .pre in
+    (p .0, worths-fit (p .0) (c .before .loop .counter) (omega (arith, c .loop-test .taken, p .1)) (c .before .loop .inv .1))
+
+loop-again : tie.Need-loop-again Inv-loop μ-loop
+loop-again c =
+    let t = c .before in
+    (search needs, worths-step (begun t .pre .0) (t .before .loop .counter) (t .before .loop .inv .1) (c .step .ensures))
+
+returns : tie.Need-returns Inv-loop μ-loop
+returns c =
+    let e : c .before .loop .counter ≡ c .before .before .before .before .before .before .args .d = omega (arith, c .loop-test .left, c .before .loop .inv .0) in
+    rw e at (c .before .loop .inv .1)
+
+pub worths-spec : {M : Type 1} → statement M
+worths-spec =
+    tie.close (tie.spec Inv-loop μ-loop loop-holds step-requires (λ c. search needs) (λ c. search needs) loop-again returns)
