@@ -1,0 +1,133 @@
+//! `levels`: what is certified at points and mixtures, level by level.
+
+use crate::building::{joined, Building};
+use crate::stop::{put, Stop};
+use biidhaqun::{Mixture, Refusal, Totals};
+use command::options::Built;
+use serde_json::{json, Value};
+
+/// What was certified at each level, at each of the mixtures asked for.
+type Lines = Vec<Vec<Totals>>;
+
+pub fn run(built: &Built, json: bool) -> Result<(), Stop> {
+    let building = Building::of(built, !json)?;
+    let mut lines = Lines::new();
+    building.climb(|certifier| {
+        let totals = building.mixtures.iter().map(|mixture| building.totals(certifier, mixture));
+        lines.push(totals.collect::<Result<_, _>>()?);
+        Ok(())
+    })?;
+    let plain = built.levels.is_none() && built.points.is_empty() && built.mixtures.is_empty();
+    put(&match (json, plain) {
+        (true, _) => object(&building, &lines),
+        (false, true) => ladder(&lines),
+        (false, false) => tables(&building, &lines),
+    })
+}
+
+/// The lines of the program `ladder`.
+fn ladder(lines: &Lines) -> String {
+    let line = |(level, totals): (usize, &Vec<Totals>)| {
+        let line = |at: &Totals| format!("{} {} {} {} {}\n", level + 1, at.lower, at.upper, at.gap, at.action);
+        totals.iter().map(line).collect::<String>()
+    };
+    lines.iter().enumerate().map(line).collect()
+}
+
+/// A table for each mixture: in units of reward, in ticks times the weight, and the action.
+fn tables(building: &Building, lines: &Lines) -> String {
+    let mut text = String::new();
+    for (number, mixture) in building.mixtures.iter().enumerate() {
+        if number > 0 {
+            text.push('\n');
+        }
+        text.push_str(&format!("at {}\n", about(building, mixture)));
+        text.push_str(&format!(
+            "{:>5} {:>12} {:>12} {:>10} {:>14} {:>14} {:>13}  {}\n",
+            "level", "floor", "ceiling", "gap", "lower", "upper", "gap", "action"
+        ));
+        for (level, totals) in lines.iter().enumerate() {
+            let at = &totals[number];
+            let bracket = at.bracket(mixture);
+            let gap = Totals { lower: 0, upper: at.gap, ..*at }.bracket(mixture).ceiling;
+            text.push_str(&format!(
+                "{:>5} {:>12} {:>12} {:>10} {:>14} {:>14} {:>13}  {}\n",
+                level + 1,
+                bracket.floor,
+                bracket.ceiling,
+                gap,
+                at.lower,
+                at.upper,
+                at.gap,
+                building.named.actions.with(at.action)
+            ));
+        }
+    }
+    text.push_str(
+        "\nfloor, ceiling and the first gap: units of reward; lower, upper and the second gap: ticks x weights\n",
+    );
+    text
+}
+
+/// The weights, and which state they are on where names are known.
+fn about(building: &Building, mixture: &Mixture) -> String {
+    let mut text = joined(&mixture.weights);
+    let states = &building.named.states;
+    if !states.all().is_empty() {
+        let part = |(state, weight): (usize, &u64)| format!("{} {}", states.or_number(state), weight);
+        let parts: Vec<String> =
+            mixture.weights.iter().enumerate().filter(|(_, &weight)| weight > 0).map(part).collect();
+        text.push_str(&format!(" ({})", parts.join(", ")));
+    }
+    text
+}
+
+/// All of it as one JSON object.
+fn object(building: &Building, lines: &Lines) -> String {
+    let named = &building.named;
+    let names = |names: &command::names::Names| match names.all() {
+        [] => Value::Null,
+        all => json!(all),
+    };
+    let at = |mixture: &Mixture, totals: &Totals| {
+        let bracket = totals.bracket(mixture);
+        json!({
+            "weights": mixture.weights,
+            "lower": totals.lower,
+            "upper": totals.upper,
+            "gap": totals.gap,
+            "floor": f64::from(bracket.floor),
+            "ceiling": f64::from(bracket.ceiling),
+            "action": totals.action,
+            "action_name": named.actions.get(totals.action),
+        })
+    };
+    let level = |(level, totals): (usize, &Vec<Totals>)| {
+        let at: Vec<Value> =
+            building.mixtures.iter().zip(totals).map(|(mixture, totals)| at(mixture, totals)).collect();
+        json!({ "level": level + 1, "at": at })
+    };
+    let shape = building.model.shape();
+    let object = json!({
+        "states": shape.states,
+        "actions": shape.actions,
+        "observations": shape.observations,
+        "discount": building.model.discount() as f64 / 1_000.0,
+        "names": {
+            "states": names(&named.states),
+            "actions": names(&named.actions),
+            "observations": names(&named.observations),
+        },
+        "points": building.points.iter().map(|point| &point.weights).collect::<Vec<_>>(),
+        "levels": lines.iter().enumerate().map(level).collect::<Vec<_>>(),
+    });
+    format!("{:#}\n", object)
+}
+
+/// A refusal as a JSON object.
+pub fn refused(refusal: &Refusal) -> String {
+    let object = json!({
+        "refused": { "number": refusal.number, "place": refusal.place, "text": refusal.to_string() },
+    });
+    format!("{:#}\n", object)
+}

@@ -1,0 +1,95 @@
+//! The command line.
+
+use clap::{Parser, Subcommand};
+use std::path::{Path, PathBuf};
+
+/// How the command ends.
+pub mod exit {
+    /// The request was served.
+    pub const SERVED: i32 = 0;
+    /// The certifier or the importer refused what it was given.
+    pub const REFUSED: i32 = 1;
+    /// The command line does not fit.
+    pub const USAGE: i32 = 2;
+    /// A file cannot be read or written.
+    pub const FILE: i32 = 3;
+}
+
+const ENDS: &str = "Exit status: 0 served, 1 refused, 2 wrong usage, 3 a file that cannot be read or written.";
+
+/// Certified floors and ceilings for plans over hidden states.
+///
+/// A model file is a POMDP in a subset of Cassandra's format. The certifier, whose every call is proved, accepts levels of
+/// bounds on it; this command asks it and shows what it answers.
+#[derive(Debug, Parser)]
+#[command(name = "biidhaqun", version, after_help = ENDS)]
+pub struct Options {
+    #[command(subcommand)]
+    pub request: Request,
+}
+
+#[derive(Debug, Subcommand)]
+pub enum Request {
+    /// Build levels, offer them, and print what is certified
+    ///
+    /// With no option: a line for each of three levels at the start mixture, with the level, the lower and the upper total,
+    /// their gap, and the action. Totals are in ticks (hundredths of a unit of reward) times the mixture's total weight.
+    Levels {
+        #[command(flatten)]
+        built: Built,
+        /// Print one JSON object
+        #[arg(long)]
+        json: bool,
+    },
+    /// Say whether a model file is accepted, or what is wrong with it and where
+    Check {
+        /// A model file
+        file: PathBuf,
+    },
+    /// Explain a refusal
+    Explain {
+        /// The number of the refusal, 1 to 18
+        number: u64,
+    },
+}
+
+/// A model file, and the levels to be built upon it.
+#[derive(Clone, Debug, clap::Args)]
+pub struct Built {
+    /// A model file
+    pub file: PathBuf,
+    /// How many levels to build, 1 to 100 [default: 3]
+    #[arg(long, value_name = "N", value_parser = clap::value_parser!(u64).range(1..=100))]
+    pub levels: Option<u64>,
+    /// A point to build at: a weight for each state, 100 in total; up to 16 times [default: the start mixture]
+    #[arg(long = "point", value_name = "W,W,..", value_parser = weights)]
+    pub points: Vec<Weights>,
+    /// A mixture to ask at: a weight for each state, up to 1000000 [default: the points]
+    #[arg(long = "at", value_name = "W,W,..", value_parser = weights)]
+    pub mixtures: Vec<Weights>,
+}
+
+/// How many levels are built where nothing is said.
+pub const LEVELS: u64 = 3;
+/// The most points to build at.
+pub const POINTS: usize = 16;
+
+/// A weight for each state.
+#[derive(Clone, Debug, PartialEq, Eq)]
+pub struct Weights(pub Vec<u64>);
+
+fn weights(text: &str) -> Result<Weights, String> {
+    let weight = |word: &str| word.trim().parse().map_err(|_| format!("`{}` is no whole number", word));
+    text.split(',').map(weight).collect::<Result<_, _>>().map(Weights)
+}
+
+impl Request {
+    /// The file that is asked about.
+    pub fn input(&self) -> Option<&Path> {
+        match self {
+            Request::Levels { built, .. } => Some(&built.file),
+            Request::Check { file } => Some(file),
+            Request::Explain { .. } => None,
+        }
+    }
+}
