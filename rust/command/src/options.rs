@@ -46,6 +46,21 @@ pub enum Request {
         /// A model file
         file: PathBuf,
     },
+    /// Turn a file in Cassandra's format into a model file
+    ///
+    /// Names, matrices, identity, uniform, every form of start, costs, and rewards that depend on what follows are written
+    /// out in numbers. Probabilities are rounded to thousandths, start numbers to hundredths; what had to be rounded is
+    /// listed on standard error.
+    Import {
+        /// A file in Cassandra's format
+        file: PathBuf,
+        /// Round expected rewards that are no whole ticks to the nearest tick
+        #[arg(long)]
+        round: bool,
+        /// Where to write the model file (standard output if not given)
+        #[arg(long, value_name = "FILE.pomdp")]
+        out: Option<PathBuf>,
+    },
     /// Explain a refusal
     Explain {
         /// The number of the refusal, 1 to 18
@@ -88,8 +103,16 @@ impl Request {
     pub fn input(&self) -> Option<&Path> {
         match self {
             Request::Levels { built, .. } => Some(&built.file),
-            Request::Check { file } => Some(file),
+            Request::Check { file } | Request::Import { file, .. } => Some(file),
             Request::Explain { .. } => None,
+        }
+    }
+
+    /// The file that is written.
+    pub fn output(&self) -> Option<&Path> {
+        match self {
+            Request::Import { out, .. } => out.as_deref(),
+            _ => None,
         }
     }
 }

@@ -15,7 +15,7 @@ fn agree(case: &Case) {
     match (Model::read(&case.file), judge(&case.file)) {
         (Err(refusal), Err(trouble)) => {
             assert_eq!((refusal.number, refusal.place), (trouble.number, trouble.place), "{}", case.about);
-            for mark in &trouble.marks {
+            for mark in &trouble.told.marks {
                 assert!(mark.span.end <= case.file.len(), "{}", case.about);
             }
         }

@@ -2,6 +2,7 @@
 
 mod building;
 mod check;
+mod import;
 mod levels;
 mod report;
 mod stop;
@@ -19,6 +20,7 @@ fn main() {
         Request::Explain { number } => process::exit(explain::run(number)),
         Request::Levels { built, json } => levels::run(&built, json),
         Request::Check { file } => check::run(&file),
+        Request::Import { file, round, out } => import::run(&file, round, out.as_deref()),
     };
     process::exit(match ended {
         Ok(()) => exit::SERVED,
@@ -44,6 +46,14 @@ fn stopped(stop: &Stop, json: bool) -> i32 {
             }
             eprintln!("biidhaqun: {}", refusal);
             eprintln!("  {}\n  `biidhaqun explain {}` says more", note, refusal.number);
+            exit::REFUSED
+        }
+        Stop::Source { path, file, told } => {
+            report::source(path, file, told);
+            exit::REFUSED
+        }
+        Stop::Ours(message) => {
+            eprintln!("biidhaqun: {}, which is an error of ours: please report it", message);
             exit::REFUSED
         }
         Stop::Usage(message) => {

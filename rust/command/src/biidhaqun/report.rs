@@ -5,7 +5,8 @@ use codespan_reporting::diagnostic::{Diagnostic, Label};
 use codespan_reporting::files::SimpleFile;
 use codespan_reporting::term::termcolor::{ColorChoice, StandardStream};
 use codespan_reporting::term::{self, Config};
-use command::model_file::{self, Trouble};
+use command::model_file;
+use command::told::Told;
 use std::path::Path;
 
 /// A refused model file, in the shell's words. The library's refusal counts: where the shell finds another one, the
@@ -14,42 +15,47 @@ pub fn model(path: &Path, file: &[u8], refusal: &Refusal) {
     match model_file::judge(file) {
         Err(trouble) if (trouble.number, trouble.place) == (refusal.number, refusal.place) => {
             let more = format!("refused by {} of document 01; `biidhaqun explain {0}` says more", refusal.number);
-            show(path, file, &trouble, Some(&refusal.number.to_string()), &[more]);
+            show(path, file, &trouble.told, Some(&refusal.number.to_string()), &[more]);
         }
         other => {
-            let trouble = Trouble {
-                number: refusal.number,
-                place: refusal.place,
-                title: refusal.to_string(),
-                marks: Vec::new(),
-                notes: Vec::new(),
-            };
+            let told = Told { title: refusal.to_string(), marks: Vec::new(), notes: Vec::new() };
             let found = other.err().map_or("nothing".to_string(), |own| format!("{} at {}", own.number, own.place));
             let ours = format!("the explanation finds {} instead, which is an error of ours: please report it", found);
-            show(path, file, &trouble, Some(&refusal.number.to_string()), &[ours]);
+            show(path, file, &told, Some(&refusal.number.to_string()), &[ours]);
         }
     }
 }
 
-fn show(path: &Path, file: &[u8], trouble: &Trouble, code: Option<&str>, more: &[String]) {
+/// What is wrong with a file in Cassandra's format: the first few.
+pub fn source(path: &Path, file: &[u8], all: &[Told]) {
+    const FEW: usize = 4;
+    for told in all.iter().take(FEW) {
+        show(path, file, told, None, &[]);
+    }
+    if all.len() > FEW {
+        eprintln!("biidhaqun: and {} more of this kind", all.len() - FEW);
+    }
+}
+
+fn show(path: &Path, file: &[u8], told: &Told, code: Option<&str>, more: &[String]) {
     let shown = Shown::of(file);
-    let labels = trouble.marks.iter().enumerate().map(|(at, mark)| {
+    let labels = told.marks.iter().enumerate().map(|(at, mark)| {
         let span = shown.place(mark.span.start)..shown.place(mark.span.end);
         let label = if at == 0 { Label::primary((), span) } else { Label::secondary((), span) };
         label.with_message(&mark.text)
     });
-    let mut title = trouble.title.clone();
-    if trouble.marks.is_empty() {
+    let mut title = told.title.clone();
+    if told.marks.is_empty() {
         title = format!("{}: {}", path.display(), title);
     }
     let mut diagnostic = Diagnostic::error().with_message(title).with_labels(labels.collect());
     diagnostic.code = code.map(str::to_string);
-    diagnostic.notes = trouble.notes.iter().chain(more).cloned().collect();
+    diagnostic.notes = told.notes.iter().chain(more).cloned().collect();
     let choice = if console::user_attended_stderr() { ColorChoice::Auto } else { ColorChoice::Never };
     let mut writer = StandardStream::stderr(choice);
     let source = SimpleFile::new(path.display().to_string(), &shown.text);
     if term::emit(&mut writer, &Config::default(), &source, &diagnostic).is_err() {
-        eprintln!("biidhaqun: {}: {}", path.display(), trouble.title);
+        eprintln!("biidhaqun: {}: {}", path.display(), told.title);
     }
 }
 

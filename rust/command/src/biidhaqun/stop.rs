@@ -1,6 +1,7 @@
 //! Why a request is not served.
 
 use biidhaqun::Refusal;
+use command::told::Told;
 use std::io::{self, Write};
 use std::path::PathBuf;
 
@@ -10,6 +11,10 @@ pub enum Stop {
     Model { path: PathBuf, file: Vec<u8>, refusal: Refusal, line: bool },
     /// The library refused something else.
     Refused { refusal: Refusal, note: String },
+    /// A file in Cassandra's format cannot be turned into a model file.
+    Source { path: PathBuf, file: Vec<u8>, told: Vec<Told> },
+    /// The command itself is wrong.
+    Ours(String),
     /// The command line does not fit the model.
     Usage(String),
     /// A file cannot be read or written.

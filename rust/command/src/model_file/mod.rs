@@ -10,7 +10,7 @@ mod reading;
 pub use draft::Draft;
 pub use reading::{judge, FILE_BYTES};
 
-use std::ops::Range;
+use crate::told::Told;
 
 /// The counts of a model.
 #[derive(Clone, Copy, Debug, PartialEq, Eq)]
@@ -25,17 +25,5 @@ pub struct Counts {
 pub struct Trouble {
     pub number: u64,
     pub place: usize,
-    /// What is wrong, in a line.
-    pub title: String,
-    /// Places in the file and what is said of them; the first is the one that matters most.
-    pub marks: Vec<Mark>,
-    /// What was wanted, and what to do.
-    pub notes: Vec<String>,
-}
-
-/// A place in the file and what is said of it.
-#[derive(Clone, Debug, PartialEq, Eq)]
-pub struct Mark {
-    pub span: Range<usize>,
-    pub text: String,
+    pub told: Told,
 }

@@ -1,10 +1,12 @@
 //! The reader that explains: words in order, form before limit, totals after the last statement.
 
-use super::draft::{Draft, Table};
+use super::draft::Draft;
 use super::hints::Want;
-use super::{Counts, Mark, Trouble};
+use super::{Counts, Trouble};
 use crate::names::Named;
 use crate::numerals::{shown, Form, INDEX, PROBABILITY, REWARD, START};
+use crate::table::Table;
+use crate::told::{Mark, Told};
 use crate::words::{Word, Words};
 use std::ops::Range;
 
@@ -24,9 +26,11 @@ pub fn judge(file: &[u8]) -> Result<Draft, Trouble> {
         return Err(Trouble {
             number: 1,
             place: 0,
-            title: format!("the file has {} bytes, and at most 32,768 are read", file.len()),
-            marks: Vec::new(),
-            notes: vec!["leave out comments and blanks; one star stands for many statements".to_string()],
+            told: Told {
+                title: format!("the file has {} bytes, and at most 32,768 are read", file.len()),
+                marks: Vec::new(),
+                notes: vec!["leave out comments and blanks; one star stands for many statements".to_string()],
+            },
         });
     }
     let mut reading = Reading { words: Words::of(file), file };
@@ -50,9 +54,11 @@ impl<'a> Reading<'a> {
         self.words.next().ok_or_else(|| Trouble {
             number: 2,
             place: length,
-            title: "the file ends too early".to_string(),
-            marks: vec![Mark { span: end(self.file), text: "a word is missing here".to_string() }],
-            notes: vec![format!("wanted: {}", want.text())],
+            told: Told {
+                title: "the file ends too early".to_string(),
+                marks: vec![Mark::new(end(self.file), "a word is missing here")],
+                notes: vec![format!("wanted: {}", want.text())],
+            },
         })
     }
 
@@ -182,9 +188,11 @@ fn value(word: &Word, form: Form, least: i64, most: i64, want: Want) -> Result<i
     Err(Trouble {
         number: 3,
         place: word.place,
-        title: format!("{} is outside its limit", word.quoted()),
-        marks: vec![Mark { span: word.span(), text: "outside its limit".to_string() }],
-        notes: vec![format!("wanted: {}", want.text())],
+        told: Told {
+            title: format!("{} is outside its limit", word.quoted()),
+            marks: vec![Mark::new(word.span(), "outside its limit")],
+            notes: vec![format!("wanted: {}", want.text())],
+        },
     })
 }
 
@@ -200,9 +208,11 @@ fn misfit(word: &Word, want: Want, reason: Option<String>) -> Trouble {
     Trouble {
         number: 2,
         place: word.place,
-        title: format!("{} does not fit here", word.quoted()),
-        marks: vec![Mark { span: word.span(), text }],
-        notes,
+        told: Told {
+            title: format!("{} does not fit here", word.quoted()),
+            marks: vec![Mark { span: word.span(), text }],
+            notes,
+        },
     }
 }
 
@@ -219,14 +229,16 @@ fn totals(draft: &Draft, file: &[u8]) -> Result<(), Trouble> {
         return Err(Trouble {
             number: 4,
             place: file.len(),
-            title: format!("the start numbers total {}", shown(sum, 2)),
-            marks: vec![Mark { span: draft.start_from.clone(), text: added(&draft.start, 2) }],
-            notes: vec!["wanted: a total of 1".to_string()],
+            told: Told {
+                title: format!("the start numbers total {}", shown(sum, 2)),
+                marks: vec![Mark { span: draft.start_from.clone(), text: added(&draft.start, 2) }],
+                notes: vec!["wanted: a total of 1".to_string()],
+            },
         });
     }
     let Counts { states, actions, observations } = draft.counts;
     let named = Named::of(file, states, actions, observations);
-    let row = |number: u64, table: &Table, about: &dyn Fn(usize, usize) -> String| match table.off(THOUSAND) {
+    let row = |number: u64, table: &Table<i64>, about: &dyn Fn(usize, usize) -> String| match table.off(THOUSAND) {
         Some((action, state)) => Err(row_off(number, table, action, state, about(action, state), file)),
         None => Ok(()),
     };
@@ -239,7 +251,7 @@ fn totals(draft: &Draft, file: &[u8]) -> Result<(), Trouble> {
 }
 
 /// A row whose total is not 1: 5 or 6.
-fn row_off(number: u64, table: &Table, action: usize, state: usize, about: String, file: &[u8]) -> Trouble {
+fn row_off(number: u64, table: &Table<i64>, action: usize, state: usize, about: String, file: &[u8]) -> Trouble {
     let numbers = table.numbers(action, state);
     let sum: i64 = numbers.iter().sum();
     let mut marks: Vec<Mark> = table
@@ -250,16 +262,17 @@ fn row_off(number: u64, table: &Table, action: usize, state: usize, about: Strin
         .collect();
     match marks.first_mut() {
         Some(mark) => mark.text = format!("the row is {}", added(numbers, 3)),
-        None => marks.push(Mark { span: end(file), text: "no statement gave the row up to here".to_string() }),
+        None => marks.push(Mark::new(end(file), "no statement gave the row up to here")),
     }
     Trouble {
         number,
         place: file.len(),
-        title: format!("{} totals {}", about, shown(sum, 3)),
-        marks,
-        notes: vec![
-            "wanted: a total of 1; later statements supersede earlier ones, and what is not stated is 0".to_string()
-        ],
+        told: Told {
+            title: format!("{} totals {}", about, shown(sum, 3)),
+            marks,
+            notes: vec!["wanted: a total of 1; later statements supersede earlier ones, and what is not stated is 0"
+                .to_string()],
+        },
     }
 }
 
