@@ -61,6 +61,17 @@ pub enum Request {
         #[arg(long, value_name = "FILE.pomdp")]
         out: Option<PathBuf>,
     },
+    /// Draw what is certified, as an SVG image
+    ///
+    /// Floor and ceiling over the levels at a mixture; with two states also floor, ceiling and actions over all mixtures,
+    /// with three the gap over all mixtures.
+    Picture {
+        #[command(flatten)]
+        built: Built,
+        /// Where to write the image
+        #[arg(long, value_name = "FILE.svg")]
+        out: PathBuf,
+    },
     /// Explain a refusal
     Explain {
         /// The number of the refusal, 1 to 18
@@ -102,7 +113,7 @@ impl Request {
     /// The file that is asked about.
     pub fn input(&self) -> Option<&Path> {
         match self {
-            Request::Levels { built, .. } => Some(&built.file),
+            Request::Levels { built, .. } | Request::Picture { built, .. } => Some(&built.file),
             Request::Check { file } | Request::Import { file, .. } => Some(file),
             Request::Explain { .. } => None,
         }
@@ -111,6 +122,7 @@ impl Request {
     /// The file that is written.
     pub fn output(&self) -> Option<&Path> {
         match self {
+            Request::Picture { out, .. } => Some(out),
             Request::Import { out, .. } => out.as_deref(),
             _ => None,
         }

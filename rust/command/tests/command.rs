@@ -117,9 +117,9 @@ fn levels_at_points_and_mixtures() {
     let out = served(&["levels", "examples/dough.pomdp", "--levels", "2", "--at", "1,0", "--at", "0,1"]);
     let lines: Vec<Vec<&str>> = out.lines().map(|line| line.split_whitespace().collect()).collect();
     assert_eq!(lines[0], ["at", "1,0"]);
-    assert_eq!(lines[3], ["2", "-0.5100", "-0.3200", "0.1900", "-51", "-32", "19", "0"]);
+    assert_eq!(lines[3], ["2", "-0.5100", "-0.3200", "0.1900", "-51", "-32", "0"]);
     assert_eq!(lines[5], ["at", "0,1"]);
-    assert_eq!(lines[8], ["2", "5.1000", "5.1000", "0.0000", "510", "510", "0", "1"]);
+    assert_eq!(lines[8], ["2", "5.1000", "5.1000", "0.0000", "510", "510", "1"]);
     // More points make a tighter ceiling at the start.
     let gap = |points: &[&str]| {
         let options = ["levels", "examples/tiger.pomdp", "--json", "--at", "50,50"];
@@ -185,7 +185,7 @@ fn wrong_usage() {
 
 #[test]
 fn files_that_cannot_be_read() {
-    for command in ["levels", "check"] {
+    for command in ["levels", "check", "import"] {
         assert!(stopped(&[command, "examples/no-such-file"], 3).contains("cannot be read: no such file"));
         assert!(stopped(&[command, "examples"], 3).contains("cannot be read"));
     }
@@ -206,6 +206,53 @@ fn help_and_version() {
     assert!(served(&["--version"]).starts_with("biidhaqun "));
 }
 
+/// What a picture shows is in its words.
+#[test]
+fn pictures() {
+    let path = Path::new(env!("CARGO_TARGET_TMPDIR")).join("drawn.svg");
+    let draw = |model: &str, more: &[&str]| {
+        let arguments = [&["picture", model, "--out", path.to_str().unwrap()], more].concat();
+        assert_eq!(served(&arguments), "");
+        fs::read_to_string(&path).unwrap()
+    };
+    let two = draw("examples/dough.pomdp", &["--levels", "5"]);
+    assert!(two.starts_with("<svg") && two.contains("level 5, all mixtures") && two.contains("share of state 1"));
+    let machine = temporary("machine.pomdp", served_import("machine").as_bytes());
+    let three = draw(machine.to_str().unwrap(), &["--at", "1,1,1"]);
+    assert!(three.contains("at 1,1,1") && three.contains("ceiling less floor") && three.contains("both-failed"));
+    let cheese = temporary("cheese.pomdp", served_import("cheese").as_bytes());
+    let many = draw(cheese.to_str().unwrap(), &[]);
+    assert!(many.contains("level (steps)") && !many.contains("all mixtures"));
+    let twice = ["picture", "examples/dough.pomdp", "--at", "1,0", "--at", "0,1", "--out", path.to_str().unwrap()];
+    stopped(&twice, 2);
+    stopped(&["picture", "examples/dough.pomdp"], 2);
+    for out in ["no-such-folder/drawn.svg", "examples"] {
+        let arguments = ["picture", "examples/dough.pomdp", "--out", out];
+        assert!(stopped(&arguments, 3).contains("cannot be written"));
+    }
+}
+
+/// A file of the literature, imported.
+fn served_import(name: &str) -> String {
+    let (out, _, status) = run(&["import", &format!("examples/cassandra/{}.POMDP", name), "--round"]);
+    assert_eq!(status, 0);
+    out
+}
+
+/// The image in the front page is what the command beside it draws.
+#[test]
+fn the_picture_of_the_front_page() {
+    let readme = fs::read_to_string(root().join("README.md")).unwrap();
+    let command = readme.lines().find_map(|line| line.strip_prefix("scripts/biidhaqun picture ")).unwrap();
+    let arguments: Vec<&str> = command.split_whitespace().collect();
+    let shown = arguments[arguments.len() - 1];
+    assert!(readme.contains(&format!("({})", shown)));
+    let path = Path::new(env!("CARGO_TARGET_TMPDIR")).join("front.svg");
+    let drawn = [&["picture"], &arguments[..arguments.len() - 1], &[path.to_str().unwrap()]].concat();
+    served(&drawn);
+    assert_eq!(fs::read(&path).unwrap(), fs::read(root().join(shown)).unwrap());
+}
+
 /// The first look at a command line, without the library.
 #[test]
 fn usage_alone() {
@@ -219,4 +266,5 @@ fn usage_alone() {
     assert_eq!(look(&["explain", "13"]), 0);
     assert_eq!(look(&["levels", "examples/dough.pomdp", "--level", "3"]), 2);
     assert_eq!(look(&["levels", "examples/no-such-file"]), 3);
+    assert_eq!(look(&["picture", "examples/dough.pomdp", "--out", "no-such-folder/drawn.svg"]), 3);
 }

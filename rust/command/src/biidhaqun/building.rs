@@ -12,6 +12,7 @@ use std::path::Path;
 pub struct Building {
     pub model: Model,
     pub named: Named,
+    pub start: Mixture,
     pub points: Vec<Mixture>,
     pub mixtures: Vec<Mixture>,
     pub levels: u64,
@@ -53,13 +54,13 @@ impl Building {
         };
         let mut points = fit("--point", &built.points)?;
         if points.is_empty() {
-            points.push(start);
+            points.push(start.clone());
         }
         let mut mixtures = fit("--at", &built.mixtures)?;
         if mixtures.is_empty() {
             mixtures = points.clone();
         }
-        Ok(Building { model, named, points, mixtures, levels: built.levels.unwrap_or(LEVELS) })
+        Ok(Building { model, named, start, points, mixtures, levels: built.levels.unwrap_or(LEVELS) })
     }
 
     /// Builds and offers the levels one upon the other, and shows the certifier after each.

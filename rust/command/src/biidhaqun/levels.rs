@@ -43,29 +43,26 @@ fn tables(building: &Building, lines: &Lines) -> String {
         }
         text.push_str(&format!("at {}\n", about(building, mixture)));
         text.push_str(&format!(
-            "{:>5} {:>12} {:>12} {:>10} {:>14} {:>14} {:>13}  {}\n",
-            "level", "floor", "ceiling", "gap", "lower", "upper", "gap", "action"
+            "{:>5} {:>12} {:>12} {:>10} {:>14} {:>14}  {}\n",
+            "level", "floor", "ceiling", "gap", "lower", "upper", "action"
         ));
         for (level, totals) in lines.iter().enumerate() {
             let at = &totals[number];
             let bracket = at.bracket(mixture);
             let gap = Totals { lower: 0, upper: at.gap, ..*at }.bracket(mixture).ceiling;
             text.push_str(&format!(
-                "{:>5} {:>12} {:>12} {:>10} {:>14} {:>14} {:>13}  {}\n",
+                "{:>5} {:>12} {:>12} {:>10} {:>14} {:>14}  {}\n",
                 level + 1,
                 bracket.floor,
                 bracket.ceiling,
                 gap,
                 at.lower,
                 at.upper,
-                at.gap,
                 building.named.actions.with(at.action)
             ));
         }
     }
-    text.push_str(
-        "\nfloor, ceiling and the first gap: units of reward; lower, upper and the second gap: ticks x weights\n",
-    );
+    text.push_str("\nfloor, ceiling, gap: units of reward; lower, upper: ticks x the mixture's total weight\n");
     text
 }
 

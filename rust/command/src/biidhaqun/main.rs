@@ -4,6 +4,7 @@ mod building;
 mod check;
 mod import;
 mod levels;
+mod picture;
 mod report;
 mod stop;
 
@@ -21,6 +22,7 @@ fn main() {
         Request::Levels { built, json } => levels::run(&built, json),
         Request::Check { file } => check::run(&file),
         Request::Import { file, round, out } => import::run(&file, round, out.as_deref()),
+        Request::Picture { built, out } => picture::run(&built, &out),
     };
     process::exit(match ended {
         Ok(()) => exit::SERVED,
