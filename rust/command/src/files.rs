@@ -28,7 +28,7 @@ fn plain(error: &io::Error) -> String {
 
 /// Whether the files of a request can be read, and stand where they can be written.
 pub fn early(request: &Request) -> Result<(), String> {
-    if let Some(path) = request.input() {
+    for path in request.inputs() {
         let opened = fs::File::open(path).and_then(|mut file| file.read(&mut [0]));
         opened.map_err(|error| format!("{} cannot be read: {}", path.display(), plain(&error)))?;
     }

@@ -41,6 +41,22 @@ pub enum Request {
         #[arg(long)]
         json: bool,
     },
+    /// Offer levels from a file in turn, and print what is certified
+    ///
+    /// The file is a JSON object as `levels --json` prints it: of each level its vectors, corners and points are read. A level
+    /// that is refused is shown with the state or action at fault and the ticks that are missing.
+    Certify {
+        /// A model file
+        file: PathBuf,
+        /// A file of levels, in JSON
+        levels: PathBuf,
+        /// A mixture to ask at: a weight for each state, up to 1000000 [default: the start mixture]
+        #[arg(long = "at", value_name = "W,W,..", value_parser = weights)]
+        at: Vec<Weights>,
+        /// Print one JSON object
+        #[arg(long)]
+        json: bool,
+    },
     /// Say whether a model file is accepted, or what is wrong with it and where
     Check {
         /// A model file
@@ -110,12 +126,13 @@ fn weights(text: &str) -> Result<Weights, String> {
 }
 
 impl Request {
-    /// The file that is asked about.
-    pub fn input(&self) -> Option<&Path> {
+    /// The files that are read.
+    pub fn inputs(&self) -> Vec<&Path> {
         match self {
-            Request::Levels { built, .. } | Request::Picture { built, .. } => Some(&built.file),
-            Request::Check { file } | Request::Import { file, .. } => Some(file),
-            Request::Explain { .. } => None,
+            Request::Levels { built, .. } | Request::Picture { built, .. } => vec![&built.file],
+            Request::Check { file } | Request::Import { file, .. } => vec![file],
+            Request::Certify { file, levels, .. } => vec![file, levels],
+            Request::Explain { .. } => Vec::new(),
         }
     }
 

@@ -147,6 +147,47 @@ fn levels_as_json() {
     assert_eq!((object["refused"]["number"].as_u64(), status), (Some(5), 1));
 }
 
+/// Levels as `levels --json` prints them are accepted again; changed ones are refused, with what is missing.
+#[test]
+fn levels_from_a_file() {
+    let printed = served(&["levels", "examples/dough.pomdp", "--json"]);
+    let path = temporary("levels.json", printed.as_bytes());
+    let certify = ["certify", "examples/dough.pomdp", path.to_str().unwrap()];
+    assert_eq!(served(&certify), served(&["levels", "examples/dough.pomdp"]));
+    assert_eq!(served(&[&certify[..], &["--json"]].concat()), printed);
+    let at = served(&[&certify[..], &["--at", "0,1"]].concat());
+    assert!(at.starts_with("at 0,1\n"), "{}", at);
+    stopped(&[&certify[..], &["--at", "1"]].concat(), 2);
+
+    let object: serde_json::Value = serde_json::from_str(&printed).unwrap();
+    let changed = |change: &dyn Fn(&mut serde_json::Value)| {
+        let mut object = object.clone();
+        change(&mut object["levels"][1]);
+        let path = temporary("changed.json", object.to_string().as_bytes());
+        stopped(&["certify", "examples/dough.pomdp", path.to_str().unwrap()], 1)
+    };
+    // The built level 2 has the corner -32, which is the least that passes (D5, D6).
+    let corner = changed(&|level| level["corners"][0] = (-40).into());
+    assert!(corner.contains("refused 14 at 0") && corner.contains("level 2 is not accepted"), "{}", corner);
+    assert!(corner.contains("corner 0: -40 is 8 ticks below the backup of action 0; -32 would pass"), "{}", corner);
+    let point = changed(&|level| level["points"][0]["value"] = 12_499.into());
+    assert!(point.contains("refused 15 at 0") && point.contains("0.01 ticks below"), "{}", point);
+    assert!(point.contains("12500 would pass"), "{}", point);
+    let vector = changed(&|level| level["vectors"][0]["entries"][0] = (-50).into());
+    assert!(vector.contains("refused 13 at 0") && vector.contains("entry of state 0 is -50"), "{}", vector);
+    assert!(vector.contains("1 tick above its backup; -51 would pass"), "{}", vector);
+    let action = changed(&|level| level["vectors"][0]["action"] = 7.into());
+    assert!(action.contains("refused 10 at 0"), "{}", action);
+    let short = changed(&|level| level["corners"] = serde_json::json!([0]));
+    assert!(short.contains("the corners of the level are 1, and the model wants 2"), "{}", short);
+    let form = changed(&|level| level["corners"][0] = "x".into());
+    assert!(form.contains("level 2 is not of the form"), "{}", form);
+    for content in ["", "[]", "{\"levels\": 1}"] {
+        let path = temporary("wrong.json", content.as_bytes());
+        stopped(&["certify", "examples/dough.pomdp", path.to_str().unwrap()], 1);
+    }
+}
+
 #[test]
 fn a_hundred_levels() {
     let out = served(&["levels", "examples/dough.pomdp", "--levels", "100"]);

@@ -36,27 +36,11 @@ impl Building {
     pub fn of(built: &Built, line: bool) -> Result<Building, Stop> {
         let (model, start, named) = read(&built.file, line)?;
         let states = model.shape().states;
-        let fit = |option: &str, list: &[Weights]| -> Result<Vec<Mixture>, Stop> {
-            let one = |weights: &Weights| {
-                let found = weights.0.len();
-                if found == states {
-                    return Ok(Mixture::new(&weights.0));
-                }
-                Err(Stop::Usage(format!(
-                    "{} {} has {} of the {} weights that the model's states want",
-                    option,
-                    joined(&weights.0),
-                    found,
-                    states
-                )))
-            };
-            list.iter().map(one).collect()
-        };
-        let mut points = fit("--point", &built.points)?;
+        let mut points = fitting("--point", &built.points, states)?;
         if points.is_empty() {
             points.push(start.clone());
         }
-        let mut mixtures = fit("--at", &built.mixtures)?;
+        let mut mixtures = fitting("--at", &built.mixtures, states)?;
         if mixtures.is_empty() {
             mixtures = points.clone();
         }
@@ -103,6 +87,19 @@ impl Building {
         };
         Stop::Refused { refusal, note }
     }
+}
+
+/// The weights of an option, if there is one for each state.
+pub fn fitting(option: &str, list: &[Weights], states: usize) -> Result<Vec<Mixture>, Stop> {
+    let one = |weights: &Weights| {
+        let found = weights.0.len();
+        if found == states {
+            return Ok(Mixture::new(&weights.0));
+        }
+        let given = joined(&weights.0);
+        Err(Stop::Usage(format!("{} {} has {} weights, and the model has {} states", option, given, found, states)))
+    };
+    list.iter().map(one).collect()
 }
 
 /// Weights as they are written in options: `50,50`.

@@ -2,31 +2,46 @@
 
 use crate::building::{joined, Building};
 use crate::stop::{put, Stop};
-use biidhaqun::{Mixture, Refusal, Totals};
+use biidhaqun::{Level, Mixture, Model, Refusal, Totals};
+use command::names::{Named, Names};
 use command::options::Built;
 use serde_json::{json, Value};
 
-/// What was certified at each level, at each of the mixtures asked for.
-type Lines = Vec<Vec<Totals>>;
+/// What was certified: at each level, at each of the mixtures asked for.
+pub struct Certified<'a> {
+    pub model: &'a Model,
+    pub named: &'a Named,
+    pub mixtures: &'a [Mixture],
+    pub lines: &'a [Vec<Totals>],
+    /// The levels that were accepted.
+    pub levels: &'a [Level],
+}
 
 pub fn run(built: &Built, json: bool) -> Result<(), Stop> {
     let building = Building::of(built, !json)?;
-    let mut lines = Lines::new();
+    let (mut lines, mut levels) = (Vec::new(), Vec::new());
     building.climb(|certifier| {
         let totals = building.mixtures.iter().map(|mixture| building.totals(certifier, mixture));
         lines.push(totals.collect::<Result<_, _>>()?);
+        levels.push(certifier.standing());
         Ok(())
     })?;
+    let Building { model, named, mixtures, .. } = &building;
     let plain = built.levels.is_none() && built.points.is_empty() && built.mixtures.is_empty();
-    put(&match (json, plain) {
-        (true, _) => object(&building, &lines),
-        (false, true) => ladder(&lines),
-        (false, false) => tables(&building, &lines),
-    })
+    put(&text(&Certified { model, named, mixtures, lines: &lines, levels: &levels }, json, plain))
+}
+
+/// One JSON object, the lines of `ladder`, or tables.
+pub fn text(certified: &Certified, json: bool, plain: bool) -> String {
+    match (json, plain) {
+        (true, _) => object(certified),
+        (false, true) => ladder(certified.lines),
+        (false, false) => tables(certified),
+    }
 }
 
 /// The lines of the program `ladder`.
-fn ladder(lines: &Lines) -> String {
+fn ladder(lines: &[Vec<Totals>]) -> String {
     let line = |(level, totals): (usize, &Vec<Totals>)| {
         let line = |at: &Totals| format!("{} {} {} {} {}\n", level + 1, at.lower, at.upper, at.gap, at.action);
         totals.iter().map(line).collect::<String>()
@@ -35,18 +50,18 @@ fn ladder(lines: &Lines) -> String {
 }
 
 /// A table for each mixture: in units of reward, in ticks times the weight, and the action.
-fn tables(building: &Building, lines: &Lines) -> String {
+fn tables(certified: &Certified) -> String {
     let mut text = String::new();
-    for (number, mixture) in building.mixtures.iter().enumerate() {
+    for (number, mixture) in certified.mixtures.iter().enumerate() {
         if number > 0 {
             text.push('\n');
         }
-        text.push_str(&format!("at {}\n", about(building, mixture)));
+        text.push_str(&format!("at {}\n", about(certified.named, mixture)));
         text.push_str(&format!(
             "{:>5} {:>12} {:>12} {:>10} {:>14} {:>14}  {}\n",
             "level", "floor", "ceiling", "gap", "lower", "upper", "action"
         ));
-        for (level, totals) in lines.iter().enumerate() {
+        for (level, totals) in certified.lines.iter().enumerate() {
             let at = &totals[number];
             let bracket = at.bracket(mixture);
             let gap = Totals { lower: 0, upper: at.gap, ..*at }.bracket(mixture).ceiling;
@@ -58,7 +73,7 @@ fn tables(building: &Building, lines: &Lines) -> String {
                 gap,
                 at.lower,
                 at.upper,
-                building.named.actions.with(at.action)
+                certified.named.actions.with(at.action)
             ));
         }
     }
@@ -67,11 +82,10 @@ fn tables(building: &Building, lines: &Lines) -> String {
 }
 
 /// The weights, and which state they are on where names are known.
-fn about(building: &Building, mixture: &Mixture) -> String {
+fn about(named: &Named, mixture: &Mixture) -> String {
     let mut text = joined(&mixture.weights);
-    let states = &building.named.states;
-    if !states.all().is_empty() {
-        let part = |(state, weight): (usize, &u64)| format!("{} {}", states.or_number(state), weight);
+    if !named.states.all().is_empty() {
+        let part = |(state, weight): (usize, &u64)| format!("{} {}", named.states.or_number(state), weight);
         let parts: Vec<String> =
             mixture.weights.iter().enumerate().filter(|(_, &weight)| weight > 0).map(part).collect();
         text.push_str(&format!(" ({})", parts.join(", ")));
@@ -80,9 +94,9 @@ fn about(building: &Building, mixture: &Mixture) -> String {
 }
 
 /// All of it as one JSON object.
-fn object(building: &Building, lines: &Lines) -> String {
-    let named = &building.named;
-    let names = |names: &command::names::Names| match names.all() {
+fn object(certified: &Certified) -> String {
+    let named = certified.named;
+    let names = |names: &Names| match names.all() {
         [] => Value::Null,
         all => json!(all),
     };
@@ -99,24 +113,34 @@ fn object(building: &Building, lines: &Lines) -> String {
             "action_name": named.actions.get(totals.action),
         })
     };
-    let level = |(level, totals): (usize, &Vec<Totals>)| {
+    let level = |(number, (totals, level)): (usize, (&Vec<Totals>, &Level))| {
         let at: Vec<Value> =
-            building.mixtures.iter().zip(totals).map(|(mixture, totals)| at(mixture, totals)).collect();
-        json!({ "level": level + 1, "at": at })
+            certified.mixtures.iter().zip(totals).map(|(mixture, totals)| at(mixture, totals)).collect();
+        let vectors = level
+            .vectors
+            .iter()
+            .map(|vector| json!({ "action": vector.action, "choices": vector.choices, "entries": vector.entries }));
+        let points = level.points.iter().map(|point| json!({ "weights": point.weights, "value": point.value }));
+        json!({
+            "level": number + 1,
+            "at": at,
+            "vectors": vectors.collect::<Vec<_>>(),
+            "corners": level.corners,
+            "points": points.collect::<Vec<_>>(),
+        })
     };
-    let shape = building.model.shape();
+    let shape = certified.model.shape();
     let object = json!({
         "states": shape.states,
         "actions": shape.actions,
         "observations": shape.observations,
-        "discount": building.model.discount() as f64 / 1_000.0,
+        "discount": certified.model.discount() as f64 / 1_000.0,
         "names": {
             "states": names(&named.states),
             "actions": names(&named.actions),
             "observations": names(&named.observations),
         },
-        "points": building.points.iter().map(|point| &point.weights).collect::<Vec<_>>(),
-        "levels": lines.iter().enumerate().map(level).collect::<Vec<_>>(),
+        "levels": certified.lines.iter().zip(certified.levels).enumerate().map(level).collect::<Vec<_>>(),
     });
     format!("{:#}\n", object)
 }

@@ -1,11 +1,13 @@
 //! The command `biidhaqun`: asks the proved library, and shows what it answers.
 
 mod building;
+mod certify;
 mod check;
 mod import;
 mod levels;
 mod picture;
 mod report;
+mod shortfall;
 mod stop;
 
 use clap::Parser;
@@ -16,10 +18,11 @@ use stop::Stop;
 
 fn main() {
     let options = Options::parse();
-    let json = matches!(options.request, Request::Levels { json: true, .. });
+    let json = matches!(options.request, Request::Levels { json: true, .. } | Request::Certify { json: true, .. });
     let ended = match options.request {
         Request::Explain { number } => process::exit(explain::run(number)),
         Request::Levels { built, json } => levels::run(&built, json),
+        Request::Certify { file, levels, at, json } => certify::run(&file, &levels, &at, json),
         Request::Check { file } => check::run(&file),
         Request::Import { file, round, out } => import::run(&file, round, out.as_deref()),
         Request::Picture { built, out } => picture::run(&built, &out),
@@ -52,6 +55,10 @@ fn stopped(stop: &Stop, json: bool) -> i32 {
         }
         Stop::Source { path, file, told } => {
             report::source(path, file, told);
+            exit::REFUSED
+        }
+        Stop::Levels(message) => {
+            eprintln!("biidhaqun: {}", message);
             exit::REFUSED
         }
         Stop::Ours(message) => {

@@ -13,6 +13,8 @@ pub enum Stop {
     Refused { refusal: Refusal, note: String },
     /// A file in Cassandra's format cannot be turned into a model file.
     Source { path: PathBuf, file: Vec<u8>, told: Vec<Told> },
+    /// A file of levels has another form.
+    Levels(String),
     /// The command itself is wrong.
     Ours(String),
     /// The command line does not fit the model.
