@@ -119,13 +119,17 @@ const EXPLANATIONS: &[Explanation] = &[
             "Entries that were rounded to the nearest tick: round them down.",
             "Choices that are not those the entry was worked out with.",
             "A level offered upon another one than it was made for.",
+            "`biidhaqun certify` says which state it is, and how many ticks are too many.",
         ],
     },
     Explanation {
         number: 14,
         means: "A corner is below its backup: some plan may earn more at that state.",
         place: "the corner's number, which is its state",
-        causes: &["Corners that were rounded to the nearest tick: round them up."],
+        causes: &[
+            "Corners that were rounded to the nearest tick: round them up.",
+            "`biidhaqun certify` says which action it is, and how many ticks are missing.",
+        ],
     },
     Explanation {
         number: 15,
@@ -134,6 +138,7 @@ const EXPLANATIONS: &[Explanation] = &[
         causes: &[
             "Values that were rounded to the nearest: round them up.",
             "A point's value is in hundredths of a tick: it is that of the weights as they stand, which total 100.",
+            "`biidhaqun certify` says which action it is, and how many ticks are missing.",
         ],
     },
     Explanation {

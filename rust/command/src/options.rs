@@ -106,7 +106,7 @@ pub struct Built {
     /// A point to build at: a weight for each state, 100 in total; up to 16 times [default: the start mixture]
     #[arg(long = "point", value_name = "W,W,..", value_parser = weights)]
     pub points: Vec<Weights>,
-    /// A mixture to ask at: a weight for each state, up to 1000000 [default: the points]
+    /// A mixture to ask at, beside the points: a weight for each state, up to 1000000
     #[arg(long = "at", value_name = "W,W,..", value_parser = weights)]
     pub mixtures: Vec<Weights>,
 }

@@ -120,6 +120,10 @@ fn levels_at_points_and_mixtures() {
     assert_eq!(lines[3], ["2", "-0.5100", "-0.3200", "0.1900", "-51", "-32", "0"]);
     assert_eq!(lines[5], ["at", "0,1"]);
     assert_eq!(lines[8], ["2", "5.1000", "5.1000", "0.0000", "510", "510", "1"]);
+    // At the points, then at the mixtures.
+    let out = served(&["levels", "examples/dough.pomdp", "--at", "1,0", "--point", "20,80", "--point", "50,50"]);
+    let asked: Vec<&str> = out.lines().filter(|line| line.starts_with("at ")).collect();
+    assert_eq!(asked, ["at 20,80", "at 50,50", "at 1,0"]);
     // More points make a tighter ceiling at the start.
     let gap = |points: &[&str]| {
         let options = ["levels", "examples/tiger.pomdp", "--json", "--at", "50,50"];

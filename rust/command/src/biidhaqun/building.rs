@@ -13,7 +13,9 @@ pub struct Building {
     pub model: Model,
     pub named: Named,
     pub start: Mixture,
+    /// Where levels are built.
     pub points: Vec<Mixture>,
+    /// Where totals are asked.
     pub mixtures: Vec<Mixture>,
     pub levels: u64,
 }
@@ -32,18 +34,16 @@ pub fn read(path: &Path, line: bool) -> Result<(Model, Mixture, Named), Stop> {
 }
 
 impl Building {
-    /// Reads the file. The points are those asked for, or the start mixture; the mixtures are those asked for, or the points.
+    /// Reads the file. Levels are built at the points asked for; totals are asked there, and at the mixtures asked for. Where
+    /// nothing is said, the start mixture serves.
     pub fn of(built: &Built, line: bool) -> Result<Building, Stop> {
         let (model, start, named) = read(&built.file, line)?;
         let states = model.shape().states;
-        let mut points = fitting("--point", &built.points, states)?;
-        if points.is_empty() {
-            points.push(start.clone());
-        }
-        let mut mixtures = fitting("--at", &built.mixtures, states)?;
-        if mixtures.is_empty() {
-            mixtures = points.clone();
-        }
+        let points = fitting("--point", &built.points, states)?;
+        let asked = fitting("--at", &built.mixtures, states)?;
+        let or_start = |list: Vec<Mixture>| if list.is_empty() { vec![start.clone()] } else { list };
+        let mixtures = or_start([&points[..], &asked[..]].concat());
+        let points = or_start(points);
         Ok(Building { model, named, start, points, mixtures, levels: built.levels.unwrap_or(LEVELS) })
     }
 

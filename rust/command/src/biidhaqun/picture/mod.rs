@@ -7,7 +7,7 @@ mod levels;
 mod line;
 mod triangle;
 
-use crate::building::{joined, progress, Building};
+use crate::building::{fitting, joined, progress, Building};
 use crate::stop::Stop;
 use biidhaqun::{Bracket, Certifier, Mixture};
 use colours::WHITE;
@@ -50,8 +50,9 @@ impl Sample {
 
 pub fn run(built: &Built, out: &Path) -> Result<(), Stop> {
     let building = Building::of(built, false)?;
-    let mixture = match &building.mixtures[..] {
-        _ if built.mixtures.is_empty() => &building.start,
+    let asked = fitting("--at", &built.mixtures, building.model.shape().states)?;
+    let mixture = match &asked[..] {
+        [] => &building.start,
         [mixture] => mixture,
         _ => return Err(Stop::Usage("a picture has room for one mixture: give --at once".to_string())),
     };
