@@ -178,6 +178,15 @@ fn every_form_of_t_and_o() {
 }
 
 #[test]
+fn a_name_stays_in_its_comment() {
+    let text = format!("{}T: * identity O: * uniform", HEADERS);
+    let fitted = fit(&read(text.as_bytes()).unwrap(), false).unwrap();
+    let plain = write(&fitted, "a b");
+    assert_eq!(write(&fitted, "a\nb"), plain);
+    assert!(Model::read(plain.as_bytes()).is_ok());
+}
+
+#[test]
 fn every_form_of_r() {
     let rest = "T: * : * 0.25 0.75 O: * uniform";
     let reward = |statements: &str| {

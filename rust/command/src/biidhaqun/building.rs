@@ -5,7 +5,7 @@ use biidhaqun::{Certifier, Error, Mixture, Model, Points};
 use command::files;
 use command::names::Named;
 use command::options::{Built, Weights, LEVELS};
-use indicatif::{ProgressBar, ProgressStyle};
+use indicatif::{ProgressBar, ProgressFinish, ProgressStyle};
 use std::path::Path;
 
 /// A model file that was accepted, and what is asked of it.
@@ -58,7 +58,6 @@ impl Building {
             each(&certifier)?;
             bar.inc(1);
         }
-        bar.finish_and_clear();
         Ok(())
     }
 
@@ -108,10 +107,10 @@ pub fn joined(weights: &[u64]) -> String {
     words.join(",")
 }
 
-/// A bar on a terminal, and nothing elsewhere.
+/// A bar on a terminal, gone when it is dropped; nothing elsewhere.
 pub fn progress(length: u64, what: &'static str) -> ProgressBar {
     let style = ProgressStyle::with_template("{bar:40} {pos} of {len} {msg}");
-    let bar = ProgressBar::new(length).with_message(what);
+    let bar = ProgressBar::new(length).with_message(what).with_finish(ProgressFinish::AndClear);
     match style {
         Ok(style) => bar.with_style(style),
         Err(_) => bar,

@@ -41,7 +41,7 @@ pub fn run(path: &Path, offers: &Path, asked: &[Weights], json: bool) -> Result<
         lines.push(mixtures.iter().map(at).collect::<Result<Vec<_>, _>>()?);
         bar.inc(1);
     }
-    bar.finish_and_clear();
+    drop(bar);
     let certified = Certified { model: &model, named: &named, mixtures: &mixtures, lines: &lines, levels: &levels };
     put(&levels::text(&certified, json, asked.is_empty()))
 }

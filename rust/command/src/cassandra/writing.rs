@@ -10,7 +10,8 @@ use std::fmt::Write;
 pub fn write(fitted: &Fitted, name: &str) -> String {
     let Counts { states, actions, observations } = fitted.counts;
     let named = &fitted.named;
-    let mut text = format!("# Imported from {}.\n", name);
+    // A comment ends with its line, whatever the file is called.
+    let mut text = format!("# Imported from {}.\n", name.replace(char::is_control, " "));
     for (kind, names) in [("states", &named.states), ("actions", &named.actions), ("observations", &named.observations)]
     {
         if !names.all().is_empty() {

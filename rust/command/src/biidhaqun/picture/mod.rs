@@ -91,9 +91,7 @@ fn sampled(building: &Building, certifier: &Certifier) -> Result<Vec<(Mixture, S
         let sample = sample(building, certifier, &mixture)?;
         Ok((mixture, sample))
     };
-    let samples = mixtures.into_iter().map(one).collect();
-    bar.finish_and_clear();
-    samples
+    mixtures.into_iter().map(one).collect()
 }
 
 fn draw(
