@@ -31,7 +31,7 @@ impl Form {
         };
         let digits = |part: &[u8]| part.iter().all(u8::is_ascii_digit);
         if !digits(whole) || !fraction.map_or(true, digits) {
-            return Err("it is no number in plain digits".to_string());
+            return Err("only digits and one point make a number here".to_string());
         }
         if fraction.is_some() && self.decimals == 0 {
             return Err("a whole number is wanted".to_string());

@@ -1,7 +1,7 @@
 //! The reader that explains: words in order, form before limit, totals after the last statement.
 
 use super::draft::Draft;
-use super::hints::Want;
+use super::hints::{is_number_like, Want};
 use super::{Counts, Trouble};
 use crate::names::Named;
 use crate::numerals::{shown, Form, INDEX, PROBABILITY, REWARD, START};
@@ -200,9 +200,8 @@ fn value(word: &Word, form: Form, least: i64, most: i64, want: Want) -> Result<i
 fn misfit(word: &Word, want: Want, reason: Option<String>) -> Trouble {
     let mut notes = vec![format!("wanted: {}", want.text())];
     notes.extend(want.hint(word).map(|hint| format!("help: {}", hint)));
-    let worded = word.bytes.first().map_or(false, u8::is_ascii_digit) || word.bytes.starts_with(b"-");
     let text = match reason {
-        Some(reason) if worded => reason,
+        Some(reason) if is_number_like(word.bytes) => reason,
         _ => format!("found {}", word.quoted()),
     };
     Trouble {
