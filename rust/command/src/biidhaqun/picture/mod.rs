@@ -23,13 +23,13 @@ const WIDTH: u32 = 520;
 const HEIGHT: u32 = 420;
 
 /// Where a panel is drawn.
-type Area<'a> = DrawingArea<SVGBackend<'a>, Shift>;
+pub type Area<'a> = DrawingArea<SVGBackend<'a>, Shift>;
 /// Drawing on text does not fail but by an error of ours.
-type Drawn = Result<(), Box<dyn Error>>;
+pub type Drawn = Result<(), Box<dyn Error>>;
 
 /// What is certified at one mixture: in units of reward, and the action.
 #[derive(Clone, Copy)]
-struct Sample {
+pub struct Sample {
     bracket: Bracket,
     action: usize,
 }
