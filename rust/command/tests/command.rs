@@ -284,20 +284,6 @@ fn served_import(name: &str) -> String {
     out
 }
 
-/// The image in the front page is what the command beside it draws.
-#[test]
-fn the_picture_of_the_front_page() {
-    let readme = fs::read_to_string(root().join("README.md")).unwrap();
-    let command = readme.lines().find_map(|line| line.strip_prefix("scripts/biidhaqun picture ")).unwrap();
-    let arguments: Vec<&str> = command.split_whitespace().collect();
-    let shown = arguments[arguments.len() - 1];
-    assert!(readme.contains(&format!("({})", shown)));
-    let path = Path::new(env!("CARGO_TARGET_TMPDIR")).join("front.svg");
-    let drawn = [&["picture"], &arguments[..arguments.len() - 1], &[path.to_str().unwrap()]].concat();
-    served(&drawn);
-    assert_eq!(fs::read(&path).unwrap(), fs::read(root().join(shown)).unwrap());
-}
-
 /// The first look at a command line, without the library.
 #[test]
 fn usage_alone() {

@@ -2,8 +2,9 @@
 //! not fit.
 
 use assert_cmd::Command;
-use biidhaqun::{Certifier, Model, Points};
+use biidhaqun::{Certifier, Mixture, Model, Points};
 use command::cassandra::{fit, read, write};
+use reference::{ladder, Rules};
 use std::path::{Path, PathBuf};
 use std::{fs, str};
 
@@ -26,19 +27,20 @@ fn imported(name: &str) -> (String, Model, Vec<u64>) {
     (text, model, start.weights)
 }
 
-/// What is certified of a model at its start after some levels: the lower and the upper total.
-fn certified(model: &Model, start: &[u64], levels: usize) -> Vec<(i64, i64)> {
+/// What is certified of a model at its start, in the lines of `ladder`.
+fn certified(model: &Model, start: &[u64], levels: usize) -> String {
     let mut certifier = Certifier::open(model).unwrap();
-    let mut totals = Vec::new();
-    for _ in 0..levels {
+    let mut lines = String::new();
+    for number in 1..=levels {
         let level = certifier.build(&Points::one(start)).unwrap();
         certifier.offer(&level).unwrap();
-        let at = certifier.totals(&biidhaqun::Mixture::new(start)).unwrap();
-        totals.push((at.lower, at.upper));
+        let at = certifier.totals(&Mixture::new(start)).unwrap();
+        lines.push_str(&format!("{} {} {} {} {}\n", number, at.lower, at.upper, at.gap, at.action));
     }
-    totals
+    lines
 }
 
+/// The library certifies what is imported, with the totals of the reference.
 #[test]
 fn the_literature_is_imported_and_certified() {
     let folder = fs::read_dir(root().join("examples/cassandra")).unwrap();
@@ -47,10 +49,9 @@ fn the_literature_is_imported_and_certified() {
     names.sort();
     assert_eq!(names, ["cheese", "corridor", "crying-baby", "four-by-three", "machine", "tiger"]);
     for name in names {
-        let (_, model, start) = imported(&name);
-        for (lower, upper) in certified(&model, &start, 10) {
-            assert!(lower <= upper, "{}", name);
-        }
+        let (text, model, start) = imported(&name);
+        let lines = certified(&model, &start, 3);
+        assert_eq!(lines, ladder(text.as_bytes(), &Rules::default()), "{}", name);
     }
 }
 
