@@ -22,7 +22,7 @@ const ENDS: &str = "Exit status: 0 served, 1 refused, 2 wrong usage, 3 a file th
 /// A model file is a POMDP in a subset of Cassandra's format. The certifier, whose every call is proved, accepts levels of
 /// bounds on it; this command asks it and shows what it answers.
 #[derive(Debug, Parser)]
-#[command(name = "biidhaqun", version, after_help = ENDS)]
+#[command(name = "biidhaqun", bin_name = "biidhaqun", version, after_help = ENDS)]
 pub struct Options {
     #[command(subcommand)]
     pub request: Request,

@@ -296,6 +296,8 @@ fn usage_alone() {
     assert_eq!(look(&["check", "tests/files/empty.pomdp"]), 100);
     assert_eq!(look(&["explain", "13"]), 0);
     assert_eq!(look(&["levels", "examples/dough.pomdp", "--level", "3"]), 2);
+    let usage = Command::cargo_bin("biidhaqun-usage").unwrap().arg("picture").output().unwrap();
+    assert!(str::from_utf8(&usage.stderr).unwrap().contains("Usage: biidhaqun picture --out"));
     assert_eq!(look(&["levels", "examples/no-such-file"]), 3);
     assert_eq!(look(&["picture", "examples/dough.pomdp", "--out", "no-such-folder/drawn.svg"]), 3);
 }

@@ -32,13 +32,17 @@ pub fn parse(word: &[u8]) -> Option<BigRational> {
     Some(if negative { -value } else { value })
 }
 
-/// A fraction as a decimal: all of it if it ends within some places, else its first places and two points.
+/// A fraction as a decimal: all of it if it is short, else its first digits and two points.
 pub fn text(value: &BigRational) -> String {
+    const WHOLE: usize = 12;
     const PLACES: usize = 9;
     let scaled = value.abs() * BigRational::from(pow(BigInt::from(10), PLACES));
     let digits = format!("{:0>width$}", scaled.to_integer().to_string(), width = PLACES + 1);
     let (whole, fraction) = digits.split_at(digits.len() - PLACES);
     let sign = if value.is_negative() { "-" } else { "" };
+    if whole.len() > WHOLE {
+        return format!("{}{}.. ({} digits)", sign, &whole[..WHOLE], whole.len());
+    }
     if !scaled.is_integer() {
         return format!("{}{}.{}..", sign, whole, fraction);
     }
@@ -65,6 +69,8 @@ mod tests {
             ("5e-1", "0.5"),
             ("1.5E2", "150"),
             ("0.33333333333333333333", "0.333333333.."),
+            ("-1e20", "-100000000000.. (21 digits)"),
+            ("1e-300", "0.000000000.."),
         ] {
             assert_eq!(shown(word).as_deref(), Some(value), "{}", word);
         }
