@@ -112,6 +112,16 @@ fn check_shows_files_of_any_bytes() {
     }
 }
 
+/// A line that fills a screen is not shown, but its place is.
+#[test]
+fn check_leaves_long_lines_out() {
+    let dough = fs::read_to_string(root().join("examples/dough.pomdp")).unwrap().replace('\n', " ");
+    let path = temporary("long.pomdp", format!("{}{}T: 2 : 0 1 0", dough, " ".repeat(1_000)).as_bytes());
+    let err = stopped(&["check", path.to_str().unwrap()], 1);
+    assert!(err.contains(":1:1239: error[3]: `2` is outside its limit") && err.contains("wanted: "), "{}", err);
+    assert!(err.len() < 600, "{}", err);
+}
+
 #[test]
 fn levels_at_points_and_mixtures() {
     let out = served(&["levels", "examples/dough.pomdp", "--levels", "2", "--at", "1,0", "--at", "0,1"]);

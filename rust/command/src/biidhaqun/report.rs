@@ -4,10 +4,13 @@ use biidhaqun::Refusal;
 use codespan_reporting::diagnostic::{Diagnostic, Label};
 use codespan_reporting::files::SimpleFile;
 use codespan_reporting::term::termcolor::{ColorChoice, StandardStream};
-use codespan_reporting::term::{self, Config};
+use codespan_reporting::term::{self, Config, DisplayStyle};
 use command::model_file;
 use command::told::Told;
 use std::path::Path;
+
+/// The longest line that is shown.
+const LONG: usize = 400;
 
 /// A refused model file, in the shell's words. The library's refusal counts: where the shell finds another one, the
 /// library's own sentence is shown, and that the shell is wrong.
@@ -51,10 +54,16 @@ fn show(path: &Path, file: &[u8], told: &Told, code: Option<&str>, more: &[Strin
     let mut diagnostic = Diagnostic::error().with_message(title).with_labels(labels.collect());
     diagnostic.code = code.map(str::to_string);
     diagnostic.notes = told.notes.iter().chain(more).cloned().collect();
+    // A line that fills a screen is not shown; its mark is told in words.
+    let long = told.marks.iter().any(|mark| shown.line(mark.span.start).len() > LONG);
+    let display_style = if long { DisplayStyle::Medium } else { DisplayStyle::Rich };
+    if let (true, Some(mark)) = (long, told.marks.first()) {
+        diagnostic.notes.insert(0, mark.text.clone());
+    }
     let choice = if console::user_attended_stderr() { ColorChoice::Auto } else { ColorChoice::Never };
     let mut writer = StandardStream::stderr(choice);
     let source = SimpleFile::new(path.display().to_string(), &shown.text);
-    if term::emit(&mut writer, &Config::default(), &source, &diagnostic).is_err() {
+    if term::emit(&mut writer, &Config { display_style, ..Config::default() }, &source, &diagnostic).is_err() {
         eprintln!("biidhaqun: {}: {}", path.display(), told.title);
     }
 }
@@ -99,6 +108,14 @@ impl Shown {
         self.text.push(letter);
     }
 
+    /// The line that a byte of the file stands in.
+    fn line(&self, byte: usize) -> &str {
+        let (before, behind) = self.text.split_at(self.place(byte));
+        let start = before.rfind('\n').map_or(0, |end| end + 1);
+        let end = behind.find('\n').map_or(self.text.len(), |end| before.len() + end);
+        &self.text[start..end]
+    }
+
     /// The place of a byte of the file in the text.
     fn place(&self, byte: usize) -> usize {
         self.places.get(byte).copied().unwrap_or(self.text.len())
@@ -113,6 +130,7 @@ mod tests {
     fn every_byte_has_a_place() {
         let shown = Shown::of("a\u{e9}\r\n".as_bytes());
         assert_eq!((&shown.text[..], &shown.places[..]), ("a\u{e9} \n", &[0, 1, 1, 3, 4, 5][..]));
+        assert_eq!(shown.line(1), "a\u{e9} ");
         let shown = Shown::of(b"\xff\x00z");
         assert_eq!((&shown.text[..], &shown.places[..]), ("\u{fffd}\u{fffd}z", &[0, 3, 6, 7][..]));
     }
