@@ -113,8 +113,6 @@ pub struct Built {
 
 /// How many levels are built where nothing is said.
 pub const LEVELS: u64 = 3;
-/// The most points to build at.
-pub const POINTS: usize = 16;
 
 /// A weight for each state.
 #[derive(Clone, Debug, PartialEq, Eq)]

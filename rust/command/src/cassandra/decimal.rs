@@ -4,8 +4,9 @@ use num_bigint::BigInt;
 use num_rational::BigRational;
 use num_traits::{pow, Signed, Zero};
 
-/// The largest exponent that is read.
+/// The largest exponent that is read, and the most digits: no number of a model has as many.
 const EXPONENT: usize = 400;
+const DIGITS: usize = 10_000;
 
 /// The value of a word: a sign, digits with a point somewhere among them, an exponent; all but a digit optional.
 pub fn parse(word: &[u8]) -> Option<BigRational> {
@@ -20,7 +21,7 @@ pub fn parse(word: &[u8]) -> Option<BigRational> {
     };
     let (whole, fraction) = magnitude.split_once('.').unwrap_or((magnitude, ""));
     let digits = format!("{}{}", whole, fraction);
-    let plain = !digits.is_empty() && digits.bytes().all(|byte| byte.is_ascii_digit());
+    let plain = !digits.is_empty() && digits.len() <= DIGITS && digits.bytes().all(|byte| byte.is_ascii_digit());
     let size = usize::try_from(exponent.unsigned_abs()).ok().filter(|&size| size <= EXPONENT)?;
     if !plain {
         return None;
@@ -74,6 +75,8 @@ mod tests {
         ] {
             assert_eq!(shown(word).as_deref(), Some(value), "{}", word);
         }
+        assert!(parse(&[b'1'; DIGITS]).is_some());
+        assert!(parse(&[b'1'; DIGITS + 1]).is_none());
         for word in ["", ".", "-", "e1", "1e", "1e1.5", "1e9999", "0x1", "1.2.3", "--1", "listen", "1_0"] {
             assert_eq!(shown(word), None, "{}", word);
         }

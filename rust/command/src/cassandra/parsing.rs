@@ -131,9 +131,6 @@ fn uniform(count: usize) -> Vec<BigRational> {
     vec![BigRational::new(BigInt::one(), BigInt::from(count)); count]
 }
 
-/// The indices that a word stands for, and the word.
-type Indices = Range<usize>;
-
 struct Parser<'a> {
     words: Peekable<Words<'a>>,
     /// Where the last word that was taken ends.
@@ -240,7 +237,7 @@ impl<'a> Parser<'a> {
     }
 
     /// The indices that a word stands for: a star for all, a number or a name for one.
-    fn indices(&mut self, kind: &str, count: usize, names: &Names) -> Read<Indices> {
+    fn indices(&mut self, kind: &str, count: usize, names: &Names) -> Read<Range<usize>> {
         let wanted = format!("{} {}", if kind.starts_with(['a', 'o']) { "an" } else { "a" }, kind);
         let word = self.word(&wanted)?;
         if word.is("*") {

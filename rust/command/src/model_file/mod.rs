@@ -8,7 +8,7 @@ mod hints;
 mod reading;
 
 pub use draft::Draft;
-pub use reading::{judge, FILE_BYTES};
+pub use reading::judge;
 
 use crate::told::Told;
 

@@ -11,7 +11,7 @@ use crate::words::{Word, Words};
 use std::ops::Range;
 
 /// The most bytes of a file.
-pub const FILE_BYTES: usize = 32_768;
+const FILE_BYTES: usize = 32_768;
 const STATES: usize = 16;
 const ACTIONS: usize = 8;
 const OBSERVATIONS: usize = 8;
@@ -27,7 +27,7 @@ pub fn judge(file: &[u8]) -> Result<Draft, Trouble> {
             number: 1,
             place: 0,
             told: Told {
-                title: format!("the file has {} bytes, and at most 32,768 are read", file.len()),
+                title: "the file has more than 32,768 bytes".to_string(),
                 marks: Vec::new(),
                 notes: vec!["leave out comments and blanks; one star stands for many statements".to_string()],
             },
