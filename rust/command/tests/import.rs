@@ -64,6 +64,27 @@ fn tiger_and_crying_baby_are_those_written_by_hand() {
     }
 }
 
+/// The book's example 20.2: a look ahead from (0.5, 0.5) with the vectors (-3.7, -15) and (-2, -21).
+#[test]
+fn the_crying_baby_looks_ahead_as_in_its_book() {
+    let (_, model, _) = imported("crying-baby");
+    let vectors = [[-3.7, -15.0], [-2.0, -21.0]];
+    // Feed, sing, ignore.
+    for (action, expected) in [-11.8, -14.0, -13.9].into_iter().enumerate() {
+        let mut worth: f64 = (0..2).map(|state| 0.5 * model.reward(action, state) as f64 / 100.0).sum();
+        for seen in 0..2 {
+            let weight = |to: usize| -> f64 {
+                let reached: u64 = (0..2).map(|state| model.transition(action, state, to)).sum();
+                0.5 * (reached * model.observation(action, to, seen)) as f64 / 1e6
+            };
+            let best =
+                vectors.iter().map(|vector| weight(0) * vector[0] + weight(1) * vector[1]).fold(f64::MIN, f64::max);
+            worth += model.discount() as f64 / 1_000.0 * best;
+        }
+        assert!((worth - expected).abs() < 0.06, "action {}: {}", action, worth);
+    }
+}
+
 /// The beliefs that the paper has: 1/3, 1/3, 0, 1/3, then after each step east without the goal.
 #[test]
 fn the_corridor_has_the_beliefs_of_its_paper() {
