@@ -1,4 +1,4 @@
-//! How the library compares with other forms of the same calls: ratios from one run, on the same inputs.
+//! How the library compares with other forms of the same calls: its time, and ratios from one run, on the same inputs.
 //!
 //! `bench [ROUNDS]`, or from this workspace's folder `cargo run --release -p bench --features library`. A ratio below 1 means that the library takes less time. Each is the median over rounds in which all
 //! forms take turns. The library is handed words and reads them anew in each call; the other forms hold their objects in
@@ -110,7 +110,7 @@ fn median(mut values: Vec<f64>) -> f64 {
 struct Measured {
     /// The library's time over that of the obvious, the tuned and the floating form.
     ratios: [f64; 3],
-    /// The library's time, for growth alone.
+    /// The library's time, in seconds.
     ours: f64,
 }
 
@@ -304,13 +304,14 @@ fn valuing(tables: &Tables, graph: &Graph, steps: usize) -> Result<Forms, String
 }
 
 fn head(title: &str, last: &str) {
-    println!("\n{:<44} {:>9} {:>9} {:>9}  {}", title, "obvious", "tuned", "floating", last);
+    println!("\n{:<44} {:>10} {:>9} {:>9} {:>9}  {}", title, "time (us)", "obvious", "tuned", "floating", last);
 }
 
 fn line(name: &str, measured: &Measured, first: Option<f64>) {
     let [obvious, tuned, floating] = measured.ratios;
     let growth = first.map_or(String::new(), |first| format!("{:>6.2}", measured.ours / first));
-    println!("{:<44} {:>9.2} {:>9.2} {:>9.2}  {}", name, obvious, tuned, floating, growth);
+    let micros = measured.ours * 1e6;
+    println!("{:<44} {:>10.1} {:>9.2} {:>9.2} {:>9.2}  {}", name, micros, obvious, tuned, floating, growth);
 }
 
 /// A call over a list of sizes.
@@ -335,7 +336,7 @@ fn run(rounds: usize) -> Result<(), String> {
     let (certifier, level) = inputs::offer(&mut rng(), LARGEST, VECTORS, POINTS, false);
     let (steep, steep_level) = inputs::offer(&mut rng(), LARGEST, VECTORS, POINTS, true);
     let tables = &certifier.tables;
-    println!("the library's time over that of the same call in Rust: medians of {} rounds", rounds);
+    println!("the library's time, and over that of the same call in Rust: medians of {} rounds", rounds);
     head("16 states, 8 actions, 8 observations", "");
 
     let (forms, length) = reading(tables, &inputs::shares(&mut rng(), 16, TOTAL))?;

@@ -58,6 +58,34 @@ impl Model {
         self.shape
     }
 
+    /// The discount, in thousandths.
+    pub fn discount(&self) -> u64 {
+        thousandths(self.words[3])
+    }
+
+    /// T: how likely an action leads from a state to another, in thousandths. Panics outside the counts, as indexing does.
+    pub fn transition(&self, action: usize, state: usize, reached: usize) -> u64 {
+        let Shape { states, .. } = self.shape;
+        thousandths(self.words[4 + self.row(action, state) * states + below(reached, states)])
+    }
+
+    /// O: how likely an observation is where an action led to a state, in thousandths. Panics outside the counts.
+    pub fn observation(&self, action: usize, reached: usize, observation: usize) -> u64 {
+        let Shape { states, actions, observations } = self.shape;
+        let first = 4 + actions * states * states;
+        thousandths(self.words[first + self.row(action, reached) * observations + below(observation, observations)])
+    }
+
+    /// R: the reward of an action in a state, in ticks. Panics outside the counts.
+    pub fn reward(&self, action: usize, state: usize) -> i64 {
+        let Shape { states, actions, observations } = self.shape;
+        self.words[4 + actions * states * (states + observations) + self.row(action, state)]
+    }
+
+    fn row(&self, action: usize, state: usize) -> usize {
+        below(action, self.shape.actions) * self.shape.states + below(state, self.shape.states)
+    }
+
     /// What a plan graph earns at least, in ticks, if it is entered at this node and state with so many steps left (0 to
     /// 4), rounded down at each step. Refused with 18.
     pub fn worth(&self, graph: &Graph, node: usize, state: usize, steps: usize) -> Result<i64, Error> {
@@ -66,6 +94,17 @@ impl Model {
         refused(ended.number, ended.place)?;
         Ok(ended.ticks)
     }
+}
+
+/// A word that the library has accepted as thousandths.
+fn thousandths(word: i64) -> u64 {
+    u64::try_from(word).unwrap_or(0)
+}
+
+/// An index that is below its count.
+fn below(index: usize, count: usize) -> usize {
+    assert!(index < count, "index {} of {}", index, count);
+    index
 }
 
 /// The words of the certifier that opens on tables.

@@ -42,12 +42,16 @@ mod certifier;
 mod error;
 mod ffi;
 mod parts;
+mod rule;
 mod shape;
+mod units;
 
 pub use certifier::{Certifier, Model, Totals};
 pub use error::{Error, Length, Refusal};
 pub use parts::{Graph, Level, Mixture, Node, Point, Points, Vector};
+pub use rule::Rule;
 pub use shape::Shape;
+pub use units::{Bracket, Units};
 
 /// The six calls on words of any content, as the library has them.
 ///

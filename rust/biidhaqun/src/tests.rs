@@ -156,3 +156,36 @@ fn every_refusal_has_a_sentence() {
         assert!(!text.contains("no such refusal"));
     }
 }
+
+#[test]
+fn every_refusal_has_a_rule() {
+    let rule = |number| Refusal { number, place: 0 }.rule();
+    assert!((1..=18).chain([100]).all(|number| rule(number).is_some()));
+    assert_eq!((rule(0), rule(13), rule(19)), (None, Some(Rule::VectorBackup), None));
+}
+
+#[test]
+fn the_parts_of_a_model() {
+    let (model, _, _) = standing(0);
+    assert_eq!(model.discount(), 900);
+    assert_eq!((model.transition(0, 0, 1), model.transition(0, 1, 1), model.transition(1, 1, 0)), (500, 1_000, 1_000));
+    assert_eq!((model.observation(0, 0, 0), model.observation(0, 1, 1), model.observation(1, 1, 1)), (800, 700, 500));
+    assert_eq!((model.reward(0, 1), model.reward(1, 0), model.reward(1, 1)), (-100, -1_000, 600));
+    for (action, state, reached) in [(2, 0, 0), (0, 2, 0), (0, 0, 2)] {
+        assert!(std::panic::catch_unwind(|| model.transition(action, state, reached)).is_err());
+    }
+}
+
+#[test]
+fn units_are_rounded_outwards() {
+    let bracket = |lower, upper, weights: &[u64]| {
+        let totals = Totals { lower, upper, gap: upper - lower, action: 0 };
+        let bracket = totals.bracket(&Mixture::new(weights));
+        (bracket.floor.ten_thousandths(), bracket.ceiling.ten_thousandths())
+    };
+    assert_eq!(bracket(13_350, 18_575, &[50, 50]), (13_350, 18_575));
+    assert_eq!(bracket(100, 100, &[1, 2]), (3_333, 3_334));
+    assert_eq!(bracket(-100, -100, &[1, 2]), (-3_334, -3_333));
+    let totals = Totals { lower: -5, upper: 5, gap: 10, action: 0 };
+    assert_eq!(totals.bracket(&Mixture::new(&[1])).floor.to_string(), "-0.0500");
+}

@@ -1,0 +1,71 @@
+//! Totals in units of reward.
+
+use crate::certifier::Totals;
+use crate::parts::Mixture;
+use std::fmt;
+
+/// Ten-thousandths in a unit, and in a tick.
+const UNIT: i64 = 10_000;
+const TICK: i128 = 100;
+
+/// Units of reward, in ten-thousandths.
+#[derive(Clone, Copy, Debug, PartialEq, Eq, PartialOrd, Ord, Hash)]
+pub struct Units(i64);
+
+impl Units {
+    pub fn ten_thousandths(self) -> i64 {
+        self.0
+    }
+}
+
+impl From<Units> for f64 {
+    /// The nearest floating-point number.
+    fn from(units: Units) -> f64 {
+        units.0 as f64 / UNIT as f64
+    }
+}
+
+impl fmt::Display for Units {
+    /// With four decimals.
+    fn fmt(&self, f: &mut fmt::Formatter) -> fmt::Result {
+        let size = self.0.unsigned_abs();
+        let (whole, rest) = (size / UNIT as u64, size % UNIT as u64);
+        f.pad(&format!("{}{}.{:04}", if self.0 < 0 { "-" } else { "" }, whole, rest))
+    }
+}
+
+/// What is certified at a mixture, in units of reward for one unit of weight.
+#[derive(Clone, Copy, Debug, PartialEq, Eq, Hash)]
+pub struct Bracket {
+    /// Some plan earns at least this on average: the lower total, rounded down.
+    pub floor: Units,
+    /// No plan earns more than this on average: the upper total, rounded up.
+    pub ceiling: Units,
+}
+
+impl Mixture {
+    /// The total of the weights.
+    pub fn total(&self) -> u64 {
+        self.weights.iter().fold(0, |total, &weight| total.saturating_add(weight))
+    }
+}
+
+impl Totals {
+    /// The totals in units of reward, over the weight of the mixture that they were asked at; rounded outwards to
+    /// ten-thousandths, which is exact where the weights total 100.
+    ///
+    /// ```
+    /// use biidhaqun::{Mixture, Totals};
+    ///
+    /// let totals = Totals { lower: 10_000, upper: 12_500, gap: 2_500, action: 0 };
+    /// let bracket = totals.bracket(&Mixture::new(&[50, 50]));
+    /// assert_eq!((bracket.floor.to_string(), bracket.ceiling.to_string()), ("1.0000".to_string(), "1.2500".to_string()));
+    /// ```
+    pub fn bracket(&self, mixture: &Mixture) -> Bracket {
+        let weight = i128::from(mixture.total().max(1));
+        let down = |total: i64| (i128::from(total) * TICK).div_euclid(weight);
+        // A total is at most 10^7 ticks times the weight.
+        let units = |number: i128| Units(i64::try_from(number).unwrap_or(if number < 0 { i64::MIN } else { i64::MAX }));
+        Bracket { floor: units(down(self.lower)), ceiling: units(-(-i128::from(self.upper) * TICK).div_euclid(weight)) }
+    }
+}

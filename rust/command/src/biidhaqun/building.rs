@@ -1,0 +1,118 @@
+//! Levels that are built at points, offered, and asked at mixtures.
+
+use crate::stop::Stop;
+use biidhaqun::{Certifier, Error, Mixture, Model, Points};
+use command::files;
+use command::names::Named;
+use command::options::{Built, Weights, LEVELS};
+use indicatif::{ProgressBar, ProgressFinish, ProgressStyle};
+use std::path::Path;
+
+/// A model file that was accepted, and what is asked of it.
+pub struct Building {
+    pub model: Model,
+    pub named: Named,
+    pub start: Mixture,
+    /// Where levels are built.
+    pub points: Vec<Mixture>,
+    /// Where totals are asked.
+    pub mixtures: Vec<Mixture>,
+    pub levels: u64,
+}
+
+/// A model file, if the library accepts it: the model, its start mixture, and the names in its comments.
+pub fn read(path: &Path, line: bool) -> Result<(Model, Mixture, Named), Stop> {
+    let file = files::read(path).map_err(Stop::File)?;
+    match Model::read(&file) {
+        Ok((model, start)) => {
+            let shape = model.shape();
+            let named = Named::of(&file, shape.states, shape.actions, shape.observations);
+            Ok((model, start, named))
+        }
+        Err(refusal) => Err(Stop::Model { path: path.to_path_buf(), file, refusal, line }),
+    }
+}
+
+impl Building {
+    /// Reads the file. Levels are built at the points asked for; totals are asked there, and at the mixtures asked for. Where
+    /// nothing is said, the start mixture serves.
+    pub fn of(built: &Built, line: bool) -> Result<Building, Stop> {
+        let (model, start, named) = read(&built.file, line)?;
+        let states = model.shape().states;
+        let points = fitting("--point", &built.points, states)?;
+        let asked = fitting("--at", &built.mixtures, states)?;
+        let or_start = |list: Vec<Mixture>| if list.is_empty() { vec![start.clone()] } else { list };
+        let mixtures = or_start([&points[..], &asked[..]].concat());
+        let points = or_start(points);
+        Ok(Building { model, named, start, points, mixtures, levels: built.levels.unwrap_or(LEVELS) })
+    }
+
+    /// Builds and offers the levels one upon the other, and shows the certifier after each.
+    pub fn climb(&self, mut each: impl FnMut(&Certifier) -> Result<(), Stop>) -> Result<(), Stop> {
+        let points = Points { weights: self.points.iter().map(|point| point.weights.clone()).collect() };
+        let mut certifier = Certifier::open(&self.model).map_err(|refusal| self.refused(refusal.into()))?;
+        let bar = progress(self.levels, "levels");
+        for _ in 0..self.levels {
+            let level = certifier.build(&points).map_err(|error| self.refused(error))?;
+            certifier.offer(&level).map_err(|error| self.refused(error))?;
+            each(&certifier)?;
+            bar.inc(1);
+        }
+        Ok(())
+    }
+
+    /// What is certified at a mixture.
+    pub fn totals(&self, certifier: &Certifier, mixture: &Mixture) -> Result<biidhaqun::Totals, Stop> {
+        certifier.totals(mixture).map_err(|error| match self.refused(error) {
+            Stop::Refused { refusal, .. } => {
+                Stop::Refused { refusal, note: format!("the mixture is {}", joined(&mixture.weights)) }
+            }
+            stop => stop,
+        })
+    }
+
+    /// A refusal, with what it is about.
+    fn refused(&self, error: Error) -> Stop {
+        let refusal = match error {
+            Error::Refused(refusal) => refusal,
+            Error::Length(length) => return Stop::Usage(length.to_string()),
+        };
+        let note = match (refusal.number, self.points.get(refusal.place)) {
+            (12, Some(point)) => {
+                format!("point {} is {}, which total {}", refusal.place, joined(&point.weights), point.total())
+            }
+            (9, _) => format!("there are {} points", self.points.len()),
+            _ => "this command should not meet such a refusal, which is an error of ours: please report it".to_string(),
+        };
+        Stop::Refused { refusal, note }
+    }
+}
+
+/// The weights of an option, if there is one for each state.
+pub fn fitting(option: &str, list: &[Weights], states: usize) -> Result<Vec<Mixture>, Stop> {
+    let one = |weights: &Weights| {
+        let found = weights.0.len();
+        if found == states {
+            return Ok(Mixture::new(&weights.0));
+        }
+        let given = joined(&weights.0);
+        Err(Stop::Usage(format!("{} {} has {} weights, and the model has {} states", option, given, found, states)))
+    };
+    list.iter().map(one).collect()
+}
+
+/// Weights as they are written in options: `50,50`.
+pub fn joined(weights: &[u64]) -> String {
+    let words: Vec<String> = weights.iter().map(u64::to_string).collect();
+    words.join(",")
+}
+
+/// A bar on a terminal, gone when it is dropped; nothing elsewhere.
+pub fn progress(length: u64, what: &'static str) -> ProgressBar {
+    let style = ProgressStyle::with_template("{bar:40} {pos} of {len} {msg}");
+    let bar = ProgressBar::new(length).with_message(what).with_finish(ProgressFinish::AndClear);
+    match style {
+        Ok(style) => bar.with_style(style),
+        Err(_) => bar,
+    }
+}

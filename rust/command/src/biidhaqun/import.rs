@@ -1,0 +1,60 @@
+//! `import`: a file in Cassandra's format as a model file that the library reads.
+
+use crate::stop::{put, Stop};
+use biidhaqun::Model;
+use command::cassandra::{self, Fitted};
+use command::files;
+use command::model_file::Counts;
+use std::path::Path;
+
+pub fn run(path: &Path, round: bool, out: Option<&Path>) -> Result<(), Stop> {
+    let file = files::read(path).map_err(Stop::File)?;
+    let fitted = match cassandra::read(&file).and_then(|source| cassandra::fit(&source, round)) {
+        Ok(fitted) => fitted,
+        Err(told) => return Err(Stop::Source { path: path.to_path_buf(), file, told }),
+    };
+    let name = path.file_name().map_or_else(|| "a file".to_string(), |name| name.to_string_lossy().to_string());
+    let text = cassandra::write(&fitted, &name);
+    tested(&fitted, &text)?;
+    match out {
+        Some(out) => files::write(out, text.as_bytes()).map_err(Stop::File)?,
+        None => put(&text)?,
+    }
+    let Counts { states, actions, observations } = fitted.counts;
+    eprintln!("{}: {} states, {} actions, {} observations", path.display(), states, actions, observations);
+    if fitted.changes.is_empty() {
+        eprintln!("  nothing was rounded");
+    }
+    for change in &fitted.changes {
+        eprintln!("  {}", change);
+    }
+    Ok(())
+}
+
+/// What was written is read by the library, with the same numbers.
+fn tested(fitted: &Fitted, text: &str) -> Result<(), Stop> {
+    let (model, start) = Model::read(text.as_bytes()).map_err(|refusal| {
+        let note = match refusal.number {
+            1 => format!("the model file would have {} bytes; shorter names help", text.len()),
+            _ => "the importer wrote a file that is not read, which is an error of ours: please report it".to_string(),
+        };
+        Stop::Refused { refusal, note }
+    })?;
+    let Counts { states, actions, observations } = fitted.counts;
+    let mut same = start.weights.iter().map(|&weight| weight as i64).eq(fitted.start.iter().copied());
+    same &= model.discount() as i64 == fitted.discount;
+    for action in 0..actions {
+        for state in 0..states {
+            let row = action * states + state;
+            let left = (0..states).map(|to| model.transition(action, state, to) as i64);
+            let seen = (0..observations).map(|seen| model.observation(action, state, seen) as i64);
+            same &= left.eq(fitted.transitions[row].iter().copied());
+            same &= seen.eq(fitted.observations[row].iter().copied());
+            same &= model.reward(action, state) == fitted.rewards[row];
+        }
+    }
+    if same {
+        return Ok(());
+    }
+    Err(Stop::Ours("the file written reads otherwise than meant".to_string()))
+}

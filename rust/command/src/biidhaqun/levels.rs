@@ -1,0 +1,154 @@
+//! `levels`: what is certified at points and mixtures, level by level.
+
+use crate::building::{joined, Building};
+use crate::stop::{put, Stop};
+use biidhaqun::{Level, Mixture, Model, Refusal, Totals};
+use command::names::{Named, Names};
+use command::options::Built;
+use serde_json::{json, Value};
+
+/// What was certified: at each level, at each of the mixtures asked for.
+pub struct Certified<'a> {
+    pub model: &'a Model,
+    pub named: &'a Named,
+    pub mixtures: &'a [Mixture],
+    pub lines: &'a [Vec<Totals>],
+    /// The levels that were accepted.
+    pub levels: &'a [Level],
+}
+
+pub fn run(built: &Built, json: bool) -> Result<(), Stop> {
+    let building = Building::of(built, !json)?;
+    let (mut lines, mut levels) = (Vec::new(), Vec::new());
+    building.climb(|certifier| {
+        let totals = building.mixtures.iter().map(|mixture| building.totals(certifier, mixture));
+        lines.push(totals.collect::<Result<_, _>>()?);
+        levels.push(certifier.standing());
+        Ok(())
+    })?;
+    let Building { model, named, mixtures, .. } = &building;
+    let plain = built.levels.is_none() && built.points.is_empty() && built.mixtures.is_empty();
+    put(&text(&Certified { model, named, mixtures, lines: &lines, levels: &levels }, json, plain))
+}
+
+/// One JSON object, the lines of `ladder`, or tables.
+pub fn text(certified: &Certified, json: bool, plain: bool) -> String {
+    match (json, plain) {
+        (true, _) => object(certified),
+        (false, true) => ladder(certified.lines),
+        (false, false) => tables(certified),
+    }
+}
+
+/// The lines of the program `ladder`.
+fn ladder(lines: &[Vec<Totals>]) -> String {
+    let line = |(level, totals): (usize, &Vec<Totals>)| {
+        let line = |at: &Totals| format!("{} {} {} {} {}\n", level + 1, at.lower, at.upper, at.gap, at.action);
+        totals.iter().map(line).collect::<String>()
+    };
+    lines.iter().enumerate().map(line).collect()
+}
+
+/// A table for each mixture: in units of reward, in ticks times the weight, and the action.
+fn tables(certified: &Certified) -> String {
+    let mut text = String::new();
+    for (number, mixture) in certified.mixtures.iter().enumerate() {
+        if number > 0 {
+            text.push('\n');
+        }
+        text.push_str(&format!("at {}\n", about(certified.named, mixture)));
+        text.push_str(&format!(
+            "{:>5} {:>12} {:>12} {:>10} {:>14} {:>14}  {}\n",
+            "level", "floor", "ceiling", "gap", "lower", "upper", "action"
+        ));
+        for (level, totals) in certified.lines.iter().enumerate() {
+            let at = &totals[number];
+            let bracket = at.bracket(mixture);
+            let gap = Totals { lower: 0, upper: at.gap, ..*at }.bracket(mixture).ceiling;
+            text.push_str(&format!(
+                "{:>5} {:>12} {:>12} {:>10} {:>14} {:>14}  {}\n",
+                level + 1,
+                bracket.floor,
+                bracket.ceiling,
+                gap,
+                at.lower,
+                at.upper,
+                certified.named.actions.with(at.action)
+            ));
+        }
+    }
+    text.push_str("\nfloor, ceiling, gap: units of reward; lower, upper: ticks x the mixture's total weight\n");
+    text
+}
+
+/// The weights, and which state they are on where names are known.
+fn about(named: &Named, mixture: &Mixture) -> String {
+    let mut text = joined(&mixture.weights);
+    if !named.states.all().is_empty() {
+        let part = |(state, weight): (usize, &u64)| format!("{} {}", named.states.or_number(state), weight);
+        let parts: Vec<String> =
+            mixture.weights.iter().enumerate().filter(|(_, &weight)| weight > 0).map(part).collect();
+        text.push_str(&format!(" ({})", parts.join(", ")));
+    }
+    text
+}
+
+/// All of it as one JSON object.
+fn object(certified: &Certified) -> String {
+    let named = certified.named;
+    let names = |names: &Names| match names.all() {
+        [] => Value::Null,
+        all => json!(all),
+    };
+    let at = |mixture: &Mixture, totals: &Totals| {
+        let bracket = totals.bracket(mixture);
+        json!({
+            "weights": mixture.weights,
+            "lower": totals.lower,
+            "upper": totals.upper,
+            "gap": totals.gap,
+            "floor": f64::from(bracket.floor),
+            "ceiling": f64::from(bracket.ceiling),
+            "action": totals.action,
+            "action_name": named.actions.get(totals.action),
+        })
+    };
+    let level = |(number, (totals, level)): (usize, (&Vec<Totals>, &Level))| {
+        let at: Vec<Value> =
+            certified.mixtures.iter().zip(totals).map(|(mixture, totals)| at(mixture, totals)).collect();
+        let vectors = level
+            .vectors
+            .iter()
+            .map(|vector| json!({ "action": vector.action, "choices": vector.choices, "entries": vector.entries }));
+        let points = level.points.iter().map(|point| json!({ "weights": point.weights, "value": point.value }));
+        json!({
+            "level": number + 1,
+            "at": at,
+            "vectors": vectors.collect::<Vec<_>>(),
+            "corners": level.corners,
+            "points": points.collect::<Vec<_>>(),
+        })
+    };
+    let shape = certified.model.shape();
+    let object = json!({
+        "states": shape.states,
+        "actions": shape.actions,
+        "observations": shape.observations,
+        "discount": certified.model.discount() as f64 / 1_000.0,
+        "names": {
+            "states": names(&named.states),
+            "actions": names(&named.actions),
+            "observations": names(&named.observations),
+        },
+        "levels": certified.lines.iter().zip(certified.levels).enumerate().map(level).collect::<Vec<_>>(),
+    });
+    format!("{:#}\n", object)
+}
+
+/// A refusal as a JSON object.
+pub fn refused(refusal: &Refusal) -> String {
+    let object = json!({
+        "refused": { "number": refusal.number, "place": refusal.place, "text": refusal.to_string() },
+    });
+    format!("{:#}\n", object)
+}

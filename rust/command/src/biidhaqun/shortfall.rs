@@ -1,0 +1,234 @@
+//! How far a refused level is from its backups: the state or action, and the ticks that are missing.
+//!
+//! The library says which vector, corner or point is refused (13, 14, 15); this works out the rest from the model and the
+//! level below, by the same inequalities, and decides nothing.
+
+use biidhaqun::{Certifier, Level, Model, Refusal, Rule};
+use command::names::Named;
+use command::numerals::shown;
+
+/// The denominator of backups: T x O x discount are thousandths each.
+const K: i128 = 1_000_000_000;
+
+/// A level that was refused, the model, and the level below.
+struct Offer<'a> {
+    model: &'a Model,
+    standing: &'a Level,
+    level: &'a Level,
+}
+
+/// What is missing, in a sentence, where a backup is the reason of the refusal.
+pub fn told(model: &Model, named: &Named, certifier: &Certifier, level: &Level, refusal: &Refusal) -> Option<String> {
+    let standing = certifier.standing();
+    let offer = Offer { model, standing: &standing, level };
+    let at = refusal.place;
+    match refusal.rule()? {
+        Rule::VectorBackup => {
+            let (state, ticks) = offer.vector(at)?;
+            let entry = level.vectors.get(at)?.entries.get(state)?;
+            Some(format!(
+                "vector {}: the entry of state {} is {}, {} above its backup; {} would pass",
+                at,
+                named.states.with(state),
+                entry,
+                counted(ticks),
+                i128::from(*entry) - ticks
+            ))
+        }
+        Rule::CornerBackup => {
+            let (action, ticks) = offer.corner(at)?;
+            let corner = level.corners.get(at)?;
+            Some(format!(
+                "corner {}: {} is {} below the backup of action {}; {} would pass",
+                named.states.with(at),
+                corner,
+                counted(ticks),
+                named.actions.with(action),
+                i128::from(*corner) + ticks
+            ))
+        }
+        Rule::PointBackup => {
+            let (action, parts) = offer.point(at)?;
+            let value = level.points.get(at)?.value;
+            Some(format!(
+                "point {}: its value {} (hundredths of a tick) is {} ticks below the backup of action {}; {} would pass",
+                at,
+                value,
+                shown(i64::try_from(parts).ok()?, 2),
+                named.actions.with(action),
+                i128::from(value) + parts
+            ))
+        }
+        _ => None,
+    }
+}
+
+fn counted(ticks: i128) -> String {
+    format!("{} tick{}", ticks, if ticks == 1 { "" } else { "s" })
+}
+
+impl Offer<'_> {
+    /// The state at which a vector's entry is furthest above its backup, and by how many ticks.
+    fn vector(&self, number: usize) -> Option<(usize, i128)> {
+        let vector = self.level.vectors.get(number)?;
+        let shape = self.model.shape();
+        let above = |state: usize| -> Option<(usize, i128)> {
+            let mut next = 0;
+            for reached in 0..shape.states {
+                for observation in 0..shape.observations {
+                    let chosen = self.standing.vectors.get(*vector.choices.get(observation)?)?;
+                    let likely = self.successor(vector.action, state, reached, observation);
+                    next += likely * i128::from(*chosen.entries.get(reached)?);
+                }
+            }
+            let reward = i128::from(self.model.reward(vector.action, state));
+            let backup = K * reward + i128::from(self.model.discount()) * next;
+            Some((state, i128::from(*vector.entries.get(state)?) - backup.div_euclid(K)))
+        };
+        let all: Option<Vec<(usize, i128)>> = (0..shape.states).map(above).collect();
+        first_largest(all?)
+    }
+
+    /// The action whose backup a corner is furthest below, and by how many ticks.
+    fn corner(&self, state: usize) -> Option<(usize, i128)> {
+        let mut weights = vec![0; self.model.shape().states];
+        *weights.get_mut(state)? = 1;
+        self.below(&weights, *self.level.corners.get(state)?)
+    }
+
+    /// The action whose backup a point's value is furthest below, and by how many hundredths of a tick.
+    fn point(&self, number: usize) -> Option<(usize, i128)> {
+        let point = self.level.points.get(number)?;
+        self.below(&point.weights, point.value)
+    }
+
+    /// K x R + g x the sum over o of the ceiling at q, for every action; how far the value is below the largest, rounded up.
+    fn below(&self, weights: &[u64], value: i64) -> Option<(usize, i128)> {
+        let shape = self.model.shape();
+        let short = |action: usize| -> Option<(usize, i128)> {
+            let mut next = 0;
+            for observation in 0..shape.observations {
+                let weight = |reached: usize| -> i128 {
+                    let from = |(state, &weight): (usize, &u64)| {
+                        i128::from(weight) * self.successor(action, state, reached, observation)
+                    };
+                    weights.iter().enumerate().map(from).sum()
+                };
+                next += self.ceiling(&(0..shape.states).map(weight).collect::<Vec<_>>())?;
+            }
+            let reward =
+                |(state, &weight): (usize, &u64)| i128::from(weight) * i128::from(self.model.reward(action, state));
+            let now: i128 = weights.iter().enumerate().map(reward).sum();
+            let backup = K * now + i128::from(self.model.discount()) * next;
+            // Rounded up: minus the floor of minus the backup.
+            Some((action, -(-backup).div_euclid(K) - i128::from(value)))
+        };
+        let all: Option<Vec<(usize, i128)>> = (0..shape.actions).map(short).collect();
+        first_largest(all?)
+    }
+
+    /// T x O, in millionths.
+    fn successor(&self, action: usize, state: usize, reached: usize, observation: usize) -> i128 {
+        i128::from(self.model.transition(action, state, reached))
+            * i128::from(self.model.observation(action, reached, observation))
+    }
+
+    /// The standing level's sawtooth at some weights.
+    fn ceiling(&self, weights: &[i128]) -> Option<i128> {
+        let corners = |with: &mut dyn Iterator<Item = i128>| -> i128 {
+            self.standing.corners.iter().zip(with).map(|(&corner, weight)| i128::from(corner) * weight).sum()
+        };
+        let flat = corners(&mut weights.iter().copied());
+        let mut largest = 0;
+        for point in &self.standing.points {
+            let gain = corners(&mut point.weights.iter().map(|&weight| i128::from(weight))) - i128::from(point.value);
+            if gain > 0 {
+                let ratios = point.weights.iter().zip(weights).filter(|(&part, _)| part > 0);
+                let drop = ratios.map(|(&part, weight)| (weight * gain).div_euclid(i128::from(part))).min()?;
+                largest = largest.max(drop);
+            }
+        }
+        Some(flat - largest)
+    }
+}
+
+/// The first of the largest that are above 0.
+fn first_largest(all: Vec<(usize, i128)>) -> Option<(usize, i128)> {
+    let most = all.iter().map(|&(_, amount)| amount).max().filter(|&most| most > 0)?;
+    all.into_iter().find(|&(_, amount)| amount == most)
+}
+
+#[cfg(test)]
+mod tests {
+    use super::*;
+    use biidhaqun::{Error, Points};
+
+    const MODELS: [&[u8]; 3] = [
+        include_bytes!("../../../../examples/dough.pomdp"),
+        include_bytes!("../../../../examples/tiger.pomdp"),
+        include_bytes!("../../../../examples/crying-baby.pomdp"),
+    ];
+
+    /// How a level is refused.
+    fn refused(certifier: &Certifier, level: &Level) -> Option<(u64, usize)> {
+        match certifier.clone().offer(level) {
+            Ok(()) => None,
+            Err(Error::Refused(refusal)) => Some((refusal.number, refusal.place)),
+            Err(Error::Length(length)) => panic!("{}", length),
+        }
+    }
+
+    /// The library is the judge: moved by the shortfall, a number passes; by one less, it is refused as before.
+    #[test]
+    fn what_is_missing_is_what_is_missing() {
+        let mut tried = 0;
+        for file in MODELS {
+            let (model, start) = Model::read(file).unwrap();
+            let mut certifier = Certifier::open(&model).unwrap();
+            for _ in 0..6 {
+                let built = certifier.build(&Points { weights: vec![start.weights.clone(), vec![90, 10]] }).unwrap();
+                let standing = certifier.standing();
+                for by in [1, 2, 57, 1_000] {
+                    for (v, s) in (0..built.vectors.len()).flat_map(|v| [(v, 0), (v, 1)]) {
+                        let mut level = built.clone();
+                        level.vectors[v].entries[s] += by;
+                        let offer = Offer { model: &model, standing: &standing, level: &level };
+                        assert_eq!(refused(&certifier, &level), Some((13, v)));
+                        let (state, short) = offer.vector(v).unwrap();
+                        assert_eq!(state, s);
+                        let mut moved = level.clone();
+                        moved.vectors[v].entries[s] -= short as i64;
+                        assert_eq!(refused(&certifier, &moved), None);
+                        moved.vectors[v].entries[s] += 1;
+                        assert_eq!(refused(&certifier, &moved), Some((13, v)));
+                        tried += 1;
+                    }
+                    for s in 0..2 {
+                        let mut level = built.clone();
+                        level.corners[s] -= by;
+                        assert_eq!(refused(&certifier, &level), Some((14, s)));
+                        let offer = Offer { model: &model, standing: &standing, level: &level };
+                        let (_, short) = offer.corner(s).unwrap();
+                        level.corners[s] += short as i64;
+                        assert_eq!(refused(&certifier, &level), None);
+                        level.corners[s] -= 1;
+                        assert_eq!(refused(&certifier, &level), Some((14, s)));
+                    }
+                    for j in 0..2 {
+                        let mut level = built.clone();
+                        level.points[j].value -= by;
+                        assert_eq!(refused(&certifier, &level), Some((15, j)));
+                        let offer = Offer { model: &model, standing: &standing, level: &level };
+                        let (_, short) = offer.point(j).unwrap();
+                        level.points[j].value += short as i64;
+                        assert_eq!(refused(&certifier, &level), None);
+                        level.points[j].value -= 1;
+                        assert_eq!(refused(&certifier, &level), Some((15, j)));
+                    }
+                }
+                certifier.offer(&built).unwrap();
+            }
+        }
+        assert!(tried > 100);
+    }
+}

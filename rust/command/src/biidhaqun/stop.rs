@@ -1,0 +1,32 @@
+//! Why a request is not served.
+
+use biidhaqun::Refusal;
+use command::told::Told;
+use std::io::{self, Write};
+use std::path::PathBuf;
+
+#[derive(Debug)]
+pub enum Stop {
+    /// The library refused a model file. The line that `ladder` prints is printed where it is wanted.
+    Model { path: PathBuf, file: Vec<u8>, refusal: Refusal, line: bool },
+    /// The library refused something else.
+    Refused { refusal: Refusal, note: String },
+    /// A file in Cassandra's format cannot be turned into a model file.
+    Source { path: PathBuf, file: Vec<u8>, told: Vec<Told> },
+    /// A file of levels has another form.
+    Levels(String),
+    /// The command itself is wrong.
+    Ours(String),
+    /// The command line does not fit the model.
+    Usage(String),
+    /// A file cannot be read or written.
+    File(String),
+}
+
+/// Writes on standard output.
+pub fn put(text: &str) -> Result<(), Stop> {
+    let mut out = io::stdout().lock();
+    out.write_all(text.as_bytes())
+        .and_then(|()| out.flush())
+        .map_err(|error| Stop::File(format!("standard output cannot be written: {}", error)))
+}

@@ -1,0 +1,207 @@
+//! `explain`: what a refusal means, and what usually causes it.
+
+use crate::options::exit;
+
+/// A refusal as a person is told of it.
+struct Explanation {
+    number: u64,
+    means: &'static str,
+    place: &'static str,
+    causes: &'static [&'static str],
+}
+
+const NONE: &str = "none (0)";
+const WORD: &str = "the bytes before the word, or the file's length if it is missing";
+const LENGTH: &str = "the file's length";
+
+const EXPLANATIONS: &[Explanation] = &[
+    Explanation {
+        number: 1,
+        means: "The model file has more than 32,768 bytes.",
+        place: NONE,
+        causes: &[
+            "Long comments, or columns lined up with blanks: shorten them.",
+            "A statement for each entry: give rows (`T: a : s` and n numbers), and `*` where all are alike.",
+        ],
+    },
+    Explanation {
+        number: 2,
+        means: "A word of the model file does not fit its form, stands where another was wanted, or is missing.",
+        place: WORD,
+        causes: &[
+            "Names for states, actions or observations, matrices, `identity`, `uniform`, costs: `biidhaqun import` reads them.",
+            "Too many decimals: probabilities and the discount have at most three, start numbers and rewards two.",
+            "`.5`, `1.` and `5e-1`: write 0.5 and 1.",
+            "A row with a number too few: then the next statement's key stands where a number was wanted.",
+            "A header out of order: discount, values, states, actions, observations, start.",
+        ],
+    },
+    Explanation {
+        number: 3,
+        means: "A count, index, start number, probability, discount or reward fits its form and is outside its limit.",
+        place: "the bytes before the word (0 for tables that a program hands in)",
+        causes: &[
+            "More than 16 states, 8 actions or 8 observations.",
+            "An index as large as the count: numbers start at 0, so 2 states are 0 and 1.",
+            "A probability in percent, or a reward beyond 1000: divide all rewards by one number, and multiply the totals.",
+        ],
+    },
+    Explanation {
+        number: 4,
+        means: "The start numbers do not total 1.",
+        place: LENGTH,
+        causes: &[
+            "Thirds: 0.33 0.33 0.33 total 0.99; one of them has to be 0.34.",
+            "A start state instead of a mixture: `start: 1 0`, not `start: 0 0`.",
+        ],
+    },
+    Explanation {
+        number: 5,
+        means: "A row of T does not total 1: the probabilities of the states reached, for one action and one state left.",
+        place: "the file's length; for tables that a program hands in, action x states + state left",
+        causes: &[
+            "A row that no statement gives is 0 throughout: every action needs a row for every state.",
+            "A later statement replaced one entry of a row, and the others stayed.",
+            "Decimals that were rounded one by one.",
+        ],
+    },
+    Explanation {
+        number: 6,
+        means: "A row of O does not total 1: the probabilities of the observations, for one action and one state reached.",
+        place: "the file's length; for tables that a program hands in, action x states + state reached",
+        causes: &[
+            "A row that no statement gives is 0 throughout: every action needs a row for every state, reached or not.",
+            "O is by the state reached, not by the state left.",
+        ],
+    },
+    Explanation {
+        number: 7,
+        means: "The certifier that was handed in breaks a limit: its tables, its standing level, or its number above 100.",
+        place: NONE,
+        causes: &["A program changed the words of a certifier, or cut them short. This command never does."],
+    },
+    Explanation {
+        number: 8,
+        means: "100 levels already stand, and no more are accepted.",
+        place: NONE,
+        causes: &["Levels are steps: 100 is the longest horizon."],
+    },
+    Explanation {
+        number: 9,
+        means: "A level has no vector, over 32 vectors or over 32 points, or the builder is given over 16 points.",
+        place: NONE,
+        causes: &["`--point` more than 16 times.", "A level from a solver that was not pruned."],
+    },
+    Explanation {
+        number: 10,
+        means: "A vector names an action, or a vector of the level below, that does not exist.",
+        place: "the vector's number",
+        causes: &["Numbers that start at 1: all start at 0.", "Choices that point into the level itself."],
+    },
+    Explanation {
+        number: 11,
+        means: "An entry, a corner or a point's value is outside its level's range: at level t within 100,000 x t ticks of 0, \
+                for values times 100.",
+        place: "the number of the vector, corner or point",
+        causes: &["Units of reward were taken for ticks, or the other way round: 1 unit is 100 ticks."],
+    },
+    Explanation {
+        number: 12,
+        means: "The weights of a point do not total 100.",
+        place: "the point's number",
+        causes: &["Thirds: 33,33,34.", "Weights that total 1, or 1000."],
+    },
+    Explanation {
+        number: 13,
+        means: "A vector's entry is above its backup: no plan is known to earn that much.",
+        place: "the vector's number",
+        causes: &[
+            "Entries that were rounded to the nearest tick: round them down.",
+            "Choices that are not those the entry was worked out with.",
+            "A level offered upon another one than it was made for.",
+            "`biidhaqun certify` says which state it is, and how many ticks are too many.",
+        ],
+    },
+    Explanation {
+        number: 14,
+        means: "A corner is below its backup: some plan may earn more at that state.",
+        place: "the corner's number, which is its state",
+        causes: &[
+            "Corners that were rounded to the nearest tick: round them up.",
+            "`biidhaqun certify` says which action it is, and how many ticks are missing.",
+        ],
+    },
+    Explanation {
+        number: 15,
+        means: "A point's value is below its backup: some plan may earn more at its weights.",
+        place: "the point's number",
+        causes: &[
+            "Values that were rounded to the nearest: round them up.",
+            "A point's value is in hundredths of a tick: it is that of the weights as they stand, which total 100.",
+            "`biidhaqun certify` says which action it is, and how many ticks are missing.",
+        ],
+    },
+    Explanation {
+        number: 16,
+        means: "No level was accepted yet, so there are no totals.",
+        place: NONE,
+        causes: &["Totals were asked for before the first offer."],
+    },
+    Explanation {
+        number: 17,
+        means: "A weight of the mixture is above 1,000,000, or all are 0.",
+        place: NONE,
+        causes: &["Only the proportions of the weights matter: divide them all by one number."],
+    },
+    Explanation {
+        number: 18,
+        means: "A plan graph's node count, an action or a next node, or the node, state or steps asked for are outside their \
+                limits.",
+        place: "the node's number, or 0",
+        causes: &["1 to 32 nodes, steps 0 to 4; every node is tested, reached or not."],
+    },
+    Explanation {
+        number: 100,
+        means: "The buffer lent for the answer is too short. Only programs that call the library meet this.",
+        place: "the length that it needs, in words",
+        causes: &["include/biidhaqun.h has the lengths that always do."],
+    },
+];
+
+/// The text about a refusal, if there is one of this number.
+pub fn text(number: u64) -> Option<String> {
+    let found = EXPLANATIONS.iter().find(|explanation| explanation.number == number)?;
+    let mut text = format!("{}. {}\n\nPlace: {}.\n\nWhat usually causes it:\n", number, found.means, found.place);
+    for cause in found.causes {
+        text.push_str(&format!("- {}\n", cause));
+    }
+    Some(text)
+}
+
+/// Prints it; the exit status.
+pub fn run(number: u64) -> i32 {
+    match text(number) {
+        Some(text) => {
+            print!("{}", text);
+            exit::SERVED
+        }
+        None => {
+            eprintln!("biidhaqun: there is no refusal {}; they are 1 to 18, and 100", number);
+            exit::USAGE
+        }
+    }
+}
+
+#[cfg(test)]
+mod tests {
+    use super::*;
+
+    #[test]
+    fn every_refusal_is_explained() {
+        for number in (1..=18).chain([100]) {
+            assert!(text(number).unwrap().starts_with(&format!("{}. ", number)));
+        }
+        assert_eq!(text(0), None);
+        assert_eq!(text(19), None);
+    }
+}

@@ -1,0 +1,145 @@
+//! The command line.
+
+use clap::{Parser, Subcommand};
+use std::path::{Path, PathBuf};
+
+/// How the command ends.
+pub mod exit {
+    /// The request was served.
+    pub const SERVED: i32 = 0;
+    /// The certifier or the importer refused what it was given.
+    pub const REFUSED: i32 = 1;
+    /// The command line does not fit.
+    pub const USAGE: i32 = 2;
+    /// A file cannot be read or written.
+    pub const FILE: i32 = 3;
+}
+
+const ENDS: &str = "Exit status: 0 served, 1 refused, 2 wrong usage, 3 a file that cannot be read or written.";
+
+/// Certified floors and ceilings for plans over hidden states.
+///
+/// A model file is a POMDP in a subset of Cassandra's format. The certifier, whose every call is proved, accepts levels of
+/// bounds on it; this command asks it and shows what it answers.
+#[derive(Debug, Parser)]
+#[command(name = "biidhaqun", bin_name = "biidhaqun", version, after_help = ENDS)]
+pub struct Options {
+    #[command(subcommand)]
+    pub request: Request,
+}
+
+#[derive(Debug, Subcommand)]
+pub enum Request {
+    /// Build levels, offer them, and print what is certified
+    ///
+    /// With no option: a line for each of three levels at the start mixture, with the level, the lower and the upper total,
+    /// their gap, and the action. Totals are in ticks (hundredths of a unit of reward) times the mixture's total weight.
+    Levels {
+        #[command(flatten)]
+        built: Built,
+        /// Print one JSON object
+        #[arg(long)]
+        json: bool,
+    },
+    /// Offer levels from a file in turn, and print what is certified
+    ///
+    /// The file is a JSON object as `levels --json` prints it: of each level its vectors, corners and points are read. A level
+    /// that is refused is shown with the state or action at fault and the ticks that are missing.
+    Certify {
+        /// A model file
+        file: PathBuf,
+        /// A file of levels, in JSON
+        levels: PathBuf,
+        /// A mixture to ask at: a weight for each state, up to 1000000 [default: the start mixture]
+        #[arg(long = "at", value_name = "W,W,..", value_parser = weights)]
+        at: Vec<Weights>,
+        /// Print one JSON object
+        #[arg(long)]
+        json: bool,
+    },
+    /// Say whether a model file is accepted, or what is wrong with it and where
+    Check {
+        /// A model file
+        file: PathBuf,
+    },
+    /// Turn a file in Cassandra's format into a model file
+    ///
+    /// Names, matrices, identity, uniform, every form of start, costs, and rewards that depend on what follows are written
+    /// out in numbers. Probabilities are rounded to thousandths, start numbers to hundredths; what had to be rounded is
+    /// listed on standard error.
+    Import {
+        /// A file in Cassandra's format
+        file: PathBuf,
+        /// Round expected rewards that are no whole ticks to the nearest tick
+        #[arg(long)]
+        round: bool,
+        /// Where to write the model file (standard output if not given)
+        #[arg(long, value_name = "FILE.pomdp")]
+        out: Option<PathBuf>,
+    },
+    /// Draw what is certified, as an SVG image
+    ///
+    /// Floor and ceiling over the levels at a mixture; with two states also floor, ceiling and actions over all mixtures,
+    /// with three the gap over all mixtures.
+    Picture {
+        #[command(flatten)]
+        built: Built,
+        /// Where to write the image
+        #[arg(long, value_name = "FILE.svg")]
+        out: PathBuf,
+    },
+    /// Explain a refusal
+    Explain {
+        /// The number of the refusal, 1 to 18
+        number: u64,
+    },
+}
+
+/// A model file, and the levels to be built upon it.
+#[derive(Clone, Debug, clap::Args)]
+pub struct Built {
+    /// A model file
+    pub file: PathBuf,
+    /// How many levels to build, 1 to 100 [default: 3]
+    #[arg(long, value_name = "N", value_parser = clap::value_parser!(u64).range(1..=100))]
+    pub levels: Option<u64>,
+    /// A point to build at: a weight for each state, 100 in total; up to 16 times [default: the start mixture]
+    #[arg(long = "point", value_name = "W,W,..", value_parser = weights)]
+    pub points: Vec<Weights>,
+    /// A mixture to ask at, beside the points: a weight for each state, up to 1000000
+    #[arg(long = "at", value_name = "W,W,..", value_parser = weights)]
+    pub mixtures: Vec<Weights>,
+}
+
+/// How many levels are built where nothing is said.
+pub const LEVELS: u64 = 3;
+
+/// A weight for each state.
+#[derive(Clone, Debug, PartialEq, Eq)]
+pub struct Weights(pub Vec<u64>);
+
+fn weights(text: &str) -> Result<Weights, String> {
+    let weight = |word: &str| word.trim().parse().map_err(|_| format!("`{}` is no whole number", word));
+    text.split(',').map(weight).collect::<Result<_, _>>().map(Weights)
+}
+
+impl Request {
+    /// The files that are read.
+    pub fn inputs(&self) -> Vec<&Path> {
+        match self {
+            Request::Levels { built, .. } | Request::Picture { built, .. } => vec![&built.file],
+            Request::Check { file } | Request::Import { file, .. } => vec![file],
+            Request::Certify { file, levels, .. } => vec![file, levels],
+            Request::Explain { .. } => Vec::new(),
+        }
+    }
+
+    /// The file that is written.
+    pub fn output(&self) -> Option<&Path> {
+        match self {
+            Request::Picture { out, .. } => Some(out),
+            Request::Import { out, .. } => out.as_deref(),
+            _ => None,
+        }
+    }
+}

@@ -1,0 +1,313 @@
+//! The command as a user meets it: what it prints, and its exit status.
+
+use assert_cmd::Command;
+use std::path::{Path, PathBuf};
+use std::{fs, str};
+
+/// The root of the repository.
+fn root() -> PathBuf {
+    Path::new(env!("CARGO_MANIFEST_DIR")).join("../..")
+}
+
+/// What a run printed on standard output and on standard error, and its exit status.
+fn run(arguments: &[&str]) -> (String, String, i32) {
+    let output = Command::cargo_bin("biidhaqun").unwrap().current_dir(root()).args(arguments).output().unwrap();
+    let text = |bytes: &[u8]| str::from_utf8(bytes).unwrap().to_string();
+    (text(&output.stdout), text(&output.stderr), output.status.code().unwrap())
+}
+
+/// What a served run printed.
+fn served(arguments: &[&str]) -> String {
+    let (out, err, status) = run(arguments);
+    assert_eq!((&err[..], status), ("", 0), "{:?}", arguments);
+    out
+}
+
+/// What a run that was not served printed on standard error.
+fn stopped(arguments: &[&str], with: i32) -> String {
+    let (_, err, status) = run(arguments);
+    assert_eq!(status, with, "{:?}: {}", arguments, err);
+    err
+}
+
+/// A file of the tests' own folder.
+fn temporary(name: &str, content: &[u8]) -> PathBuf {
+    let path = Path::new(env!("CARGO_TARGET_TMPDIR")).join(name);
+    fs::write(&path, content).unwrap();
+    path
+}
+
+/// Model files with what `ladder` prints on them.
+fn with_expected() -> Vec<(PathBuf, String)> {
+    let folders = ["examples", "tests/files"].map(|folder| fs::read_dir(root().join(folder)).unwrap());
+    let paths = folders.into_iter().flatten().map(|entry| entry.unwrap().path());
+    let models: Vec<PathBuf> = paths.filter(|path| path.extension().map_or(false, |end| end == "pomdp")).collect();
+    assert!(models.len() > 40);
+    models
+        .into_iter()
+        .map(|path| (path.clone(), fs::read_to_string(path.with_extension("expected")).unwrap()))
+        .collect()
+}
+
+#[test]
+fn levels_with_no_option_prints_the_lines_of_ladder() {
+    for (path, expected) in with_expected() {
+        let (out, err, status) = run(&["levels", path.to_str().unwrap()]);
+        let refused = expected.starts_with("refused");
+        assert_eq!((out, status), (expected, i32::from(refused)), "{}", path.display());
+        assert_eq!(err.is_empty(), !refused, "{}", path.display());
+    }
+}
+
+#[test]
+fn check_accepts_and_refuses_as_the_reader_does() {
+    for (path, expected) in with_expected() {
+        let (out, err, status) = run(&["check", path.to_str().unwrap()]);
+        match expected.strip_prefix("refused ") {
+            Some(refusal) => {
+                let number = refusal.split(' ').next().unwrap();
+                assert_eq!((&out[..], status), ("", 1), "{}", path.display());
+                assert!(err.starts_with(&format!("error[{}]: ", number)), "{}", err);
+                assert!(err.contains(&format!("`biidhaqun explain {}` says more", number)), "{}", err);
+                assert!(!err.contains("an error of ours"), "{}", err);
+            }
+            None => {
+                assert_eq!((&err[..], status), ("", 0));
+                assert!(out.contains(": accepted\n"));
+            }
+        }
+    }
+}
+
+#[test]
+fn check_tells_the_place_as_compilers_do() {
+    let dough = fs::read_to_string(root().join("examples/dough.pomdp")).unwrap();
+    let told = |name: &str, change: [&str; 2]| {
+        assert_ne!(dough, dough.replace(change[0], change[1]));
+        let path = temporary(name, dough.replace(change[0], change[1]).as_bytes());
+        let err = stopped(&["check", path.to_str().unwrap()], 1);
+        err.replace(&path.display().to_string(), "FILE")
+    };
+    let row = told("row.pomdp", ["T: 0 : 1 0 1", "T: 0 : 1 0.5 0.4"]);
+    assert!(row.starts_with("error[5]: T of action 0 from state 1 totals 0.9\n"), "{}", row);
+    assert!(row.contains("FILE:8:1\n"), "{}", row);
+    assert!(row.contains("8 │ T: 0 : 1 0.5 0.4\n  │ ^^^^^^^^^^^^^^^^ the row is 0.5 + 0.4 = 0.9\n"), "{}", row);
+    let unstated = told("unstated.pomdp", ["O: 0 : 1 0.3 0.7\n", ""]);
+    assert!(unstated.starts_with("error[6]: O of action 0 at state 1 totals 0\n"), "{}", unstated);
+    let start = told("start.pomdp", ["0.5 0.5\nT", "0.5 0.49\nT"]);
+    assert!(start.starts_with("error[4]: the start numbers total 0.99\n"), "{}", start);
+    let limit = told("limit.pomdp", ["T: 1 : *", "T: 2 : *"]);
+    assert!(limit.contains("FILE:9:4\n") && limit.contains("wanted: one of the actions 0 to 1"), "{}", limit);
+    let form = told("form.pomdp", ["0.8 0.2", ".8 0.2"]);
+    assert!(form.contains("FILE:10:10\n") && form.contains("wanted: a probability"), "{}", form);
+    let names = told("names.pomdp", ["states: 2", "states: wet dry"]);
+    assert!(names.contains("FILE:3:9\n") && names.contains("`biidhaqun import`"), "{}", names);
+}
+
+#[test]
+fn check_shows_files_of_any_bytes() {
+    for content in [&b"\xff\xfe\x00"[..], b"discount: \x80\x80 # \xf0\n", b"", &[b'x'; 40_000]] {
+        let path = temporary("bytes.pomdp", content);
+        assert!(stopped(&["check", path.to_str().unwrap()], 1).starts_with("error["));
+    }
+}
+
+/// A line that fills a screen is not shown, but its place is.
+#[test]
+fn check_leaves_long_lines_out() {
+    let dough = fs::read_to_string(root().join("examples/dough.pomdp")).unwrap().replace('\n', " ");
+    let path = temporary("long.pomdp", format!("{}{}T: 2 : 0 1 0", dough, " ".repeat(1_000)).as_bytes());
+    let err = stopped(&["check", path.to_str().unwrap()], 1);
+    assert!(err.contains(":1:1239: error[3]: `2` is outside its limit") && err.contains("wanted: "), "{}", err);
+    assert!(err.len() < 600, "{}", err);
+}
+
+#[test]
+fn levels_at_points_and_mixtures() {
+    let out = served(&["levels", "examples/dough.pomdp", "--levels", "2", "--at", "1,0", "--at", "0,1"]);
+    let lines: Vec<Vec<&str>> = out.lines().map(|line| line.split_whitespace().collect()).collect();
+    assert_eq!(lines[0], ["at", "1,0"]);
+    assert_eq!(lines[3], ["2", "-0.5100", "-0.3200", "0.1900", "-51", "-32", "0"]);
+    assert_eq!(lines[5], ["at", "0,1"]);
+    assert_eq!(lines[8], ["2", "5.1000", "5.1000", "0.0000", "510", "510", "1"]);
+    // At the points, then at the mixtures.
+    let out = served(&["levels", "examples/dough.pomdp", "--at", "1,0", "--point", "20,80", "--point", "50,50"]);
+    let asked: Vec<&str> = out.lines().filter(|line| line.starts_with("at ")).collect();
+    assert_eq!(asked, ["at 20,80", "at 50,50", "at 1,0"]);
+    // More points make a tighter ceiling at the start.
+    let gap = |points: &[&str]| {
+        let options = ["levels", "examples/tiger.pomdp", "--json", "--at", "50,50"];
+        let out = served(&[&options[..], points].concat());
+        let object: serde_json::Value = serde_json::from_str(&out).unwrap();
+        object["levels"][2]["at"][0]["gap"].as_i64().unwrap()
+    };
+    let more = ["--point", "50,50", "--point", "85,15", "--point", "15,85", "--point", "97,3", "--point", "3,97"];
+    assert!(gap(&more) < gap(&[]), "{} and {}", gap(&more), gap(&[]));
+}
+
+#[test]
+fn levels_as_json() {
+    let out = served(&["levels", "examples/dough.pomdp", "--json"]);
+    let object: serde_json::Value = serde_json::from_str(&out).unwrap();
+    let at = &object["levels"][2]["at"][0];
+    assert_eq!(at["lower"], 13_350);
+    assert_eq!(at["upper"], 18_575);
+    assert_eq!(at["floor"], 1.335);
+    assert_eq!(at["ceiling"], 1.8575);
+    assert_eq!(at["action"], 0);
+    assert_eq!(object["discount"], 0.9);
+    let (out, _, status) = run(&["levels", "tests/files/row-of-zeros.pomdp", "--json"]);
+    let object: serde_json::Value = serde_json::from_str(&out).unwrap();
+    assert_eq!((object["refused"]["number"].as_u64(), status), (Some(5), 1));
+}
+
+/// Levels as `levels --json` prints them are accepted again; changed ones are refused, with what is missing.
+#[test]
+fn levels_from_a_file() {
+    let printed = served(&["levels", "examples/dough.pomdp", "--json"]);
+    let path = temporary("levels.json", printed.as_bytes());
+    let certify = ["certify", "examples/dough.pomdp", path.to_str().unwrap()];
+    assert_eq!(served(&certify), served(&["levels", "examples/dough.pomdp"]));
+    assert_eq!(served(&[&certify[..], &["--json"]].concat()), printed);
+    let at = served(&[&certify[..], &["--at", "0,1"]].concat());
+    assert!(at.starts_with("at 0,1\n"), "{}", at);
+    stopped(&[&certify[..], &["--at", "1"]].concat(), 2);
+
+    let object: serde_json::Value = serde_json::from_str(&printed).unwrap();
+    let changed = |change: &dyn Fn(&mut serde_json::Value)| {
+        let mut object = object.clone();
+        change(&mut object["levels"][1]);
+        let path = temporary("changed.json", object.to_string().as_bytes());
+        stopped(&["certify", "examples/dough.pomdp", path.to_str().unwrap()], 1)
+    };
+    // The built level 2 has the corner -32, which is the least that passes (D5, D6).
+    let corner = changed(&|level| level["corners"][0] = (-40).into());
+    assert!(corner.contains("refused 14 at 0") && corner.contains("level 2 is not accepted"), "{}", corner);
+    assert!(corner.contains("corner 0: -40 is 8 ticks below the backup of action 0; -32 would pass"), "{}", corner);
+    let point = changed(&|level| level["points"][0]["value"] = 12_499.into());
+    assert!(point.contains("refused 15 at 0") && point.contains("0.01 ticks below"), "{}", point);
+    assert!(point.contains("12500 would pass"), "{}", point);
+    let vector = changed(&|level| level["vectors"][0]["entries"][0] = (-50).into());
+    assert!(vector.contains("refused 13 at 0") && vector.contains("entry of state 0 is -50"), "{}", vector);
+    assert!(vector.contains("1 tick above its backup; -51 would pass"), "{}", vector);
+    let action = changed(&|level| level["vectors"][0]["action"] = 7.into());
+    assert!(action.contains("refused 10 at 0"), "{}", action);
+    let short = changed(&|level| level["corners"] = serde_json::json!([0]));
+    assert!(short.contains("the corners of the level are 1, and the model wants 2"), "{}", short);
+    let form = changed(&|level| level["corners"][0] = "x".into());
+    assert!(form.contains("level 2 is not of the form"), "{}", form);
+    for content in ["", "[]", "{\"levels\": 1}"] {
+        let path = temporary("wrong.json", content.as_bytes());
+        stopped(&["certify", "examples/dough.pomdp", path.to_str().unwrap()], 1);
+    }
+}
+
+#[test]
+fn a_hundred_levels() {
+    let out = served(&["levels", "examples/dough.pomdp", "--levels", "100"]);
+    assert!(out.lines().any(|line| line.trim_start().starts_with("100 ")));
+}
+
+#[test]
+fn what_the_certifier_refuses() {
+    let point = |weights: &str| stopped(&["levels", "examples/dough.pomdp", "--point", weights], 1);
+    assert!(point("50,51").contains("refused 12 at 0") && point("50,51").contains("total 101"));
+    let many = ["--point", "50,50"].repeat(17);
+    let err = stopped(&[&["levels", "examples/dough.pomdp"], &many[..]].concat(), 1);
+    assert!(err.contains("refused 9 at 0") && err.contains("there are 17 points"), "{}", err);
+    for weights in ["0,0", "1000001,0"] {
+        assert!(stopped(&["levels", "examples/dough.pomdp", "--at", weights], 1).contains("refused 17 at 0"));
+    }
+}
+
+#[test]
+fn wrong_usage() {
+    for arguments in [
+        &["levels"][..],
+        &[],
+        &["level", "examples/dough.pomdp"],
+        &["levels", "examples/dough.pomdp", "--levels", "0"],
+        &["levels", "examples/dough.pomdp", "--levels", "101"],
+        &["levels", "examples/dough.pomdp", "--point", "half,half"],
+        &["levels", "examples/dough.pomdp", "--point", "30,30,40"],
+        &["levels", "examples/dough.pomdp", "--at", "1"],
+        &["explain", "0"],
+        &["explain", "one"],
+    ] {
+        assert!(!stopped(arguments, 2).is_empty());
+    }
+}
+
+#[test]
+fn files_that_cannot_be_read() {
+    for command in ["levels", "check", "import"] {
+        assert!(stopped(&[command, "examples/no-such-file"], 3).contains("cannot be read: no such file"));
+        assert!(stopped(&[command, "examples"], 3).contains("cannot be read"));
+    }
+}
+
+#[test]
+fn every_refusal_is_explained() {
+    for number in 1..=18 {
+        let out = served(&["explain", &number.to_string()]);
+        assert!(out.starts_with(&format!("{}. ", number)) && out.contains("What usually causes it"), "{}", out);
+    }
+}
+
+#[test]
+fn help_and_version() {
+    assert!(served(&["--help"]).contains("Exit status: 0 served, 1 refused"));
+    assert!(served(&["levels", "--help"]).contains("--point"));
+    assert!(served(&["--version"]).starts_with("biidhaqun "));
+}
+
+/// What a picture shows is in its words.
+#[test]
+fn pictures() {
+    let path = Path::new(env!("CARGO_TARGET_TMPDIR")).join("drawn.svg");
+    let draw = |model: &str, more: &[&str]| {
+        let arguments = [&["picture", model, "--out", path.to_str().unwrap()], more].concat();
+        assert_eq!(served(&arguments), "");
+        fs::read_to_string(&path).unwrap()
+    };
+    let two = draw("examples/dough.pomdp", &["--levels", "5"]);
+    assert!(two.starts_with("<svg") && two.contains("level 5, all mixtures") && two.contains("share of state 1"));
+    let machine = temporary("machine.pomdp", served_import("machine").as_bytes());
+    let three = draw(machine.to_str().unwrap(), &["--at", "1,1,1"]);
+    assert!(three.contains("at 1,1,1") && three.contains("ceiling less floor") && three.contains("both-failed"));
+    let cheese = temporary("cheese.pomdp", served_import("cheese").as_bytes());
+    let many = draw(cheese.to_str().unwrap(), &[]);
+    assert!(many.contains("level (steps)") && !many.contains("all mixtures"));
+    let twice = ["picture", "examples/dough.pomdp", "--at", "1,0", "--at", "0,1", "--out", path.to_str().unwrap()];
+    stopped(&twice, 2);
+    stopped(&["picture", "examples/dough.pomdp"], 2);
+    for out in ["no-such-folder/drawn.svg", "examples"] {
+        let arguments = ["picture", "examples/dough.pomdp", "--out", out];
+        assert!(stopped(&arguments, 3).contains("cannot be written"));
+    }
+}
+
+/// A file of the literature, imported.
+fn served_import(name: &str) -> String {
+    let (out, _, status) = run(&["import", &format!("examples/cassandra/{}.POMDP", name), "--round"]);
+    assert_eq!(status, 0);
+    out
+}
+
+/// The first look at a command line, without the library.
+#[test]
+fn usage_alone() {
+    let look = |arguments: &[&str]| {
+        let output =
+            Command::cargo_bin("biidhaqun-usage").unwrap().current_dir(root()).args(arguments).output().unwrap();
+        output.status.code().unwrap()
+    };
+    assert_eq!(look(&["levels", "examples/dough.pomdp"]), 100);
+    assert_eq!(look(&["check", "tests/files/empty.pomdp"]), 100);
+    assert_eq!(look(&["explain", "13"]), 0);
+    assert_eq!(look(&["levels", "examples/dough.pomdp", "--level", "3"]), 2);
+    let usage = Command::cargo_bin("biidhaqun-usage").unwrap().arg("picture").output().unwrap();
+    assert!(str::from_utf8(&usage.stderr).unwrap().contains("Usage: biidhaqun picture --out"));
+    assert_eq!(look(&["levels", "examples/no-such-file"]), 3);
+    assert_eq!(look(&["picture", "examples/dough.pomdp", "--out", "no-such-folder/drawn.svg"]), 3);
+}
