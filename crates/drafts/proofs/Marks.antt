@@ -59,7 +59,8 @@ module _ {A : Type 0} where
   marked-by P true v x p q = p
   marked-by P false v x p q = q
 
-  marked-each : (P : A → Type 0) (z : A) (at : ℕ) (test : ℕ → Bool) (v : A) (l : List A) → P v → ((i : ℕ) → P (getD l i z)) → (i : ℕ) → P (getD (markedFrom at test v l) i z)
+  marked-each : (P : A → Type 0) (z : A) (at : ℕ) (test : ℕ → Bool) (v : A) (l : List A) → P v → ((i : ℕ) → P (getD l i z))
+      → (i : ℕ) → P (getD (markedFrom at test v l) i z)
   unfolding markedFrom
   marked-each P z at test v [] p h i = h i
   marked-each P z at test v (x ∷ l) p h zero = marked-by P (test at) v x p (h 0)

@@ -21,7 +21,8 @@ meant n i j = eqb i n || eqb i j
 -- ---- a cell of what is marked
 
 module _ {A : Type 0} where
-  marked-from : (at : ℕ) (test : ℕ → Bool) (v z : A) (l : List A) (i : ℕ) → i < length l → getD (markedFrom at test v l) i z ≡ cond (test (at + i)) v (getD l i z)
+  marked-from : (at : ℕ) (test : ℕ → Bool) (v z : A) (l : List A) (i : ℕ) → i < length l
+      → getD (markedFrom at test v l) i z ≡ cond (test (at + i)) v (getD l i z)
   unfolding markedFrom
   marked-from at test v z [] i h = absurd (omega arith)
   marked-from at test v z (x ∷ l) zero h =

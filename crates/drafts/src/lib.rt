@@ -82,7 +82,8 @@ fn mark_blocks(
     requires { ⌜ (a + blocks ≤ maxActions) × ((n ≤ maxStates) × (w ≤ maxStates)) ⌝ }
     requires { ⌜ (s + rows ≤ n) × (x + count ≤ w) ⌝ }
     requires { ⌜ (a + blocks) * n * w ≤ length (now cells) ⌝ }
-    ensures { λ _. ⌜ now (cells .exit) ≡ marked (λ i. some blocks (λ b. some rows (λ r. some count (λ j. eqb i (((a + b) * n + (s + r)) * w + (x + j)))))) v (now (cells .entry)) ⌝ }
+    ensures { λ _. ⌜ now (cells .exit) ≡ marked (λ i. some blocks (λ b. some rows (λ r. some count (λ j. eqb i (((a + b) * n + (s + r)) * w + (x + j))))))
+        v (now (cells .entry)) ⌝ }
 {
     for b in 0..blocks {
         mark_rows(cells, (a + b) * n, s, rows, w, x, count, v);

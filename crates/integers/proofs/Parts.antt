@@ -21,7 +21,8 @@ dn (negsuc n) = suc n
 sub-parts : (a b : ℕ) → up (subℕ a b) + b ≡ a + dn (subℕ a b)
 sub-parts a b = by (ltb a b) (ltb→lt a b) (nltb→le a b)
   where
-    by : (c : Bool) → (T c → a < b) → (T (not c) → b ≤ a) → up (cond c (negsuc (b - suc a)) (pos (a - b))) + b ≡ a + dn (cond c (negsuc (b - suc a)) (pos (a - b)))
+    by : (c : Bool) → (T c → a < b) → (T (not c) → b ≤ a)
+        → up (cond c (negsuc (b - suc a)) (pos (a - b))) + b ≡ a + dn (cond c (negsuc (b - suc a)) (pos (a - b)))
     by true f g = omega (arith, f tt)
     by false f g = omega (arith, g tt)
 

@@ -218,10 +218,10 @@ module _ (m : Tables) (o : Opens m) (ls : List Level) where
 -- By induction over the list, `Reached` holds after it. Level 0 is certified for plans of no steps, and the fresh level agrees with it. A refused offer
 -- changes nothing. An accepted one passed every test: it has the shape of the next level and meets its inequalities over the stored level, by the kept
 -- tables. Inequalities read only parts that agree, so it meets them over the last accepted level by the opened tables too, and is certified with one step
--- more (`certified-next`).
--- Totals are given, since `Reached` passes 7 and the number is above 0. They are those of the last accepted level, with which the stored one agrees, and
--- the totals of a certified level bracket what plans earn (`bracket`). Building is not refused either: the built level has the shape of the next level and meets
--- its inequalities over the stored one (`built-shaped`, `built-meets`); what is stored of it agrees with it, so it passes every test of an offer. Qed.
+-- more (`certified-next`). Totals are given, since `Reached` passes 7 and the number is above 0. They are those of the last accepted level, with which
+-- the stored one agrees, and the totals of a certified level bracket what plans earn (`bracket`). Building is not refused either: the built level has the
+-- shape of the next level and meets its inequalities over the stored one (`built-shaped`, `built-meets`); what is stored of it agrees with it, so it
+-- passes every test of an offer. Qed.
 pub demand3 : (m : Tables) → Opens m → (ls : List Level) → Demand3 m ls
 demand3 m o ls = record { state = state-holds m o ls; totals = totals-hold m o ls; build = build-holds m o ls }
 

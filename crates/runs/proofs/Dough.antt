@@ -27,7 +27,8 @@ use Rattle.plans.specs.Totals.{best, lower, upper, advice}
 use Rattle.plans.specs.Build.{chosen, entryFor, bestAction, leastFor, leastValue, seed, built}
 use Rattle.levels.specs.declared.Level.{Level}
 use Rattle.levels.specs.Storage.{levelOf, cornerIn, keptLevel}
-use Rattle.levels.specs.Judged.{rowsWithin, rangesVerdict, weightsVerdict, standingHolds, numbersIn, floorsVerdict, cornersVerdict, pointsVerdict, shapeVerdict, backupsVerdict, offerVerdict}
+use Rattle.levels.specs.Judged.{rowsWithin, rangesVerdict, weightsVerdict, standingHolds, numbersIn, floorsVerdict, cornersVerdict, pointsVerdict}
+use Rattle.levels.specs.Judged.{shapeVerdict, backupsVerdict, offerVerdict}
 use Rattle.runs.specs.declared.Certifier.{Certifier}
 use Rattle.runs.specs.declared.Bounds.{Bounds}
 use Rattle.runs.specs.declared.Points.{Points}

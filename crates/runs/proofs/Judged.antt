@@ -18,7 +18,8 @@ use Rattle.tables.proofs.Accepted.{valid, is-valid}
 use Rattle.plans.specs.Limits.{pointTotal, range}
 use Rattle.plans.specs.Level.{Level, backupAt, corner-weight, follows, Meets, Shaped}
 use Rattle.levels.specs.Judged.{countsHold, rowsWithin, rangesVerdict, weightsVerdict, actionsExist, isFine, standingHolds}
-use Rattle.levels.specs.Judged.{numbersIn, numbersVerdict, floorsVerdict, coversBackups, cornersVerdict, pointsVerdict, shapeVerdict, backupsVerdict, offerVerdict}
+use Rattle.levels.specs.Judged.{numbersIn, numbersVerdict, floorsVerdict, coversBackups, cornersVerdict, pointsVerdict, shapeVerdict}
+use Rattle.levels.specs.Judged.{backupsVerdict, offerVerdict}
 use Rattle.levels.proofs.Laws.{passed, fine-before, numbers-in}
 
 -- ---- one test

@@ -125,9 +125,9 @@ module _ (m : Tables) (o : Opens m) where
   stacked-run (p ∷ ps) below L c k = stacked-run ps _ _ _ (stacked-step k p (builtOf c p .level) refl)
 
 -- After any list of point lists, built and offered in turn: each entry is at most what the plan named by its vector earns, and less than t ticks below it.
--- By induction over the list, `Stacked` holds after it. At level 0 a plan of no steps earns 0, which is the zero vector's entry. A list that is refused makes a
--- level without a vector, which the offer refuses, and changes nothing. An accepted level was built: its entries are the backups of those that its vectors chose,
--- rounded down, so they lie less than one tick further below what their plans earn (`high-next`), and not above it (`low-next`). Qed.
+-- By induction over the list, `Stacked` holds after it. At level 0 a plan of no steps earns 0, which is the zero vector's entry. A list that is refused
+-- makes a level without a vector, which the offer refuses, and changes nothing. An accepted level was built: its entries are the backups of those that
+-- its vectors chose, rounded down, so they lie less than one tick further below what their plans earn (`high-next`), and not above it (`low-next`). Qed.
 pub ticks : (m : Tables) → Opens m → (ps : List Points) → Ticks m ps
 ticks m o ps = record { number = number; entry = λ h v l s b. (all .low v l s b, all .strict (rw number h) v l s b) }
   where

@@ -23,14 +23,21 @@ mul-mark-rows : tie.Need-mul-mark-rows Inv-loop μ-loop
 mul-mark-rows c =
     let a = c .before .before .before .before in
     let g = a .args in
-    omega (arith, below (g .a) (g .blocks) (g .n) (g .s) (g .rows) (c .before .before .loop .b) (omega arith) (a .pre .1 .0 .0) (a .pre .0 .0) (a .pre .0 .1 .0))
+    omega (
+      arith,
+      below (g .a) (g .blocks) (g .n) (g .s) (g .rows) (c .before .before .loop .b) (omega arith) (a .pre .1 .0 .0) (a .pre .0 .0)
+          (a .pre .0 .1 .0),
+    )
 
 mark-rows-requires : tie.Need-mark-rows-requires Inv-loop μ-loop
 mark-rows-requires c κs =
     let a = c .before .before .before .before in
     let g = a .args in
-    let under = below (g .a) (g .blocks) (g .n) (g .s) (g .rows) (c .before .before .loop .b) (omega arith) (a .pre .1 .0 .0) (a .pre .0 .0) (a .pre .0 .1 .0) in
-    ((omega (arith, under), (a .pre .0 .1 .1, a .pre .1 .0 .1)), omega (arith, c .before .before .loop .inv .1 .long, a .pre .1 .1, mul-le-mul-right (a .args .w) (under .0)))
+    let under = below (g .a) (g .blocks) (g .n) (g .s) (g .rows) (c .before .before .loop .b) (omega arith) (a .pre .1 .0 .0) (a .pre .0 .0)
+    (a .pre .0 .1 .0) in (
+      (omega (arith, under), (a .pre .0 .1 .1, a .pre .1 .0 .1)),
+      omega (arith, c .before .before .loop .inv .1 .long, a .pre .1 .1, mul-le-mul-right (a .args .w) (under .0)),
+    )
 
 loop-again : tie.Need-loop-again Inv-loop μ-loop
 loop-again c = (omega arith, marking-more (c .before .before .before .before .before .loop .inv .1) (c .before .before .mark-rows .ensures))

@@ -6,7 +6,8 @@ use Rattle.drafts.proofs.state_reward.Tie as tie
 mark-rewards-requires : tie.Need-mark-rewards-requires
 mark-rewards-requires c κs =
     let a = c .before .before .before .before .before in
-    let rows = stands-within (a .args .m) (a .args .a) (c .before .before .before .before .lowest-of .ensures) (c .before .before .before .spread-of .ensures) (a .pre .1 .0 .0) in
+    let rows = stands-within (a .args .m) (a .args .a) (c .before .before .before .before .lowest-of .ensures)
+    (c .before .before .before .spread-of .ensures) (a .pre .1 .0 .0) in
     let places = stands-within (a .args .n) (a .args .s) (c .before .before .lowest-of2 .ensures) (c .before .spread-of2 .ensures) (a .pre .1 .0 .1) in
     ((omega (arith, a .pre .0 .0, rows), (a .pre .0 .1, places)), omega (arith, a .pre .1 .1, mul-le-mul-right (a .args .n) rows))
 

@@ -59,8 +59,10 @@ returns c = let s = size (c .before .args .x) (c .before .fits .x) (taken c) in 
 
 left : (c : tie.Else1) → T (nonNeg (c .before .args .x)) × (natAbs (c .before .args .x) ≤ 2 ^ 63)
 left c =
-    let t = rw (toZ-ofZ (c .before .fits .x)) at (c .if1 .left) in
-    (yes-nonNeg (le-by (pos 0) (c .before .args .x) (omega (arith, ltZ-false (c .before .args .x) (pos 0) t))), natAbs-le (c .before .args .x) (c .before .fits .x .sfits))
+    let t = rw (toZ-ofZ (c .before .fits .x)) at (c .if1 .left) in (
+      yes-nonNeg (le-by (pos 0) (c .before .args .x) (omega (arith, ltZ-false (c .before .args .x) (pos 0) t))),
+      natAbs-le (c .before .args .x) (c .before .fits .x .sfits),
+    )
 
 cast-result-2 : tie.Need-cast-result-2
 cast-result-2 c = let l = left c in rw (toZ-ofZ (c .before .fits .x)) (l .0, record { fits = omega arith })

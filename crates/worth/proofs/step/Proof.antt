@@ -95,5 +95,6 @@ returns c =
 
 pub step-spec : {M : Type 1} → statement M
 step-spec =
-    tie.close (tie.spec Inv-loop μ-loop loop-holds earlier-slice worths-of-requires worths-slice start-requires row-slice paste-requires add-v loop-less loop-again
+    tie.close (tie.spec Inv-loop μ-loop loop-holds earlier-slice worths-of-requires worths-slice start-requires row-slice paste-requires add-v loop-less
+    loop-again
     returns)

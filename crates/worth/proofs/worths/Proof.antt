@@ -33,7 +33,8 @@ loop-again c =
 
 returns : tie.Need-returns Inv-loop μ-loop
 returns c =
-    let e : c .before .loop .counter ≡ c .before .before .before .before .before .before .args .d = omega (arith, c .loop-test .left, c .before .loop .inv .0) in
+    let e : c .before .loop .counter ≡ c .before .before .before .before .before .before .args .d = omega
+    (arith, c .loop-test .left, c .before .loop .inv .0) in
     rw e at (c .before .loop .inv .1)
 
 pub worths-spec : {M : Type 1} → statement M
