@@ -75,9 +75,9 @@ module _ (size : ℕ) where
   Named c (got x ws) = UpTo size c ws
   Named c (refused n p) = Word-refused size n p
 
-  abbrev Left : {C : Type 0} → ℕ → Outcome C → Type 0
-  Left c (filled cells ws) = UpTo size c ws
-  Left c (stopped n p cells) = Word-refused size n p
+  abbrev Stops : {C : Type 0} → ℕ → Outcome C → Type 0
+  Stops c (filled cells ws) = UpTo size c ws
+  Stops c (stopped n p cells) = Word-refused size n p
 
   answered-named : (c at : ℕ) (rest : Words) (f : Finding) → at ≤ size → UpTo size c rest → Named c (answered at rest f)
   answered-named c at rest (fits v) h k = k
@@ -100,25 +100,25 @@ module _ (size : ℕ) where
   choose-named c d (refused n p) k o h g l = l
 
   upon-left : {A C : Type 0} (c d : ℕ) (cells : C) (a : Answer A) (k : A → Words → Outcome C) → Named c a
-      → ((x : A) (ws : Words) → UpTo size c ws → Left d (k x ws)) → Left d (upon cells a k)
+      → ((x : A) (ws : Words) → UpTo size c ws → Stops d (k x ws)) → Stops d (upon cells a k)
   upon-left c d cells (got x ws) k h g = g x ws h
   upon-left c d cells (refused n p) k h g = h
 
-  choose-left : {C : Type 0} (c d : ℕ) (a : Answer ℕ) (k : Words → Outcome C) (o : Outcome C) → Named c a → ((ws : Words) → UpTo size c ws → Left d (k ws))
-      → Left d o → Left d (choose a k o)
+  choose-left : {C : Type 0} (c d : ℕ) (a : Answer ℕ) (k : Words → Outcome C) (o : Outcome C) → Named c a → ((ws : Words) → UpTo size c ws → Stops d (k ws))
+      → Stops d o → Stops d (choose a k o)
   choose-left c d (got v ws) k o h g l = g ws h
   choose-left c d (refused n p) k o h g l = l
 
-  within-left : {C D : Type 0} (c : ℕ) (f : C → D) (o : Outcome C) → Left c o → Left c (within f o)
+  within-left : {C D : Type 0} (c : ℕ) (f : C → D) (o : Outcome C) → Stops c o → Stops c (within f o)
   within-left c f (filled cells ws) h = h
   within-left c f (stopped n p cells) h = h
 
-  further-left : {C : Type 0} (c d : ℕ) (o : Outcome C) (k : C → Words → Outcome C) → Left c o
-      → ((cells : C) (ws : Words) → UpTo size c ws → Left d (k cells ws)) → Left d (further o k)
+  further-left : {C : Type 0} (c d : ℕ) (o : Outcome C) (k : C → Words → Outcome C) → Stops c o
+      → ((cells : C) (ws : Words) → UpTo size c ws → Stops d (k cells ws)) → Stops d (further o k)
   further-left c d (filled cells ws) k h g = g cells ws h
   further-left c d (stopped n p cells) k h g = h
 
-  wholly-named : {C : Type 0} (c : ℕ) (o : Outcome C) → Left c o → Named c (wholly o)
+  wholly-named : {C : Type 0} (c : ℕ) (o : Outcome C) → Stops c o → Named c (wholly o)
   wholly-named c (filled cells ws) h = h
   wholly-named c (stopped n p cells) h = h
 
@@ -160,27 +160,27 @@ module _ (size : ℕ) where
     -- ---- a statement
 
     row-left : (one-number : Words → Answer ℕ) (put : ℕ → ℕ → List ℕ → List ℕ) → ((ws : Words) → UpTo size c ws → Named c (one-number ws))
-        → (x k : ℕ) (cells : List ℕ) (ws : Words) → UpTo size c ws → Left c (row one-number put x k cells ws)
+        → (x k : ℕ) (cells : List ℕ) (ws : Words) → UpTo size c ws → Stops c (row one-number put x k cells ws)
     unfolding row
     row-left one-number put g x zero cells ws h = h
     row-left one-number put g x (suc k) cells ws h =
         upon-left c c cells (one-number ws) (λ p ws. row one-number put (x + 1) k (put x p cells) ws) (g ws h)
         (λ p ws. row-left one-number put g (x + 1) k (put x p cells) ws)
 
-    entry-left : (m n w a s : ℕ) (cells : List ℕ) (ws : Words) → UpTo size c ws → Left c (entry m n w a s cells ws)
+    entry-left : (m n w a s : ℕ) (cells : List ℕ) (ws : Words) → UpTo size c ws → Stops c (entry m n w a s cells ws)
     unfolding entry
     entry-left m n w a s cells ws h =
         upon-left c c cells (index w ws) _ (index-named w ws h)
         (λ x ws k. upon-left c c cells (probability ws) _ (number-named c probabilityForm 0 _ ws k) (λ p ws l. l))
 
-    table-left : (m n w : ℕ) (cells : List ℕ) (ws : Words) → UpTo size c ws → Left c (table m n w cells ws)
+    table-left : (m n w : ℕ) (cells : List ℕ) (ws : Words) → UpTo size c ws → Stops c (table m n w cells ws)
     unfolding table
     table-left m n w cells ws h =
         upon-left c c cells (indexed m ws) _ (indexed-named m ws h) (λ a ws k. upon-left c c cells (indexed n ws) _ (indexed-named n ws k) (λ s ws l.
         choose-left c c (key colon ws) _ _ (keyed colon ws l) (λ ws. entry-left m n w a s cells ws)
         (row-left probability _ (λ ws. number-named c probabilityForm 0 _ ws) 0 w cells ws l)))
 
-    rewards-left : (m n : ℕ) (cells : List ℤ) (ws : Words) → UpTo size c ws → Left c (rewards m n cells ws)
+    rewards-left : (m n : ℕ) (cells : List ℤ) (ws : Words) → UpTo size c ws → Stops c (rewards m n cells ws)
     unfolding rewards reward
     rewards-left m n cells ws h =
         upon-left c c cells (indexed m ws) _ (indexed-named m ws h) (λ a ws h. upon-left c c cells (indexed n ws) _ (indexed-named n ws h) (λ s ws h.
@@ -188,7 +188,7 @@ module _ (size : ℕ) where
         upon-left c c cells (rewardNumber ws) _ (reward-named ws h) (λ r ws k. k)))))
 
     -- it takes a word or more
-    one-left : (m n k : ℕ) (d : Draft) (ws : Words) → UpTo size (suc c) ws → Left c (oneStatement m n k d ws)
+    one-left : (m n k : ℕ) (d : Draft) (ws : Words) → UpTo size (suc c) ws → Stops c (oneStatement m n k d ws)
     unfolding oneStatement observationOrReward rewardStatement
     one-left m n k d ws h =
         choose-left c c (key _ ws) _ _ (key-named c _ ws h) (λ ws l. within-left c _ (table m n n (d .transition) ws) (table-left m n n (d .transition) ws l))
@@ -197,7 +197,7 @@ module _ (size : ℕ) where
         (upon-left c c d (key _ ws) _ (key-named c _ ws h) (λ _ ws l. within-left c _ (rewards m n (d .reward) ws) (rewards-left m n (d .reward) ws l))))
 
   -- as many statements as there are words are enough
-  statements-left : (f m n k : ℕ) (d : Draft) (ws : Words) → UpTo size f ws → Left f (statements f m n k d ws)
+  statements-left : (f m n k : ℕ) (d : Draft) (ws : Words) → UpTo size f ws → Stops f (statements f m n k d ws)
   unfolding statements
   statements-left zero m n k d (end at) h = h
   statements-left zero m n k d (word at w rest) h = absurd h
@@ -206,7 +206,7 @@ module _ (size : ℕ) where
       further-left f (suc f) (oneStatement m n k d (word at w rest)) (λ d ws. statements f m n k d ws) (one-left f m n k d (word at w rest) h)
       (λ d ws l. left-more f (statements f m n k d ws) (statements-left f m n k d ws l))
     where
-      left-more : (c : ℕ) (o : Outcome Draft) → Left c o → Left (suc c) o
+      left-more : (c : ℕ) (o : Outcome Draft) → Stops c o → Stops (suc c) o
       left-more c (filled cells ws) h = up-more size c ws h
       left-more c (stopped n p cells) h = h
 

@@ -21,6 +21,9 @@ pub struct ModelFile {
 
 pub type Start = [u16; Tables::STATES]; // in hundredths
 
+// A count is 1 or more.
+const LEAST: u64 = 1;
+
 // The start numbers are a table of one block of one row.
 const ROWS: usize = 1;
 
@@ -155,11 +158,25 @@ fn counted_at(file: &[u8], at: usize, discount: u64) -> ModelFile
     requires { ⌜ at ≤ length (now file) ⌝ }
     ensures { λ r. ⌜ r ≡ ended (length (now (file .entry))) (counted (length (now (file .entry)) + 1) discount (wordsIn between (now (file .entry)) at)) ⌝ }
 {
-    let x = grammar::field_at(file, at, b"states", Form::COUNT, 1, Tables::STATES as u64);
+    let x = grammar::field_at(
+        file,
+        at,
+        b"states",
+        Form::COUNT,
+        LEAST,
+        Tables::STATES as u64,
+    );
     let Read::Value(n, p) = x else {
         return back(x);
     };
-    let y = grammar::field_at(file, p, b"actions", Form::COUNT, 1, Tables::ACTIONS as u64);
+    let y = grammar::field_at(
+        file,
+        p,
+        b"actions",
+        Form::COUNT,
+        LEAST,
+        Tables::ACTIONS as u64,
+    );
     let Read::Value(m, q) = y else {
         return back(y);
     };
@@ -168,7 +185,7 @@ fn counted_at(file: &[u8], at: usize, discount: u64) -> ModelFile
         q,
         b"observations",
         Form::COUNT,
-        1,
+        LEAST,
         Tables::OBSERVATIONS as u64,
     );
     let Read::Value(k, next) = z else {

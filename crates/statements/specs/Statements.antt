@@ -20,15 +20,15 @@ abbrev pub upon : {A C : Type 0} → C → Answer A → (A → Words → Outcome
 upon cells (got a ws) k = k a ws
 upon cells (refused n p) k = stopped n p cells
 
--- what follows a part that does
-abbrev pub further : {C : Type 0} → Outcome C → (C → Words → Outcome C) → Outcome C
-further (filled cells ws) k = k cells ws
-further (stopped n p cells) k = stopped n p cells
-
 -- cells as a part of more
 abbrev pub within : {C D : Type 0} → (C → D) → Outcome C → Outcome D
 within f (filled cells ws) = filled (f cells) ws
 within f (stopped n p cells) = stopped n p (f cells)
+
+-- what follows a part that changes them
+abbrev pub further : {C : Type 0} → Outcome C → (C → Words → Outcome C) → Outcome C
+further (filled cells ws) k = k cells ws
+further (stopped n p cells) k = stopped n p cells
 
 -- the cells of a whole part, or its refusal alone
 abbrev pub wholly : {C : Type 0} → Outcome C → Answer C
