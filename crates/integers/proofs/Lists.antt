@@ -130,7 +130,8 @@ module _ {A : Type 0} where
       let g : ℕ → A = λ i. f (i / w) (i % w) in
       let rest : List A = replicate (size - (r * w + w)) z in
       let rows : (r + 1) * w ≡ r * w + w = omega arith in
-      ap (λ (k : List A). k ++ take w row ++ drop (r * w + w) (listed (r * w) g ++ replicate (size - r * w) z)) (take-at (listed (r * w) g) _ (r * w) (length-listed (r * w) g))
+      ap (λ (k : List A). k ++ take w row ++ drop (r * w + w) (listed (r * w) g ++ replicate (size - r * w) z))
+      (take-at (listed (r * w) g) _ (r * w) (length-listed (r * w) g))
       ∙ ap (λ (k : List A). listed (r * w) g ++ take w row ++ k) (dropped g)
       ∙ ap (λ (k : List A). listed (r * w) g ++ k ++ rest) (take-listed w row (λ x. g (r * w + x)) z l (λ x b. e x b ∙ rw (digits-div r b, digits-mod r b)))
       ∙ ap (λ (k : List A). k ++ rest) (sym (listed-add (r * w) w g))
@@ -150,7 +151,12 @@ module _ {A : Type 0} where
     pub front : take i ys ≡ take n xs ++ replicate (i - n) z
 
   pub cutting-start : (z : A) (n : ℕ) (xs : List A) → Cutting z n n xs xs
-  cutting-start z n xs = record { from = omega arith; long = refl; front = sym (ap (λ (k : ℕ). take n xs ++ replicate k z) (let e : n - n ≡ 0 = omega arith in e) ∙ append-nil (take n xs)) }
+  cutting-start z n xs = record {
+    from = omega arith;
+    long = refl;
+    front = sym
+        (ap (λ (k : ℕ). take n xs ++ replicate k z) (let e : n - n ≡ 0 = omega arith in e) ∙ append-nil (take n xs));
+  }
 
   replicate-more : (z : A) (k : ℕ) → replicate k z ++ (z ∷ []) ≡ replicate (suc k) z
   replicate-more z zero = refl

@@ -41,7 +41,8 @@ module _ (M : Model) (G : PlanGraph) (h : Sound M G) where
 
   module _ (d v : ℕ) (few : d ≤ maxSteps) (lv : v < G .nodes) where
     -- what is observed at a state is made of terms within the limits
-    pub observed-terms : {s' : ℕ} → s' < M .states → Terms (M .observations) one maxEntry (M .observation (G .action v) s') (λ o. worthOf M G d (G .next v o) s')
+    pub observed-terms : {s' : ℕ} → s' < M .states → Terms (M .observations) one maxEntry (M .observation (G .action v) s')
+        (λ o. worthOf M G d (G .next v o) s')
     observed-terms {s'} l = record {
       weights = h .valid .observation-limit (G .action v) (h .action-in v lv) s' l;
       values = λ o b. omega (arith, worth-range d (G .next v o) s' (h .next-in v lv o b) l, range-limit d (omega arith));

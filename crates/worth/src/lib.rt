@@ -77,7 +77,8 @@ fn worth_at<'a, 'b>(
     d: usize,
 ) -> i64
     requires { ⌜ Asked c (now transition) (now observation) (now reward) nodes (now actions) (now next) (v .0) (s .0) d ⌝ }
-    ensures { λ r. ⌜ r ≡ worthOf (modelIn c (now (transition .entry)) (now (observation .entry)) (now (reward .entry))) (graphIn (c .observations) nodes (now (actions .entry)) (now (next .entry))) d (v .0) (s .0) ⌝ }
+    ensures { λ r. ⌜ r ≡ worthOf (modelIn c (now (transition .entry)) (now (observation .entry)) (now (reward .entry)))
+        (graphIn (c .observations) nodes (now (actions .entry)) (now (next .entry))) d (v .0) (s .0) ⌝ }
 {
     if d == 0 {
         return 0;
@@ -123,7 +124,8 @@ fn observed_at<'a, 'b>(
     d: usize,
 ) -> i64
     requires { ⌜ Asked c (now transition) (now observation) (now reward) nodes (now actions) (now next) (v .0) (to .0) d ⌝ }
-    ensures { λ r. ⌜ r ≡ observedOf (modelIn c (now (transition .entry)) (now (observation .entry)) (now (reward .entry))) (graphIn (c .observations) nodes (now (actions .entry)) (now (next .entry))) d (v .0) (to .0) ⌝ }
+    ensures { λ r. ⌜ r ≡ observedOf (modelIn c (now (transition .entry)) (now (observation .entry)) (now (reward .entry)))
+        (graphIn (c .observations) nodes (now (actions .entry)) (now (next .entry))) d (v .0) (to .0) ⌝ }
 {
     let n = c.states;
     let k = c.observations;
@@ -176,7 +178,8 @@ fn judge_worth<'a, 'b>(
 ) -> Verdict
     requires { ⌜ (countsWithin (c .states) (c .actions) (c .observations) ≡ true → Stored c (now transition) (now observation) (now reward)) ⌝ }
     requires { ⌜ (nodes ≤ maxNodes → c .observations ≤ maxObservations → GraphStored (c .observations) nodes (now actions) (now next)) ⌝ }
-    ensures { λ r. ⌜ r ≡ worthVerdict (modelIn c (now (transition .entry)) (now (observation .entry)) (now (reward .entry))) (graphIn (c .observations) nodes (now (actions .entry)) (now (next .entry))) (v .0) (s .0) d ⌝ }
+    ensures { λ r. ⌜ r ≡ worthVerdict (modelIn c (now (transition .entry)) (now (observation .entry)) (now (reward .entry)))
+        (graphIn (c .observations) nodes (now (actions .entry)) (now (next .entry))) (v .0) (s .0) d ⌝ }
 {
     let tables = judge::judge_tables(transition, observation, reward, c);
     let Verdict::Fine = tables else {

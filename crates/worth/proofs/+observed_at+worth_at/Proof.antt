@@ -94,7 +94,12 @@ module _ (t : ℕ) where
     observed-node = omega (arith, c .pre .1 .accepted .sound .few-nodes, c .pre .1 .accepted .node)
 
     observed-acts : observed-graph .action (c .args .v .0) < maxActions
-    observed-acts = omega (arith, c .pre .1 .accepted .sound .valid .few-actions, c .pre .1 .accepted .sound .action-in (c .args .v .0) (c .pre .1 .accepted .node))
+    observed-acts = omega (
+      arith,
+      c .pre .1 .accepted .sound .valid .few-actions,
+      c .pre .1 .accepted .sound .action-in (c .args .v .0)
+          (c .pre .1 .accepted .node),
+    )
 
     observed-stored : cellsTo (c .args .c .states) (c .args .c .observations) (observed-graph .action (c .args .v .0)) ≤ length (c .args .observation .now)
     observed-stored =
@@ -104,7 +109,8 @@ module _ (t : ℕ) where
     terms : Terms (observed-model .observations) one maxEntry (observed-model .observation (observed-graph .action (c .args .v .0)) (c .args .to .0))
         (λ o. worthOf observed-model observed-graph (c .args .d) (observed-graph .next (c .args .v .0) o) (c .args .to .0))
     terms =
-        observed-terms observed-model observed-graph (c .pre .1 .accepted .sound) (c .args .d) (c .args .v .0) (c .pre .1 .accepted .steps) (c .pre .1 .accepted .node) (c .pre .1 .accepted .state)
+        observed-terms observed-model observed-graph (c .pre .1 .accepted .sound) (c .args .d) (c .args .v .0) (c .pre .1 .accepted .steps)
+        (c .pre .1 .accepted .node) (c .pre .1 .accepted .state)
 
   observed-action-at-requires : observed.Need-action-at-requires observed-calls (observed-is t) observed-at.Post observed-Inv observed-μ
   observed-action-at-requires c κs = let a = c .before .before .before .before in omega (arith, a .pre .1 .accepted .node, a .pre .1 .graph .actions-long)
@@ -115,8 +121,10 @@ module _ (t : ℕ) where
   observed-observation-at-requires : observed.Need-observation-at-requires observed-calls (observed-is t) observed-at.Post observed-Inv observed-μ
   observed-observation-at-requires c κs =
       let a = c .before .before .before .before .before .before .before in
-      let h = a .pre .1 .accepted .sound .valid in
-      ((h .few-states, (h .few-observations, rw (c .before .before .action-at .ensures) (observed-acts a))), ((a .pre .1 .accepted .state, c .loop-test .taken), rw (c .before .before .action-at .ensures) (observed-stored a)))
+      let h = a .pre .1 .accepted .sound .valid in (
+        (h .few-states, (h .few-observations, rw (c .before .before .action-at .ensures) (observed-acts a))),
+        ((a .pre .1 .accepted .state, c .loop-test .taken), rw (c .before .before .action-at .ensures) (observed-stored a)),
+      )
 
   observed-next-at-requires : observed.Need-next-at-requires observed-calls (observed-is t) observed-at.Post observed-Inv observed-μ
   observed-next-at-requires c κs =
@@ -129,7 +137,8 @@ module _ (t : ℕ) where
   observed-worth-at-requires c κs =
       let a = c .before .before .before .before .before .before .before .before .before in
       let next : c .next-at .result .0 < a .args .nodes =
-      rw (c .next-at .ensures) (a .pre .1 .accepted .sound .next-in (a .args .v .0) (a .pre .1 .accepted .node) (c .before .before .before .loop .o) (c .before .before .loop-test .taken)) in (
+      rw (c .next-at .ensures) (a .pre .1 .accepted .sound .next-in (a .args .v .0) (a .pre .1 .accepted .node) (c .before .before .before .loop .o)
+      (c .before .before .loop-test .taken)) in (
         omega (arith, a .pre .0),
         record {
           accepted = record { sound = a .pre .1 .accepted .sound; node = next; state = a .pre .1 .accepted .state; steps = a .pre .1 .accepted .steps };
@@ -144,7 +153,8 @@ module _ (t : ℕ) where
     before-term = c .before .before .before .before .before .before .before .before .before .before
 
     weight : c .before .before .observation-at .result
-        ≡ observed-model before-term .observation (observed-graph before-term .action (before-term .args .v .0)) (before-term .args .to .0) (c .before .before .before .before .loop .o)
+        ≡ observed-model before-term .observation (observed-graph before-term .action (before-term .args .v .0)) (before-term .args .to .0)
+        (c .before .before .before .before .loop .o)
     weight =
         c .before .before .observation-at .ensures
         ∙ ap (λ (a : ℕ). observed-model before-term .observation a (before-term .args .to .0) (c .before .before .before .before .loop .o))
@@ -256,7 +266,8 @@ module _ (t : ℕ) where
 
   worth-foreseen-long : worth.Need-slice-aggregate-backed-up worth-calls (worth-is t) worth-at.Post worth-Inv worth-μ
   worth-foreseen-long c =
-      let few : c .before .before .loop .to ≤ maxStates = omega (arith, c .before .before .before .before .before .before .before .before .pre .1 .accepted .sound .valid .few-states) in
+      let few : c .before .before .loop .to ≤ maxStates = omega
+      (arith, c .before .before .before .before .before .before .before .before .pre .1 .accepted .sound .valid .few-states) in
       sym (rw (c .before .before .loop .inv .1) (padded-length (pos 0) maxStates _ _ few))
 
   worth-action-at-requires : worth.Need-action-at-requires worth-calls (worth-is t) worth-at.Post worth-Inv worth-μ
@@ -287,7 +298,8 @@ module _ (t : ℕ) where
             rewards-fit (a .args .c) (a .args .transition .now) (a .args .observation .now) (a .args .reward .now) (h .valid) (a .pre .1 .stored)
                 (c .action-at .result .0) acts,
             filled-within maxStates (observedOf (worth-model a) (worth-graph a) (a .args .d - 1) v) (made c) (h .valid .few-states)
-                (λ i l. observed-limit (worth-model a) (worth-graph a) h (a .args .d - 1) v (omega (arith, a .pre .1 .accepted .steps)) (a .pre .1 .accepted .node) l),
+                (λ i l. observed-limit (worth-model a) (worth-graph a) h (a .args .d - 1) v (omega (arith, a .pre .1 .accepted .steps))
+                (a .pre .1 .accepted .node) l),
           ),
         ),
       )
@@ -296,7 +308,8 @@ module _ (t : ℕ) where
   worth-returns-2 c =
       let a = c .before .before .before .before .before .before .before .before .before .before .args in
       answer (c .backed-up .ok) (c .backed-up .ensures
-      ∙ ap (λ (x : ℕ). floorDiv (backupIn (a .c .states) (a .c .discount) (a .transition .now) (a .reward .now) (c .before .before .before .before .loop .f) x (a .s .0)) K)
+      ∙ ap (λ (x : ℕ). floorDiv (backupIn (a .c .states) (a .c .discount) (a .transition .now) (a .reward .now) (c .before .before .before .before .loop .f)
+      x (a .s .0)) K)
       (c .before .action-at .ensures)
       ∙ worth-from (a .c) (a .transition .now) (a .observation .now) (a .reward .now) (a .nodes) (a .actions .now) (a .next .now) (a .d) (a .v .0) (a .s .0)
       (c .before .before .before .before .before .if1 .left) (made (c .before)))

@@ -12,6 +12,16 @@ use Rattle.worth.proofs.Laws.{accepted}
 use Rattle.worth.proofs.worth.Statement.{statement}
 use Rattle.worth.proofs.worth.Tie as tie
 
+-- places of the code, each from those after it
+abbrev enum-told-of-worth-at : tie.After-worth-at → tie.After-enum-told
+enum-told-of-worth-at c = c .before .before .before .before .before .before .before .before .before .before .before .before .before
+
+abbrev start-of-enum-told : tie.After-enum-told → tie.Start
+start-of-enum-told c = c .before .before .before .before .before .before .before .before .before .before .before .before .before .before .before
+
+abbrev start-of-worth-at-arg10 : tie.After-worth-at-arg10 → tie.Start
+start-of-worth-at-arg10 c = start-of-enum-told (c .before .before .before .before .before .before .before .before .before .before .before .before)
+
 -- what the types say
 long : (c : tie.Start) → Long (c .args .t1)
 long c = record { transition = search (needs, c .good .0); observation = search (needs, c .good .0); reward = search (needs, c .good .0) }
@@ -25,19 +35,20 @@ graph-stored c few little =
     record { actions-long = rw actions few; next-stored = rw next (mul-le-mul few little) }
 
 judge-worth-requires : tie.Need-judge-worth-requires
-judge-worth-requires c κs = let s = c .before .before .before .before .before .before .before .before .before .before .before .before in (stored-by (s .args .t1) (long s), graph-stored s)
+judge-worth-requires c κs = let s = c .before .before .before .before .before .before .before .before .before .before .before .before in
+    (stored-by (s .args .t1) (long s), graph-stored s)
 
 fine-here : (c : tie.After-enum-told)
-    → let a = c .before .before .before .before .before .before .before .before .before .before .before .before .before .before .before .args in worthVerdict (modelOf (a .t1)) (graphOf (a .t1 .observations) (a .t2)) (a .v .0) (a .s .0) (a .d) ≡ Fine
+    → let a = (start-of-enum-told c) .args in worthVerdict (modelOf (a .t1)) (graphOf (a .t1 .observations) (a .t2)) (a .v .0) (a .s .0) (a .d) ≡ Fine
 fine-here c = sym (c .before .before .judge-worth .ensures) ∙ c .enum-told .given .1
 
 taken : (c : tie.After-enum-told)
-    → let a = c .before .before .before .before .before .before .before .before .before .before .before .before .before .before .before .args in Accepted (modelOf (a .t1)) (graphOf (a .t1 .observations) (a .t2)) (a .v .0) (a .s .0) (a .d)
+    → let a = (start-of-enum-told c) .args in Accepted (modelOf (a .t1)) (graphOf (a .t1 .observations) (a .t2)) (a .v .0) (a .s .0) (a .d)
 taken c = accepted _ _ _ _ _ (fine-here c)
 
 worth-at-requires : tie.Need-worth-at-requires
 worth-at-requires c κs =
-    let s = c .before .before .before .before .before .before .before .before .before .before .before .before .before .before .before .before .before .before .before .before .before .before .before .before .before .before .before in
+    let s = (start-of-worth-at-arg10 c) in
     let h = taken (c .before .before .before .before .before .before .before .before .before .before .before .before) in record {
       accepted = h;
       stored = stored-valid (s .args .t1) (long s) (h .sound .valid);
@@ -46,7 +57,7 @@ worth-at-requires c κs =
 
 returns : tie.Need-returns
 unfolding worthAnswer
-returns c = rw (fine-here (c .before .before .before .before .before .before .before .before .before .before .before .before .before), answer (c .worth-at .ok) (c .worth-at .ensures))
+returns c = rw (fine-here ((enum-told-of-worth-at c)), answer (c .worth-at .ok) (c .worth-at .ensures))
 
 returns-2 : tie.Need-returns-2
 unfolding worthAnswer
