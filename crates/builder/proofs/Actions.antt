@@ -128,11 +128,13 @@ pub record Best-of (c : Counts) (T O : List ℕ) (R entries : List ℤ) (vectors
   pub value : most ≡ worth c T O R entries vectors p action
 
 module _ {c : Counts} {T O : List ℕ} {R entries : List ℤ} {vectors : ℕ} {p : List ℕ} where
-  pub best-first : (h : Asked c T O R entries vectors p) {x : Candidate} {z : ℤ} → x ≡ candidateIn c T O R entries vectors p 0 → z ≡ productWith c p x → Best-of c T O R entries vectors p 1 0 x z
+  pub best-first : (h : Asked c T O R entries vectors p) {x : Candidate} {z : ℤ} → x ≡ candidateIn c T O R entries vectors p 0 → z ≡ productWith c p x →
+      Best-of c T O R entries vectors p 1 0 x z
   best-first h e f = record { asked = h; first = sym (largest-first (worth c T O R entries vectors p)); vector = vector-is h 0 e; value = vector-worth h 0 e f }
 
   -- a turn of the search: the best so far, the vector of action a, and its product
-  module _ {a action : ℕ} {best x : Candidate} {most z : ℤ} (so-far : Best-of c T O R entries vectors p a action best most) (found : x ≡ candidateIn c T O R entries vectors p a)
+  module _ {a action : ℕ} {best x : Candidate} {most z : ℤ} (so-far : Best-of c T O R entries vectors p a action best most)
+      (found : x ≡ candidateIn c T O R entries vectors p a)
       (here : z ≡ productWith c p x) {action' : ℕ} {best' : Candidate} {most' : ℤ} where
     pub best-larger : ltZ most z ≡ true → action' ≡ a → best' ≡ x → most' ≡ z → Best-of c T O R entries vectors p (a + 1) action' best' most'
     best-larger t e f g =

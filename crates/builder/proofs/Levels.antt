@@ -126,7 +126,8 @@ pub record Made (n k : ℕ) (W : Ideal) (v : ℕ) (best : Best) : Type 0 where
   pub entries-are : (s : ℕ) → s < n → getD (best .candidate .entries) s (pos 0) ≡ W .entry v s
 
 -- The best candidate at the weights of v is vector v of the built level: action, choices and entries read the weights below the number of states only. Qed.
-pub vector-made : {c : Counts} {T O : List ℕ} {R entries : List ℤ} {vectors : ℕ} (count : ℕ) (weight : ℕ → ℕ → ℕ) (v : ℕ) (p : List ℕ) {best : Best} → Upon c T O R entries vectors
+pub vector-made : {c : Counts} {T O : List ℕ} {R entries : List ℤ} {vectors : ℕ} (count : ℕ) (weight : ℕ → ℕ → ℕ) (v : ℕ) (p : List ℕ) {best : Best} → Upon c
+    T O R entries vectors
     → ((s : ℕ) → s < c .states → weightIn p s ≡ seed (c .states) weight v s) → best ≡ bestOf (modelIn c T O R) (uponIn c vectors entries) p
     → Made (c .states) (c .observations) (built (modelIn c T O R) (uponIn c vectors entries) count weight) v best
 unfolding built bestOf candidateOf

@@ -76,7 +76,9 @@ fn choose(
     requires { ⌜ ObservationsFit n k (now observation) (a .0) ⌝ }
     requires { ⌜ ((o : ℕ) → o < k → (s : ℕ) → s < n → seenIn n k (now observation) (now u) (a .0) o s ≤ maxReached) ⌝ }
     requires { ⌜ EntriesFit n count (now entries) ⌝ }
-    ensures { λ r. ⌜ r ≡ padded 0 maxObservations k (λ o. firstLargest count (λ v. product n (weightIn (padded 0 maxStates n (seenIn n k (now (observation .entry)) (now (u .entry)) (a .0) o))) (entryIn n (now (entries .entry)) v))) ⌝ }
+    ensures { λ r. ⌜ r ≡ padded 0 maxObservations k (λ o. firstLargest count
+        (λ v. product n (weightIn (padded 0 maxStates n (seenIn n k (now (observation .entry)) (now (u .entry)) (a .0) o)))
+        (entryIn n (now (entries .entry)) v))) ⌝ }
 {
     let mut chosen = [0u16; Tables::OBSERVATIONS];
     for o in 0..k {
@@ -85,28 +87,6 @@ fn choose(
         read::put_choice(&mut chosen, k, Vector(0), Observation(o), best);
     }
     chosen
-}
-
-// Each state's backup over K, rounded towards minus infinity.
-fn rounded<'a>(
-    transition: &'a [u16],
-    reward: &'a [i64],
-    f: &[i64],
-    n: usize,
-    g: u64,
-    a: Action,
-) -> Foreseen
-    requires { ⌜ (n ≤ maxStates) × ((a .0 < maxActions) × (g ≤ one)) ⌝ }
-    requires { ⌜ TransitionsFit n (now transition) (a .0) ⌝ }
-    requires { ⌜ RewardsFit n (now reward) (a .0) ⌝ }
-    requires { ⌜ Within foreseenLimit n (now f) ⌝ }
-    ensures { λ r. ⌜ r ≡ padded (pos 0) maxStates n (λ s. floorDiv (backupIn n g (now (transition .entry)) (now (reward .entry)) (now (f .entry)) (a .0) s) K) ⌝ }
-{
-    let mut e = [0i64; Tables::STATES];
-    for s in 0..n {
-        e[s] = sums::backed_up(transition, reward, n, g, f, State(s), a);
-    }
-    e
 }
 
 // One action's vector at weights p.
@@ -123,17 +103,20 @@ fn vector_for<'a>(
     requires { ⌜ (c .states ≤ maxStates) × ((c .observations ≤ maxObservations) × ((a .0 < maxActions) × (c .discount ≤ one))) ⌝ }
     requires { ⌜ 0 < count ⌝ }
     requires { ⌜ Below pointTotal (c .states) (now p) ⌝ }
-    requires { ⌜ (TransitionsFit (c .states) (now transition) (a .0)) × ((ObservationsFit (c .states) (c .observations) (now observation) (a .0)) × (RewardsFit (c .states) (now reward) (a .0))) ⌝ }
-    requires { ⌜ ((o : ℕ) → o < c .observations → (s : ℕ) → s < c .states → seenIn (c .states) (c .observations) (now observation) (padded 0 maxStates (c .states) (movedIn (c .states) (now transition) (now p) (a .0))) (a .0) o s ≤ maxReached) ⌝ }
+    requires { ⌜ (TransitionsFit (c .states) (now transition) (a .0)) ×
+        ((ObservationsFit (c .states) (c .observations) (now observation) (a .0)) × (RewardsFit (c .states) (now reward) (a .0))) ⌝ }
+    requires { ⌜ ((o : ℕ) → o < c .observations → (s : ℕ) → s < c .states → seenIn (c .states) (c .observations) (now observation)
+        (padded 0 maxStates (c .states) (movedIn (c .states) (now transition) (now p) (a .0))) (a .0) o s ≤ maxReached) ⌝ }
     requires { ⌜ EntriesFit (c .states) count (now entries) ⌝ }
-    ensures { λ r. ⌜ r ≡ candidateIn c (now (transition .entry)) (now (observation .entry)) (now (reward .entry)) (now (entries .entry)) count (now (p .entry)) (a .0) ⌝ }
+    ensures { λ r. ⌜ r ≡ candidateIn c (now (transition .entry)) (now (observation .entry)) (now (reward .entry)) (now (entries .entry)) count
+        (now (p .entry)) (a .0) ⌝ }
 {
     let n = c.states;
     let k = c.observations;
     let u = sums::moved(transition, n, p, a);
     let chosen = choose(observation, entries, &u, n, k, count, a);
     let f = sums::foreseen(observation, n, k, entries, &chosen, Vector(0), a);
-    let e = rounded(transition, reward, &f, n, c.discount, a);
+    let e = sums::rounded(transition, reward, &f, n, c.discount, a);
     Candidate {
         chosen: chosen,
         entries: e,
@@ -152,7 +135,8 @@ pub fn best_candidate<'a>(
 ) -> Best
     requires { ⌜ Upon c (now transition) (now observation) (now reward) (now entries) count ⌝ }
     requires { ⌜ Light (c .states) (now p) ⌝ }
-    ensures { λ r. ⌜ r ≡ bestOf (modelIn c (now (transition .entry)) (now (observation .entry)) (now (reward .entry))) (uponIn c count (now (entries .entry))) (now (p .entry)) ⌝ }
+    ensures { λ r. ⌜ r ≡ bestOf (modelIn c (now (transition .entry)) (now (observation .entry)) (now (reward .entry)))
+        (uponIn c count (now (entries .entry))) (now (p .entry)) ⌝ }
 {
     let n = c.states;
     let actions = c.actions;
@@ -243,7 +227,8 @@ fn build_vectors<'a>(
     requires { ⌜ Upon c (now transition) (now observation) (now reward) (now standing) vectors ⌝ }
     requires { ⌜ (points ≤ maxBuilt) × (points * c .states ≤ length (now weights)) ⌝ }
     requires { ⌜ ((i : ℕ) → i < points → totalTo (c .states) (pointIn (c .states) (now weights) i) ≡ pointTotal) ⌝ }
-    ensures { λ r. ⌜ r ≡ rowsOf (c .states) (c .observations) (built (modelIn c (now (transition .entry)) (now (observation .entry)) (now (reward .entry))) (uponIn c vectors (now (standing .entry))) points (pointIn (c .states) (now (weights .entry)))) ⌝ }
+    ensures { λ r. ⌜ r ≡ rowsOf (c .states) (c .observations) (built (modelIn c (now (transition .entry)) (now (observation .entry))
+        (now (reward .entry))) (uponIn c vectors (now (standing .entry))) points (pointIn (c .states) (now (weights .entry)))) ⌝ }
 {
     let n = c.states;
     let k = c.observations;
@@ -280,7 +265,9 @@ fn build_corners<'a, 'b>(
     points: usize,
 ) -> Corners
     requires { ⌜ Roofed c (now transition) (now observation) (now reward) (now corners) points (now weights) (now values) ⌝ }
-    ensures { λ r. ⌜ r ≡ padded (pos 0) maxStates (c .states) (λ s. leastValue (modelIn c (now (transition .entry)) (now (observation .entry)) (now (reward .entry))) (roofIn (c .states) (now (corners .entry)) points (now (weights .entry)) (now (values .entry))) (corner-weight s)) ⌝ }
+    ensures { λ r. ⌜ r ≡ padded (pos 0) maxStates (c .states) (λ s. leastValue
+        (modelIn c (now (transition .entry)) (now (observation .entry)) (now (reward .entry)))
+        (roofIn (c .states) (now (corners .entry)) points (now (weights .entry)) (now (values .entry))) (corner-weight s)) ⌝ }
 {
     let n = c.states;
     let gains = sawtooth::gains(corners, weights, values, points, n);
@@ -319,7 +306,9 @@ fn build_values<'a, 'b>(
     requires { ⌜ Roofed c (now transition) (now observation) (now reward) (now corners) points (now weights) (now values) ⌝ }
     requires { ⌜ (count ≤ maxBuilt) × (count * c .states ≤ length (now given)) ⌝ }
     requires { ⌜ ((i : ℕ) → i < count → totalTo (c .states) (pointIn (c .states) (now given) i) ≡ pointTotal) ⌝ }
-    ensures { λ r. ⌜ r ≡ padded (pos 0) maxPoints count (λ i. leastValue (modelIn c (now (transition .entry)) (now (observation .entry)) (now (reward .entry))) (roofIn (c .states) (now (corners .entry)) points (now (weights .entry)) (now (values .entry))) (pointIn (c .states) (now (given .entry)) i)) ⌝ }
+    ensures { λ r. ⌜ r ≡ padded (pos 0) maxPoints count (λ i. leastValue
+        (modelIn c (now (transition .entry)) (now (observation .entry)) (now (reward .entry)))
+        (roofIn (c .states) (now (corners .entry)) points (now (weights .entry)) (now (values .entry))) (pointIn (c .states) (now (given .entry)) i)) ⌝ }
 {
     let n = c.states;
     let gains = sawtooth::gains(corners, weights, values, points, n);
@@ -361,7 +350,8 @@ pub fn build_level(m: Tables, l: Level, p: Points) -> Level
     requires { ⌜ Buildable m l ⌝ }
     requires { ⌜ p .count ≤ maxBuilt ⌝ }
     requires { ⌜ ((i : ℕ) → i < p .count → totalTo (m .states) (pointIn (m .states) (p .weights) i) ≡ pointTotal) ⌝ }
-    ensures { λ r. ⌜ r ≡ stored (m .states) (m .observations) (built (modelOf m) (levelOf (m .states) (m .observations) l) (p .count) (pointIn (m .states) (p .weights))) ⌝ }
+    ensures { λ r. ⌜ r ≡ stored (m .states) (m .observations) (built (modelOf m) (levelOf (m .states) (m .observations) l) (p .count)
+        (pointIn (m .states) (p .weights))) ⌝ }
 {
     let n = m.states;
     let count = p.count;

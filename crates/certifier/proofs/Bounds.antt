@@ -158,7 +158,8 @@ module _ (c : Certifier) (h : holds c ≡ true) where
   unfolding advice
   bounds-are q e low high gap action = rw (action, gap, low, high, e)
 
-  pub bounds-widened : {q : List ℕ} (b : List ℕ) → q ≡ padded 0 maxStates (c .tables .states) (pointIn (c .tables .states) b 0) → boundsBy Fine c q ≡ boundsBy Fine c b
+  pub bounds-widened : {q : List ℕ} (b : List ℕ) → q ≡ padded 0 maxStates (c .tables .states) (pointIn (c .tables .states) b 0) → boundsBy Fine c q ≡
+      boundsBy Fine c b
   bounds-widened {q} b e =
       let same = widened-at b e in
       rw (
@@ -186,7 +187,8 @@ module _ (c : Certifier) (b : List ℕ) {r : Bounds} where
       unfolding totalsOf totalsVerdict
       refused-17 f e = e ∙ rw (h, above-zero (c .number) k, f)
 
-      pub bounds-given : {q : List ℕ} → mixtureHolds (c .tables .states) (weightIn b) ≡ true → q ≡ padded 0 maxStates (c .tables .states) (pointIn (c .tables .states) b 0)
+      pub bounds-given : {q : List ℕ} → mixtureHolds (c .tables .states) (weightIn b) ≡ true → q ≡ padded 0 maxStates (c .tables .states)
+          (pointIn (c .tables .states) b 0)
           → r ≡ boundsBy Fine c q → r ≡ totalsOf c b
       unfolding totalsOf totalsVerdict
       bounds-given f w e = e ∙ bounds-widened c h b w ∙ rw (h, above-zero (c .number) k, f)

@@ -42,19 +42,20 @@ module _ (c : Certifier) (p : Points) where
       unfolding buildVerdict
       refused-9 l = refuses (passes 7 0 h (passes 8 0 (lt-ltb (c .number) maxLevels room) (breaks _ (lt-leb (p .count) maxBuilt l))))
 
-      module _ (few : p .count ≤ maxBuilt) {w : Verdict} (e : w ≡ weightsVerdict (c .tables .states) (p .count) (pointIn (c .tables .states) (p .weights))) where
-        tested : {v : Verdict} → w ≡ v → v ≡ buildVerdict c p
-        unfolding buildVerdict
-        tested f =
-            passes 7 0 h (passes 8 0 (lt-ltb (c .number) maxLevels room) (passes 9 0 (le-leb (p .count) maxBuilt few) (sym f ∙ e)))
+      module _ (few : p .count ≤ maxBuilt) {w : Verdict} (e : w ≡ weightsVerdict (c .tables .states) (p .count) (pointIn (c .tables .states) (p .weights)))
+        where
+          tested : {v : Verdict} → w ≡ v → v ≡ buildVerdict c p
+          unfolding buildVerdict
+          tested f =
+              passes 7 0 h (passes 8 0 (lt-ltb (c .number) maxLevels room) (passes 9 0 (le-leb (p .count) maxBuilt few) (sym f ∙ e)))
 
-        pub refused-12 : {r : Built} {k i : ℕ} → w ≡ Refused k i → r ≡ noBuilt k i → r ≡ builtOf c p
-        refused-12 f = refuses (tested f)
+          pub refused-12 : {r : Built} {k i : ℕ} → w ≡ Refused k i → r ≡ noBuilt k i → r ≡ builtOf c p
+          refused-12 f = refuses (tested f)
 
-        pub level-built : {l : Level} → w ≡ Fine → l ≡ stored (c .tables .states) (c .tables .observations) (builtFrom c p)
-            → _≡_ {A = Built} (record { verdict = Fine; level = l }) (builtOf c p)
-        unfolding builtOf
-        level-built f g = rw g (ap (λ (v : Verdict). builtBy v c p) (tested f))
+          pub level-built : {l : Level} → w ≡ Fine → l ≡ stored (c .tables .states) (c .tables .observations) (builtFrom c p)
+              → _≡_ {A = Built} (record { verdict = Fine; level = l }) (builtOf c p)
+          unfolding builtOf
+          level-built f g = rw g (ap (λ (v : Verdict). builtBy v c p) (tested f))
 
       -- the points' weights lie in their array
       pub points-room : p .count ≤ maxBuilt → p .count * c .tables .states ≤ 256

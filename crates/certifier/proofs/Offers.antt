@@ -112,7 +112,8 @@ module _ (c : Certifier) (l : Level) where
   unfolding cornersVerdict backupAt ceiling gain
   corners-read = refl
 
-  pub points-read : pointsVerdict (modelIn c) roof (roofIn (c .tables .states) [] (l .points) (l .weights) (l .values)) ≡ pointsVerdict (modelIn c) (levelIn c) (readBy c l)
+  pub points-read : pointsVerdict (modelIn c) roof (roofIn (c .tables .states) [] (l .points) (l .weights) (l .values)) ≡ pointsVerdict (modelIn c)
+      (levelIn c) (readBy c l)
   unfolding pointsVerdict backupAt ceiling gain
   points-read = refl
 

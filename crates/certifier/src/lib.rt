@@ -302,7 +302,8 @@ fn bounds_at(c: Certifier, q: Weights) -> Bounds
 // The lower and the upper total at a mixture of any content, their gap and the action to open with; or refused by 7, 16 or 17.
 pub fn totals(c: Certifier, b: [u32; Tables::STATES]) -> Bounds
     ensures { λ r. ⌜ r ≡ totalsOf c b ⌝ }
-    ensures { λ r. ⌜ ((m : Tables) (ls : List Level) → Opens m → c ≡ after m ls → 0 < steps m ls → mixtureHolds (m .states) (weightIn b) ≡ true → TotalsHold m ls b r) ⌝ }
+    ensures { λ r. ⌜ ((m : Tables) (ls : List Level) → Opens m → c ≡ after m ls → 0 < steps m ls → mixtureHolds (m .states) (weightIn b) ≡ true →
+        TotalsHold m ls b r) ⌝ }
 {
     if !standing_holds(c) {
         return no_bounds(7);

@@ -38,7 +38,8 @@ module _ (c : Counts) (T O : List ℕ) (R entries : List ℤ) (actions choices :
 
   -- the vectors' verdict is made of these
   pub floors-are : (vectors : ℕ)
-      → floorsVerdict (modelIn c T O R) (floorIn (c .states) (c .observations) 0 [] [] entries) (floorIn (c .states) (c .observations) vectors actions choices offered)
+      → floorsVerdict (modelIn c T O R) (floorIn (c .states) (c .observations) 0 [] [] entries)
+      (floorIn (c .states) (c .observations) vectors actions choices offered)
       ≡ firstOf vectors (λ v. firstOf (c .states) (entryVerdict v))
   unfolding floorsVerdict follows entryVerdict mostOf
   floors-are vectors = refl

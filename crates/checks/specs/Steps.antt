@@ -63,7 +63,8 @@ pub record Roofed (c : Counts) (transition observation : List ℕ) (reward corne
   pub values-long : points ≤ length values
 
 -- tables that are not refused, the entries of a standing level, and offered vectors that choose among them
-pub record Judging (c : Counts) (transition observation : List ℕ) (reward entries : List ℤ) (vectors : ℕ) (actions choices : List ℕ) (offered : List ℤ) : Type 0 where
+pub record Judging (c : Counts) (transition observation : List ℕ) (reward entries : List ℤ) (vectors : ℕ) (actions choices : List ℕ) (offered : List ℤ) :
+    Type 0 where
   pub valid : Valid (modelIn c transition observation reward)
   pub stored : Stored c transition observation reward
   pub actions-long : vectors ≤ length actions

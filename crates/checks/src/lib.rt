@@ -50,7 +50,8 @@ fn ceilings<'a>(
     requires { ⌜ PointsFit n points (now weights) ⌝ }
     requires { ⌜ Below maxGain points (now gains) ⌝ }
     requires { ⌜ Ahead n k (now observation) (now u) (ceilingIn n (now corners) (now weights) (now gains) points) (a .0) ⌝ }
-    ensures { λ r. ⌜ r ≡ sumTo k (λ o. ceilingIn n (now (corners .entry)) (now (weights .entry)) (now (gains .entry)) points (padded 0 maxStates n (seenIn n k (now (observation .entry)) (now (u .entry)) (a .0) o))) ⌝ }
+    ensures { λ r. ⌜ r ≡ sumTo k (λ o. ceilingIn n (now (corners .entry)) (now (weights .entry)) (now (gains .entry)) points
+        (padded 0 maxStates n (seenIn n k (now (observation .entry)) (now (u .entry)) (a .0) o))) ⌝ }
 {
     let mut sum: i64 = 0;
     for o in 0..k {
@@ -78,10 +79,13 @@ fn backup_at<'a, 'b>(
 ) -> i64
     requires { ⌜ (c .states ≤ maxStates) × ((c .observations ≤ maxObservations) × ((a .0 < maxActions) × (c .discount ≤ one))) ⌝ }
     requires { ⌜ Below pointTotal (c .states) (now p) ⌝ }
-    requires { ⌜ (TransitionsFit (c .states) (now transition) (a .0)) × ((ObservationsFit (c .states) (c .observations) (now observation) (a .0)) × (RewardsFit (c .states) (now reward) (a .0))) ⌝ }
+    requires { ⌜ (TransitionsFit (c .states) (now transition) (a .0)) ×
+        ((ObservationsFit (c .states) (c .observations) (now observation) (a .0)) × (RewardsFit (c .states) (now reward) (a .0))) ⌝ }
     requires { ⌜ (CornersFit (c .states) (now corners)) × ((PointsFit (c .states) points (now weights)) × (Below maxGain points (now gains))) ⌝ }
-    requires { ⌜ RoofFits (c .states) (c .observations) (now transition) (now observation) (ceilingIn (c .states) (now corners) (now weights) (now gains) points) (now p) (a .0) ⌝ }
-    ensures { λ r. ⌜ r ≡ backupAtIn c (now (transition .entry)) (now (observation .entry)) (now (reward .entry)) (ceilingIn (c .states) (now (corners .entry)) (now (weights .entry)) (now (gains .entry)) points) (now (p .entry)) (a .0) ⌝ }
+    requires { ⌜ RoofFits (c .states) (c .observations) (now transition) (now observation)
+        (ceilingIn (c .states) (now corners) (now weights) (now gains) points) (now p) (a .0) ⌝ }
+    ensures { λ r. ⌜ r ≡ backupAtIn c (now (transition .entry)) (now (observation .entry)) (now (reward .entry))
+        (ceilingIn (c .states) (now (corners .entry)) (now (weights .entry)) (now (gains .entry)) points) (now (p .entry)) (a .0) ⌝ }
 {
     let n = c.states;
     let u = sums::moved(transition, n, p, a);
@@ -114,7 +118,8 @@ pub fn backups_at<'a, 'b>(
 ) -> Backups
     requires { ⌜ Roof c (now transition) (now observation) (now reward) (now corners) (now weights) (now gains) points ⌝ }
     requires { ⌜ Light (c .states) (now p) ⌝ }
-    ensures { λ r. ⌜ r ≡ padded (pos 0) maxActions (c .actions) (backupAtIn c (now (transition .entry)) (now (observation .entry)) (now (reward .entry)) (ceilingIn (c .states) (now (corners .entry)) (now (weights .entry)) (now (gains .entry)) points) (now (p .entry))) ⌝ }
+    ensures { λ r. ⌜ r ≡ padded (pos 0) maxActions (c .actions) (backupAtIn c (now (transition .entry)) (now (observation .entry))
+        (now (reward .entry)) (ceilingIn (c .states) (now (corners .entry)) (now (weights .entry)) (now (gains .entry)) points) (now (p .entry))) ⌝ }
 {
     let actions = c.actions;
     let mut backups = [0i64; Tables::ACTIONS];
@@ -175,7 +180,8 @@ pub fn corners_hold<'a, 'b>(
 ) -> Verdict
     requires { ⌜ Roofed c (now transition) (now observation) (now reward) (now corners) points (now weights) (now values) ⌝ }
     requires { ⌜ CornersFit (c .states) (now offered) ⌝ }
-    ensures { λ r. ⌜ r ≡ cornersVerdict (modelIn c (now (transition .entry)) (now (observation .entry)) (now (reward .entry))) (roofIn (c .states) (now (corners .entry)) points (now (weights .entry)) (now (values .entry))) (roofIn (c .states) (now (offered .entry)) 0 [] []) ⌝ }
+    ensures { λ r. ⌜ r ≡ cornersVerdict (modelIn c (now (transition .entry)) (now (observation .entry)) (now (reward .entry)))
+        (roofIn (c .states) (now (corners .entry)) points (now (weights .entry)) (now (values .entry))) (roofIn (c .states) (now (offered .entry)) 0 [] []) ⌝ }
 {
     let n = c.states;
     let gains = sawtooth::gains(corners, weights, values, points, n);
@@ -217,7 +223,9 @@ pub fn points_hold<'a, 'b, 'c>(
     requires { ⌜ PointsFit (c .states) count (now offered) ⌝ }
     requires { ⌜ ValuesFit count (now at) ⌝ }
     requires { ⌜ ((i : ℕ) → i < count → totalTo (c .states) (pointIn (c .states) (now offered) i) ≡ pointTotal) ⌝ }
-    ensures { λ r. ⌜ r ≡ pointsVerdict (modelIn c (now (transition .entry)) (now (observation .entry)) (now (reward .entry))) (roofIn (c .states) (now (corners .entry)) points (now (weights .entry)) (now (values .entry))) (roofIn (c .states) [] count (now (offered .entry)) (now (at .entry))) ⌝ }
+    ensures { λ r. ⌜ r ≡ pointsVerdict (modelIn c (now (transition .entry)) (now (observation .entry)) (now (reward .entry)))
+        (roofIn (c .states) (now (corners .entry)) points (now (weights .entry)) (now (values .entry)))
+        (roofIn (c .states) [] count (now (offered .entry)) (now (at .entry))) ⌝ }
 {
     let n = c.states;
     let gains = sawtooth::gains(corners, weights, values, points, n);
@@ -276,7 +284,9 @@ pub fn floors_hold<'a, 'b>(
     vectors: usize,
 ) -> Verdict
     requires { ⌜ Judging c (now transition) (now observation) (now reward) (now entries) vectors (now actions) (now choices) (now offered) ⌝ }
-    ensures { λ r. ⌜ r ≡ floorsVerdict (modelIn c (now (transition .entry)) (now (observation .entry)) (now (reward .entry))) (floorIn (c .states) (c .observations) 0 [] [] (now (entries .entry))) (floorIn (c .states) (c .observations) vectors (now (actions .entry)) (now (choices .entry)) (now (offered .entry))) ⌝ }
+    ensures { λ r. ⌜ r ≡ floorsVerdict (modelIn c (now (transition .entry)) (now (observation .entry)) (now (reward .entry)))
+        (floorIn (c .states) (c .observations) 0 [] [] (now (entries .entry)))
+        (floorIn (c .states) (c .observations) vectors (now (actions .entry)) (now (choices .entry)) (now (offered .entry))) ⌝ }
 {
     let n = c.states;
     let k = c.observations;

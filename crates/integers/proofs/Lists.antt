@@ -7,7 +7,7 @@ use native.Mathlib.Nat.{add-zero, add-suc}
 use native.Mathlib.Omega.{arith}
 use native.Mathlib.Numerals.{add-one}
 use native.Mathlib.Decide.{decLt}
-use lib.ListN.{length, getD, take, drop, set, replicate, length-append, length-replicate, length-set, List·getD-append}
+use lib.ListN.{length, getD, take, drop, set, replicate, length-append, length-replicate, length-set, List·getD-append, replicate-append-replicate}
 use lib.Seq.{paste, paste-zero, paste-suc, ext-getD, take-at, drop-append-add, set-at, getD-append-seam, take-suc-set, take-all, getD-take, length-take-le}
 use lib.IntN.{ℤ, pos, natAbs}
 use lib.Arith.{digits-div, digits-mod}
@@ -97,6 +97,18 @@ module _ {A : Type 0} where
   grid-cong z size rows (suc w) f g h =
       padded-cong z size (rows * suc w) _ _ (λ i l. h (i / suc w) (NatL.div-lt-iff-lt-mul (omega arith) .1 l) (i % suc w) (NatL.mod-lt i (omega arith)))
 
+  listed-same : (z : A) (n : ℕ) → listed n (λ i. z) ≡ replicate n z
+  unfolding listed
+  listed-same z zero = refl
+  listed-same z (suc n) = rw (listed-same z n) (replicate-append-replicate n 1 z) ∙ ap (λ (k : ℕ). replicate k z) (add-one n)
+
+  -- a grid that is filled with what lies past it
+  pub grid-zero : (z : A) (size rows w : ℕ) → rows * w ≤ size → grid z size rows w (λ r x. z) ≡ replicate size z
+  unfolding grid padded
+  grid-zero z size rows w h =
+      let e : rows * w + (size - rows * w) ≡ size = omega arith in
+      rw (listed-same z (rows * w)) (replicate-append-replicate (rows * w) (size - rows * w) z) ∙ ap (λ (k : ℕ). replicate k z) e
+
   -- as a loop pastes a row: x of its cells so far
   pub record Pasting (at x : ℕ) (row xs ys : List A) : Type 0 where
     pub same : ys ≡ paste xs at row x
@@ -138,7 +150,8 @@ module _ {A : Type 0} where
       let g : ℕ → A = λ i. f (i / w) (i % w) in
       let rest : List A = replicate (size - (r * w + w)) z in
       let rows : (r + 1) * w ≡ r * w + w = omega arith in
-      ap (λ (k : List A). k ++ take w row ++ drop (r * w + w) (listed (r * w) g ++ replicate (size - r * w) z)) (take-at (listed (r * w) g) _ (r * w) (length-listed (r * w) g))
+      ap (λ (k : List A). k ++ take w row ++ drop (r * w + w) (listed (r * w) g ++ replicate (size - r * w) z))
+      (take-at (listed (r * w) g) _ (r * w) (length-listed (r * w) g))
       ∙ ap (λ (k : List A). listed (r * w) g ++ take w row ++ k) (dropped g)
       ∙ ap (λ (k : List A). listed (r * w) g ++ k ++ rest) (take-listed w row (λ x. g (r * w + x)) z l (λ x b. e x b ∙ rw (digits-div r b, digits-mod r b)))
       ∙ ap (λ (k : List A). k ++ rest) (sym (listed-add (r * w) w g))
@@ -158,7 +171,12 @@ module _ {A : Type 0} where
     pub front : take i ys ≡ take n xs ++ replicate (i - n) z
 
   pub cutting-start : (z : A) (n : ℕ) (xs : List A) → Cutting z n n xs xs
-  cutting-start z n xs = record { from = omega arith; long = refl; front = sym (ap (λ (k : ℕ). take n xs ++ replicate k z) (let e : n - n ≡ 0 = omega arith in e) ∙ append-nil (take n xs)) }
+  cutting-start z n xs = record {
+    from = omega arith;
+    long = refl;
+    front = sym
+        (ap (λ (k : ℕ). take n xs ++ replicate k z) (let e : n - n ≡ 0 = omega arith in e) ∙ append-nil (take n xs));
+  }
 
   replicate-more : (z : A) (k : ℕ) → replicate k z ++ (z ∷ []) ≡ replicate (suc k) z
   replicate-more z zero = refl

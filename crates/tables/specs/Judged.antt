@@ -12,7 +12,7 @@ use Rattle.tables.specs.declared.Verdict.{Verdict}
 use Rattle.tables.specs.declared.Verdict.the-variants.{Fine, Refused}
 use Rattle.tables.specs.Limits.{maxStates, maxActions, maxObservations, one, maxReward}
 use Rattle.tables.specs.Model.{Model}
-use Rattle.tables.specs.Storage.{modelOf, kept}
+use Rattle.tables.specs.Storage.{rowPlace, modelOf, kept}
 use Rattle.tables.specs.Verdicts.{_before_, unless, firstOf}
 
 -- 1 to a limit
@@ -40,7 +40,7 @@ limitsHold M =
 
 -- a row does not total 1: first by action, then by state, at action × n + state
 unfoldable pub rowsTotal : ℕ → ℕ → ℕ → ℕ → (ℕ → ℕ → ℕ → ℕ) → Verdict
-rowsTotal number m n w cell = firstOf m (λ a. firstOf n (λ s. unless (eqb (totalTo w (λ x. cell a s x)) one) number (a * n + s)))
+rowsTotal number m n w cell = firstOf m (λ a. firstOf n (λ s. unless (eqb (totalTo w (λ x. cell a s x)) one) number (rowPlace n a s)))
 
 unfoldable pub modelVerdict : Model → Verdict
 modelVerdict M =

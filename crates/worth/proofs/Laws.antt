@@ -1,17 +1,17 @@
 -- How large worths are, how one step makes them of those with a step less, and what a graph that is not refused has. Assumes nothing.
 use mathlib.Core.Path.{_≡_, refl, sym, _∙_, ap}
 use mathlib.Core.List.{List}
-use Prim.Native.Nat.{ℕ, zero, suc, _+_, _*_, _-_, _≤_, _<_}
+use Prim.Native.Nat.{ℕ, zero, suc, _+_, _*_, _≤_, _<_}
 use native.Mathlib.Nat.{mul-le-mul}
 use native.Mathlib.Omega.{arith}
 use native.Mathlib.Numerals.{add-one}
-use lib.ListN.{length, getD, replicate, replicate-append-replicate}
+use lib.ListN.{length, getD, replicate}
 use lib.Seq.{paste}
 use lib.IntN.{ℤ, pos, natAbs}
 use borrow.Author.Tests.{ltb-true, leb-true}
 use Rattle.integers.specs.Whole.{floorDiv, Within}
-use Rattle.integers.specs.Cells.{listed, padded, grid}
-use Rattle.integers.proofs.Lists.{padded-at, padded-cong, padded-none, padded-length, grid-at, grid-cong, grid-length, grid-more, filled-within}
+use Rattle.integers.specs.Cells.{padded, grid}
+use Rattle.integers.proofs.Lists.{padded-at, padded-cong, padded-none, padded-length, grid-at, grid-cong, grid-zero, grid-length, grid-more, filled-within}
 use Rattle.integers.proofs.Rounding.{floor-range}
 use Rattle.integers.proofs.Searches.{and-true}
 use Rattle.tables.specs.declared.Counts.{Counts}
@@ -33,19 +33,6 @@ use Rattle.worth.specs.Graph.{PlanGraph, worthOf, Sound, Accepted}
 use Rattle.worth.specs.Storage.{graphIn}
 use Rattle.worth.specs.Steps.{Lent, backedUpOf, worthsBy}
 use Rattle.worth.specs.Judged.{worthVerdict}
-
--- a grid that is filled with what lies past it
-module _ {A : Type 0} where
-  listed-same : (z : A) (n : ℕ) → listed n (λ i. z) ≡ replicate n z
-  unfolding listed
-  listed-same z zero = refl
-  listed-same z (suc n) = rw (listed-same z n) (replicate-append-replicate n 1 z) ∙ ap (λ (k : ℕ). replicate k z) (add-one n)
-
-  grid-zero : (z : A) (size rows w : ℕ) → rows * w ≤ size → grid z size rows w (λ r x. z) ≡ replicate size z
-  unfolding grid padded
-  grid-zero z size rows w h =
-      let e : rows * w + (size - rows * w) ≡ size = omega arith in
-      rw (listed-same z (rows * w)) (replicate-append-replicate (rows * w) (size - rows * w) z) ∙ ap (λ (k : ℕ). replicate k z) e
 
 -- A worth with d steps left lies within the range of level d.
 -- By induction on d: a backup of worths within range d is within K × range (d + 1), and rounding keeps a range with whole ends. Qed.

@@ -21,22 +21,27 @@ first-long : tie.Need-slice-aggregate-product Inv-loop μ-loop
 first-long c = sym (vector-long (asked (c .before .before .before .before .before .before)) 0 (c .before .before .vector-for .ensures))
 
 product-requires : tie.Need-product-requires Inv-loop μ-loop
-product-requires c κs = vector-product (asked (c .before .before .before .before .before .before)) 0 (c .before .before .vector-for .ensures) (c .before .before .before .before .before .before .pre .0 .valid .some-actions)
+product-requires c κs = vector-product (asked (c .before .before .before .before .before .before)) 0 (c .before .before .vector-for .ensures)
+    (c .before .before .before .before .before .before .pre .0 .valid .some-actions)
 
 loop-holds : tie.Need-loop-holds Inv-loop μ-loop
 loop-holds c = (
   (omega arith, c .before .before .before .before .before .before .before .pre .0 .valid .some-actions),
-  best-first (asked (c .before .before .before .before .before .before .before)) (c .before .before .before .vector-for .ensures) (answer (c .product .ok) (c .product .ensures)),
+  best-first (asked (c .before .before .before .before .before .before .before)) (c .before .before .before .vector-for .ensures)
+      (answer (c .product .ok) (c .product .ensures)),
 )
 
 vector-for-requires-2 : tie.Need-vector-for-requires-2 Inv-loop μ-loop
-vector-for-requires-2 c κs = vector-fits (asked (c .before .before .before .before .before .before .before .before .before)) (c .before .loop .a) (c .loop-test .taken)
+vector-for-requires-2 c κs = vector-fits (asked (c .before .before .before .before .before .before .before .before .before)) (c .before .loop .a)
+    (c .loop-test .taken)
 
 next-long : tie.Need-slice-aggregate-product-2 Inv-loop μ-loop
-next-long c = sym (vector-long (asked (c .before .before .before .before .before .before .before .before .before .before .before .before)) (c .before .before .before .before .loop .a) (c .before .before .vector-for2 .ensures))
+next-long c = sym (vector-long (asked (c .before .before .before .before .before .before .before .before .before .before .before .before))
+    (c .before .before .before .before .loop .a) (c .before .before .vector-for2 .ensures))
 
 product-requires-2 : tie.Need-product-requires-2 Inv-loop μ-loop
-product-requires-2 c κs = vector-product (asked (c .before .before .before .before .before .before .before .before .before .before .before .before)) (c .before .before .before .before .loop .a) (c .before .before .vector-for2 .ensures) (c .before .before .before .loop-test .taken)
+product-requires-2 c κs = vector-product (asked (c .before .before .before .before .before .before .before .before .before .before .before .before))
+    (c .before .before .before .before .loop .a) (c .before .before .vector-for2 .ensures) (c .before .before .before .loop-test .taken)
 
 loop-again : tie.Need-loop-again Inv-loop μ-loop
 loop-again c =
@@ -56,4 +61,9 @@ returns c = best-found (c .before .loop .inv .1) (omega arith)
 pub best-candidate-spec : {M : Type 1} → statement M
 best-candidate-spec =
     tie.close (tie.spec Inv-loop μ-loop vector-for-requires first-long product-requires loop-holds vector-for-requires-2 next-long product-requires-2
-    (λ c. omega (arith, c .before .before .before .before .before .loop-test .taken, c .before .before .before .before .before .before .before .before .before .before .before .before .before .before .pre .0 .valid .few-actions)) (λ c. omega (arith, c .before .before .before .before .before .loop-test .taken)) loop-again returns)
+    (λ c. omega (
+      arith,
+      c .before .before .before .before .before .loop-test .taken,
+      c .before .before .before .before .before .before .before .before .before .before .before .before .before .before .pre .0 .valid .few-actions,
+    ))
+    (λ c. omega (arith, c .before .before .before .before .before .loop-test .taken)) loop-again returns)

@@ -26,23 +26,35 @@ below : (c : tie.In-loop Inv-loop μ-loop) → c .before .loop .s < maxStates
 below c = omega (arith, c .loop-test .taken, c .before .before .before .before .before .before .pre .valid .few-states)
 
 gains-long : tie.Need-slice-aggregate-backups-at Inv-loop μ-loop
-gains-long c = sym (rw (c .before .before .before .before .gains .ensures) (padded-length 0 maxPoints _ _ (c .before .before .before .before .before .before .before .before .pre .shaped .few-points)))
+gains-long c = sym (rw (c .before .before .before .before .gains .ensures)
+    (padded-length 0 maxPoints _ _ (c .before .before .before .before .before .before .before .before .pre .shaped .few-points)))
 
 weights-long : tie.Need-slice-aggregate-backups-at-2 Inv-loop μ-loop
 weights-long c = sym (corner-long (c .before .before .before .before .loop .s) (c .before .before .corner-weights .ensures))
 
 backups-at-requires : tie.Need-backups-at-requires Inv-loop μ-loop
 backups-at-requires c κs =
-    let h = c .before .before .before .before .before .before .before .before .before .pre in
-    (roof-holds h (c .before .before .before .before .before .gains .ensures), corner-light (c .before .before .corner-weights .ensures) (c .before .before .before .loop-test .taken) (h .valid .few-states))
+    let h = c .before .before .before .before .before .before .before .before .before .pre in (
+      roof-holds h (c .before .before .before .before .before .gains .ensures),
+      corner-light (c .before .before .corner-weights .ensures)
+          (c .before .before .before .loop-test .taken) (h .valid .few-states),
+    )
 
 long : tie.Need-slice-aggregate-least-of Inv-loop μ-loop
-long c = sym (backups-long (c .before .before .before .before .before .before .before .before .before .before .before .pre) (c .before .before .before .before .before .before .before .gains .ensures) _ (c .before .backups-at .ensures))
+long c = sym (backups-long (c .before .before .before .before .before .before .before .before .before .before .before .pre)
+    (c .before .before .before .before .before .before .before .gains .ensures) _ (c .before .backups-at .ensures))
 
 least-of-requires : tie.Need-least-of-requires Inv-loop μ-loop
 least-of-requires c κs =
-    let h = c .before .before .before .before .before .before .before .before .before .before .before .pre in
-    (h .valid .some-actions, omega (arith, h .valid .few-actions, backups-long h (c .before .before .before .before .before .before .before .gains .ensures) _ (c .before .backups-at .ensures)))
+    let h = c .before .before .before .before .before .before .before .before .before .before .before .pre in (
+      h .valid .some-actions,
+      omega (
+        arith,
+        h .valid .few-actions,
+        backups-long h (c .before .before .before .before .before .before .before .gains .ensures)
+            _ (c .before .backups-at .ensures),
+      ),
+    )
 
 loop-again : tie.Need-loop-again Inv-loop μ-loop
 loop-again c =
@@ -50,18 +62,23 @@ loop-again c =
     let b = c .before .before .backups-at in (
       omega (arith, c .before .before .before .before .before .before .loop-test .taken),
       padded-turn _ _ _ _ (c .before .before .before .before .before .before .before .loop .inv .1)
-          (value-at _ _ _ _ (λ i l. corner-at (c .before .before .before .before .before .corner-weights .ensures) (below (c .before .before .before .before .before .before)) i) (h .valid .some-actions) (c .least-of .ok)
-          (c .least-of .ensures ∙ least-is _ _ _ (b .result) (backups-at h (c .before .before .before .before .before .before .before .before .gains .ensures) _ (b .ensures)) (h .valid .some-actions)))
+          (value-at _ _ _ _ (λ i l. corner-at (c .before .before .before .before .before .corner-weights .ensures)
+          (below (c .before .before .before .before .before .before)) i) (h .valid .some-actions) (c .least-of .ok)
+          (c .least-of .ensures ∙ least-is _ _ _ (b .result) (backups-at h
+          (c .before .before .before .before .before .before .before .before .gains .ensures) _ (b .ensures)) (h .valid .some-actions)))
           (below (c .before .before .before .before .before .before)),
     )
 
 returns : tie.Need-returns Inv-loop μ-loop
 returns c =
-    let e : c .before .loop .s ≡ c .before .before .before .before .before .before .args .c .states = omega (arith, c .loop-test .left, c .before .loop .inv .0) in
+    let e : c .before .loop .s ≡ c .before .before .before .before .before .before .args .c .states = omega
+    (arith, c .loop-test .left, c .before .loop .inv .0) in
     rw e at (c .before .loop .inv .1)
 
 pub build-corners-spec : {M : Type 1} → statement M
 build-corners-spec =
     tie.close (tie.spec Inv-loop μ-loop gains-requires loop-holds (λ c κs. below c) gains-long weights-long backups-at-requires long least-of-requires
-    (λ c. omega (arith, below (c .before .before .before .before .before .before))) (λ c. below (c .before .before .before .before .before .before)) (λ c. omega (arith, below (c .before .before .before .before .before .before))) (λ c. omega (arith, c .before .before .before .before .before .before .loop-test .taken)) loop-again
+    (λ c. omega (arith, below (c .before .before .before .before .before .before))) (λ c. below (c .before .before .before .before .before .before))
+    (λ c. omega (arith, below (c .before .before .before .before .before .before)))
+    (λ c. omega (arith, c .before .before .before .before .before .before .loop-test .taken)) loop-again
     returns)

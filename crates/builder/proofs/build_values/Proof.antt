@@ -16,6 +16,10 @@ Inv-loop T O R corners weights values given c points count n gains least₀ i₀
 abbrev μ-loop : tie.MeasureT-loop
 μ-loop T O R corners weights values given c points count n gains least₀ i₀ least i = count - i
 
+-- places of the code, each from those after it
+abbrev start-of-least-of : tie.After-least-of Inv-loop μ-loop → tie.Start Inv-loop μ-loop
+start-of-least-of c = c .before .before .before .before .before .before .before .before .before .before .before .before .before
+
 gains-requires : tie.Need-gains-requires Inv-loop μ-loop
 gains-requires c κs = let h = c .before .before .before .before .pre .0 in (h .valid .few-states, (corners-fit h, (points-fit h, values-fit h)))
 
@@ -33,12 +37,14 @@ point-weights-requires c κs =
     )
 
 gains-long : tie.Need-slice-aggregate-backups-at Inv-loop μ-loop
-gains-long c = sym (rw (c .before .before .before .before .gains .ensures) (padded-length 0 maxPoints _ _ (c .before .before .before .before .before .before .before .before .before .pre .0 .shaped .few-points)))
+gains-long c = sym (rw (c .before .before .before .before .gains .ensures)
+    (padded-length 0 maxPoints _ _ (c .before .before .before .before .before .before .before .before .before .pre .0 .shaped .few-points)))
 
 weights-long : tie.Need-slice-aggregate-backups-at-2 Inv-loop μ-loop
 weights-long c =
     let s = c .before .before .before .before .before .before .before .before .before .before in
-    sym (point-long (s .args .c .states) (s .args .given .now) (c .before .before .before .before .loop .i) (c .before .before .point-weights .ensures) (s .pre .0 .valid .few-states))
+    sym (point-long (s .args .c .states) (s .args .given .now) (c .before .before .before .before .loop .i) (c .before .before .point-weights .ensures)
+    (s .pre .0 .valid .few-states))
 
 backups-at-requires : tie.Need-backups-at-requires Inv-loop μ-loop
 backups-at-requires c κs =
@@ -50,33 +56,46 @@ backups-at-requires c κs =
     )
 
 long : tie.Need-slice-aggregate-least-of Inv-loop μ-loop
-long c = sym (backups-long (c .before .before .before .before .before .before .before .before .before .before .before .before .pre .0) (c .before .before .before .before .before .before .before .gains .ensures) _ (c .before .backups-at .ensures))
+long c = sym (backups-long (c .before .before .before .before .before .before .before .before .before .before .before .before .pre .0)
+    (c .before .before .before .before .before .before .before .gains .ensures) _ (c .before .backups-at .ensures))
 
 least-of-requires : tie.Need-least-of-requires Inv-loop μ-loop
 least-of-requires c κs =
-    let h = c .before .before .before .before .before .before .before .before .before .before .before .before .pre .0 in
-    (h .valid .some-actions, omega (arith, h .valid .few-actions, backups-long h (c .before .before .before .before .before .before .before .gains .ensures) _ (c .before .backups-at .ensures)))
+    let h = c .before .before .before .before .before .before .before .before .before .before .before .before .pre .0 in (
+      h .valid .some-actions,
+      omega (
+        arith,
+        h .valid .few-actions,
+        backups-long h (c .before .before .before .before .before .before .before .gains .ensures)
+            _ (c .before .backups-at .ensures),
+      ),
+    )
 
 loop-again : tie.Need-loop-again Inv-loop μ-loop
 loop-again c =
-    let s = c .before .before .before .before .before .before .before .before .before .before .before .before .before in
+    let s = (start-of-least-of c) in
     let h = s .pre .0 in
     let b = c .before .before .backups-at in (
       omega (arith, c .before .before .before .before .before .before .loop-test .taken),
       padded-turn _ _ _ _ (c .before .before .before .before .before .before .before .loop .inv .1)
-          (value-at _ _ _ _ (point-at (s .args .c .states) (s .args .given .now) (c .before .before .before .before .before .before .before .loop .i) (c .before .before .before .before .before .point-weights .ensures)) (h .valid .some-actions)
+          (value-at _ _ _ _ (point-at (s .args .c .states) (s .args .given .now) (c .before .before .before .before .before .before .before .loop .i)
+          (c .before .before .before .before .before .point-weights .ensures)) (h .valid .some-actions)
           (c .least-of .ok)
-          (c .least-of .ensures ∙ least-is _ _ _ (b .result) (backups-at h (c .before .before .before .before .before .before .before .before .gains .ensures) _ (b .ensures)) (h .valid .some-actions)))
+          (c .least-of .ensures ∙ least-is _ _ _ (b .result) (backups-at h
+          (c .before .before .before .before .before .before .before .before .gains .ensures) _ (b .ensures)) (h .valid .some-actions)))
           (omega (arith, below (c .before .before .before .before .before .before))),
     )
 
 returns : tie.Need-returns Inv-loop μ-loop
 returns c =
-    let e : c .before .loop .i ≡ c .before .before .before .before .before .before .before .args .count = omega (arith, c .loop-test .left, c .before .loop .inv .0) in
+    let e : c .before .loop .i ≡ c .before .before .before .before .before .before .before .args .count = omega
+    (arith, c .loop-test .left, c .before .loop .inv .0) in
     rw e at (c .before .loop .inv .1)
 
 pub build-values-spec : {M : Type 1} → statement M
 build-values-spec =
     tie.close (tie.spec Inv-loop μ-loop gains-requires loop-holds point-weights-requires gains-long weights-long backups-at-requires long
-    least-of-requires (λ c. omega (arith, below (c .before .before .before .before .before .before))) (λ c. omega (arith, below (c .before .before .before .before .before .before))) (λ c. omega (arith, below (c .before .before .before .before .before .before)))
+    least-of-requires (λ c. omega (arith, below (c .before .before .before .before .before .before)))
+    (λ c. omega (arith, below (c .before .before .before .before .before .before)))
+    (λ c. omega (arith, below (c .before .before .before .before .before .before)))
     (λ c. omega (arith, c .before .before .before .before .before .before .loop-test .taken)) loop-again returns)

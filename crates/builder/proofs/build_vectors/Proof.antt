@@ -52,7 +52,8 @@ best-candidate-requires c κs =
       record {
         long = omega (arith, made .1, s .pre .0 .valid .few-states);
         light = rw (total-cong (a .c .states) _ _ (made .0))
-            (seed-light (a .c .states) (a .points) (pointIn (a .c .states) (a .weights .now)) (s .pre .1 .1) (c .before .before .before .loop .v) (c .before .before .loop-test .taken));
+            (seed-light (a .c .states) (a .points) (pointIn (a .c .states) (a .weights .now)) (s .pre .1 .1) (c .before .before .before .loop .v)
+            (c .before .before .loop-test .taken));
       },
     )
 
@@ -70,11 +71,13 @@ of-entries c = of-choices (c .before .before .before .before .before)
 made : (c : tie.After-best-candidate Inv-loop μ-loop)
     → let a = c .before .before .before .before .before .before .before .before .args in
     Made (a .c .states) (a .c .observations)
-    (W (a .c) (a .transition .now) (a .observation .now) (a .reward .now) (a .standing .now) (a .weights .now) (a .vectors) (a .points)) (c .before .before .before .before .loop .v)
+    (W (a .c) (a .transition .now) (a .observation .now) (a .reward .now) (a .standing .now) (a .weights .now) (a .vectors) (a .points))
+    (c .before .before .before .before .loop .v)
     (c .best-candidate .result)
 made c =
     let s = c .before .before .before .before .before .before .before .before in
-    vector-made (s .args .points) (pointIn (s .args .c .states) (s .args .weights .now)) (c .before .before .before .before .loop .v) (c .before .before .seed-weights .result) (s .pre .0)
+    vector-made (s .args .points) (pointIn (s .args .c .states) (s .args .weights .now)) (c .before .before .before .before .loop .v)
+    (c .before .before .seed-weights .result) (s .pre .0)
     (c .before .before .seed-weights .ensures .0) (c .best-candidate .ensures)
 
 -- there is room for its rows
@@ -97,29 +100,42 @@ choices-long : tie.Need-slice-aggregate-paste-u16 Inv-loop μ-loop
 choices-long c = sym (room (of-choices c) .choices-long)
 
 start-requires : tie.Need-start-requires Inv-loop μ-loop
-start-requires c κs = let b = of-choices c in (omega (arith, below (b .before .before .before)), omega (arith, b .before .before .before .before .before .before .before .before .pre .0 .valid .few-observations))
+start-requires c κs = let b = of-choices c in (
+  omega (arith, below (b .before .before .before)),
+  omega
+      (arith, b .before .before .before .before .before .before .before .before .pre .0 .valid .few-observations),
+)
 
 chosen-long : tie.Need-slice-aggregate-paste-u16-2 Inv-loop μ-loop
 chosen-long c = sym (made (of-choices (c .before .before)) .chosen-long)
 
 paste-u16-requires : tie.Need-paste-u16-requires Inv-loop μ-loop
 paste-u16-requires c κs =
-    let b = of-choices (c .before .before) in
-    (rw (c .before .start .ensures) (omega (arith, room b)), omega (arith, made b .chosen-long, b .before .before .before .before .before .before .before .before .pre .0 .valid .few-observations))
+    let b = of-choices (c .before .before) in (
+      rw (c .before .start .ensures) (omega (arith, room b)),
+      omega
+          (arith, made b .chosen-long, b .before .before .before .before .before .before .before .before .pre .0 .valid .few-observations),
+    )
 
 entries-long : tie.Need-slice-aggregate-paste-i64 Inv-loop μ-loop
 entries-long c = sym (room (of-entries c) .entries-long)
 
 start-requires-2 : tie.Need-start-requires-2 Inv-loop μ-loop
-start-requires-2 c κs = let b = of-entries c in (omega (arith, below (b .before .before .before)), b .before .before .before .before .before .before .before .before .pre .0 .valid .few-states)
+start-requires-2 c κs = let b = of-entries c in (
+  omega (arith, below (b .before .before .before)),
+  b .before .before .before .before .before .before .before .before .pre .0 .valid .few-states,
+)
 
 row-long : tie.Need-slice-aggregate-paste-i64-2 Inv-loop μ-loop
 row-long c = sym (made (of-entries (c .before .before)) .entries-long)
 
 paste-i64-requires : tie.Need-paste-i64-requires Inv-loop μ-loop
 paste-i64-requires c κs =
-    let b = of-entries (c .before .before) in
-    (rw (c .before .start2 .ensures) (omega (arith, room b)), omega (arith, made b .entries-long, b .before .before .before .before .before .before .before .before .pre .0 .valid .few-states))
+    let b = of-entries (c .before .before) in (
+      rw (c .before .start2 .ensures) (omega (arith, room b)),
+      omega
+          (arith, made b .entries-long, b .before .before .before .before .before .before .before .before .pre .0 .valid .few-states),
+    )
 
 add-v : tie.Need-add-v Inv-loop μ-loop
 add-v c = omega (arith, below (of-entries (c .before .before .before .before) .before .before .before))
@@ -133,8 +149,11 @@ loop-again c =
     let l = b .before .before .before .before in
     let v = b .before .before .before .before .before .before .before .before .pre .0 .valid in (
       omega (arith, b .before .before .before .loop-test .taken),
-      filled-more _ _ _ (v .few-states) (v .few-observations) (l .loop .inv .1) (below (b .before .before .before)) (made b) (c .before .before .before .before .before .before .before .before .before .before .number .ensures)
-          (rw (c .before .before .before .before .before .before .before .before .start .ensures) at (c .before .before .before .before .before .before .paste-u16 .ensures)) (rw (c .before .before .before .start2 .ensures) at (c .before .paste-i64 .ensures)),
+      filled-more _ _ _ (v .few-states) (v .few-observations) (l .loop .inv .1) (below (b .before .before .before)) (made b)
+          (c .before .before .before .before .before .before .before .before .before .before .number .ensures)
+          (rw (c .before .before .before .before .before .before .before .before .start .ensures) at
+          (c .before .before .before .before .before .before .paste-u16 .ensures))
+          (rw (c .before .before .before .start2 .ensures) at (c .before .paste-i64 .ensures)),
     )
 
 returns : tie.Need-returns Inv-loop μ-loop

@@ -47,7 +47,11 @@ put-choice-requires : tie.Need-put-choice-requires Inv-loop μ-loop
 put-choice-requires c κs =
     let p = c .before .before .before .before .before .before .before .before .pre in (
       (p .0 .1 .0, (omega arith, omega arith)),
-      (omega (arith, long (c .before .before .before .before), p .0 .1 .0), found-in _ _ (c .before .best-vector .ensures) (p .0 .1 .1 .1) (p .1 .1 .1 .1 .few)),
+      (
+        omega (arith, long (c .before .before .before .before), p .0 .1 .0),
+        found-in _ _ (c .before .best-vector .ensures) (p .0 .1 .1 .1)
+            (p .1 .1 .1 .1 .few),
+      ),
     )
 
 loop-again : tie.Need-loop-again Inv-loop μ-loop

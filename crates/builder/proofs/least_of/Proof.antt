@@ -27,7 +27,8 @@ loop-holds : tie.Need-loop-holds Inv-loop μ-loop
 loop-holds c = ((omega arith, omega arith), most-first c ∙ ap (leastFrom (c .before .before .args .backups .now)) (sym (largest-first _)))
 
 -- the least value of the turn's action
-here : (c : tie.After-ceil-div2 Inv-loop μ-loop) → toZ w64 (ofZ w64 (c .ceil-div2 .result)) ≡ leastFrom (c .before .before .before .before .before .before .args .backups .now) (c .before .before .before .loop .a)
+here : (c : tie.After-ceil-div2 Inv-loop μ-loop) → toZ w64 (ofZ w64 (c .ceil-div2 .result)) ≡ leastFrom
+    (c .before .before .before .before .before .before .args .backups .now) (c .before .before .before .loop .a)
 unfolding K
 here c = answer (c .ceil-div2 .ok) (c .ceil-div2 .ensures ∙ ap (λ (z : ℤ). ceilDiv z K) (back _ (c .before .ceil-div-arg2 .given)))
 

@@ -24,10 +24,12 @@ choose-requires c κs =
     )
 
 chosen-long : tie.Need-slice-aggregate-foreseen
-chosen-long c = sym (rw (c .before .choose .ensures) (padded-length 0 maxObservations _ _ (c .before .before .before .before .before .before .before .pre .0 .1 .0)))
+chosen-long c = sym (rw (c .before .choose .ensures) (padded-length 0 maxObservations _ _
+    (c .before .before .before .before .before .before .before .pre .0 .1 .0)))
 
 -- the vectors chosen are within the limits
-chosen-within : (c : tie.After-choose) → let a = c .before .before .before .before .before .before .args in ChosenFit (a .c .states) (a .c .observations) (a .entries .now) (c .choose .result) 0
+chosen-within : (c : tie.After-choose) → let a = c .before .before .before .before .before .before .args in ChosenFit (a .c .states) (a .c .observations)
+    (a .entries .now) (c .choose .result) 0
 chosen-within c =
     let a = c .before .before .before .before .before .before .args in
     let p = c .before .before .before .before .before .before .pre in
@@ -40,7 +42,8 @@ foreseen-requires c κs =
     ((p .0 .0, (p .0 .1 .0, p .0 .1 .1 .0)), (p .1 .1 .1 .0 .1 .0, chosen-within (c .before)))
 
 foreseen-long : tie.Need-slice-aggregate-rounded
-foreseen-long c = sym (rw (c .before .foreseen .ensures) (padded-length _ maxStates _ _ (c .before .before .before .before .before .before .before .before .before .pre .0 .0)))
+foreseen-long c = sym (rw (c .before .foreseen .ensures) (padded-length _ maxStates _ _
+    (c .before .before .before .before .before .before .before .before .before .pre .0 .0)))
 
 rounded-requires : tie.Need-rounded-requires
 rounded-requires c κs =
@@ -52,7 +55,8 @@ rounded-requires c κs =
         fits .0,
         (
           fits .1 .1,
-          filled-within maxStates (foreseenIn (a .c .states) (a .c .observations) (a .observation .now) (a .entries .now) (c .before .before .before .choose .result) 0 (a .a .0))
+          filled-within maxStates (foreseenIn (a .c .states) (a .c .observations) (a .observation .now) (a .entries .now)
+              (c .before .before .before .choose .result) 0 (a .a .0))
               (c .before .foreseen .ensures) (p .0 .0) (λ s l. foreseen-limit (fits .1 .0) (chosen-within (c .before .before .before)) (p .0 .1 .0) l),
         ),
       ),
@@ -62,7 +66,8 @@ returns : tie.Need-returns
 returns c =
     let a = c .before .before .before .before .before .before .before .before .before .before .args in
     candidate-made (a .c) (a .a .0) (a .transition .now) (a .observation .now) (a .p .now) (a .reward .now) (a .entries .now) (a .count)
-    (c .before .before .before .before .before .before .moved .ensures) (c .before .before .before .before .choose .ensures) (c .before .before .foreseen .ensures) (c .rounded .ensures)
+    (c .before .before .before .before .before .before .moved .ensures) (c .before .before .before .before .choose .ensures)
+    (c .before .before .foreseen .ensures) (c .rounded .ensures)
 
 pub vector-for-spec : {M : Type 1} → statement M
 vector-for-spec =

@@ -12,9 +12,19 @@ use Rattle.certifier.proofs.Bounds.{below-reached, some-vectors, entrie
 use Rattle.certifier.proofs.bounds_at.Statement.{statement}
 use Rattle.certifier.proofs.bounds_at.Tie as tie
 
+-- places of the code, each from those after it
+abbrev start-of-q3 : tie.After-q3 → tie.Start
+start-of-q3 c = c .before .before .before .before .before .before .before .before .before .before .before .before .before .before .before
+    .before .before .before .before .before .before .before
+
 -- what the types say
 tables-long : (c : tie.Start) → tables.Long (c .args .c .tables)
-tables-long c = record { transition = search (needs, c .good .0 .1 .1 .0); observation = search (needs, c .good .0 .1 .1 .0); reward = search (needs, c .good .0 .1 .1 .0) }
+tables-long c = record {
+  transition = search (needs, c .good .0 .1 .1 .0);
+  observation = search (needs, c .good .0 .1 .1 .0);
+  reward = search
+      (needs, c .good .0 .1 .1 .0);
+}
 
 level-long : (c : tie.Start) → Long (c .args .c .level)
 level-long c = record {
@@ -134,5 +144,6 @@ returns c =
 
 pub bounds-at-spec : {M : Type 1} → statement M
 bounds-at-spec =
-    tie.close (tie.spec (λ c. sym (weights-long (c .before .before .before))) best-vector-requires (λ c. sym (weights-long (c .before .before .before .before .before .before .before .before))) start-requires product-requires gains-requires
-    (λ c. sym (weights-long (c .before .before .before .before .before .before .before .before .before .before .before .before .before .before .before .before .before .before .before .before .before .before))) gains-long ceiling-requires minus-requires array-read-action (λ c κs. tt) returns)
+    tie.close (tie.spec (λ c. sym (weights-long (c .before .before .before))) best-vector-requires
+    (λ c. sym (weights-long (c .before .before .before .before .before .before .before .before))) start-requires product-requires gains-requires
+    (λ c. sym (weights-long ((start-of-q3 c)))) gains-long ceiling-requires minus-requires array-read-action (λ c κs. tt) returns)

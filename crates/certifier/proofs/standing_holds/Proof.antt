@@ -17,7 +17,8 @@ tables-long : (c : tie.Start) → tables.Long (c .args .c .tables)
 tables-long c = record { transition = search (needs, c .good .0); observation = search (needs, c .good .0); reward = search (needs, c .good .0) }
 
 judge-tables-requires : tie.Need-judge-tables-requires
-judge-tables-requires c κs = tables.stored-by (c .before .before .before .before .before .before .before .before .before .args .c .tables) (tables-long (c .before .before .before .before .before .before .before .before .before))
+judge-tables-requires c κs = tables.stored-by (c .before .before .before .before .before .before .before .before .before .args .c .tables)
+    (tables-long (c .before .before .before .before .before .before .before .before .before))
 
 -- from each test that was passed to the one before it
 abbrev of-counts : tie.Else2 → tie.Else1
@@ -84,7 +85,12 @@ returns-3 c =
     holds-on (fine (valid-tables (e .before))) (holds-on (levels e) (fails _ (sym (c .before .counts-hold .ensures) ∙ not-true _ (c .if2 .taken))))
 
 actions-exist-requires : tie.Need-actions-exist-requires
-actions-exist-requires c κs = omega (arith, few (c .before .before .before) .0, long (of-counts (c .before .before .before) .before .before .before .before .before .before .before .before .before .before .before .before .before) .actions)
+actions-exist-requires c κs = omega (
+  arith,
+  few (c .before .before .before) .0,
+  long
+      (of-counts (c .before .before .before) .before .before .before .before .before .before .before .before .before .before .before .before .before) .actions,
+)
 
 returns-4 : tie.Need-returns-4
 unfolding standingHolds

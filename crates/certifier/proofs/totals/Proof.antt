@@ -53,8 +53,11 @@ point-weights-requires c κs =
 
 bounds-at-requires : tie.Need-bounds-at-requires
 bounds-at-requires c κs =
-    let k = c .before .before .before .before .before .before .before in
-    (held k, mixture-below (k .before .before .args .t2) (few-states (k .before .before .args .c) (held k)) (c .point-weights .ensures) (mixed (c .before .before)))
+    let k = c .before .before .before .before .before .before .before in (
+      held k,
+      mixture-below (k .before .before .args .t2) (few-states (k .before .before .args .c) (held k)) (c .point-weights .ensures)
+          (mixed (c .before .before)),
+    )
 
 returns-4 : tie.Need-returns-4
 returns-4 c =
@@ -66,5 +69,6 @@ returns-4 c =
 
 pub totals-spec : {M : Type 1} → statement M
 totals-spec =
-    tie.close (tie.spec (λ c κs. tt) (λ c κs. tt) returns (λ c κs. tt) returns-2 mixture-holds-requires (λ c κs. tt) returns-3 (λ c. sym (mixture-long (c .before .before .before .before .before .before .before .before))) point-weights-requires
+    tie.close (tie.spec (λ c κs. tt) (λ c κs. tt) returns (λ c κs. tt) returns-2 mixture-holds-requires (λ c κs. tt) returns-3
+    (λ c. sym (mixture-long (c .before .before .before .before .before .before .before .before))) point-weights-requires
     bounds-at-requires returns-4)

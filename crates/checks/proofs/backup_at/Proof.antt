@@ -15,16 +15,19 @@ expected-reward-requires c κs =
     let pre = c .before .before .before .before .before .before .pre in ((pre .0 .0, pre .0 .1 .1 .0), (weights-below (pre .1 .0), pre .1 .1 .0 .1 .1))
 
 expected : (c : tie.After-expected-reward)
-    → let a = c .before .before .before .before .before .before .before .args in toZ w64 (ofZ w64 (c .expected-reward .result)) ≡ expectedIn (a .c .states) (a .reward .now) (a .p .now) (a .a .0)
+    → let a = c .before .before .before .before .before .before .before .args in toZ w64 (ofZ w64 (c .expected-reward .result)) ≡ expectedIn (a .c .states)
+    (a .reward .now) (a .p .now) (a .a .0)
 expected c = answer (c .expected-reward .ok) (c .expected-reward .ensures)
 
 scaled-requires : tie.Need-scaled-requires
 unfolding K
 scaled-requires c κs =
-    let pre = c .before .before .before .before .before .before .before .pre in (lit< tt, expected-fits (pre .0 .0) (pre .1 .0) (pre .1 .1 .0 .1 .1) (expected c))
+    let pre = c .before .before .before .before .before .before .before .pre in
+    (lit< tt, expected-fits (pre .0 .0) (pre .1 .0) (pre .1 .1 .0 .1 .1) (expected c))
 
 slice-aggregate-ceilings : tie.Need-slice-aggregate-ceilings
-slice-aggregate-ceilings c = sym (rw (c .before .before .before .moved .ensures) (padded-length 0 maxStates _ _ (c .before .before .before .before .before .before .before .before .before .pre .0 .0)))
+slice-aggregate-ceilings c = sym (rw (c .before .before .before .moved .ensures)
+    (padded-length 0 maxStates _ _ (c .before .before .before .before .before .before .before .before .before .pre .0 .0)))
 
 ceilings-requires : tie.Need-ceilings-requires
 ceilings-requires c κs =
@@ -49,7 +52,8 @@ now c = answer (c .scaled .ok) (c .scaled .ensures ∙ rw (expected (c .before))
 ahead : (c : tie.After-ceilings)
     → let a = c .before .before .before .before .before .before .before .before .before .before .args in
     toZ w64 (ofZ w64 (c .ceilings .result))
-    ≡ sumTo (a .c .observations) (aheadAt (a .c .states) (a .c .observations) (a .observation .now) (padded 0 maxStates (a .c .states) (movedIn (a .c .states) (a .transition .now) (a .p .now) (a .a .0)))
+    ≡ sumTo (a .c .observations) (aheadAt (a .c .states) (a .c .observations) (a .observation .now)
+    (padded 0 maxStates (a .c .states) (movedIn (a .c .states) (a .transition .now) (a .p .now) (a .a .0)))
     (ceilingIn (a .c .states) (a .corners .now) (a .weights .now) (a .gains .now) (a .points)) (a .a .0))
 ahead c = answer (c .ceilings .ok) (c .ceilings .ensures ∙ rw (c .before .before .before .before .moved .ensures))
 

@@ -48,7 +48,8 @@ loop-again c = (
 )
 
 returns : tie.Need-returns Inv-loop μ-loop
-returns c = let e : c .before .loop .a ≡ c .before .before .before .before .before .before .before .args .c .actions = omega arith in rw e at (c .before .loop .inv .1)
+returns c = let e : c .before .loop .a ≡ c .before .before .before .before .before .before .before .args .c .actions = omega arith in rw e at
+    (c .before .loop .inv .1)
 
 pub backups-at-spec : {M : Type 1} → statement M
 backups-at-spec =

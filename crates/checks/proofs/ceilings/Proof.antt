@@ -17,10 +17,12 @@ loop-holds c = (search needs, sym (sum-none _))
 
 successors-requires : tie.Need-successors-requires Inv-loop μ-loop
 successors-requires c κs =
-    let pre = c .before .before .before .before .before .before .pre in ((pre .0 .0, (pre .0 .1 .0, (pre .0 .1 .1, c .loop-test .taken))), (pre .1 .0, pre .1 .1 .0))
+    let pre = c .before .before .before .before .before .before .pre in
+    ((pre .0 .0, (pre .0 .1 .0, (pre .0 .1 .1, c .loop-test .taken))), (pre .1 .0, pre .1 .1 .0))
 
 slice-aggregate-ceiling : tie.Need-slice-aggregate-ceiling Inv-loop μ-loop
-slice-aggregate-ceiling c = sym (rw (c .before .successors .ensures) (padded-length 0 maxStates _ _ (c .before .before .before .before .before .before .before .before .pre .0 .0)))
+slice-aggregate-ceiling c = sym (rw (c .before .successors .ensures)
+    (padded-length 0 maxStates _ _ (c .before .before .before .before .before .before .before .before .pre .0 .0)))
 
 ceiling-requires : tie.Need-ceiling-requires Inv-loop μ-loop
 ceiling-requires c κs =
@@ -57,5 +59,6 @@ returns c = let e : c .before .loop .o ≡ c .before .before .before .before .be
 
 pub ceilings-spec : {M : Type 1} → statement M
 ceilings-spec =
-    tie.close (tie.spec Inv-loop μ-loop loop-holds successors-requires slice-aggregate-ceiling ceiling-requires plus-requires (λ c. search needs) (λ c. search needs)
+    tie.close (tie.spec Inv-loop μ-loop loop-holds successors-requires slice-aggregate-ceiling ceiling-requires plus-requires (λ c. search needs)
+    (λ c. search needs)
     loop-again returns)

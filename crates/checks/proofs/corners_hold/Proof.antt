@@ -1,5 +1,6 @@
 use Rattle.checks.proofs.Prelude.{ℕ, _≤_, _<_, _-_, _≡_, sym, _∙_, List, arith, not-true, not-false, ℤ, pos, getD, back, Counts, Verdict, Fine}
-use Rattle.checks.proofs.Prelude.{maxStates, modelIn, unless, firstOf, first-none, first-more, first-here, roofIn, coversBackups, passed, failed, covers-by}
+use Rattle.checks.proofs.Prelude.{maxStates, modelIn, unless, firstOf, first-none, first-more, first-here, roofIn, coversBackups, passed, failed}
+use Rattle.checks.proofs.Prelude.{covers-by}
 use Rattle.checks.proofs.Prelude.{padded}
 use Rattle.integers.proofs.Lists.{padded-length}
 use Rattle.plans.specs.Limits.{maxPoints}
@@ -32,28 +33,43 @@ below : (c : tie.In-loop Inv-loop μ-loop) → c .before .loop .s < maxStates
 below c = omega (arith, c .loop-test .taken, c .before .before .before .before .before .before .pre .0 .valid .few-states)
 
 gains-long : tie.Need-slice-aggregate-backups-at Inv-loop μ-loop
-gains-long c = sym (rw (c .before .before .before .before .gains .ensures) (padded-length 0 maxPoints _ _ (c .before .before .before .before .before .before .before .before .pre .0 .shaped .few-points)))
+gains-long c = sym (rw (c .before .before .before .before .gains .ensures)
+    (padded-length 0 maxPoints _ _ (c .before .before .before .before .before .before .before .before .pre .0 .shaped .few-points)))
 
 weights-long : tie.Need-slice-aggregate-backups-at-2 Inv-loop μ-loop
 weights-long c = sym (corner-long (c .before .before .before .before .loop .s) (c .before .before .corner-weights .ensures))
 
 backups-at-requires : tie.Need-backups-at-requires Inv-loop μ-loop
 backups-at-requires c κs =
-    let h = c .before .before .before .before .before .before .before .before .before .pre .0 in
-    (roof-holds h (c .before .before .before .before .before .gains .ensures), corner-light (c .before .before .corner-weights .ensures) (c .before .before .before .loop-test .taken) (h .valid .few-states))
+    let h = c .before .before .before .before .before .before .before .before .before .pre .0 in (
+      roof-holds h (c .before .before .before .before .before .gains .ensures),
+      corner-light (c .before .before .corner-weights .ensures)
+          (c .before .before .before .loop-test .taken) (h .valid .few-states),
+    )
 
 long : tie.Need-slice-aggregate-covers Inv-loop μ-loop
-long c = sym (backups-long (c .before .before .before .before .before .before .before .before .before .before .before .pre .0) (c .before .before .before .before .before .before .before .gains .ensures) _ (c .before .backups-at .ensures))
+long c = sym (backups-long (c .before .before .before .before .before .before .before .before .before .before .before .pre .0)
+    (c .before .before .before .before .before .before .before .gains .ensures) _ (c .before .backups-at .ensures))
 
 stored : tie.Need-shared-slice-copy-out-covers Inv-loop μ-loop
-stored c = omega (arith, c .before .before .before .before .before .loop-test .taken, c .before .before .before .before .before .before .before .before .before .before .before .pre .1 .long)
+stored c = omega (
+  arith,
+  c .before .before .before .before .before .loop-test .taken,
+  c .before .before .before .before .before .before .before .before .before .before .before .pre .1 .long,
+)
 
 covers-requires : tie.Need-covers-requires Inv-loop μ-loop
 covers-requires c κs =
     let a = c .before .before .before .before .before .before .before .before .before .before .before .before in
     let s = c .before .before .before .before .before .before .before .loop .s in (
-      omega (arith, a .pre .0 .valid .few-actions, backups-long (a .pre .0) (c .before .before .before .before .before .before .before .before .gains .ensures) _ (c .before .before .backups-at .ensures)),
-      rw (back (getD (a .args .offered .now) s (pos 0)) (c .covers-arg .given)) (omega (arith, a .pre .1 .corner s (c .before .before .before .before .before .before .loop-test .taken))),
+      omega (
+        arith,
+        a .pre .0 .valid .few-actions,
+        backups-long (a .pre .0)
+            (c .before .before .before .before .before .before .before .before .gains .ensures) _ (c .before .before .backups-at .ensures),
+      ),
+      rw (back (getD (a .args .offered .now) s (pos 0)) (c .covers-arg .given))
+          (omega (arith, a .pre .1 .corner s (c .before .before .before .before .before .before .loop-test .taken))),
     )
 
 -- the answer, by the corner's own weights and value
@@ -64,28 +80,36 @@ said : (c : tie.After-covers Inv-loop μ-loop)
     ≡ coversBackups (modelIn (a .c) (a .transition .now) (a .observation .now) (a .reward .now))
     (roofIn (a .c .states) (a .corners .now) (a .points) (a .weights .now) (a .values .now)) (corner-weight s) (cornerIn (a .offered .now) s)
 said c =
-    covers-by _ _ (λ i b. corner-at (c .before .before .before .before .before .before .corner-weights .ensures) (below (c .before .before .before .before .before .before .before)) i) (back _ (c .before .covers-arg .given))
-    (covers-said (c .before .before .before .before .before .before .before .before .before .before .before .before .before .pre .0) (c .before .before .before .before .before .before .before .before .before .gains .ensures) _ (c .before .before .before .backups-at .ensures) _ (c .covers .ensures))
+    covers-by _ _ (λ i b. corner-at (c .before .before .before .before .before .before .corner-weights .ensures)
+    (below (c .before .before .before .before .before .before .before)) i) (back _ (c .before .covers-arg .given))
+    (covers-said (c .before .before .before .before .before .before .before .before .before .before .before .before .before .pre .0)
+    (c .before .before .before .before .before .before .before .before .before .gains .ensures) _ (c .before .before .before .backups-at .ensures) _
+    (c .covers .ensures))
 
 returns : tie.Need-returns Inv-loop μ-loop
 unfolding cornersVerdict
 returns c =
     sym
-    (first-here _ _ (c .before .before .before .before .before .before .before .before .before .loop .s) (c .before .before .before .before .before .before .before .before .loop-test .taken) (c .before .before .before .before .before .before .before .before .before .loop .inv .1)
+    (first-here _ _ (c .before .before .before .before .before .before .before .before .before .loop .s)
+    (c .before .before .before .before .before .before .before .before .loop-test .taken)
+    (c .before .before .before .before .before .before .before .before .before .loop .inv .1)
     (failed _ _ (sym (said (c .before)) ∙ not-true _ (c .if1 .taken))))
 
 loop-again : tie.Need-loop-again Inv-loop μ-loop
 loop-again c = (
   omega (arith, c .before .before .before .before .before .before .before .before .loop-test .taken),
-  first-more _ _ (c .before .before .before .before .before .before .before .before .before .loop .inv .1) (passed _ _ (sym (said (c .before)) ∙ not-false _ (c .if1 .left))),
+  first-more _ _ (c .before .before .before .before .before .before .before .before .before .loop .inv .1)
+      (passed _ _ (sym (said (c .before)) ∙ not-false _ (c .if1 .left))),
 )
 
 returns-2 : tie.Need-returns-2 Inv-loop μ-loop
 unfolding cornersVerdict
-returns-2 c = let e : c .before .loop .s ≡ c .before .before .before .before .before .before .args .c .states = omega arith in sym (rw e at (c .before .loop .inv .1))
+returns-2 c = let e : c .before .loop .s ≡ c .before .before .before .before .before .before .args .c .states = omega arith in sym
+    (rw e at (c .before .loop .inv .1))
 
 pub corners-hold-spec : {M : Type 1} → statement M
 corners-hold-spec =
     tie.close (tie.spec Inv-loop μ-loop gains-requires loop-holds (λ c κs. below c) gains-long weights-long backups-at-requires long
-    (λ c. omega (arith, below (c .before .before .before .before .before))) stored covers-requires returns (λ c. omega (arith, below (c .before .before .before .before .before .before .before .before)))
+    (λ c. omega (arith, below (c .before .before .before .before .before))) stored covers-requires returns
+    (λ c. omega (arith, below (c .before .before .before .before .before .before .before .before)))
     (λ c. omega (arith, c .before .before .before .before .before .before .before .before .loop-test .taken)) loop-again returns-2)

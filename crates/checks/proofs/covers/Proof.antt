@@ -25,16 +25,20 @@ loop-holds : tie.Need-loop-holds Inv-loop μ-loop
 loop-holds c = (omega arith, every-none _)
 
 -- the action's backup as it was read
-here : (c : tie.After-if12 Inv-loop μ-loop) → toZ w64 (ofZ w64 (getD (c .before .before .before .before .args .backups .now) (c .before .before .loop .a) (pos 0))) ≡ getD (c .before .before .before .before .args .backups .now) (c .before .before .loop .a) (pos 0)
+here : (c : tie.After-if12 Inv-loop μ-loop) → toZ w64 (ofZ w64
+    (getD (c .before .before .before .before .args .backups .now) (c .before .before .loop .a) (pos 0))) ≡ getD
+    (c .before .before .before .before .args .backups .now) (c .before .before .loop .a) (pos 0)
 here c = back _ (c .if12 .given)
 
 returns : tie.Need-returns Inv-loop μ-loop
-returns c = rw (← most (c .before .before .before .before)) (sym (every-not _ _ (c .before .before .before .loop .a) (omega arith) (is-below refl (here (c .before)) (c .if1 .taken))))
+returns c = rw (← most (c .before .before .before .before)) (sym
+    (every-not _ _ (c .before .before .before .loop .a) (omega arith) (is-below refl (here (c .before)) (c .if1 .taken))))
 
 loop-again : tie.Need-loop-again Inv-loop μ-loop
 loop-again c = (
   omega arith,
-  every-more _ _ (c .before .before .before .loop .inv .1) (not-below {a = toZ w64 (ofZ w64 (c .before .before .before .before .scaled .result))} refl (here (c .before)) (c .if1 .left)),
+  every-more _ _ (c .before .before .before .loop .inv .1) (not-below {a = toZ w64 (ofZ w64 (c .before .before .before .before .scaled .result))} refl
+      (here (c .before)) (c .if1 .left)),
 )
 
 returns-2 : tie.Need-returns-2 Inv-loop μ-loop

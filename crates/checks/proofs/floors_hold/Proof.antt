@@ -1,9 +1,11 @@
-use Rattle.checks.proofs.Prelude.{_≤_, _-_, _≡_, refl, sym, _∙_, arith, not-true, not-false, w64, toZ, ofZ, answer, Fine, firstOf, first-none, first-more, first-here}
+use Rattle.checks.proofs.Prelude.{_≤_, _-_, _≡_, refl, sym, _∙_, arith, not-true, not-false, w64, toZ, ofZ, answer, Fine, firstOf, first-none}
+use Rattle.checks.proofs.Prelude.{first-more, first-here}
 use Rattle.checks.proofs.Prelude.{maxStates}
 use Rattle.integers.proofs.Lists.{padded-length}
 use Rattle.tables.specs.Storage.{entryIn}
 use Rattle.tables.proofs.Fitting.{rows-stored}
-use Rattle.checks.proofs.Floors.{entryVerdict, floors-are, vector-below, action-below, observations-here, Ready, ready, entry-limit, entry-passes, entry-fails}
+use Rattle.checks.proofs.Floors.{entryVerdict, floors-are, vector-below, action-below, observations-here, Ready, ready, entry-limit, entry-passes}
+use Rattle.checks.proofs.Floors.{entry-fails}
 use Rattle.checks.proofs.floors_hold.Statement.{statement}
 use Rattle.checks.proofs.floors_hold.Tie as tie
 
@@ -20,6 +22,16 @@ Inv-vectors T O R entries actions choices offered c vectors n k found₀ v₀ fo
 
 abbrev μ-vectors : tie.MeasureT-vectors
 μ-vectors T O R entries actions choices offered c vectors n k found₀ v₀ found v = vectors - v
+
+-- places of the code, each from those after it
+abbrev start-of-f : tie.After-f Inv-loop μ-loop Inv-vectors μ-vectors → tie.Start Inv-loop μ-loop Inv-vectors μ-vectors
+start-of-f c = c .before .before .before .before .before .before .before .before .before .before .before .before .before
+
+abbrev start-of-else1 : tie.Else1 Inv-loop μ-loop Inv-vectors μ-vectors → tie.Start Inv-loop μ-loop Inv-vectors μ-vectors
+start-of-else1 c = start-of-f (c .before .before)
+
+abbrev start-of-then1 : tie.Then1 Inv-loop μ-loop Inv-vectors μ-vectors → tie.Start Inv-loop μ-loop Inv-vectors μ-vectors
+start-of-then1 c = start-of-f (c .before .before)
 
 vectors-holds : tie.Need-vectors-holds Inv-loop μ-loop Inv-vectors μ-vectors
 vectors-holds c = (omega arith, (refl, first-none _))
@@ -38,27 +50,38 @@ loop-holds : tie.Need-loop-holds Inv-loop μ-loop Inv-vectors μ-vectors
 loop-holds c = (omega arith, (c .before .before .before .before .vectors .inv .1 .0, first-none _))
 
 -- the vector with its action and what it foresees
-taken : (c : tie.After-foreseen Inv-loop μ-loop Inv-vectors μ-vectors) → Ready (c .before .before .before .before .before .before .before .before .before .pre) (c .before .before .before .vectors-test .taken) (c .before .action .ensures) (c .foreseen .result)
-taken c = ready (c .before .before .before .before .before .before .before .before .before .pre) (c .before .before .before .vectors-test .taken) (c .before .action .ensures) (c .foreseen .ensures)
+taken : (c : tie.After-foreseen Inv-loop μ-loop Inv-vectors μ-vectors) → Ready
+    (c .before .before .before .before .before .before .before .before .before .pre) (c .before .before .before .vectors-test .taken)
+    (c .before .action .ensures) (c .foreseen .result)
+taken c = ready (c .before .before .before .before .before .before .before .before .before .pre) (c .before .before .before .vectors-test .taken)
+    (c .before .action .ensures) (c .foreseen .ensures)
 
 entry-at-requires : tie.Need-entry-at-requires Inv-loop μ-loop Inv-vectors μ-vectors
 entry-at-requires c κs =
     let a = c .before .before .before .before .before .before .before .before .before .before .before in
     let j = a .pre in
-    let l = c .before .before .before .before .before .vectors-test .taken in
-    ((j .valid .few-states, vector-below j l), (c .loop-test .taken, rows-stored (a .args .c .states) (c .before .before .before .before .before .before .vectors .v) (a .args .vectors) l (j .offers .stored)))
+    let l = c .before .before .before .before .before .vectors-test .taken in (
+      (j .valid .few-states, vector-below j l),
+      (
+        c .loop-test .taken,
+        rows-stored (a .args .c .states)
+            (c .before .before .before .before .before .before .vectors .v) (a .args .vectors) l (j .offers .stored),
+      ),
+    )
 
 foreseen-long : tie.Need-slice-aggregate-entry-holds Inv-loop μ-loop Inv-vectors μ-vectors
-foreseen-long c = sym (rw (c .before .before .before .before .foreseen .ensures) (padded-length _ maxStates _ _ (c .before .before .before .before .before .before .before .before .before .before .before .before .before .pre .valid .few-states)))
+foreseen-long c = sym (rw (c .before .before .before .before .foreseen .ensures) (padded-length _ maxStates _ _ ((start-of-f c) .pre .valid .few-states)))
 
 -- the entry that is read
 entry : (c : tie.After-entry-at Inv-loop μ-loop Inv-vectors μ-vectors) →
-    let a = c .before .before .before .before .before .before .before .before .before .before .before .before .args in toZ w64 (ofZ w64 (c .entry-at .result)) ≡ entryIn (a .c .states) (a .offered .now) (c .before .before .before .before .before .before .before .vectors .v) (c .before .before .loop .s)
+    let a = c .before .before .before .before .before .before .before .before .before .before .before .before .args in toZ w64
+    (ofZ w64 (c .entry-at .result)) ≡ entryIn (a .c .states) (a .offered .now) (c .before .before .before .before .before .before .before .vectors .v)
+    (c .before .before .loop .s)
 entry c = answer (c .entry-at .ok) (c .entry-at .ensures)
 
 entry-holds-requires : tie.Need-entry-holds-requires Inv-loop μ-loop Inv-vectors μ-vectors
 entry-holds-requires c κs =
-    let j = c .before .before .before .before .before .before .before .before .before .before .before .before .before .pre in
+    let j = (start-of-f c) .pre in
     let l = c .before .before .before .before .before .before .before .vectors-test .taken in
     let r = taken (c .before .before .before .before) in
     let s = c .before .before .loop-test .taken in (
@@ -73,16 +96,23 @@ loop-again c =
       (
         i .0,
         first-more _ _ (i .1)
-            (entry-passes (c .before .before .before .before .before .before .before .before .before .before .before .before .before .before .before .pre) (c .before .before .before .before .before .before .before .before .before .vectors-test .taken) (c .before .before .before .before .before .before .before .action .ensures) (taken (c .before .before .before .before .before .before)) _ (entry (c .before .before .before)) (c .before .entry-holds .ensures)
+            (entry-passes ((start-of-else1 c) .pre) (c .before .before .before .before .before .before .before .before .before .vectors-test .taken)
+            (c .before .before .before .before .before .before .before .action .ensures) (taken (c .before .before .before .before .before .before)) _
+            (entry (c .before .before .before)) (c .before .entry-holds .ensures)
             (not-false _ (c .if1 .left))),
       ),
     )
 
 vectors-again : tie.Need-vectors-again Inv-loop μ-loop Inv-vectors μ-vectors
 vectors-again c =
-    let e : c .before .loop .s ≡ c .before .before .before .before .before .before .before .before .before .before .before .args .c .states = omega (arith, c .loop-test .left, c .before .loop .inv .0) in (
+    let e : c .before .loop .s ≡ c .before .before .before .before .before .before .before .before .before .before .before .args .c .states = omega
+    (arith, c .loop-test .left, c .before .loop .inv .0) in (
       omega (arith, c .before .before .before .before .before .vectors-test .taken),
-      (c .before .loop .inv .1 .0, first-more _ _ (c .before .before .before .before .before .before .vectors .inv .1 .1) (rw e at (c .before .loop .inv .1 .1))),
+      (
+        c .before .loop .inv .1 .0,
+        first-more _ _ (c .before .before .before .before .before .before .vectors .inv .1 .1)
+            (rw e at (c .before .loop .inv .1 .1)),
+      ),
     )
 
 returns : tie.Need-returns Inv-loop μ-loop Inv-vectors μ-vectors
@@ -94,13 +124,18 @@ returns-2 : tie.Need-returns-2 Inv-loop μ-loop Inv-vectors μ-vectors
 returns-2 c =
     sym
     (floors-are _ _ _ _ _ _ _ _ _
-    ∙ first-here _ _ _ (c .before .before .before .before .before .before .before .before .before .vectors-test .taken) (c .before .before .before .before .before .before .before .before .before .before .vectors .inv .1 .1)
+    ∙ first-here _ _ _ (c .before .before .before .before .before .before .before .before .before .vectors-test .taken)
+    (c .before .before .before .before .before .before .before .before .before .before .vectors .inv .1 .1)
     (first-here _ _ _ (c .before .before .before .before .loop-test .taken) (c .before .before .before .before .before .loop .inv .1 .1)
-    (entry-fails (c .before .before .before .before .before .before .before .before .before .before .before .before .before .before .before .pre) (c .before .before .before .before .before .before .before .before .before .vectors-test .taken) (c .before .before .before .before .before .before .before .action .ensures) (taken (c .before .before .before .before .before .before)) _ (entry (c .before .before .before)) (c .before .entry-holds .ensures)
+    (entry-fails ((start-of-then1 c) .pre) (c .before .before .before .before .before .before .before .before .before .vectors-test .taken)
+    (c .before .before .before .before .before .before .before .action .ensures) (taken (c .before .before .before .before .before .before)) _
+    (entry (c .before .before .before)) (c .before .entry-holds .ensures)
     (not-true _ (c .if1 .taken)))))
 
 pub floors-hold-spec : {M : Type 1} → statement M
 floors-hold-spec =
     tie.close (tie.spec Inv-loop μ-loop Inv-vectors μ-vectors vectors-holds action-stored (λ c κs. tt) foreseen-requires loop-holds entry-at-requires
-    foreseen-long entry-holds-requires (λ c. omega (arith, c .before .before .before .before .loop-test .taken)) (λ c. omega (arith, c .before .before .before .before .loop-test .taken)) loop-again
-    (λ c. omega (arith, c .before .before .before .before .before .vectors-test .taken)) (λ c. omega (arith, c .before .before .before .before .before .vectors-test .taken)) vectors-again returns returns-2)
+    foreseen-long entry-holds-requires (λ c. omega (arith, c .before .before .before .before .loop-test .taken))
+    (λ c. omega (arith, c .before .before .before .before .loop-test .taken)) loop-again
+    (λ c. omega (arith, c .before .before .before .before .before .vectors-test .taken))
+    (λ c. omega (arith, c .before .before .before .before .before .vectors-test .taken)) vectors-again returns returns-2)

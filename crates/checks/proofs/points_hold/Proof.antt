@@ -1,5 +1,6 @@
 use Rattle.checks.proofs.Prelude.{ℕ, _≤_, _<_, _-_, _≡_, sym, _∙_, List, arith, not-true, not-false, ℤ, pos, getD, back, Counts, Verdict, Fine}
-use Rattle.checks.proofs.Prelude.{maxStates, modelIn, unless, firstOf, first-none, first-more, first-here, pointIn, roofIn, coversBackups, passed, failed, covers-by}
+use Rattle.checks.proofs.Prelude.{maxStates, modelIn, unless, firstOf, first-none, first-more, first-here, pointIn, roofIn, coversBackups, passed}
+use Rattle.checks.proofs.Prelude.{failed, covers-by}
 use Rattle.integers.proofs.Lists.{padded-length}
 use Rattle.tables.proofs.Fitting.{rows-stored}
 use Rattle.plans.specs.Limits.{maxPoints}
@@ -33,16 +34,21 @@ below c = omega (arith, c .loop-test .taken, c .before .before .before .before .
 
 point-weights-requires : tie.Need-point-weights-requires Inv-loop μ-loop
 point-weights-requires c κs =
-    let a = c .before .before .before .before .before .before .before in
-    ((a .pre .0 .valid .few-states, below c), rows-stored (a .args .c .states) (c .before .loop .i) (a .args .count) (c .loop-test .taken) (a .pre .1 .0 .stored))
+    let a = c .before .before .before .before .before .before .before in (
+      (a .pre .0 .valid .few-states, below c),
+      rows-stored (a .args .c .states) (c .before .loop .i) (a .args .count) (c .loop-test .taken)
+          (a .pre .1 .0 .stored),
+    )
 
 gains-long : tie.Need-slice-aggregate-backups-at Inv-loop μ-loop
-gains-long c = sym (rw (c .before .before .before .before .gains .ensures) (padded-length 0 maxPoints _ _ (c .before .before .before .before .before .before .before .before .before .pre .0 .shaped .few-points)))
+gains-long c = sym (rw (c .before .before .before .before .gains .ensures)
+    (padded-length 0 maxPoints _ _ (c .before .before .before .before .before .before .before .before .before .pre .0 .shaped .few-points)))
 
 weights-long : tie.Need-slice-aggregate-backups-at-2 Inv-loop μ-loop
 weights-long c =
     let a = c .before .before .before .before .before .before .before .before .before .before in
-    sym (point-long (a .args .c .states) (a .args .offered .now) (c .before .before .before .before .loop .i) (c .before .before .point-weights .ensures) (a .pre .0 .valid .few-states))
+    sym (point-long (a .args .c .states) (a .args .offered .now) (c .before .before .before .before .loop .i) (c .before .before .point-weights .ensures)
+    (a .pre .0 .valid .few-states))
 
 backups-at-requires : tie.Need-backups-at-requires Inv-loop μ-loop
 backups-at-requires c κs =
@@ -54,17 +60,28 @@ backups-at-requires c κs =
     )
 
 long : tie.Need-slice-aggregate-covers Inv-loop μ-loop
-long c = sym (backups-long (c .before .before .before .before .before .before .before .before .before .before .before .before .pre .0) (c .before .before .before .before .before .before .before .gains .ensures) _ (c .before .backups-at .ensures))
+long c = sym (backups-long (c .before .before .before .before .before .before .before .before .before .before .before .before .pre .0)
+    (c .before .before .before .before .before .before .before .gains .ensures) _ (c .before .backups-at .ensures))
 
 stored : tie.Need-shared-slice-copy-out-covers Inv-loop μ-loop
-stored c = omega (arith, c .before .before .before .before .before .loop-test .taken, c .before .before .before .before .before .before .before .before .before .before .before .before .pre .1 .1 .0 .long)
+stored c = omega (
+  arith,
+  c .before .before .before .before .before .loop-test .taken,
+  c .before .before .before .before .before .before .before .before .before .before .before .before .pre .1 .1 .0 .long,
+)
 
 covers-requires : tie.Need-covers-requires Inv-loop μ-loop
 covers-requires c κs =
     let a = c .before .before .before .before .before .before .before .before .before .before .before .before .before in
     let i = c .before .before .before .before .before .before .before .loop .i in (
-      omega (arith, a .pre .0 .valid .few-actions, backups-long (a .pre .0) (c .before .before .before .before .before .before .before .before .gains .ensures) _ (c .before .before .backups-at .ensures)),
-      rw (back (getD (a .args .at .now) i (pos 0)) (c .covers-arg .given)) (a .pre .1 .1 .0 .value i (c .before .before .before .before .before .before .loop-test .taken)),
+      omega (
+        arith,
+        a .pre .0 .valid .few-actions,
+        backups-long (a .pre .0)
+            (c .before .before .before .before .before .before .before .before .gains .ensures) _ (c .before .before .backups-at .ensures),
+      ),
+      rw (back (getD (a .args .at .now) i (pos 0)) (c .covers-arg .given))
+          (a .pre .1 .1 .0 .value i (c .before .before .before .before .before .before .loop-test .taken)),
     )
 
 -- the answer, by the point's own weights and value
@@ -73,31 +90,40 @@ said : (c : tie.After-covers Inv-loop μ-loop)
     let i = c .before .before .before .before .before .before .before .before .loop .i in
     c .covers .result
     ≡ coversBackups (modelIn (a .c) (a .transition .now) (a .observation .now) (a .reward .now))
-    (roofIn (a .c .states) (a .corners .now) (a .points) (a .weights .now) (a .values .now)) (pointIn (a .c .states) (a .offered .now) i) (getD (a .at .now) i (pos 0))
+    (roofIn (a .c .states) (a .corners .now) (a .points) (a .weights .now) (a .values .now)) (pointIn (a .c .states) (a .offered .now) i)
+    (getD (a .at .now) i (pos 0))
 said c =
     let a = c .before .before .before .before .before .before .before .before .before .before .before .before .before .before .args in
-    covers-by _ _ (point-at (a .c .states) (a .offered .now) (c .before .before .before .before .before .before .before .before .loop .i) (c .before .before .before .before .before .before .point-weights .ensures)) (back _ (c .before .covers-arg .given))
-    (covers-said (c .before .before .before .before .before .before .before .before .before .before .before .before .before .before .pre .0) (c .before .before .before .before .before .before .before .before .before .gains .ensures) _ (c .before .before .before .backups-at .ensures) _ (c .covers .ensures))
+    covers-by _ _ (point-at (a .c .states) (a .offered .now) (c .before .before .before .before .before .before .before .before .loop .i)
+    (c .before .before .before .before .before .before .point-weights .ensures)) (back _ (c .before .covers-arg .given))
+    (covers-said (c .before .before .before .before .before .before .before .before .before .before .before .before .before .before .pre .0)
+    (c .before .before .before .before .before .before .before .before .before .gains .ensures) _ (c .before .before .before .backups-at .ensures) _
+    (c .covers .ensures))
 
 returns : tie.Need-returns Inv-loop μ-loop
 unfolding pointsVerdict
 returns c =
     sym
-    (first-here _ _ (c .before .before .before .before .before .before .before .before .before .loop .i) (c .before .before .before .before .before .before .before .before .loop-test .taken) (c .before .before .before .before .before .before .before .before .before .loop .inv .1)
+    (first-here _ _ (c .before .before .before .before .before .before .before .before .before .loop .i)
+    (c .before .before .before .before .before .before .before .before .loop-test .taken)
+    (c .before .before .before .before .before .before .before .before .before .loop .inv .1)
     (failed _ _ (sym (said (c .before)) ∙ not-true _ (c .if1 .taken))))
 
 loop-again : tie.Need-loop-again Inv-loop μ-loop
 loop-again c = (
   omega (arith, c .before .before .before .before .before .before .before .before .loop-test .taken),
-  first-more _ _ (c .before .before .before .before .before .before .before .before .before .loop .inv .1) (passed _ _ (sym (said (c .before)) ∙ not-false _ (c .if1 .left))),
+  first-more _ _ (c .before .before .before .before .before .before .before .before .before .loop .inv .1)
+      (passed _ _ (sym (said (c .before)) ∙ not-false _ (c .if1 .left))),
 )
 
 returns-2 : tie.Need-returns-2 Inv-loop μ-loop
 unfolding pointsVerdict
-returns-2 c = let e : c .before .loop .i ≡ c .before .before .before .before .before .before .before .args .count = omega arith in sym (rw e at (c .before .loop .inv .1))
+returns-2 c = let e : c .before .loop .i ≡ c .before .before .before .before .before .before .before .args .count = omega arith in sym
+    (rw e at (c .before .loop .inv .1))
 
 pub points-hold-spec : {M : Type 1} → statement M
 points-hold-spec =
     tie.close (tie.spec Inv-loop μ-loop gains-requires loop-holds point-weights-requires gains-long weights-long backups-at-requires long
-    (λ c. omega (arith, below (c .before .before .before .before .before))) stored covers-requires returns (λ c. omega (arith, below (c .before .before .before .before .before .before .before .before)))
+    (λ c. omega (arith, below (c .before .before .before .before .before))) stored covers-requires returns
+    (λ c. omega (arith, below (c .before .before .before .before .before .before .before .before)))
     (λ c. omega (arith, c .before .before .before .before .before .before .before .before .loop-test .taken)) loop-again returns-2)

@@ -7,8 +7,14 @@ use Rattle.sawtooth.proofs.gain_of.Tie as tie
 
 product-requires : tie.Need-product-requires
 product-requires c κs =
-    let a = c .before in
-    ((search needs, search needs), (record { long = a .pre .1 .1 .0 .long; below = λ i l. omega (arith, a .pre .1 .1 .0 .below i l) }, first-fit (a .pre .1 .0)))
+    let a = c .before in (
+      (search needs, search needs),
+      (
+        record { long = a .pre .1 .1 .0 .long; below = λ i l. omega (arith, a .pre .1 .1 .0 .below i l) },
+        first-fit
+            (a .pre .1 .0),
+      ),
+    )
 
 abbrev gained : tie.Start → ℤ
 gained c = product (c .args .n) (weightIn (c .args .p .now)) (cornerIn (c .args .corners .now)) -ℤ c .args .value

@@ -20,7 +20,8 @@ point-weights-requires c κs =
     ((a .pre .0, omega (arith, p .few)), rows-stored (a .args .n) (c .before .loop .i) (a .args .points) (omega arith) (p .stored))
 
 slice-aggregate-gain-of : tie.Need-slice-aggregate-gain-of Inv-loop μ-loop
-slice-aggregate-gain-of c = let few : c .before .before .before .before .before .args .n ≤ maxStates = c .before .before .before .before .before .pre .0 in sym (rw (c .before .point-weights .ensures) (padded-length 0 maxStates _ _ few))
+slice-aggregate-gain-of c = let few : c .before .before .before .before .before .args .n ≤ maxStates = c .before .before .before .before .before .pre .0 in
+    sym (rw (c .before .point-weights .ensures) (padded-length 0 maxStates _ _ few))
 
 loop-holds : tie.Need-loop-holds Inv-loop μ-loop
 loop-holds c = (search needs, sym (padded-none _ _ _))
@@ -44,7 +45,8 @@ loop-again c =
     let l = c .before .before .before .before .before in (
       search needs,
       padded-turn _ _ _ _ (l .loop .inv .1)
-          (filled-gain _ _ _ _ (c .before .before .before .point-weights .ensures) (l .before .before .args .corners .now) (l .before .before .args .values .now)
+          (filled-gain _ _ _ _ (c .before .before .before .point-weights .ensures) (l .before .before .args .corners .now)
+          (l .before .before .args .values .now)
           (back _ (c .before .gain-of-arg .given)) (c .gain-of .ensures))
           (omega arith),
     )

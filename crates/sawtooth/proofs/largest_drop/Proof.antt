@@ -21,7 +21,13 @@ reaches-requires c κs =
     let a = c .before .before .before .before .before .before .before .before in
     let i = c .before .before .before .before .loop .i in
     let p = a .pre .1 .1 .0 in (
-      (a .pre .0, (point-inside i (a .args .n) p (omega arith) (c .before .before .start .ensures), (a .pre .1 .1 .1 .below i (omega arith), c .least-above .ensures .1))),
+      (
+        a .pre .0,
+        (
+          point-inside i (a .args .n) p (omega arith) (c .before .before .start .ensures),
+          (a .pre .1 .1 .1 .below i (omega arith), c .least-above .ensures .1),
+        ),
+      ),
       (a .pre .1 .0, point-within i (a .args .n) p (omega arith) (c .before .before .start .ensures)),
     )
 
@@ -42,7 +48,8 @@ left-out : (c : tie.After-reaches Inv-loop μ-loop)
 left-out c =
     let l = c .before .before .before .before .before in
     let a = c .before .before .before .before .before .before .before .before .before .args in
-    drop-beaten (a .n) (a .weights .now) (a .gains .now) (a .q .now) (l .loop .i) (c .before .before .before .start .ensures) (c .before .least-above .ensures .0)
+    drop-beaten (a .n) (a .weights .now) (a .gains .now) (a .q .now) (l .loop .i) (c .before .before .before .start .ensures)
+    (c .before .least-above .ensures .0)
     (c .reaches .ensures)
 
 loop-again : tie.Need-loop-again Inv-loop μ-loop
@@ -52,10 +59,12 @@ loop-again c =
       search needs,
       ⊎-elim
           (λ w. largest-new _ _ (l .loop .inv .1) (w .3)
-          (drop-said (a .n) (a .weights .now) (a .gains .now) (a .q .now) (l .loop .i) (c .before .before .before .before .start .ensures) (w .1 .ensures)) (w .2 .taken))
+          (drop-said (a .n) (a .weights .now) (a .gains .now) (a .q .now) (l .loop .i) (c .before .before .before .before .start .ensures) (w .1 .ensures))
+          (w .2 .taken))
           (⊎-elim
           (λ w. largest-kept _ _ (l .loop .inv .1) (w .3)
-          (rw (drop-said (a .n) (a .weights .now) (a .gains .now) (a .q .now) (l .loop .i) (c .before .before .before .before .start .ensures) (w .1 .ensures)) at (w .2 .left)))
+          (rw (drop-said (a .n) (a .weights .now) (a .gains .now) (a .q .now) (l .loop .i) (c .before .before .before .before .start .ensures)
+          (w .1 .ensures)) at (w .2 .left)))
           (λ w. largest-kept _ _ (l .loop .inv .1) (w .1) (left-out (c .before) (w .0 .left))))
           (c .if1 .came),
     )

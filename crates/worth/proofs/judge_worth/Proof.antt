@@ -73,6 +73,6 @@ returns-5 c =
 
 pub judge-worth-spec : {M : Type 1} → statement M
 judge-worth-spec =
-    tie.close (tie.spec (λ c κs. c .before .before .before .before .pre .0) (λ c. search needs) (λ c. search needs) returns (λ c κs. search needs)
-    returns-2 numbers-exist-requires
+    tie.close (tie.spec (λ c κs. c .before .before .before .before .pre .0) (λ c. search needs) (λ c. search needs) returns (λ c κs. search needs) returns-2
+    numbers-exist-requires
     (λ c. search needs) (λ c. search needs) returns-3 (λ c κs. search needs) returns-4 returns-5)

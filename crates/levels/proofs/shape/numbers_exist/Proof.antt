@@ -39,8 +39,10 @@ shared-slice-read-action c = omega (arith, c .before .before .before .before .be
 
 -- the vector's choices lie in the array
 row-here : (c : tie.Else1 Inv-loop μ-loop Inv-vectors μ-vectors) →
-    let a = c .before .before .before .before .before .before .before .args in rowsTo (a .k) (c .before .before .before .before .vectors .v) ≤ length (a .choices .now)
-row-here c = let a = c .before .before .before .before .before .before .before in rows-stored (a .args .k) (c .before .before .before .before .vectors .v) (a .args .vectors) (omega arith) (a .pre .1 .1)
+    let a = c .before .before .before .before .before .before .before .args in rowsTo (a .k) (c .before .before .before .before .vectors .v) ≤ length
+    (a .choices .now)
+row-here c = let a = c .before .before .before .before .before .before .before in rows-stored (a .args .k) (c .before .before .before .before .vectors .v)
+    (a .args .vectors) (omega arith) (a .pre .1 .1)
 
 -- the vector's action exists
 acts : (c : tie.Else1 Inv-loop μ-loop Inv-vectors μ-vectors) →
@@ -52,14 +54,19 @@ loop-holds : tie.Need-loop-holds Inv-loop μ-loop Inv-vectors μ-vectors
 loop-holds c = (omega arith, (c .before .before .before .before .vectors .inv .1 .0, first-none _))
 
 choice-at-requires : tie.Need-choice-at-requires Inv-loop μ-loop Inv-vectors μ-vectors
-choice-at-requires c κs = ((c .before .before .before .before .before .before .before .before .before .pre .0 .1, (omega arith, omega arith)), row-here (c .before .before))
+choice-at-requires c κs = (
+  (c .before .before .before .before .before .before .before .before .before .pre .0 .1, (omega arith, omega arith)),
+  row-here
+      (c .before .before),
+)
 
 loop-again : tie.Need-loop-again Inv-loop μ-loop Inv-vectors μ-vectors
 loop-again c = (
   omega arith,
   (
     c .before .before .before .before .loop .inv .1 .0,
-    first-more _ _ (c .before .before .before .before .loop .inv .1 .1) (passed _ _ (lt-ltb _ _ (rw (c .before .before .choice-at .ensures) at (c .if2 .left)))),
+    first-more _ _ (c .before .before .before .before .loop .inv .1 .1)
+        (passed _ _ (lt-ltb _ _ (rw (c .before .before .choice-at .ensures) at (c .if2 .left)))),
   ),
 )
 

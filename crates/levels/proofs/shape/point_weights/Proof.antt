@@ -21,7 +21,11 @@ stored c =
     rw (c .before .row .ensures .0) (row-stored (a .args .n) (a .args .i) (c .before .before .before .loop .s) (omega arith) (a .pre .1))
 
 loop-again : tie.Need-loop-again Inv-loop μ-loop
-loop-again c = (search needs, padded-turn _ _ _ _ (c .before .before .before .before .loop .inv .1) (c .weight .ensures ∙ rw (c .before .before .row .ensures .0)) (omega arith))
+loop-again c = (
+  search needs,
+  padded-turn _ _ _ _ (c .before .before .before .before .loop .inv .1)
+      (c .weight .ensures ∙ rw (c .before .before .row .ensures .0)) (omega arith),
+)
 
 returns : tie.Need-returns Inv-loop μ-loop
 returns c = let e : c .before .loop .s ≡ c .before .before .before .args .n = omega arith in rw e at (c .before .loop .inv .1)

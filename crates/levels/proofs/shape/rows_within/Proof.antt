@@ -1,4 +1,5 @@
-use Rattle.levels.proofs.Prelude.{needs, ℕ, _+_, _*_, _≤_, _-_, _≡_, refl, sym, _∙_, arith, List, length, getD, ℤ, pos, row-stored, rows-stored, _<_, back, Verdict, Fine}
+use Rattle.levels.proofs.Prelude.{needs, ℕ, _+_, _*_, _≤_, _-_, _≡_, refl, sym, _∙_, arith, List, length, getD, ℤ, pos, row-stored, rows-stored, _<_}
+use Rattle.levels.proofs.Prelude.{back, Verdict, Fine}
 use Rattle.levels.proofs.Prelude.{unless, firstOf, first-none, first-more, first-here, passed, failed}
 use borrow.Author.Tests.{not-true, not-false}
 use lib.Dec.{leb}
@@ -29,7 +30,8 @@ row-here : (c : tie.In-loop Inv-loop μ-loop Inv-rows μ-rows) →
     let a = c .before .before .before .before .args in c .before .before .before .rows .i * a .w + c .before .loop .x < length (a .cells .now)
 row-here c =
     let a = c .before .before .before .before in
-    row-stored (a .args .w) (c .before .before .before .rows .i) (c .before .loop .x) (omega arith) (rows-stored (a .args .w) (c .before .before .before .rows .i) (a .args .rows) (omega arith) (a .pre .1))
+    row-stored (a .args .w) (c .before .before .before .rows .i) (c .before .loop .x) (omega arith)
+    (rows-stored (a .args .w) (c .before .before .before .rows .i) (a .args .rows) (omega arith) (a .pre .1))
 
 rows-holds : tie.Need-rows-holds Inv-loop μ-loop Inv-rows μ-rows
 rows-holds c = (omega arith, (refl, first-none _))
@@ -45,7 +47,9 @@ within-requires c κs = c .before .before .before .before .before .before .pre .
 
 -- the test, by the number's own place
 said : (c : tie.After-within Inv-loop μ-loop Inv-rows μ-rows) →
-    let a = c .before .before .before .before .before .before .before .args in c .within .result ≡ leb (natAbs (getD (a .cells .now) (c .before .before .before .before .before .before .rows .i * a .w + c .before .before .before .before .loop .x) (pos 0))) (a .limit)
+    let a = c .before .before .before .before .before .before .before .args in c .within .result ≡ leb
+    (natAbs (getD (a .cells .now) (c .before .before .before .before .before .before .rows .i * a .w + c .before .before .before .before .loop .x) (pos 0)))
+    (a .limit)
 said c = c .within .ensures ∙ rw (back _ (c .before .within-arg .given), c .before .before .row .ensures .0)
 
 loop-again : tie.Need-loop-again Inv-loop μ-loop Inv-rows μ-rows

@@ -32,7 +32,8 @@ weights-total-requires : tie.Need-weights-total-requires Inv-loop μ-loop
 weights-total-requires c κs = rw (c .start .ensures) (omega (arith, row-here (c .before), c .before .before .before .before .pre .0))
 
 -- the total, by the point's own number
-said : (c : tie.After-weights-total Inv-loop μ-loop) → let a = c .before .before .before .before .before .args in c .weights-total .result ≡ totalTo (a .n) (pointIn (a .n) (a .cells .now) (c .before .before .before .loop .i))
+said : (c : tie.After-weights-total Inv-loop μ-loop) → let a = c .before .before .before .before .before .args in c .weights-total .result ≡ totalTo (a .n)
+    (pointIn (a .n) (a .cells .now) (c .before .before .before .loop .i))
 said c =
     let a = c .before .before .before .before .before .args in
     c .weights-total .ensures ∙ ap (λ (z : ℕ). totalTo (a .n) (λ s. getD (a .cells .now) (z + s) 0)) (c .before .start .ensures)
@@ -57,4 +58,5 @@ returns-2 c =
 
 pub weights-hold-spec : {M : Type 1} → statement M
 weights-hold-spec =
-    tie.close (tie.spec Inv-loop μ-loop loop-holds (λ c κs. omega arith) weights-total-requires returns (λ c. omega arith) (λ c. omega arith) loop-again returns-2)
+    tie.close (tie.spec Inv-loop μ-loop loop-holds (λ c κs. omega arith) weights-total-requires returns (λ c. omega arith) (λ c. omega arith) loop-again
+    returns-2)

@@ -72,10 +72,12 @@ product-requires-2 c κs =
     ((a .pre .0 .0, h .inside), (a .pre .1 .0, h .within))
 
 -- what vector v is worth
-seen : (c : tie.After-product2 Inv-loop μ-loop) → let a = c .before .before .before .before .before .before .before .args in toZ w64 (ofZ w64 (c .product2 .result)) ≡ worth (a .q .now) (a .entries .now) (a .n) (c .before .before .before .loop .v)
+seen : (c : tie.After-product2 Inv-loop μ-loop) → let a = c .before .before .before .before .before .before .before .args in toZ w64
+    (ofZ w64 (c .product2 .result)) ≡ worth (a .q .now) (a .entries .now) (a .n) (c .before .before .before .loop .v)
 seen c =
     let a = c .before .before .before .before .before .before .before .args in
-    from-start (a .q .now) (a .entries .now) (a .n) (c .before .before .before .loop .v) (c .before .start2 .ensures) (answer (c .product2 .ok) (c .product2 .ensures))
+    from-start (a .q .now) (a .entries .now) (a .n) (c .before .before .before .loop .v) (c .before .start2 .ensures)
+    (answer (c .product2 .ok) (c .product2 .ensures))
 
 loop-again : tie.Need-loop-again Inv-loop μ-loop
 loop-again c =

@@ -20,11 +20,18 @@ abbrev μ-loop : tie.MeasureT-loop
 μ-loop cells m n w a₀ a = m - a
 
 -- the row lies in the table
-row-here : (c : tie.After-row Inv-loop2 μ-loop2 Inv-loop μ-loop) → c .row .result * c .before .before .before .before .before .before .args .w + c .before .before .before .before .before .before .args .w ≤ length (c .before .before .before .before .before .before .args .cells .now)
+row-here : (c : tie.After-row Inv-loop2 μ-loop2 Inv-loop μ-loop) → c .row .result * c .before .before .before .before .before .before .args .w +
+    c .before .before .before .before .before .before .args .w ≤ length (c .before .before .before .before .before .before .args .cells .now)
 row-here c =
-    let r : c .before .before .before .before .loop .a * c .before .before .before .before .before .before .args .n + c .before .before .loop2 .s < c .before .before .before .before .before .before .args .m * c .before .before .before .before .before .before .args .n =
-    cell-below (c .before .before .before .before .loop .a) (c .before .before .before .before .before .before .args .m) (c .before .before .loop2 .s) (c .before .before .before .before .before .before .args .n) (omega arith) (omega arith) in
-    rw (c .row .ensures .0) (omega (arith, row-below _ _ (c .before .before .before .before .before .before .args .w) r, c .before .before .before .before .before .before .pre .1))
+    let r : c .before .before .before .before .loop .a * c .before .before .before .before .before .before .args .n + c .before .before .loop2 .s <
+    c .before .before .before .before .before .before .args .m * c .before .before .before .before .before .before .args .n =
+    cell-below (c .before .before .before .before .loop .a) (c .before .before .before .before .before .before .args .m) (c .before .before .loop2 .s)
+    (c .before .before .before .before .before .before .args .n) (omega arith) (omega arith) in
+    rw (c .row .ensures .0) (omega (
+      arith,
+      row-below _ _ (c .before .before .before .before .before .before .args .w) r,
+      c .before .before .before .before .before .before .pre .1,
+    ))
 
 loop-holds : tie.Need-loop-holds Inv-loop2 μ-loop2 Inv-loop μ-loop
 loop-holds c = (omega arith, every-none _)
@@ -34,12 +41,14 @@ loop2-holds c = (omega arith, every-none _)
 
 -- where the row starts, by its own number
 at-is : (c : tie.After-start Inv-loop2 μ-loop2 Inv-loop μ-loop)
-    → let a = c .before .before .before .before .before .before .before .args in c .start .result ≡ (c .before .before .before .before .before .loop .a * a .n + c .before .before .before .loop2 .s) * a .w
+    → let a = c .before .before .before .before .before .before .before .args in c .start .result ≡
+    (c .before .before .before .before .before .loop .a * a .n + c .before .before .before .loop2 .s) * a .w
 at-is c = c .start .ensures ∙ ap (λ (r : ℕ). r * c .before .before .before .before .before .before .before .args .w) (c .before .row .ensures .0)
 
 -- the test of the row, by that number
 said : (c : tie.After-row-within Inv-loop2 μ-loop2 Inv-loop μ-loop)
-    → let a = c .before .before .before .before .before .before .before .before .args in c .row-within .result ≡ rowOk (a .cells .now) (a .w) (c .before .before .before .before .before .before .loop .a * a .n + c .before .before .before .before .loop2 .s)
+    → let a = c .before .before .before .before .before .before .before .before .args in c .row-within .result ≡ rowOk (a .cells .now) (a .w)
+    (c .before .before .before .before .before .before .loop .a * a .n + c .before .before .before .before .loop2 .s)
 said c =
     let a = c .before .before .before .before .before .before .before .before .args in
     c .row-within .ensures ∙ ap (λ (z : ℕ). every (a .w) (λ x. leb (getD (a .cells .now) (z + x) 0) 1000)) (at-is (c .before))
@@ -49,13 +58,15 @@ row-within-requires c κs = rw (c .start .ensures) (omega (arith, row-here (c .b
 
 returns : tie.Need-returns Inv-loop2 μ-loop2 Inv-loop μ-loop
 returns c =
-    sym (every-not _ _ (c .before .before .before .before .before .before .before .loop .a) (omega arith) (every-not _ _ (c .before .before .before .before .before .loop2 .s) (omega arith) (sym (said (c .before)) ∙ not-true _ (c .if1 .taken))))
+    sym (every-not _ _ (c .before .before .before .before .before .before .before .loop .a) (omega arith)
+    (every-not _ _ (c .before .before .before .before .before .loop2 .s) (omega arith) (sym (said (c .before)) ∙ not-true _ (c .if1 .taken))))
 
 loop2-again : tie.Need-loop2-again Inv-loop2 μ-loop2 Inv-loop μ-loop
 loop2-again c = (omega arith, every-more _ _ (c .before .before .before .before .before .loop2 .inv .1) (sym (said (c .before)) ∙ not-false _ (c .if1 .left)))
 
 loop-again : tie.Need-loop-again Inv-loop2 μ-loop2 Inv-loop μ-loop
-loop-again c = let e : c .before .loop2 .s ≡ c .before .before .before .before .before .args .n = omega arith in (omega arith, every-more _ _ (c .before .before .before .loop .inv .1) (rw e at (c .before .loop2 .inv .1)))
+loop-again c = let e : c .before .loop2 .s ≡ c .before .before .before .before .before .args .n = omega arith in
+    (omega arith, every-more _ _ (c .before .before .before .loop .inv .1) (rw e at (c .before .loop2 .inv .1)))
 
 returns-2 : tie.Need-returns-2 Inv-loop2 μ-loop2 Inv-loop μ-loop
 returns-2 c = let e : c .before .loop .a ≡ c .before .before .before .args .m = omega arith in sym (rw e at (c .before .loop .inv .1))

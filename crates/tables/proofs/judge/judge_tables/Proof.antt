@@ -5,11 +5,13 @@ use Rattle.tables.proofs.Fitting.{limits-counts, limits-few}
 use Rattle.tables.proofs.judge.judge_tables.Statement.{statement}
 use Rattle.tables.proofs.judge.judge_tables.Tie as tie
 
-limits : (c : tie.Else1) → let a = c .before .before .before .before .args in limitsHold (modelIn (a .c) (a .transition .now) (a .observation .now) (a .reward .now)) ≡ true
+limits : (c : tie.Else1) → let a = c .before .before .before .before .args in limitsHold
+    (modelIn (a .c) (a .transition .now) (a .observation .now) (a .reward .now)) ≡ true
 limits c = sym (c .before .limits-hold .ensures) ∙ not-false _ (c .if1 .left)
 
 few-here : (c : tie.Else1) → let m = c .before .before .before .before .args .c in Few (m .actions) (m .states) (m .observations)
-few-here c = let a = c .before .before .before .before .args in limits-few (modelIn (a .c) (a .transition .now) (a .observation .now) (a .reward .now)) (limits c)
+few-here c = let a = c .before .before .before .before .args in limits-few (modelIn (a .c) (a .transition .now) (a .observation .now) (a .reward .now))
+    (limits c)
 
 stored : (c : tie.Else1) → let a = c .before .before .before .before .args in Stored (a .c) (a .transition .now) (a .observation .now) (a .reward .now)
 stored c =
@@ -28,11 +30,13 @@ unfolding modelVerdict
 returns-2 c = rw (limits (c .before .before .before), sym (c .before .before .rows-total .ensures) ∙ c .enum-told2 .given .1, c .enum-told2 .given .1)
 
 rows-total-requires-2 : tie.Need-rows-total-requires-2
-rows-total-requires-2 c κs = let f = few-here (c .before .before .before) in ((f .actions, (f .states, omega (arith, f .observations))), stored (c .before .before .before) .observed)
+rows-total-requires-2 c κs = let f = few-here (c .before .before .before) in
+    ((f .actions, (f .states, omega (arith, f .observations))), stored (c .before .before .before) .observed)
 
 returns-3 : tie.Need-returns-3
 unfolding modelVerdict
-returns-3 c = rw (limits (c .before .before .before .before), sym (c .before .before .before .rows-total .ensures) ∙ c .before .enum-told .given .1) (c .rows-total2 .ensures)
+returns-3 c = rw (limits (c .before .before .before .before), sym (c .before .before .before .rows-total .ensures) ∙ c .before .enum-told .given .1)
+    (c .rows-total2 .ensures)
 
 pub judge-tables-spec : {M : Type 1} → statement M
 judge-tables-spec =

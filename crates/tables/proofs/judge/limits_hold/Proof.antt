@@ -27,10 +27,16 @@ cells-within-requires c κs = let f = few-here (c .before .before) in ((f .actio
 
 returns-3 : tie.Need-returns-3
 unfolding limitsHold
-returns-3 c = rw (counts (c .before .before .before .before), le-leb _ 1000 (c .before .before .if2 .left), sym (c .before .cells-within .ensures) ∙ not-true _ (c .if3 .taken))
+returns-3 c = rw (
+  counts (c .before .before .before .before),
+  le-leb _ 1000 (c .before .before .if2 .left),
+  sym (c .before .cells-within .ensures) ∙ not-true
+      _ (c .if3 .taken),
+)
 
 cells-within-requires-2 : tie.Need-cells-within-requires-2
-cells-within-requires-2 c κs = let f = few-here (c .before .before .before .before) in ((f .actions, (f .states, omega (arith, f .observations))), stored (c .before .before .before .before) .observed)
+cells-within-requires-2 c κs = let f = few-here (c .before .before .before .before) in
+    ((f .actions, (f .states, omega (arith, f .observations))), stored (c .before .before .before .before) .observed)
 
 returns-4 : tie.Need-returns-4
 unfolding limitsHold
@@ -43,7 +49,8 @@ returns-4 c =
     )
 
 rewards-within-requires : tie.Need-rewards-within-requires
-rewards-within-requires c κs = let f = few-here (c .before .before .before .before .before .before) in ((f .actions, f .states), stored (c .before .before .before .before .before .before) .rewards)
+rewards-within-requires c κs = let f = few-here (c .before .before .before .before .before .before) in
+    ((f .actions, f .states), stored (c .before .before .before .before .before .before) .rewards)
 
 returns-5 : tie.Need-returns-5
 unfolding limitsHold

@@ -27,20 +27,29 @@ abbrev μ-rows : tie.MeasureT-rows
 μ-rows cells m n w number found₀ a₀ found a = m - a
 
 -- the row lies in the table
-row-here : (c : tie.After-row Inv-loop μ-loop Inv-rows μ-rows) → c .row .result * c .before .before .before .before .before .before .args .w + c .before .before .before .before .before .before .args .w ≤ length (c .before .before .before .before .before .before .args .cells .now)
+row-here : (c : tie.After-row Inv-loop μ-loop Inv-rows μ-rows) → c .row .result * c .before .before .before .before .before .before .args .w +
+    c .before .before .before .before .before .before .args .w ≤ length (c .before .before .before .before .before .before .args .cells .now)
 row-here c =
-    let r : c .before .before .before .before .rows .a * c .before .before .before .before .before .before .args .n + c .before .before .loop .s < c .before .before .before .before .before .before .args .m * c .before .before .before .before .before .before .args .n =
-    cell-below (c .before .before .before .before .rows .a) (c .before .before .before .before .before .before .args .m) (c .before .before .loop .s) (c .before .before .before .before .before .before .args .n) (omega arith) (omega arith) in
-    rw (c .row .ensures .0) (omega (arith, row-below _ _ (c .before .before .before .before .before .before .args .w) r, c .before .before .before .before .before .before .pre .1))
+    let r : c .before .before .before .before .rows .a * c .before .before .before .before .before .before .args .n + c .before .before .loop .s <
+    c .before .before .before .before .before .before .args .m * c .before .before .before .before .before .before .args .n =
+    cell-below (c .before .before .before .before .rows .a) (c .before .before .before .before .before .before .args .m) (c .before .before .loop .s)
+    (c .before .before .before .before .before .before .args .n) (omega arith) (omega arith) in
+    rw (c .row .ensures .0) (omega (
+      arith,
+      row-below _ _ (c .before .before .before .before .before .before .args .w) r,
+      c .before .before .before .before .before .before .pre .1,
+    ))
 
 -- the total, by the row's own number
 at-is : (c : tie.After-start Inv-loop μ-loop Inv-rows μ-rows)
-    → let a = c .before .before .before .before .before .before .before .args in c .start .result ≡ (c .before .before .before .before .before .rows .a * a .n + c .before .before .before .loop .s) * a .w
+    → let a = c .before .before .before .before .before .before .before .args in c .start .result ≡
+    (c .before .before .before .before .before .rows .a * a .n + c .before .before .before .loop .s) * a .w
 at-is c = c .start .ensures ∙ ap (λ (r : ℕ). r * c .before .before .before .before .before .before .before .args .w) (c .before .row .ensures .0)
 
 said : (c : tie.After-row-total Inv-loop μ-loop Inv-rows μ-rows)
     → let a = c .before .before .before .before .before .before .before .before .args in
-    c .row-total .result ≡ totalTo (a .w) (λ x. getD (a .cells .now) ((c .before .before .before .before .before .before .rows .a * a .n + c .before .before .before .before .loop .s) * a .w + x) 0)
+    c .row-total .result ≡ totalTo (a .w) (λ x. getD (a .cells .now)
+    ((c .before .before .before .before .before .before .rows .a * a .n + c .before .before .before .before .loop .s) * a .w + x) 0)
 said c =
     let a = c .before .before .before .before .before .before .before .before .args in
     c .row-total .ensures ∙ ap (λ (z : ℕ). totalTo (a .w) (λ x. getD (a .cells .now) (z + x) 0)) (at-is (c .before))
@@ -55,10 +64,21 @@ row-total-requires : tie.Need-row-total-requires Inv-loop μ-loop Inv-rows μ-ro
 row-total-requires c κs = rw (c .start .ensures) (omega (arith, row-here (c .before)))
 
 loop-again : tie.Need-loop-again Inv-loop μ-loop Inv-rows μ-rows
-loop-again c = (omega arith, (c .before .before .before .before .before .loop .inv .1 .0, first-more _ _ (c .before .before .before .before .before .loop .inv .1 .1) (ap (λ (b : Bool). unless b (c .before .before .before .before .before .before .before .before .before .args .number) (c .before .before .before .before .before .before .before .rows .a * c .before .before .before .before .before .before .before .before .before .args .n + c .before .before .before .before .before .loop .s)) (eq-eqb _ 1000 (sym (said (c .before)) ∙ c .if1 .left)))))
+loop-again c = (
+  omega arith,
+  (
+    c .before .before .before .before .before .loop .inv .1 .0,
+    first-more _ _
+        (c .before .before .before .before .before .loop .inv .1 .1)
+        (ap (λ (b : Bool). unless b (c .before .before .before .before .before .before .before .before .before .args .number)
+        (c .before .before .before .before .before .before .before .rows .a * c .before .before .before .before .before .before .before .before .before .args .n
+        + c .before .before .before .before .before .loop .s)) (eq-eqb _ 1000 (sym (said (c .before)) ∙ c .if1 .left))),
+  ),
+)
 
 rows-again : tie.Need-rows-again Inv-loop μ-loop Inv-rows μ-rows
-rows-again c = let e : c .before .loop .s ≡ c .before .before .before .before .before .args .n = omega arith in (omega arith, (c .before .loop .inv .1 .0, first-more _ _ (c .before .before .before .rows .inv .1 .1) (rw e at (c .before .loop .inv .1 .1))))
+rows-again c = let e : c .before .loop .s ≡ c .before .before .before .before .before .args .n = omega arith in
+    (omega arith, (c .before .loop .inv .1 .0, first-more _ _ (c .before .before .before .rows .inv .1 .1) (rw e at (c .before .loop .inv .1 .1))))
 
 returns : tie.Need-returns Inv-loop μ-loop Inv-rows μ-rows
 unfolding rowsTotal
@@ -71,9 +91,12 @@ unfolding rowsTotal
 returns-2 c =
     ap (Refused (c .before .before .before .before .before .before .before .before .before .args .number)) (c .before .before .before .row .ensures .0)
     ∙ sym
-    (first-here _ _ (c .before .before .before .before .before .before .before .rows .a) (omega arith) (c .before .before .before .before .before .before .before .rows .inv .1 .1)
+    (first-here _ _ (c .before .before .before .before .before .before .before .rows .a) (omega arith)
+    (c .before .before .before .before .before .before .before .rows .inv .1 .1)
     (first-here _ _ (c .before .before .before .before .before .loop .s) (omega arith) (c .before .before .before .before .before .loop .inv .1 .1)
-    (ap (λ (b : Bool). unless b (c .before .before .before .before .before .before .before .before .before .args .number) (c .before .before .before .before .before .before .before .rows .a * c .before .before .before .before .before .before .before .before .before .args .n + c .before .before .before .before .before .loop .s)) (ne-eqb _ 1000 (λ e. c .if1 .taken (said (c .before) ∙ e))))))
+    (ap (λ (b : Bool). unless b (c .before .before .before .before .before .before .before .before .before .args .number)
+    (c .before .before .before .before .before .before .before .rows .a * c .before .before .before .before .before .before .before .before .before .args .n
+    + c .before .before .before .before .before .loop .s)) (ne-eqb _ 1000 (λ e. c .if1 .taken (said (c .before) ∙ e))))))
 
 pub rows-total-spec : {M : Type 1} → statement M
 rows-total-spec =

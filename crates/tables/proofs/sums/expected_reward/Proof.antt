@@ -20,12 +20,14 @@ loop-holds c = (search needs, sym (sum-none _))
 
 add-scaled-requires : tie.Need-add-scaled-requires Inv-loop μ-loop
 add-scaled-requires c κs =
-    term-fits (terms (c .before .before .before .before .before)) _ (c .before .before .before .loop .inv .1) refl (answer (c .before .reward-at .ok) (c .before .reward-at .ensures)) (omega arith) (lit< tt) (omega arith)
+    term-fits (terms (c .before .before .before .before .before)) _ (c .before .before .before .loop .inv .1) refl
+    (answer (c .before .reward-at .ok) (c .before .reward-at .ensures)) (omega arith) (lit< tt) (omega arith)
 
 loop-again : tie.Need-loop-again Inv-loop μ-loop
 loop-again c = (
   search needs,
-  term-added (terms (c .before .before .before .before .before .before)) _ (c .before .before .before .before .loop .inv .1) refl (answer (c .before .before .reward-at .ok) (c .before .before .reward-at .ensures)) (answer (c .add-scaled .ok) (c .add-scaled .ensures)),
+  term-added (terms (c .before .before .before .before .before .before)) _ (c .before .before .before .before .loop .inv .1) refl
+      (answer (c .before .before .reward-at .ok) (c .before .before .reward-at .ensures)) (answer (c .add-scaled .ok) (c .add-scaled .ensures)),
 )
 
 returns : tie.Need-returns Inv-loop μ-loop

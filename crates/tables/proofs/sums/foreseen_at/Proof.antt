@@ -29,12 +29,14 @@ entry-at-requires : tie.Need-entry-at-requires Inv-loop μ-loop
 entry-at-requires c κs =
     let a = c .before .before .before .before .before .before in
     let fit = a .pre .1 .1 .entries-fit in
-    let below : c .choice-at .result .0 < a .pre .1 .1 .vectors = rw (c .choice-at .ensures) (a .pre .1 .1 .vector (c .before .before .before .loop .o) (omega arith)) in
+    let below : c .choice-at .result .0 < a .pre .1 .1 .vectors = rw (c .choice-at .ensures)
+    (a .pre .1 .1 .vector (c .before .before .before .loop .o) (omega arith)) in
     ((a .pre .0 .0, omega (arith, below, fit .few)), (a .pre .0 .1 .1 .1, rows-stored (a .args .n) _ (a .pre .1 .1 .vectors) below (fit .stored)))
 
 value : (c : tie.After-entry-at Inv-loop μ-loop)
     → let a = c .before .before .before .before .before .before .before .args in
-    toZ w64 (ofZ w64 (c .entry-at .result)) ≡ chosenIn (a .n) (a .k) (a .entries .now) (a .choices .now) (a .v .0) (c .before .before .before .before .loop .o) (a .to .0)
+    toZ w64 (ofZ w64 (c .entry-at .result)) ≡ chosenIn (a .n) (a .k) (a .entries .now) (a .choices .now) (a .v .0)
+    (c .before .before .before .before .loop .o) (a .to .0)
 value c = answer (c .entry-at .ok) (c .entry-at .ensures ∙ rw (c .before .choice-at .ensures))
 
 add-scaled-requires : tie.Need-add-scaled-requires Inv-loop μ-loop
