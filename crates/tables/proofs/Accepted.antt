@@ -70,7 +70,8 @@ module _ (M : Model) where
   is-valid v =
       let limits : limitsHold M ≡ true =
       and-is
-      (and-is (count-is _ _ (v .some-states) (v .few-states)) (and-is (count-is _ _ (v .some-actions) (v .few-actions)) (count-is _ _ (v .some-observations) (v .few-observations))))
+      (and-is (count-is _ _ (v .some-states) (v .few-states)) (and-is (count-is _ _ (v .some-actions) (v .few-actions))
+      (count-is _ _ (v .some-observations) (v .few-observations))))
       (and-is (le-leb _ _ (v .discount-limit))
       (and-is (cells-is _ _ _ (λ a s s'. M .transition s a s') (v .transition-limit))
       (and-is (cells-is _ _ _ (λ a s' o. M .observation a s' o) (v .observation-limit))

@@ -6,10 +6,17 @@ returns : tie.Need-returns
 returns c = rw (sym (c .before .count-within .ensures) ∙ not-true _ (c .if1 .taken))
 
 returns-2 : tie.Need-returns-2
-returns-2 c = rw (sym (c .before .before .before .count-within .ensures) ∙ not-false _ (c .before .before .if1 .left), sym (c .before .count-within2 .ensures) ∙ not-true _ (c .if2 .taken))
+returns-2 c =
+    rw (
+      sym (c .before .before .before .count-within .ensures) ∙ not-false _ (c .before .before .if1 .left),
+      sym (c .before .count-within2 .ensures) ∙ not-true _ (c .if2 .taken),
+    )
 
 returns-3 : tie.Need-returns-3
-returns-3 c = rw (sym (c .before .before .before .before .count-within .ensures) ∙ not-false _ (c .before .before .before .if1 .left), sym (c .before .before .count-within2 .ensures) ∙ not-false _ (c .before .if2 .left)) (c .count-within3 .ensures)
+returns-3 c = rw (
+  sym (c .before .before .before .before .count-within .ensures) ∙ not-false _ (c .before .before .before .if1 .left),
+  sym (c .before .before .count-within2 .ensures) ∙ not-false _ (c .before .if2 .left),
+) (c .count-within3 .ensures)
 
 pub counts-within-spec : {M : Type 1} → statement M
 counts-within-spec =
