@@ -28,7 +28,7 @@ use Rattle.tables.specs.Model.{Model, backedUp}
 use Rattle.tables.specs.Storage.{weightIn, countsOf, modelIn, modelOf}
 use Rattle.tables.proofs.Fitting as tables
 use Rattle.plans.specs.Limits.{maxPoints, pointTotal}
-use Rattle.plans.specs.Level.{Level as Ideal, ceiling, gain, backupAt, corner-weight, follows, Shaped}
+use Rattle.plans.specs.Level.{Level as Ideal, ceiling, gain, backupAt, corner-weight, follows, Shaped, IsPoint}
 use Rattle.plans.specs.Build.{chosen, entryFor, bestAction, leastFor, leastValue, seed, built}
 use Rattle.plans.proofs.Agreement.{product-cong, successor-weights, backupAt-weights, backup-cong}
 use Rattle.plans.proofs.Ceiling.{corner-total}
@@ -107,7 +107,7 @@ module _ (n : ℕ) (weight : ℕ → ℕ → ℕ) (v : ℕ) where
   seed-point h = rw (T-false (ltb v n) (le→nltb v n h))
 
 -- they total 1 at a corner, and what a point's weights do at a point
-pub seed-light : (n count : ℕ) (weight : ℕ → ℕ → ℕ) → ((i : ℕ) → i < count → totalTo n (weight i) ≡ pointTotal) → (v : ℕ) → v < n + count
+pub seed-light : (n count : ℕ) (weight : ℕ → ℕ → ℕ) → ((i : ℕ) → i < count → IsPoint n (weight i)) → (v : ℕ) → v < n + count
     → totalTo n (seed n weight v) ≤ pointTotal
 seed-light n count weight total v l = by (decLt v n)
   where

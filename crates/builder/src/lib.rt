@@ -4,14 +4,14 @@ ghost use mathlib.Core.List.{[]};
 ghost use Prim.Native.Nat.{ℕ, _+_, _*_, _-_, _≤_, _<_};
 ghost use lib.ListN.{length};
 ghost use lib.IntN.{pos};
-ghost use Rattle.integers.specs.Whole.{floorDiv, totalTo, Below, Within};
+ghost use Rattle.integers.specs.Whole.{floorDiv, Below, Within};
 ghost use Rattle.integers.specs.Search.{firstLargest};
 ghost use Rattle.integers.specs.Cells.{padded, grid};
 ghost use Rattle.tables.specs.Limits.{maxStates, maxActions, maxObservations, one, K};
 ghost use Rattle.tables.specs.Storage.{weightIn, entryIn, modelIn, modelOf};
 ghost use Rattle.tables.specs.Steps.{movedIn, seenIn, backupIn, rowsTo, TransitionsFit, ObservationsFit, RewardsFit, EntriesFit, movedLimit, foreseenLimit};
 ghost use Rattle.plans.specs.Limits.{maxBuilt, maxPoints, pointTotal, maxReached};
-ghost use Rattle.plans.specs.Level.{product, corner-weight};
+ghost use Rattle.plans.specs.Level.{product, corner-weight, IsPoint};
 ghost use Rattle.plans.specs.Build.{seed, leastValue, built};
 ghost use Rattle.levels.specs.Storage.{roofIn, levelOf, pointIn};
 ghost use Rattle.checks.specs.Steps.{Light, Roofed};
@@ -226,7 +226,7 @@ fn build_vectors<'a>(
 ) -> Rows
     requires { ⌜ Upon c (now transition) (now observation) (now reward) (now standing) vectors ⌝ }
     requires { ⌜ (points ≤ maxBuilt) × (points * c .states ≤ length (now weights)) ⌝ }
-    requires { ⌜ ((i : ℕ) → i < points → totalTo (c .states) (pointIn (c .states) (now weights) i) ≡ pointTotal) ⌝ }
+    requires { ⌜ ((i : ℕ) → i < points → IsPoint (c .states) (pointIn (c .states) (now weights) i)) ⌝ }
     ensures { λ r. ⌜ r ≡ rowsOf (c .states) (c .observations) (built (modelIn c (now (transition .entry)) (now (observation .entry))
         (now (reward .entry))) (uponIn c vectors (now (standing .entry))) points (pointIn (c .states) (now (weights .entry)))) ⌝ }
 {
@@ -305,7 +305,7 @@ fn build_values<'a, 'b>(
 ) -> Values
     requires { ⌜ Roofed c (now transition) (now observation) (now reward) (now corners) points (now weights) (now values) ⌝ }
     requires { ⌜ (count ≤ maxBuilt) × (count * c .states ≤ length (now given)) ⌝ }
-    requires { ⌜ ((i : ℕ) → i < count → totalTo (c .states) (pointIn (c .states) (now given) i) ≡ pointTotal) ⌝ }
+    requires { ⌜ ((i : ℕ) → i < count → IsPoint (c .states) (pointIn (c .states) (now given) i)) ⌝ }
     ensures { λ r. ⌜ r ≡ padded (pos 0) maxPoints count (λ i. leastValue
         (modelIn c (now (transition .entry)) (now (observation .entry)) (now (reward .entry)))
         (roofIn (c .states) (now (corners .entry)) points (now (weights .entry)) (now (values .entry))) (pointIn (c .states) (now (given .entry)) i)) ⌝ }
@@ -349,7 +349,7 @@ fn keep_points(given: &[u32], count: usize, n: usize) -> PointWeights
 pub fn build_level(m: Tables, l: Level, p: Points) -> Level
     requires { ⌜ Buildable m l ⌝ }
     requires { ⌜ p .count ≤ maxBuilt ⌝ }
-    requires { ⌜ ((i : ℕ) → i < p .count → totalTo (m .states) (pointIn (m .states) (p .weights) i) ≡ pointTotal) ⌝ }
+    requires { ⌜ ((i : ℕ) → i < p .count → IsPoint (m .states) (pointIn (m .states) (p .weights) i)) ⌝ }
     ensures { λ r. ⌜ r ≡ stored (m .states) (m .observations) (built (modelOf m) (levelOf (m .states) (m .observations) l) (p .count)
         (pointIn (m .states) (p .weights))) ⌝ }
 {

@@ -13,7 +13,7 @@ ghost use Rattle.levels.specs.declared.Level.{Level};
 ghost use Rattle.levels.specs.Storage.{levelOf};
 ghost use Rattle.levels.specs.Judged.{rangesVerdict, shapeVerdict, backupsVerdict};
 ghost use Rattle.runs.specs.State.{modelIn, readBy, levelIn, holds, opened, verdictOn, offered, mixtureHolds, boundsBy, totalsOf, builtOf};
-ghost use Rattle.runs.specs.Demand3.{Opens, after, steps, PointsHold, TotalsHold, BuildHolds};
+ghost use Rattle.runs.specs.Demand3.{ModelAccepted, after, steps, PointsHold, TotalsHold, BuildHolds};
 ghost use Rattle.certifier.specs.Stages.{noBounds, noBuilt};
 use levels::Level;
 use levels::shape;
@@ -302,7 +302,7 @@ fn bounds_at(c: Certifier, q: Weights) -> Bounds
 // The lower and the upper total at a mixture of any content, their gap and the action to open with; or refused by 7, 16 or 17.
 pub fn totals(c: Certifier, b: [u32; Tables::STATES]) -> Bounds
     ensures { λ r. ⌜ r ≡ totalsOf c b ⌝ }
-    ensures { λ r. ⌜ ((m : Tables) (ls : List Level) → Opens m → c ≡ after m ls → 0 < steps m ls → mixtureHolds (m .states) (weightIn b) ≡ true →
+    ensures { λ r. ⌜ ((m : Tables) (ls : List Level) → ModelAccepted m → c ≡ after m ls → 0 < steps m ls → mixtureHolds (m .states) (weightIn b) ≡ true →
         TotalsHold m ls b r) ⌝ }
 {
     if !standing_holds(c) {
@@ -333,7 +333,7 @@ fn no_level(number: u8, place: usize) -> Built
 // Builds the next level from points of any content: it is accepted where it is offered to the same certifier; or refused by 7, 8, 9 or 12.
 pub fn build(c: Certifier, p: Points) -> Built
     ensures { λ r. ⌜ r ≡ builtOf c p ⌝ }
-    ensures { λ r. ⌜ ((m : Tables) (ls : List Level) → Opens m → c ≡ after m ls → steps m ls < maxLevels → PointsHold m p → BuildHolds m ls p r) ⌝ }
+    ensures { λ r. ⌜ ((m : Tables) (ls : List Level) → ModelAccepted m → c ≡ after m ls → steps m ls < maxLevels → PointsHold m p → BuildHolds m ls p r) ⌝ }
 {
     if !standing_holds(c) {
         return no_level(7, 0);

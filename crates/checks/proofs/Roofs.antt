@@ -24,7 +24,7 @@ use Rattle.tables.specs.Storage.{weightIn, rewardIn, modelIn}
 use Rattle.tables.specs.Steps.{movedIn, seenIn, expectedIn, TransitionsFit, RewardsFit, movedLimit}
 use Rattle.tables.proofs.Regroup.{moved-successor, expected-is, moved-limit}
 use Rattle.plans.specs.Limits.{maxPoints, pointTotal, maxReached, range}
-use Rattle.plans.specs.Level.{Level as Ideal, Shaped, ceiling, backupAt, corner-weight}
+use Rattle.plans.specs.Level.{Level as Ideal, Shaped, ceiling, backupAt, corner-weight, IsPoint}
 use Rattle.plans.proofs.Agreement.{ceiling-weights, backupAt-weights}
 use Rattle.plans.proofs.Ceiling.{corner-total}
 use Rattle.plans.proofs.Built.{successor-total, successor-limit, ceiling-range}
@@ -90,7 +90,7 @@ module _ (n : ℕ) (weights : List ℕ) (i : ℕ) {p : List ℕ} (e : p ≡ padd
   pub point-long : n ≤ maxStates → length p ≡ maxStates
   point-long few = rw e (padded-length 0 maxStates n (pointIn n weights i) few)
 
-  pub point-light : n ≤ maxStates → totalTo n (pointIn n weights i) ≡ pointTotal → Light n p
+  pub point-light : n ≤ maxStates → IsPoint n (pointIn n weights i) → Light n p
   point-light few t = record {
     long = rw (point-long few) few;
     light = omega (arith, total-cong n (weightIn p) (pointIn n weights i) point-at);

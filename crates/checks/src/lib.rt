@@ -5,13 +5,14 @@ ghost use Prim.Native.Nat.{ℕ, _*_, _≤_, _<_};
 ghost use lib.ListN.{length, getD, set, replicate};
 ghost use lib.IntN.{pos, natAbs};
 ghost use lib.Signed.{leZ};
-ghost use Rattle.integers.specs.Whole.{_·_, sumTo, totalTo, Below, Within};
+ghost use Rattle.integers.specs.Whole.{_·_, sumTo, Below, Within};
 ghost use Rattle.integers.specs.Search.{every};
 ghost use Rattle.integers.specs.Cells.{padded};
 ghost use Rattle.tables.specs.Limits.{maxStates, maxActions, maxObservations, one, maxEntry, K};
 ghost use Rattle.tables.specs.Storage.{modelIn};
 ghost use Rattle.tables.specs.Steps.{seenIn, backupIn, TransitionsFit, ObservationsFit, RewardsFit, movedLimit, foreseenLimit};
 ghost use Rattle.plans.specs.Limits.{pointTotal};
+ghost use Rattle.plans.specs.Level.{IsPoint};
 ghost use Rattle.levels.specs.Storage.{pointIn, floorIn, roofIn};
 ghost use Rattle.levels.specs.Judged.{floorsVerdict, cornersVerdict, pointsVerdict};
 ghost use Rattle.sawtooth.specs.Steps.{ceilingIn, CornersFit, PointsFit, ValuesFit, maxGain};
@@ -222,7 +223,7 @@ pub fn points_hold<'a, 'b, 'c>(
     requires { ⌜ Roofed c (now transition) (now observation) (now reward) (now corners) points (now weights) (now values) ⌝ }
     requires { ⌜ PointsFit (c .states) count (now offered) ⌝ }
     requires { ⌜ ValuesFit count (now at) ⌝ }
-    requires { ⌜ ((i : ℕ) → i < count → totalTo (c .states) (pointIn (c .states) (now offered) i) ≡ pointTotal) ⌝ }
+    requires { ⌜ ((i : ℕ) → i < count → IsPoint (c .states) (pointIn (c .states) (now offered) i)) ⌝ }
     ensures { λ r. ⌜ r ≡ pointsVerdict (modelIn c (now (transition .entry)) (now (observation .entry)) (now (reward .entry)))
         (roofIn (c .states) (now (corners .entry)) points (now (weights .entry)) (now (values .entry)))
         (roofIn (c .states) [] count (now (offered .entry)) (now (at .entry))) ⌝ }

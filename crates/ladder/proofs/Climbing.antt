@@ -22,12 +22,12 @@ use Rattle.runs.specs.declared.Bounds.{Bounds}
 use Rattle.runs.specs.declared.Points.{Points}
 use Rattle.runs.specs.declared.Built.{Built}
 use Rattle.runs.specs.State.{opened, offered, mixtureHolds}
-use Rattle.runs.specs.Demand3.{Opens, run, counted, acceptances, after, steps, TotalsHold, BuildHolds, PointsHold}
+use Rattle.runs.specs.Demand3.{ModelAccepted, run, counted, acceptances, after, steps, TotalsHold, BuildHolds, PointsHold}
 use Rattle.runs.proofs.Demand3.{demand3}
 use Rattle.modelfile.specs.declared.ModelFile.{ModelFile}
 use Rattle.modelfile.specs.ModelFile.{modelFile}
 use Rattle.modelfile.proofs.Opens.{read-opens, read-valid}
-use Rattle.modelfile.proofs.Opens.{Opens as FileOpens}
+use Rattle.modelfile.proofs.Opens.{FileOpens}
 use Rattle.ladder.specs.Climb.{Given, Climbed, Alike, OnePoint}
 
 -- ---- one offer more
@@ -89,7 +89,7 @@ module _ {b : List ℕ} {c : Certifier} {t : ℕ} (k : Climbed b c t) where
 
   -- what the builder's contract says of its answer r
   module _ {p : Points} {r : Built} (few : t < maxLevels) (o : OnePoint b p)
-      (h : (m : Tables) (ls : List Level) → Opens m → c ≡ after m ls → steps m ls < maxLevels → PointsHold m p → BuildHolds m ls p r) where
+      (h : (m : Tables) (ls : List Level) → ModelAccepted m → c ≡ after m ls → steps m ls < maxLevels → PointsHold m p → BuildHolds m ls p r) where
     pub built-holds : BuildHolds (k .tables) (k .offers) p r
     built-holds = h (k .tables) (k .offers) (k .given .opens) (k .left) (rw (k .accepted) few) (points-hold (k .given) o)
 
@@ -108,6 +108,6 @@ module _ {b : List ℕ} {c : Certifier} {t : ℕ} (k : Climbed b c t) where
     }
 
   pub totals-given : {r : Bounds} → 0 < t
-      → ((m : Tables) (ls : List Level) → Opens m → c ≡ after m ls → 0 < steps m ls → mixtureHolds (m .states) (weightIn b) ≡ true → TotalsHold m ls b r)
+      → ((m : Tables) (ls : List Level) → ModelAccepted m → c ≡ after m ls → 0 < steps m ls → mixtureHolds (m .states) (weightIn b) ≡ true → TotalsHold m ls b r)
       → r .verdict ≡ Fine
   totals-given some h = h (k .tables) (k .offers) (k .given .opens) (k .left) (rw (k .accepted) some) (mixture-holds (k .given)) .given

@@ -3,21 +3,20 @@ use Prim.Native.Nat.{ℕ, _≤_, _<_}
 use mathlib.Core.Path.{_≡_}
 use mathlib.Core.List.{List}
 use lib.ListN.{getD}
-use Rattle.integers.specs.Whole.{totalTo}
 use Rattle.tables.specs.declared.Tables.{Tables}
 use Rattle.tables.specs.Limits.{maxStates}
 use Rattle.tables.specs.Storage.{weightIn}
-use Rattle.plans.specs.Limits.{pointTotal}
+use Rattle.plans.specs.Level.{IsPoint}
 use Rattle.levels.specs.declared.Level.{Level}
 use Rattle.runs.specs.declared.Certifier.{Certifier}
 use Rattle.runs.specs.declared.Points.{Points}
-use Rattle.runs.specs.Demand3.{Opens, after, steps}
+use Rattle.runs.specs.Demand3.{ModelAccepted, after, steps}
 
 -- tables that open, with a mixture whose weights are those of a point
 pub record Given (m : Tables) (b : List ℕ) : Type 0 where
-  pub opens : Opens m
+  pub opens : ModelAccepted m
   pub few-states : m .states ≤ maxStates
-  pub total : totalTo (m .states) (weightIn b) ≡ pointTotal
+  pub total : IsPoint (m .states) (weightIn b)
 
 -- after t acceptances
 pub record Climbed (b : List ℕ) (c : Certifier) (t : ℕ) : Type 0 where

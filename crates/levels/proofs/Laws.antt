@@ -6,7 +6,6 @@ use native.Mathlib.Nat.{mul-le-mul}
 use native.Mathlib.Omega.{arith}
 use lib.ListN.{length}
 use borrow.Author.Tests.{ltb-true}
-use Rattle.integers.proofs.Lists.{row-below}
 use Rattle.tables.specs.declared.Verdict.{Verdict}
 use Rattle.tables.specs.declared.Verdict.the-variants.{Fine, Refused}
 use Rattle.tables.specs.Verdicts.{_before_, unless}
@@ -32,10 +31,6 @@ unfolding numbersIn
 numbers-in number vectors m k standing action choice e v l =
     let h = before-fine _ _ (fine-at _ vectors e v l) in
     (ltb-true _ _ (unless-fine _ _ _ (h .0)), λ o b. ltb-true _ _ (unless-fine _ _ _ (fine-at _ k (h .1) o b)))
-
--- ---- row r of width w lies in an array that has room for R rows of width X
-pub row-fits : {R X : ℕ} (r rows w : ℕ) → r < rows → rows ≤ R → w ≤ X → r * w + w ≤ R * X
-row-fits r rows w l h k = omega (arith, row-below r rows w l, mul-le-mul h k)
 
 -- ---- a level in its arrays
 

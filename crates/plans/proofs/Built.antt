@@ -15,7 +15,7 @@ use Rattle.integers.proofs.Searches.{largest-in, largest-max}
 use Rattle.tables.specs.Limits.{one, maxReward, maxEntry, K, maxLevels}
 use Rattle.tables.specs.Model.{Model, Valid, successor, expectedReward, backup, backedUp}
 use Rattle.plans.specs.Limits.{maxBuilt, pointTotal, range}
-use Rattle.plans.specs.Level.{Level, level0, product, drop, gain, ceiling, backupAt, corner-weight, follows, Meets, Shaped}
+use Rattle.plans.specs.Level.{Level, level0, product, drop, gain, ceiling, backupAt, corner-weight, follows, Meets, Shaped, IsPoint}
 use Rattle.plans.specs.Build.{chosen, entryFor, bestAction, leastFor, leastValue, built}
 use Rattle.plans.proofs.Ceiling.{sawtooth, product-const, corner-total}
 
@@ -183,7 +183,7 @@ module _ (M : Model) (L : Level) (t : ℕ) (T : Valid M) (S : Shaped M t L) wher
       ceil-range K K-positive (totalTo (M .states) p * range (suc t)) _ (backupAt-range M L t T S p _ (largest-in _ _ (T .some-actions)))
 
   module _ (points : ℕ) (weight : ℕ → ℕ → ℕ) (few : points ≤ maxBuilt)
-      (total : (i : ℕ) → i < points → totalTo (M .states) (weight i) ≡ pointTotal) where
+      (total : (i : ℕ) → i < points → IsPoint (M .states) (weight i)) where
     -- The built level has the shape of level t + 1.
     -- It has a vector for each state and each point, at most maxStates + maxBuilt = maxVectors. An entry is a backup over K, rounded down; a corner or
     -- value is the largest of the backups over K, rounded up. Backups lie within K × range (t + 1) times the total of the weights, which is 1 at a

@@ -96,6 +96,10 @@ pub record Meets (M : Model) (L W : Level) : Type 0 where
   pub corner : (s : ℕ) → s < M .states → (a : ℕ) → a < M .actions → backupAt M L (corner-weight s) a ≤ℤ K · W .corner s
   pub point : (i : ℕ) → i < W .points → (a : ℕ) → a < M .actions → backupAt M L (W .weight i) a ≤ℤ K · W .value i
 
+-- what a point's weights are: they total pointTotal
+abbrev pub IsPoint : ℕ → (ℕ → ℕ) → Type 0
+IsPoint n weight = totalTo n weight ≡ pointTotal
+
 -- level W is within the limits of level t
 pub record Shaped (M : Model) (t : ℕ) (W : Level) : Type 0 where
   pub some-vectors : 0 < W .vectors
@@ -105,7 +109,7 @@ pub record Shaped (M : Model) (t : ℕ) (W : Level) : Type 0 where
   pub entry-in : (v : ℕ) → v < W .vectors → (s : ℕ) → s < M .states → natAbs (W .entry v s) ≤ range t
   pub corner-in : (s : ℕ) → s < M .states → natAbs (W .corner s) ≤ range t
   pub value-in : (i : ℕ) → i < W .points → natAbs (W .value i) ≤ pointTotal * range t
-  pub total : (i : ℕ) → i < W .points → totalTo (M .states) (W .weight i) ≡ pointTotal
+  pub total : (i : ℕ) → i < W .points → IsPoint (M .states) (W .weight i)
 
 -- two levels that agree in every part that is read
 pub record Agree (M : Model) (W W' : Level) : Type 0 where

@@ -34,7 +34,7 @@ use Rattle.runs.specs.declared.Points.{Points}
 use Rattle.runs.specs.declared.Built.{Built}
 use Rattle.runs.specs.State.{levelIn, holds, fresh, openedBy, opened, verdictOn, settled, offered, mixtureHolds, totalsVerdict, totalsOf}
 use Rattle.runs.specs.State.{buildVerdict, stored, builtFrom, builtOf}
-use Rattle.runs.specs.Demand3.{Opens, run, counted, acceptances, newer, lastOf, after, steps, last}
+use Rattle.runs.specs.Demand3.{ModelAccepted, run, counted, acceptances, newer, lastOf, after, steps, last}
 use Rattle.runs.specs.Demand3.{StateHolds, TotalsHold, BuildHolds, PointsHold, Demand3}
 use Rattle.runs.proofs.Judged.{Standing, Accepted, standing-is, accepted, accepts, weights-is}
 use Rattle.runs.proofs.Stored.{stored-agree, stored-same}
@@ -56,7 +56,7 @@ pub record Reached (m : Tables) (t : ℕ) (L : Ideal) (c : Certifier) : Type 0 w
   pub stands : Standing (keptModel m) t (read m (c .level))
 
 -- ---- opening
-module _ (m : Tables) (o : Opens m) where
+module _ (m : Tables) (o : ModelAccepted m) where
   pub fine-tables : modelVerdict (modelOf m) ≡ Fine
   unfolding opened
   fine-tables = by (modelVerdict (modelOf m)) o
@@ -187,7 +187,7 @@ reached-run m (l ∷ ls) t L c r =
     rw (← add-assoc t (counted (offered c l .verdict)) (acceptances (offered c l .certifier) ls))
     (reached-run m ls _ _ (offered c l .certifier) (reached-step r l))
 
-module _ (m : Tables) (o : Opens m) (ls : List Level) where
+module _ (m : Tables) (o : ModelAccepted m) (ls : List Level) where
   reached : Reached m (steps m ls) (last m ls) (after m ls)
   reached = rw (zero-add (steps m ls)) at (reached-run m ls 0 level0 (opened m .certifier) (reached-open m o))
 
@@ -222,14 +222,14 @@ module _ (m : Tables) (o : Opens m) (ls : List Level) where
 -- the stored one agrees, and the totals of a certified level bracket what plans earn (`bracket`). Building is not refused either: the built level has the
 -- shape of the next level and meets its inequalities over the stored one (`built-shaped`, `built-meets`); what is stored of it agrees with it, so it
 -- passes every test of an offer. Qed.
-pub demand3 : (m : Tables) → Opens m → (ls : List Level) → Demand3 m ls
+pub demand3 : (m : Tables) → ModelAccepted m → (ls : List Level) → Demand3 m ls
 demand3 m o ls = record { state = state-holds m o ls; totals = totals-hold m o ls; build = build-holds m o ls }
 
 -- ---- an answer that meets its equation has what demand 3 says of it
 pub totals-demand : (c : Certifier) (b : List ℕ) (r : Bounds) → r ≡ totalsOf c b
-    → (m : Tables) (ls : List Level) → Opens m → c ≡ after m ls → 0 < steps m ls → mixtureHolds (m .states) (weightIn b) ≡ true → TotalsHold m ls b r
+    → (m : Tables) (ls : List Level) → ModelAccepted m → c ≡ after m ls → 0 < steps m ls → mixtureHolds (m .states) (weightIn b) ≡ true → TotalsHold m ls b r
 totals-demand c b r e m ls o q h mixture = rw (e, q) (demand3 m o ls .totals h b mixture)
 
 pub build-demand : (c : Certifier) (p : Points) (r : Built) → r ≡ builtOf c p
-    → (m : Tables) (ls : List Level) → Opens m → c ≡ after m ls → steps m ls < maxLevels → PointsHold m p → BuildHolds m ls p r
+    → (m : Tables) (ls : List Level) → ModelAccepted m → c ≡ after m ls → steps m ls < maxLevels → PointsHold m p → BuildHolds m ls p r
 build-demand c p r e m ls o q h points = rw (e, q) (demand3 m o ls .build h p points)

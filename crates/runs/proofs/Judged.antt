@@ -6,7 +6,7 @@ use native.Mathlib.Omega.{arith}
 use lib.IntN.{ℤ, natAbs}
 use lib.Signed.{_≤ℤ_}
 use borrow.Author.Tests.{leb-true, le-leb, ltb-true, lt-ltb, eqb-true, eq-eqb}
-use Rattle.integers.specs.Whole.{_·_, totalTo}
+use Rattle.integers.specs.Whole.{_·_}
 use Rattle.integers.proofs.Parts.{is-T, leZ-is, le-true}
 use Rattle.integers.proofs.Searches.{and-true, and-is, every-at, at-every}
 use Rattle.tables.specs.declared.Verdict.{Verdict}
@@ -16,7 +16,7 @@ use Rattle.tables.specs.Model.{Model, Valid, backup}
 use Rattle.tables.proofs.Refusals.{before-fine, unless-fine, fine-at, at-fine}
 use Rattle.tables.proofs.Accepted.{valid, is-valid}
 use Rattle.plans.specs.Limits.{pointTotal, range}
-use Rattle.plans.specs.Level.{Level, backupAt, corner-weight, follows, Meets, Shaped}
+use Rattle.plans.specs.Level.{Level, backupAt, corner-weight, follows, Meets, Shaped, IsPoint}
 use Rattle.levels.specs.Judged.{countsHold, rowsWithin, rangesVerdict, weightsVerdict, actionsExist, isFine, standingHolds}
 use Rattle.levels.specs.Judged.{numbersIn, numbersVerdict, floorsVerdict, coversBackups, cornersVerdict, pointsVerdict, shapeVerdict}
 use Rattle.levels.specs.Judged.{backupsVerdict, offerVerdict}
@@ -48,11 +48,11 @@ covers-is M L p w h = at-every (M .actions) _ (λ a l. leZ-is _ _ (h a l))
 
 -- ---- a level by itself
 pub weights-fine : (n points : ℕ) (weight : ℕ → ℕ → ℕ) → weightsVerdict n points weight ≡ Fine
-    → (i : ℕ) → i < points → totalTo n (weight i) ≡ pointTotal
+    → (i : ℕ) → i < points → IsPoint n (weight i)
 unfolding weightsVerdict
 weights-fine n points weight e i l = eqb-true _ _ (unless-fine _ _ _ (fine-at _ points e i l))
 
-pub weights-is : (n points : ℕ) (weight : ℕ → ℕ → ℕ) → ((i : ℕ) → i < points → totalTo n (weight i) ≡ pointTotal)
+pub weights-is : (n points : ℕ) (weight : ℕ → ℕ → ℕ) → ((i : ℕ) → i < points → IsPoint n (weight i))
     → weightsVerdict n points weight ≡ Fine
 unfolding weightsVerdict
 weights-is n points weight h = at-fine _ points (λ i l. passed 12 i (eq-eqb _ _ (h i l)))

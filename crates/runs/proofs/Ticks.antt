@@ -27,7 +27,7 @@ use Rattle.levels.specs.Storage.{pointIn, noLevel}
 use Rattle.runs.specs.declared.Certifier.{Certifier}
 use Rattle.runs.specs.declared.Points.{Points}
 use Rattle.runs.specs.State.{opened, verdictOn, settled, offered, buildVerdict, builtBy, builtOf, stored}
-use Rattle.runs.specs.Demand3.{Opens, run, newer, lastOf, after, steps, last}
+use Rattle.runs.specs.Demand3.{ModelAccepted, run, newer, lastOf, after, steps, last}
 use Rattle.runs.specs.Ticks.{offers, stacked, levelsOf, levels, made, Ticks}
 use Rattle.runs.proofs.Judged.{Accepted}
 use Rattle.runs.proofs.Stored.{stored-agree}
@@ -59,7 +59,7 @@ record Stacked (m : Tables) (below : List Ideal) (L : Ideal) (c : Certifier) : T
   strict : 0 < length below → (v : ℕ) → v < L .vectors → (s : ℕ) → s < m .states
       → earns (modelOf m) (named below v) s <ℤ (K ^ length below) · (L .entry v s +ℤ pos (length below))
 
-module _ (m : Tables) (o : Opens m) where
+module _ (m : Tables) (o : ModelAccepted m) where
   valid-tables : Valid (modelOf m)
   valid-tables = valid (modelOf m) (fine-tables m o)
 
@@ -128,7 +128,7 @@ module _ (m : Tables) (o : Opens m) where
 -- By induction over the list, `Stacked` holds after it. At level 0 a plan of no steps earns 0, which is the zero vector's entry. A list that is refused
 -- makes a level without a vector, which the offer refuses, and changes nothing. An accepted level was built: its entries are the backups of those that
 -- its vectors chose, rounded down, so they lie less than one tick further below what their plans earn (`high-next`), and not above it (`low-next`). Qed.
-pub ticks : (m : Tables) → Opens m → (ps : List Points) → Ticks m ps
+pub ticks : (m : Tables) → ModelAccepted m → (ps : List Points) → Ticks m ps
 ticks m o ps = record { number = number; entry = λ h v l s b. (all .low v l s b, all .strict (rw number h) v l s b) }
   where
     all : Stacked m (levels m (made m ps)) (last m (made m ps)) (after m (made m ps))

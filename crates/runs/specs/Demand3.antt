@@ -9,14 +9,13 @@ use mathlib.Core.Path.{_≡_}
 use mathlib.Core.Bool.{true}
 use mathlib.Core.List.{List, [], _∷_}
 use lib.IntN.{_-ℤ_}
-use Rattle.integers.specs.Whole.{totalTo}
 use Rattle.tables.specs.declared.Tables.{Tables}
 use Rattle.tables.specs.declared.Verdict.{Verdict}
 use Rattle.tables.specs.declared.Verdict.the-variants.{Fine, Refused}
 use Rattle.tables.specs.Storage.{weightIn, modelOf, kept}
 use Rattle.tables.specs.Limits.{maxLevels}
-use Rattle.plans.specs.Limits.{maxBuilt, pointTotal}
-use Rattle.plans.specs.Level.{Level as Ideal, Agree, level0}
+use Rattle.plans.specs.Limits.{maxBuilt}
+use Rattle.plans.specs.Level.{Level as Ideal, Agree, level0, IsPoint}
 use Rattle.plans.specs.Totals.{lower, upper, advice, Bracket}
 use Rattle.plans.specs.Build.{built}
 use Rattle.levels.specs.declared.Level.{Level}
@@ -28,8 +27,8 @@ use Rattle.runs.specs.declared.Built.{Built}
 use Rattle.runs.specs.State.{levelIn, opened, offered, mixtureHolds, totalsOf, stored, builtOf}
 
 -- a model is accepted if opening does not refuse its tables
-abbrev pub Opens : Tables → Type 0
-Opens m = opened m .verdict ≡ Fine
+abbrev pub ModelAccepted : Tables → Type 0
+ModelAccepted m = opened m .verdict ≡ Fine
 
 -- each offer is handed the certifier that the one before it returned
 unfoldable pub run : Certifier → List Level → Certifier
@@ -87,7 +86,7 @@ pub record BuildHolds (m : Tables) (ls : List Level) (p : Points) (r : Built) : 
 -- points within the builder's limits
 pub record PointsHold (m : Tables) (p : Points) : Type 0 where
   pub few : p .count ≤ maxBuilt
-  pub total : (i : ℕ) → i < p .count → totalTo (m .states) (pointIn (m .states) (p .weights) i) ≡ pointTotal
+  pub total : (i : ℕ) → i < p .count → IsPoint (m .states) (pointIn (m .states) (p .weights) i)
 
 -- the whole claim
 pub record Demand3 (m : Tables) (ls : List Level) : Type 0 where
