@@ -108,6 +108,7 @@ module _ {b : List ℕ} {c : Certifier} {t : ℕ} (k : Climbed b c t) where
     }
 
   pub totals-given : {r : Bounds} → 0 < t
-      → ((m : Tables) (ls : List Level) → ModelAccepted m → c ≡ after m ls → 0 < steps m ls → mixtureHolds (m .states) (weightIn b) ≡ true → TotalsHold m ls b r)
+      → ((m : Tables) (ls : List Level) → ModelAccepted m → c ≡ after m ls
+      → 0 < steps m ls → mixtureHolds (m .states) (weightIn b) ≡ true → TotalsHold m ls b r)
       → r .verdict ≡ Fine
   totals-given some h = h (k .tables) (k .offers) (k .given .opens) (k .left) (rw (k .accepted) some) (mixture-holds (k .given)) .given
