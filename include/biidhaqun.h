@@ -129,7 +129,8 @@ struct biidhaqun_totals biidhaqun_totals(const int64_t *certifier, size_t certif
                                          size_t mixture_length);
 
 /*
- * Builds a level upon the one that stands, with a vector at each corner and then at each point; it would be accepted.
+ * Builds a level upon the one that stands, with a vector at each corner and then at each point; it would be accepted. If
+ * the t levels so far were all built, each entry is less than t ticks below what the plan earns that its vector names.
  * Refused by 7, 8, 9, 12 or 100.
  */
 struct biidhaqun_refusal biidhaqun_build(const int64_t *certifier, size_t certifier_length, const int64_t *points,
