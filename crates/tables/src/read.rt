@@ -1,4 +1,4 @@
-// One cell of a table, by its indices. Where a cell lies is said here alone.
+// One cell of a table, a level, a list of points or a graph, by its indices: where it lies is said here.
 ghost use mathlib.Core.Path.{_≡_};
 ghost use Prim.Native.Nat.{_+_, _*_, _≤_, _<_};
 ghost use lib.ListN.{length, set};
