@@ -380,7 +380,7 @@ fn run(rounds: usize) -> Result<(), String> {
 }
 
 /// The calls whose stack is measured.
-const CALLS: [&str; 5] = ["reading", "opening", "offering", "totals", "building"];
+const CALLS: [&str; 6] = ["reading", "opening", "offering", "totals", "building", "a worth"];
 /// The option by which this command calls itself to make one call on a small stack.
 const ON_STACK: &str = "--on-stack";
 
@@ -415,6 +415,7 @@ fn on_stack(call: &str, kilobytes: usize) -> Result<(), String> {
     let points = convert::points_words(&inputs::points(&mut rng, 16, 16));
     let mixture = inputs::shares(&mut rng, 16, 1_000);
     let (tables, level) = (convert::tables_words(&certifier.tables), convert::level_words(&level));
+    let graph = convert::graph_words(&inputs::graph(&mut rng, LARGEST, NODES));
     let mut standing = convert::certifier_words(&certifier);
     let (mut buffer, mut start) = (vec![0; ROOM], vec![0; 16]);
     let call = call.to_string();
@@ -424,6 +425,7 @@ fn on_stack(call: &str, kilobytes: usize) -> Result<(), String> {
         "offering" => words::offer(&mut standing, &level).number,
         "totals" => words::totals(&standing, &mixture).number,
         "building" => words::build(&standing, &points, &mut buffer).number,
+        "a worth" => words::worth(&tables, &graph, 0, 0, STEPS).number,
         _ => 0,
     };
     let thread = thread::Builder::new().stack_size(kilobytes << 10).spawn(made).map_err(|error| error.to_string())?;

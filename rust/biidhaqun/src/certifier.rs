@@ -214,7 +214,8 @@ impl Certifier {
         Ok(Totals { lower: ended.lower, upper: ended.upper, gap: ended.gap, action: ended.action })
     }
 
-    /// Builds a level upon the standing one, at every corner and at these points; it will be accepted. Refused with 8, 9
+    /// Builds a level upon the standing one, at every corner and at these points; it will be accepted. If all t levels so
+    /// far were built, each entry is less than t ticks below what the plan earns that its vector names. Refused with 8, 9
     /// or 12.
     pub fn build(&self, points: &Points) -> Result<Level, Error> {
         let points = points.words(self.shape)?;
