@@ -1,4 +1,4 @@
 -- Laws for this crate's proofs and those above it.
 pub mod Laws
-pub mod Kept
+pub mod Over
 pub mod Prelude

@@ -1,19 +1,23 @@
 -- What an offer is refused for, 7 to 15, in checking order; each number is tested throughout before the next.
-use Prim.Native.Nat.{ℕ, suc, _*_}
+use Prim.Native.Nat.{ℕ, _+_, _*_}
 use mathlib.Core.Bool.{Bool, true, false, _&&_}
 use lib.Dec.{leb, ltb, eqb}
+use lib.ListN.{length}
 use lib.IntN.{ℤ, natAbs}
 use lib.Signed.{leZ}
 use Rattle.integers.specs.Whole.{_·_, totalTo}
 use Rattle.integers.specs.Search.{every}
+use Rattle.tables.specs.declared.Tables.{Tables}
 use Rattle.tables.specs.declared.Verdict.{Verdict}
 use Rattle.tables.specs.declared.Verdict.the-variants.{Fine, Refused}
 use Rattle.tables.specs.Limits.{maxVectors, K, maxLevels}
 use Rattle.tables.specs.Model.{Model, backup}
+use Rattle.tables.specs.Storage.{modelOf}
 use Rattle.tables.specs.Verdicts.{_before_, unless, firstOf}
-use Rattle.tables.specs.Judged.{countWithin, modelVerdict}
+use Rattle.tables.specs.Judged.{countWithin, tablesVerdict}
 use Rattle.plans.specs.Limits.{maxPoints, pointTotal, range}
 use Rattle.plans.specs.Level.{Level, backupAt, corner-weight, follows}
+use Rattle.levels.specs.Storage.{LentLevel, Lent, stateSize, levelOf, readable, complete, numberIn, standingIn, lentFor}
 
 -- ---- a level by itself
 
@@ -42,16 +46,6 @@ actionsExist m vectors action = every vectors (λ v. ltb (action v) m)
 abbrev pub isFine : Verdict → Bool
 isFine Fine = true
 isFine (Refused number place) = false
-
--- 7: the tables or the standing level break a limit of 3, 5, 6, 9, 11 or 12 or name an action that does not exist, or the level is over 100
-unfoldable pub standingHolds : Model → ℕ → Level → Bool
-standingHolds M t L =
-    isFine (modelVerdict M)
-    && (leb t maxLevels
-    && (countsHold (L .vectors) (L .points)
-    && (actionsExist (M .actions) (L .vectors) (L .action)
-    && (isFine (rangesVerdict M t L)
-    && isFine (weightsVerdict (M .states) (L .points) (L .weight))))))
 
 -- ---- a level W that is offered over the standing level L
 
@@ -82,19 +76,42 @@ cornersVerdict M L W = firstOf (M .states) (λ s. unless (coversBackups M L (cor
 unfoldable pub pointsVerdict : Model → Level → Level → Verdict
 pointsVerdict M L W = firstOf (W .points) (λ i. unless (coversBackups M L (W .weight i) (W .value i)) 15 i)
 
--- 7 to 12: the standing and the offered level by themselves; 8 and 9 have a condition of their own and no place
-unfoldable pub shapeVerdict : Model → ℕ → Level → Level → Verdict
-shapeVerdict M t L W =
-    unless (standingHolds M t L) 7 0
-    before unless (ltb t maxLevels) 8 0
-    before unless (countsHold (W .vectors) (W .points)) 9 0
-    before numbersVerdict M L W
-    before rangesVerdict M (suc t) W
-    before weightsVerdict (M .states) (W .points) (W .weight)
-
 -- 13 to 15: the backup inequalities
 unfoldable pub backupsVerdict : Model → Level → Level → Verdict
 backupsVerdict M L W = floorsVerdict M L W before cornersVerdict M L W before pointsVerdict M L W
 
-unfoldable pub offerVerdict : Model → ℕ → Level → Level → Verdict
-offerVerdict M t L W = shapeVerdict M t L W before backupsVerdict M L W
+-- ---- an offer to a certifier
+
+-- 7: the tables or the standing level break a limit of 3, 5, 6, 9, 11 or 12 or name an action that does not exist, or the level is over 100; or a slice
+-- is too short for them
+unfoldable pub holds : Tables → Lent → Bool
+holds m x =
+    let M : Model = modelOf m in
+    let L : Level = levelOf m (standingIn x) in
+    isFine (tablesVerdict m)
+    && (leb stateSize (length (x .state))
+    && (leb (numberIn x) maxLevels
+    && (countsHold (L .vectors) (L .points)
+    && (readable m (standingIn x)
+    && (actionsExist (M .actions) (L .vectors) (L .action)
+    && (isFine (rangesVerdict M (numberIn x) L)
+    && isFine (weightsVerdict (M .states) (L .points) (L .weight))))))))
+
+-- 9: no vector, too many vectors or points, or a slice too short for them: of the level that is offered, or of the certifier that is to hold it
+abbrev pub fits : Tables → Lent → LentLevel → Bool
+fits m x l = countsHold (l .vectors) (l .points) && (complete m l && complete m (lentFor (l .vectors) (l .points) (x .cells)))
+
+-- 7 to 12: the certifier and the offered level by themselves; 7, 8 and 9 have no place
+unfoldable pub shapeVerdict : Tables → Lent → LentLevel → Verdict
+shapeVerdict m x l =
+    let M : Model = modelOf m in
+    let W : Level = levelOf m l in
+    unless (holds m x) 7 0
+    before unless (ltb (numberIn x) maxLevels) 8 0
+    before unless (fits m x l) 9 0
+    before numbersVerdict M (levelOf m (standingIn x)) W
+    before rangesVerdict M (numberIn x + 1) W
+    before weightsVerdict (M .states) (W .points) (W .weight)
+
+unfoldable pub offerVerdict : Tables → Lent → LentLevel → Verdict
+offerVerdict m x l = shapeVerdict m x l before backupsVerdict (modelOf m) (levelOf m (standingIn x)) (levelOf m l)
