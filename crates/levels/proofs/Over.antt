@@ -3,7 +3,6 @@
 use mathlib.Core.Path.{_≡_, refl}
 use mathlib.Core.Bool.{true}
 use Prim.Native.Nat.{ℕ, _*_, _≤_}
-use lib.Dec.{leb}
 use lib.ListN.{length}
 use lib.IntN.{pos}
 use borrow.Author.Tests.{leb-true, le-leb}
@@ -14,14 +13,17 @@ use Rattle.tables.specs.Storage.{modelOf}
 use Rattle.plans.specs.Level.{Level, Agree}
 use Rattle.levels.specs.Storage.{Cells, LentLevel, levelOf, readable, complete, over, lentFor}
 
--- what `complete` tests
-pub record Complete (m : Tables) (l : LentLevel) : Type 0 where
-  pub choices : l .vectors * m .observations ≤ length (l .cells .choices)
+-- what `readable` and `complete` test
+pub record Readable (m : Tables) (l : LentLevel) : Type 0 where
   pub actions : l .vectors ≤ length (l .cells .actions)
   pub entries : l .vectors * m .states ≤ length (l .cells .entries)
   pub corners : m .states ≤ length (l .cells .corners)
   pub weights : l .points * m .states ≤ length (l .cells .weights)
   pub values : l .points ≤ length (l .cells .values)
+
+pub record Complete (m : Tables) (l : LentLevel) : Type 0 where
+  pub choices : l .vectors * m .observations ≤ length (l .cells .choices)
+  pub read : Readable m l
 
 -- two slices for each part that are as long as each other
 pub record AsLong (x y : Cells) : Type 0 where
@@ -37,30 +39,30 @@ as-long x = record { choices = refl; actions = refl; entries = refl; corners = r
 
 module _ (m : Tables) where
   module _ (l : LentLevel) where
-    pub complete-true : complete m l ≡ true → Complete m l
-    complete-true e =
-        let c = and-true _ _ e in
-        let a = and-true _ _ (c .1) in
-        let n = and-true _ _ (a .1) in
+    pub readable-true : readable m l ≡ true → Readable m l
+    readable-true e =
+        let n = and-true _ _ e in
         let s = and-true _ _ (n .1) in
         let p = and-true _ _ (s .1) in
+        let w = and-true _ _ (p .1) in
         record {
-          choices = leb-true _ _ (c .0);
-          actions = leb-true _ _ (a .0);
-          entries = leb-true _ _ (n .0);
-          corners = leb-true _ _ (s .0);
-          weights = leb-true _ _ (p .0);
-          values = leb-true _ _ (p .1);
+          actions = leb-true _ _ (n .0);
+          entries = leb-true _ _ (s .0);
+          corners = leb-true _ _ (p .0);
+          weights = leb-true _ _ (w .0);
+          values = leb-true _ _ (w .1);
         }
 
-    pub complete-is : Complete m l → complete m l ≡ true
-    complete-is c =
-        and-is (le-leb _ _ (c .choices)) (and-is (le-leb _ _ (c .actions)) (and-is (le-leb _ _ (c .entries)) (and-is (le-leb _ _ (c .corners))
-        (and-is (le-leb _ _ (c .weights)) (le-leb _ _ (c .values))))))
+    pub readable-is : Readable m l → readable m l ≡ true
+    readable-is c =
+        and-is (le-leb _ _ (c .actions)) (and-is (le-leb _ _ (c .entries)) (and-is (le-leb _ _ (c .corners))
+        (and-is (le-leb _ _ (c .weights)) (le-leb _ _ (c .values)))))
 
-    -- a level that is complete can be read
-    pub complete-readable : Complete m l → readable m l ≡ true
-    complete-readable c = and-true (leb (l .vectors * m .observations) (length (l .cells .choices))) _ (complete-is c) .1
+    pub complete-true : complete m l ≡ true → Complete m l
+    complete-true e = let h = and-true _ _ e in record { choices = leb-true _ _ (h .0); read = readable-true (h .1) }
+
+    pub complete-is : Complete m l → complete m l ≡ true
+    complete-is c = and-is (le-leb _ _ (c .choices)) (readable-is (c .read))
 
   module _ (W : Level) (x : Cells) where
     -- The cells that are read lie where the level was laid. Qed.
@@ -81,11 +83,11 @@ module _ (m : Tables) where
     unfolding over
     over-long c = record {
       choices = laidRows-length (W .vectors) (m .observations) (W .choice) (x .choices) (c .choices);
-      actions = laid-length (W .vectors) (W .action) (x .actions) (c .actions);
-      entries = laidRows-length (W .vectors) (m .states) (W .entry) (x .entries) (c .entries);
-      corners = laid-length (m .states) (W .corner) (x .corners) (c .corners);
-      weights = laidRows-length (W .points) (m .states) (W .weight) (x .weights) (c .weights);
-      values = laid-length (W .points) (W .value) (x .values) (c .values);
+      actions = laid-length (W .vectors) (W .action) (x .actions) (c .read .actions);
+      entries = laidRows-length (W .vectors) (m .states) (W .entry) (x .entries) (c .read .entries);
+      corners = laid-length (m .states) (W .corner) (x .corners) (c .read .corners);
+      weights = laidRows-length (W .points) (m .states) (W .weight) (x .weights) (c .read .weights);
+      values = laid-length (W .points) (W .value) (x .values) (c .read .values);
     }
 
     pub over-same : (W' : Level) → Agree (modelOf m) W W' → over m W' x ≡ over m W x
@@ -105,11 +107,13 @@ module _ (m : Tables) where
   pub complete-long : {vectors points : ℕ} {x y : Cells} → AsLong x y → Complete m (lentFor vectors points x) → Complete m (lentFor vectors points y)
   complete-long a c = record {
     choices = rw (a .choices) (c .choices);
-    actions = rw (a .actions) (c .actions);
-    entries = rw (a .entries) (c .entries);
-    corners = rw (a .corners) (c .corners);
-    weights = rw (a .weights) (c .weights);
-    values = rw (a .values) (c .values);
+    read = record {
+      actions = rw (a .actions) (c .read .actions);
+      entries = rw (a .entries) (c .read .entries);
+      corners = rw (a .corners) (c .read .corners);
+      weights = rw (a .weights) (c .read .weights);
+      values = rw (a .values) (c .read .values);
+    };
   }
 
 pub long-long : {x y z : Cells} → AsLong x y → AsLong y z → AsLong x z

@@ -24,6 +24,10 @@ pub record Cells : Type 0 where
   pub weights : List ℕ
   pub values : List ℤ
 
+abbrev pub cells : List ℕ → List ℕ → List ℤ → List ℤ → List ℕ → List ℤ → Cells
+cells actions choices entries corners weights values =
+    record { actions = actions; choices = choices; entries = entries; corners = corners; weights = weights; values = values }
+
 -- a level as it is handed in
 pub record LentLevel : Type 0 where
   pub vectors : ℕ

@@ -18,8 +18,8 @@ use Rattle.plans.specs.Limits.{maxBuilt}
 use Rattle.plans.specs.Level.{Level, level0}
 use Rattle.plans.specs.Totals.{lower, upper, advice}
 use Rattle.plans.specs.Build.{built}
-use Rattle.levels.specs.Storage.{Cells, LentLevel, Lent, levelOf, pointIn, complete, over, numberIn, standingIn, lentFor}
-use Rattle.levels.specs.Judged.{stateSize, holds, weightsVerdict, offerVerdict}
+use Rattle.levels.specs.Storage.{Cells, LentLevel, Lent, stateSize, levelOf, pointIn, complete, over, numberIn, standingIn, lentFor}
+use Rattle.levels.specs.Judged.{holds, weightsVerdict, offerVerdict}
 use Rattle.runs.specs.declared.Bounds.{Bounds}
 
 -- what is lent, as a verdict leaves it: a refusal leaves it as it was

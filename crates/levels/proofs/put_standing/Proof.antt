@@ -19,7 +19,7 @@ slice-write-state-2 : tie.Need-slice-write-state-2
 slice-write-state-2 c = rw (length-set (c .args .state .now) 0 (c .args .s .number)) (omega (arith, c .pre))
 
 returns : tie.Need-returns
-returns c = written _ _ _ _ (c .pre)
+returns c = written (c .args .state .now) (c .args .s .number) (c .args .s .vectors) (c .args .s .points) (c .pre)
 
 pub put-standing-spec : {M : Type 1} → statement M
 put-standing-spec = tie.close (tie.spec (λ c. search needs) slice-write-state-2 (λ c. search needs) (λ c. search needs) returns)
