@@ -73,3 +73,14 @@ module _ (M M' : Model) (e : Same M M') where
         (ap (λ (x : ℤ). K · M .reward s a +ℤ M .discount · x)
         (sum-cong (M .states) _ _ (λ s' l. sum-cong (M .observations) _ _
         (λ o l'. rw (e .transition-same a la s ls s' l, e .observation-same a la s' l o l', h o l' s' l)))))
+
+pub same-self : (M : Model) → Same M M
+same-self M = record {
+  states-same = refl;
+  actions-same = refl;
+  observations-same = refl;
+  discount-same = refl;
+  transition-same = λ a la s ls s' ls'. refl;
+  observation-same = λ a la s' ls' o lo. refl;
+  reward-same = λ a la s ls. refl;
+}
