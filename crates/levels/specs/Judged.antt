@@ -30,10 +30,10 @@ unfoldable pub rowsWithin : ℕ → ℕ → ℕ → ℕ → (ℕ → ℕ → ℤ
 rowsWithin number rows w limit cell = firstOf rows (λ r. firstOf w (λ x. unless (leb (natAbs (cell r x)) limit) number r))
 
 -- 11: entries, then corners, then point values, each within its range at level t
-unfoldable pub rangesVerdict : Model → ℕ → Level → Verdict
-rangesVerdict M t W =
-    rowsWithin 11 (W .vectors) (M .states) (range t) (W .entry)
-    before rowsWithin 11 (M .states) 1 (range t) (λ s x. W .corner s)
+unfoldable pub rangesVerdict : ℕ → ℕ → Level → Verdict
+rangesVerdict n t W =
+    rowsWithin 11 (W .vectors) n (range t) (W .entry)
+    before rowsWithin 11 n 1 (range t) (λ s x. W .corner s)
     before rowsWithin 11 (W .points) 1 (pointTotal * range t) (λ i x. W .value i)
 
 -- 12: a point's weights do not total 100
@@ -55,8 +55,13 @@ numbersIn number vectors m k standing action choice =
     firstOf vectors (λ v. unless (ltb (action v) m) number v before firstOf k (λ o. unless (ltb (choice v o) standing) number v))
 
 -- 10: an action or a chosen vector does not exist
-abbrev pub numbersVerdict : Model → Level → Level → Verdict
-numbersVerdict M L W = numbersIn 10 (W .vectors) (M .actions) (M .observations) (L .vectors) (W .action) (W .choice)
+abbrev pub numbersVerdict : ℕ → ℕ → ℕ → Level → Verdict
+numbersVerdict m k standing W = numbersIn 10 (W .vectors) m k standing (W .action) (W .choice)
+
+-- 10 to 12: a level by itself, offered as level t of a model with n states, m actions and k observations, over so many standing vectors
+unfoldable pub levelVerdict : ℕ → ℕ → ℕ → ℕ → ℕ → Level → Verdict
+levelVerdict n m k t standing W =
+    numbersVerdict m k standing W before rangesVerdict n t W before weightsVerdict n (W .points) (W .weight)
 
 -- 13: a vector entry exceeds its backup
 unfoldable pub floorsVerdict : Model → Level → Level → Verdict
@@ -94,7 +99,7 @@ holds m x =
     && (countsHold (L .vectors) (L .points)
     && (readable m (standingIn x)
     && (actionsExist (M .actions) (L .vectors) (L .action)
-    && (isFine (rangesVerdict M (numberIn x) L)
+    && (isFine (rangesVerdict (M .states) (numberIn x) L)
     && isFine (weightsVerdict (M .states) (L .points) (L .weight))))))))
 
 -- 9: no vector, too many vectors or points, or a slice too short for them: of the level that is offered, or of the certifier that is to hold it
@@ -104,14 +109,10 @@ fits m x l = countsHold (l .vectors) (l .points) && (complete m l && complete m 
 -- 7 to 12: the certifier and the offered level by themselves; 7, 8 and 9 have no place
 unfoldable pub shapeVerdict : Tables → Lent → LentLevel → Verdict
 shapeVerdict m x l =
-    let M : Model = modelOf m in
-    let W : Level = levelOf m l in
     unless (holds m x) 7 0
     before unless (ltb (numberIn x) maxLevels) 8 0
     before unless (fits m x l) 9 0
-    before numbersVerdict M (levelOf m (standingIn x)) W
-    before rangesVerdict M (numberIn x + 1) W
-    before weightsVerdict (M .states) (W .points) (W .weight)
+    before levelVerdict (m .states) (m .actions) (m .observations) (numberIn x + 1) (standingIn x .vectors) (levelOf m l)
 
 unfoldable pub offerVerdict : Tables → Lent → LentLevel → Verdict
 offerVerdict m x l = shapeVerdict m x l before backupsVerdict (modelOf m) (levelOf m (standingIn x)) (levelOf m l)

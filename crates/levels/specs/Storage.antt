@@ -100,6 +100,9 @@ pub record Lent : Type 0 where
   pub state : List ℕ
   pub cells : Cells
 
+abbrev pub lent : List ℕ → Cells → Lent
+lent state x = record { state = state; cells = x }
+
 -- the numbers of a certifier's state
 abbrev pub stateSize : ℕ
 stateSize = 3
@@ -117,6 +120,6 @@ standingIn x = record { vectors = standingAt (x .state) .vectors; points = stand
 abbrev pub freshStanding : Standing
 freshStanding = record { number = 0; vectors = 1; points = 0 }
 
--- slices lent for a level of so many vectors and points
+-- slices of a level of so many vectors and points: handed in with it, or lent for it
 abbrev pub lentFor : ℕ → ℕ → Cells → LentLevel
 lentFor vectors points x = record { vectors = vectors; points = points; cells = x }

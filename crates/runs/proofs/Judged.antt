@@ -23,7 +23,7 @@ use Rattle.tables.proofs.Accepted.{tables-valid, tables-stored, tables-fine}
 use Rattle.plans.specs.Limits.{pointTotal, range}
 use Rattle.plans.specs.Level.{Level, backupAt, corner-weight, follows, Meets, Shaped, IsPoint}
 use Rattle.levels.specs.Judged.{countsHold, rowsWithin, rangesVerdict, weightsVerdict, actionsExist, isFine, holds, fits}
-use Rattle.levels.specs.Judged.{numbersIn, numbersVerdict, floorsVerdict, coversBackups, cornersVerdict, pointsVerdict, shapeVerdict}
+use Rattle.levels.specs.Judged.{numbersIn, numbersVerdict, floorsVerdict, coversBackups, cornersVerdict, pointsVerdict, levelVerdict, shapeVerdict}
 use Rattle.levels.specs.Judged.{backupsVerdict, offerVerdict}
 use Rattle.levels.specs.Storage.{LentLevel, Lent, stateSize, levelOf, readable, complete, numberIn, standingIn, lentFor}
 use Rattle.levels.proofs.Laws.{passed, fine-before, numbers-in}
@@ -68,7 +68,7 @@ weights-is n points weight h = at-fine _ points (λ i l. passed 12 i (eq-eqb _ _
 record Tests (M : Model) (t : ℕ) (W : Level) : Type 0 where
   counts : countsHold (W .vectors) (W .points) ≡ true
   actions : actionsExist (M .actions) (W .vectors) (W .action) ≡ true
-  ranges : rangesVerdict M t W ≡ Fine
+  ranges : rangesVerdict (M .states) t W ≡ Fine
   weights : weightsVerdict (M .states) (W .points) (W .weight) ≡ Fine
 
 module _ (M : Model) (t : ℕ) (W : Level) where
@@ -164,7 +164,7 @@ module _ (m : Tables) (x : Lent) where
     abbrev W : Level
     W = levelOf m l
 
-    pub numbers-fine : numbersVerdict M L W ≡ Fine
+    pub numbers-fine : numbersVerdict (M .actions) (M .observations) (L .vectors) W ≡ Fine
         → (v : ℕ) → v < W .vectors → (W .action v < M .actions) × ((o : ℕ) → o < M .observations → W .choice v o < L .vectors)
     numbers-fine e = numbers-in 10 (W .vectors) (M .actions) (M .observations) (L .vectors) (W .action) (W .choice) e
 
@@ -187,7 +187,7 @@ module _ (m : Tables) (x : Lent) where
     -- Each stage of a fine verdict is fine, so each of its tests passed: the tests of 9 to 12 are the limits of `Shaped`, with the actions of 10, and
     -- those of 10 and 13 to 15 are the conditions of `Meets`. Qed.
     pub accepted : offerVerdict m x l ≡ Fine → Accepted m x l
-    unfolding offerVerdict shapeVerdict backupsVerdict
+    unfolding offerVerdict shapeVerdict levelVerdict backupsVerdict
     accepted e =
         let stages = before-fine _ _ e in
         let e8 = before-fine _ _ (stages .0) in
@@ -224,7 +224,7 @@ module _ (m : Tables) (x : Lent) where
 
     -- The other way round: every test of every stage passes. Qed.
     pub accepts : Accepted m x l → offerVerdict m x l ≡ Fine
-    unfolding offerVerdict shapeVerdict backupsVerdict numbersIn floorsVerdict cornersVerdict pointsVerdict
+    unfolding offerVerdict shapeVerdict levelVerdict backupsVerdict numbersIn floorsVerdict cornersVerdict pointsVerdict
     accepts a =
         let e = shaped-tests M (numberIn x + 1) W (a .shaped) in
         let h = a .meets in

@@ -1,0 +1,1 @@
+-- The tests in their order, as the code goes through them.
