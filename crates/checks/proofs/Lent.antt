@@ -26,7 +26,7 @@ module _ (M : Model) (some : 0 < M .actions) (n k t : ℕ) (l : Level) (shaped :
     action-in = λ v b. some;
     entry-in = shaped .entry-in;
     corner-in = λ s b. omega arith;
-    value-in = λ i b. omega arith;
+    value-in = λ i b. absurd (omega arith);
     total = λ i b. absurd (omega arith);
   }
 

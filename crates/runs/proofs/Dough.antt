@@ -27,7 +27,7 @@ use Rattle.plans.specs.Totals.{best, lower, upper, advice}
 use Rattle.plans.specs.Build.{chosen, entryFor, bestAction, leastFor, leastValue, seed, built}
 use Rattle.levels.specs.declared.Level.{Level}
 use Rattle.levels.specs.Storage.{levelOf, cornerIn, keptLevel}
-use Rattle.levels.specs.Judged.{rowsWithin, rangesVerdict, weightsVerdict, standingHolds, numbersIn, floorsVerdict, cornersVerdict, pointsVerdict}
+use Rattle.levels.specs.Judged.{rowsWithin, valuesWithin, rangesVerdict, weightsVerdict, standingHolds, numbersIn, floorsVerdict, cornersVerdict, pointsVerdict}
 use Rattle.levels.specs.Judged.{shapeVerdict, backupsVerdict, offerVerdict}
 use Rattle.runs.specs.declared.Certifier.{Certifier}
 use Rattle.runs.specs.declared.Bounds.{Bounds}
@@ -238,7 +238,7 @@ record Table : Type 0 where
 table : Table
 unfolding dough half one two three offered verdictOn offerVerdict shapeVerdict backupsVerdict floorsVerdict cornersVerdict pointsVerdict numbersIn
     keptLevel cut totalsOf totalsVerdict best lower upper advice opened kept builtOf buildVerdict standingHolds modelVerdict limitsHold rowsTotal
-    firstOf every totalTo rangesVerdict rowsWithin weightsVerdict range stored built seed bestAction chosen entryFor leastValue leastFor firstLargest
+    firstOf every totalTo rangesVerdict rowsWithin valuesWithin weightsVerdict range stored built seed bestAction chosen entryFor leastValue leastFor firstLargest
     product successor sumTo backedUp backup follows floorDiv ceilDiv backupAt expectedReward ceiling largestTo drop gain smallest joined orNone
     corner-weight padded grid listed _·_ K mixture standing alone changed pair
 table = record {
