@@ -10,12 +10,15 @@ use Rattle.levels.specs.Judged.{totalHolds}
 use Rattle.levels.proofs.shape.value_holds.Statement.{statement}
 use Rattle.levels.proofs.shape.value_holds.Tie as tie
 
+tested : (c : tie.After-total-holds) → totalHolds (c .before .args .total) ≡ c .total-holds .result
+tested c = sym (c .total-holds .ensures)
+
 returns : tie.Need-returns
-returns c = rw (sym (c .before .total-holds .ensures) ∙ not-true _ (c .if1 .taken))
+returns c = rw (tested (c .before) ∙ not-true _ (c .if1 .taken))
 
 -- a total that is a point's
 held : (c : tie.Else1) → totalHolds (c .before .before .args .total) ≡ true
-held c = sym (c .before .total-holds .ensures) ∙ not-false _ (c .if1 .left)
+held c = tested (c .before) ∙ not-false _ (c .if1 .left)
 
 small : (c : tie.Else1) → c .before .before .args .total * c .before .before .args .limit ≤ maxTotal * maxEntry
 small c =
