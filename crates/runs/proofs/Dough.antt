@@ -238,8 +238,8 @@ record Table : Type 0 where
 table : Table
 unfolding dough half one two three offered verdictOn offerVerdict shapeVerdict backupsVerdict floorsVerdict cornersVerdict pointsVerdict numbersIn
     keptLevel cut totalsOf totalsVerdict best lower upper advice opened kept builtOf buildVerdict standingHolds modelVerdict limitsHold rowsTotal
-    firstOf every totalTo rangesVerdict rowsWithin valuesWithin weightsVerdict range stored built seed bestAction chosen entryFor leastValue leastFor firstLargest
-    product successor sumTo backedUp backup follows floorDiv ceilDiv backupAt expectedReward ceiling largestTo drop gain smallest joined orNone
+    firstOf every totalTo rangesVerdict rowsWithin valuesWithin weightsVerdict range stored built seed bestAction chosen entryFor leastValue leastFor
+    firstLargest product successor sumTo backedUp backup follows floorDiv ceilDiv backupAt expectedReward ceiling largestTo drop gain smallest joined orNone
     corner-weight padded grid listed _·_ K mixture standing alone changed pair
 table = record {
   open-fine = refl;

@@ -58,8 +58,8 @@ returns-3 c =
     let e = of-corners g in
     let r = of-entries e in
     values-left (r .before .args .m) (r .before .args .t) (r .before .args .t3) (r .range-of .ensures) (e .rows-within .ensures)
-    (g .before .before .before .before .enum-told .given .1) (g .rows-within2 .ensures) (c .before .before .before .before .before .before .enum-told3 .given .1)
-    (c .values-within .ensures)
+    (g .before .before .before .before .enum-told .given .1) (g .rows-within2 .ensures)
+    (c .before .before .before .before .before .before .enum-told3 .given .1) (c .values-within .ensures)
 
 pub ranges-hold-spec : {M : Type 1} → statement M
 ranges-hold-spec =

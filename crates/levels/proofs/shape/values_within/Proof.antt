@@ -42,7 +42,8 @@ said : (c : tie.After-value-holds Inv-loop μ-loop) →
     c .value-holds .result ≡ valueHolds (totalTo (a .n) (pointIn (a .n) (a .weights .now) i)) (a .limit) (getD (a .values .now) i (pos 0))
 said c =
     let a = c .before .before .before .before .before .before .before .args in
-    let total : c .before .before .weights-total .result ≡ totalTo (a .n) (pointIn (a .n) (a .weights .now) (c .before .before .before .before .before .loop .i)) =
+    let i = c .before .before .before .before .before .loop .i in
+    let total : c .before .before .weights-total .result ≡ totalTo (a .n) (pointIn (a .n) (a .weights .now) i) =
     c .before .before .weights-total .ensures
     ∙ ap (λ (z : ℕ). totalTo (a .n) (λ s. getD (a .weights .now) (z + s) 0)) (c .before .before .before .start .ensures) in
     c .value-holds .ensures ∙ rw (back _ (c .before .value-holds-arg .given), total)
