@@ -146,8 +146,12 @@ impl Comparison<'_> {
         }
         println!("lists of offers against all plans: {}", lists);
         println!(
-            "  {} levels accepted ({} with a point above the corners), {} refused, {} totals compared",
-            self.plans.accepted, self.plans.above_corners, self.plans.refused, self.plans.compared
+            "  {} levels accepted ({} with a point above the corners), {} refused, {} totals compared ({} at equal thirds)",
+            self.plans.accepted,
+            self.plans.above_corners,
+            self.plans.refused,
+            self.plans.compared,
+            self.plans.thirds
         );
         if !self.climbs()? {
             return Ok(false);
@@ -234,6 +238,7 @@ impl Comparison<'_> {
                 self.plans.accepted += seen.accepted;
                 self.plans.refused += seen.refused;
                 self.plans.compared += seen.compared;
+                self.plans.thirds += seen.thirds;
                 self.plans.above_corners += seen.above_corners;
                 Ok(true)
             }
