@@ -5,7 +5,8 @@
 //! - `fixed`: files that are the same for every seed (each word and byte of a model damaged in turn, cut at every byte, lengths at and
 //!   past the longest),
 //! - `random`: random models in random dress, half of them damaged,
-//! - `plans`: lists of offers upon small models, the totals held against the best of all plans,
+//! - `plans`: lists of offers upon small models, the totals held against the best of all plans; a quarter of them are of three
+//!   states thought equally likely, at the point (1, 1, 1),
 //! - `ticks`: levels built and offered in turn, each entry held against what the plan named by its vector earns,
 //! - `calls`: storage of any content, lists of offers up to level 100 and past it, used with `--library` and `--traps`,
 //! - `ends`: storage with every number at an end of its range, for the largest sums, used with `--library`,
