@@ -18,10 +18,10 @@
  *               actions (vectors), choices (vectors x k), entries (vectors x n), corners (n),
  *               weights (points x n), values (points).
  *               A choice is the number of a vector of the level below. Entries and corners are in ticks. A point's weights
- *               total 100, and its value is in hundredths of a tick. At level t entries and corners lie within
- *               100,000 x t of 0, values within 10,000,000 x t.
+ *               total 1 to 100, and its value is in ticks times that total. At level t entries and corners lie within
+ *               100,000 x t of 0, a value within 100,000 x t times its point's total.
  *   certifier   the number of accepted levels, tables, the level that stands.
- *   points      count (0 to 16), weights (count x n); the weights of each total 100.
+ *   points      count (0 to 16), weights (count x n); the weights of each total 1 to 100.
  *   mixture     n weights, 0 to 1,000,000 each, not all 0.
  *   graph       nodes (1 to 32), actions (nodes), next nodes (nodes x k).
  *
@@ -53,8 +53,8 @@
  *    8  100 levels already stand
  *    9  a level has no vector, over 32 vectors or over 32 points, or the builder is given over 16 points
  *   10  an action or a chosen vector does not exist
- *   11  an entry, corner or point value is outside its level's range
- *   12  a point's weights do not total 100
+ *   11  an entry, corner or point value is outside its level's range; points that get 12 are passed over
+ *   12  a point's weights total less than 1 or more than 100
  *   13  a vector's entry is above its backup
  *   14  a corner is below its backup
  *   15  a point is below its backup

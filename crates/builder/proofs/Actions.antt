@@ -18,7 +18,7 @@ use Rattle.tables.specs.Limits.{maxStates, maxActions, maxObservations, one, ma
 use Rattle.tables.specs.Storage.{weightIn, modelIn}
 use Rattle.tables.specs.Steps.{movedIn, seenIn, TransitionsFit, ObservationsFit, RewardsFit, EntriesFit}
 use Rattle.tables.proofs.Regroup.{transitions-fit, observations-fit, rewards-fit}
-use Rattle.plans.specs.Limits.{pointTotal, maxReached, range}
+use Rattle.plans.specs.Limits.{maxTotal, maxReached, range}
 use Rattle.plans.specs.Level.{product}
 use Rattle.plans.specs.Build.{entryFor, bestAction}
 use Rattle.plans.proofs.Agreement.{product-cong}
@@ -46,7 +46,7 @@ unfoldable pub worth : Counts → List ℕ → List ℕ → List ℤ → List �
 worth c T O R entries vectors p a = product (c .states) (weightIn p) (vectorOf c T O R entries vectors p a)
 
 module _ {c : Counts} {T O : List ℕ} {R entries : List ℤ} {vectors : ℕ} {p : List ℕ} (h : Asked c T O R entries vectors p) where
-  pub weights-below : Below pointTotal (c .states) p
+  pub weights-below : Below maxTotal (c .states) p
   weights-below = record { long = h .light .long; below = λ s b. omega (arith, h .light .light, total-part (c .states) (weightIn p) s b) }
 
   -- the successor weights are at most a million times the total of the weights
@@ -67,7 +67,7 @@ module _ {c : Counts} {T O : List ℕ} {R entries : List ℤ} {vectors : ℕ} {p
   pub vector-fits : (a : ℕ) → a < c .actions
       → ((c .states ≤ maxStates) × ((c .observations ≤ maxObservations) × ((a < maxActions) × (c .discount ≤ one))))
       × ((0 < vectors)
-      × (Below pointTotal (c .states) p
+      × (Below maxTotal (c .states) p
       × ((TransitionsFit (c .states) T a
       × (ObservationsFit (c .states) (c .observations) O a × RewardsFit (c .states) R a))
       × (((o : ℕ) → o < c .observations → (s : ℕ) → s < c .states

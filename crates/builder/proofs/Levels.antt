@@ -27,7 +27,7 @@ use Rattle.tables.specs.Limits.{maxStates, maxActions, maxObservations, maxVect
 use Rattle.tables.specs.Model.{Model, backedUp}
 use Rattle.tables.specs.Storage.{weightIn, countsOf, modelIn, modelOf}
 use Rattle.tables.proofs.Fitting as tables
-use Rattle.plans.specs.Limits.{maxPoints, pointTotal}
+use Rattle.plans.specs.Limits.{maxPoints, maxTotal}
 use Rattle.plans.specs.Level.{Level as Ideal, ceiling, gain, backupAt, corner-weight, follows, Shaped, IsPoint}
 use Rattle.plans.specs.Build.{chosen, entryFor, bestAction, leastFor, leastValue, seed, built}
 use Rattle.plans.proofs.Agreement.{product-cong, successor-weights, backupAt-weights, backup-cong}
@@ -108,10 +108,10 @@ module _ (n : ℕ) (weight : ℕ → ℕ → ℕ) (v : ℕ) where
 
 -- they total 1 at a corner, and what a point's weights do at a point
 pub seed-light : (n count : ℕ) (weight : ℕ → ℕ → ℕ) → ((i : ℕ) → i < count → IsPoint n (weight i)) → (v : ℕ) → v < n + count
-    → totalTo n (seed n weight v) ≤ pointTotal
+    → totalTo n (seed n weight v) ≤ maxTotal
 seed-light n count weight total v l = by (decLt v n)
   where
-    by : Dec (v < n) → totalTo n (seed n weight v) ≤ pointTotal
+    by : Dec (v < n) → totalTo n (seed n weight v) ≤ maxTotal
     by (yes h) = rw (seed-corner n weight v h) (omega (arith, corner-total n v h))
     by (no h) = rw (seed-point n weight v (omega arith)) (omega (arith, total (v - n) (omega arith)))
 

@@ -10,7 +10,7 @@ ghost use Rattle.integers.specs.Cells.{padded, grid};
 ghost use Rattle.tables.specs.Limits.{maxStates, maxActions, maxObservations, one, K};
 ghost use Rattle.tables.specs.Storage.{weightIn, entryIn, modelIn, modelOf};
 ghost use Rattle.tables.specs.Steps.{movedIn, seenIn, backupIn, rowsTo, TransitionsFit, ObservationsFit, RewardsFit, EntriesFit, movedLimit, foreseenLimit};
-ghost use Rattle.plans.specs.Limits.{maxBuilt, maxPoints, pointTotal, maxReached};
+ghost use Rattle.plans.specs.Limits.{maxBuilt, maxPoints, maxTotal, maxReached};
 ghost use Rattle.plans.specs.Level.{product, corner-weight, IsPoint};
 ghost use Rattle.plans.specs.Build.{seed, leastValue, built};
 ghost use Rattle.levels.specs.Storage.{roofIn, levelOf, pointIn};
@@ -102,7 +102,7 @@ fn vector_for<'a>(
 ) -> Candidate
     requires { ⌜ (c .states ≤ maxStates) × ((c .observations ≤ maxObservations) × ((a .0 < maxActions) × (c .discount ≤ one))) ⌝ }
     requires { ⌜ 0 < count ⌝ }
-    requires { ⌜ Below pointTotal (c .states) (now p) ⌝ }
+    requires { ⌜ Below maxTotal (c .states) (now p) ⌝ }
     requires { ⌜ (TransitionsFit (c .states) (now transition) (a .0)) ×
         ((ObservationsFit (c .states) (c .observations) (now observation) (a .0)) × (RewardsFit (c .states) (now reward) (a .0))) ⌝ }
     requires { ⌜ ((o : ℕ) → o < c .observations → (s : ℕ) → s < c .states → seenIn (c .states) (c .observations) (now observation)

@@ -19,8 +19,8 @@ use Rattle.tables.specs.Judged.{countWithin, modelVerdict, openedFrom, openedBy
 use Rattle.tables.proofs.Refusals.{never, stops, goes, first-cong}
 use Rattle.plans.specs.Limits.{maxPoints, range}
 use Rattle.levels.specs.declared.Level.{Level}
-use Rattle.levels.specs.Storage.{levelOf}
-use Rattle.levels.specs.Judged.{countsHold, rowsWithin, rangesVerdict, isFine}
+use Rattle.levels.specs.Storage.{levelOf, pointIn}
+use Rattle.levels.specs.Judged.{countsHold, rowsWithin, valuesWithin, rangesVerdict, isFine}
 use Rattle.runs.specs.declared.Answer.{Answer}
 use Rattle.runs.specs.State.{fresh, noCertifier, opened, openedBy}
 
@@ -86,7 +86,7 @@ module _ (m : Tables) (t : ℕ) (l : Level) {limit : ℕ} (r : limit ≡ range t
     corners-refused h = goes (rw r at e) f (stops _ (rw r at g ∙ rows-single _ _ _ (l .corners)) h)
 
     pub values-left : {values : Verdict} → corners ≡ Fine
-        → values ≡ rowsWithin 11 (l .points) 1 (100 * limit) (λ i x. getD (l .values) (i * 1 + x) (pos 0))
+        → values ≡ valuesWithin (m .states) (l .points) limit (pointIn (m .states) (l .weights)) (λ i. getD (l .values) i (pos 0))
         → values ≡ rangesVerdict (modelOf m) t (levelOf (m .states) (m .observations) l)
     unfolding rangesVerdict
-    values-left h v = goes (rw r at e) f (goes (rw r at g ∙ rows-single _ _ _ (l .corners)) h (rw r at v ∙ rows-single _ _ _ (l .values)))
+    values-left h v = goes (rw r at e) f (goes (rw r at g ∙ rows-single _ _ _ (l .corners)) h (rw r at v))

@@ -80,7 +80,7 @@ fn ranges_hold(m: Tables, t: usize, l: Level) -> Verdict
     let Verdict::Fine = corners else {
         return corners;
     };
-    shape::rows_within(&l.values, l.points, 1, Level::TOTAL * limit, 11)
+    shape::values_within(&l.weights, &l.values, n, l.points, limit)
 }
 
 // 7: whether the tables and the standing level are within their limits.

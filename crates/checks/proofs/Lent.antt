@@ -23,7 +23,7 @@ module _ (m : Tables) (some : 0 < m .actions) (t : ℕ) (l : LentLevel) (shaped 
     action-in = λ v b. some;
     entry-in = shaped .entry-in;
     corner-in = λ s b. omega arith;
-    value-in = λ i b. omega arith;
+    value-in = λ i b. absurd (omega arith);
     total = λ i b. absurd (omega arith);
   }
 

@@ -23,7 +23,7 @@ use Rattle.tables.specs.Model.{Model, successor, expectedReward}
 use Rattle.tables.specs.Storage.{weightIn, rewardIn, modelIn}
 use Rattle.tables.specs.Steps.{movedIn, seenIn, expectedIn, TransitionsFit, RewardsFit, movedLimit}
 use Rattle.tables.proofs.Regroup.{moved-successor, expected-is, moved-limit}
-use Rattle.plans.specs.Limits.{maxPoints, pointTotal, maxReached, range}
+use Rattle.plans.specs.Limits.{maxPoints, maxTotal, maxReached, range}
 use Rattle.plans.specs.Level.{Level as Ideal, Shaped, ceiling, backupAt, corner-weight, IsPoint}
 use Rattle.plans.proofs.Agreement.{ceiling-weights, backupAt-weights}
 use Rattle.plans.proofs.Ceiling.{corner-total}
@@ -115,22 +115,22 @@ module _ {n k a : ℕ} {observation moved : List ℕ} {roof : List ℕ → ℤ} 
       let so-far = h .ceilings o (omega arith) in
       rw (e, f) (omega (arith, sum-next maxAhead (aheadAt n k observation moved roof a) o so-far (h .ceilings (o + 1) (omega arith))))
 
--- ---- the parts of a backup over storage, of weights that total at most pointTotal
-pub light-below : {n : ℕ} {p : List ℕ} → Light n p → Below pointTotal n p
+-- ---- the parts of a backup over storage, of weights that total at most maxTotal
+pub light-below : {n : ℕ} {p : List ℕ} → Light n p → Below maxTotal n p
 light-below {n} {p} h = record { long = h .long; below = λ s l. omega (arith, h .light, total-part n (weightIn p) s l) }
 
-pub weights-below : {n : ℕ} {p : List ℕ} → Below pointTotal n p → Below maxWeight n p
+pub weights-below : {n : ℕ} {p : List ℕ} → Below maxTotal n p → Below maxWeight n p
 weights-below light = record { long = light .long; below = λ s l. omega (arith, light .below s l) }
 
-module _ {n a : ℕ} {p : List ℕ} (few : n ≤ maxStates) (light : Below pointTotal n p) where
+module _ {n a : ℕ} {p : List ℕ} (few : n ≤ maxStates) (light : Below maxTotal n p) where
   pub moved-below : {transition u : List ℕ} → TransitionsFit n transition a → u ≡ padded 0 maxStates n (movedIn n transition p a) → Below movedLimit n u
   moved-below {transition} fit e = filled-below maxStates (movedIn n transition p a) e few (λ s l. moved-limit fit (weights-below light) l few)
 
   module _ {reward : List ℤ} (fit : RewardsFit n reward a) where
-    expected-limit : natAbs (expectedIn n reward p a) ≤ maxStates * (pointTotal * maxReward)
+    expected-limit : natAbs (expectedIn n reward p a) ≤ maxStates * (maxTotal * maxReward)
     unfolding expectedIn
     expected-limit =
-        let t : Terms n pointTotal maxReward (weightIn p) (λ s. rewardIn n reward s a) = record { weights = light .below; values = fit .reward } in
+        let t : Terms n maxTotal maxReward (weightIn p) (λ s. rewardIn n reward s a) = record { weights = light .below; values = fit .reward } in
         omega (arith, terms-limit t n (omega arith))
 
     pub expected-fits : {x : ℤ} → x ≡ expectedIn n reward p a → K * natAbs x < 2 ^ 63
@@ -172,7 +172,10 @@ module _ {c : Counts} {T O : List ℕ} {R corners : List ℤ} {points : ℕ} {we
 
   pub values-fit : ValuesFit points values
   unfolding range
-  values-fit = record { long = h .values-long; value = h .shaped .value-in }
+  values-fit = record {
+    long = h .values-long;
+    value = λ i b. NatL.le-trans (h .shaped .value-in i b) (NatL.mul-le-mul-right (range maxLevels) (h .shaped .total i b .1));
+  }
 
   module _ {gains : List ℕ} (made : gains ≡ padded 0 maxPoints points (λ i. positive (gainIn (c .states) corners weights values i))) where
     -- the ceiling over storage, at any weights
@@ -214,10 +217,10 @@ module _ {c : Counts} {T O : List ℕ} {R corners : List ℤ} {points : ℕ} {we
       roof-limit : (o : ℕ) → natAbs (ahead o) ≤ reached o * range maxLevels
       roof-limit o = rw (roof-at o) (ceiling-range (modelIn c T O R) level maxLevels (h .shaped) (successor (modelIn c T O R) (weightIn p) a o))
 
-    -- Nothing overflows in a backup at weights that total at most pointTotal.
+    -- Nothing overflows in a backup at weights that total at most maxTotal.
     -- The ceilings so far lie within what is reached so far times the range (`ceiling-range`), and all that is reached is one × one times the total of p
     -- (`successor-total`). Qed.
-    roof-fits : (p : List ℕ) → totalTo (c .states) (weightIn p) ≤ pointTotal → (a : ℕ) → a < c .actions
+    roof-fits : (p : List ℕ) → totalTo (c .states) (weightIn p) ≤ maxTotal → (a : ℕ) → a < c .actions
         → RoofFits (c .states) (c .observations) T O roof p a
     unfolding range
     roof-fits p light a la = record {

@@ -10,7 +10,7 @@ use Rattle.tables.specs.Limits.{maxStates, maxEntry, K, maxLevels}
 use Rattle.tables.specs.Model.{Valid}
 use Rattle.tables.specs.Storage.{weightIn, modelIn}
 use Rattle.tables.specs.Steps.{movedIn, seenIn, expectedIn, Stored, EntriesFit, ChosenFit}
-use Rattle.plans.specs.Limits.{pointTotal, maxReached}
+use Rattle.plans.specs.Limits.{maxTotal, maxReached}
 use Rattle.plans.specs.Level.{Shaped}
 use Rattle.levels.specs.Storage.{roofIn}
 use Rattle.sawtooth.specs.Steps.{ceilingIn, CornersFit, PointsFit, maxGain}
@@ -45,13 +45,13 @@ pub record Roof (c : Counts) (transition observation : List ℕ) (reward : List 
   pub corners-fit : CornersFit (c .states) corners
   pub points-fit : PointsFit (c .states) points weights
   pub gains-fit : Below maxGain points gains
-  pub fits : (p : List ℕ) → totalTo (c .states) (weightIn p) ≤ pointTotal → (a : ℕ) → a < c .actions
+  pub fits : (p : List ℕ) → totalTo (c .states) (weightIn p) ≤ maxTotal → (a : ℕ) → a < c .actions
       → RoofFits (c .states) (c .observations) transition observation (ceilingIn (c .states) corners weights gains points) p a
 
 -- weights of a corner or a point
 pub record Light (n : ℕ) (p : List ℕ) : Type 0 where
   pub long : n ≤ length p
-  pub light : totalTo n (weightIn p) ≤ pointTotal
+  pub light : totalTo n (weightIn p) ≤ maxTotal
 
 -- tables that are not refused, and the corners and points of a level within the limits of some level
 pub record Roofed (c : Counts) (transition observation : List ℕ) (reward corners : List ℤ) (points : ℕ) (weights : List ℕ) (values : List ℤ) : Type 0 where

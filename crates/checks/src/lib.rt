@@ -11,7 +11,7 @@ ghost use Rattle.integers.specs.Cells.{padded};
 ghost use Rattle.tables.specs.Limits.{maxStates, maxActions, maxObservations, one, maxEntry, K};
 ghost use Rattle.tables.specs.Storage.{modelIn};
 ghost use Rattle.tables.specs.Steps.{seenIn, backupIn, TransitionsFit, ObservationsFit, RewardsFit, movedLimit, foreseenLimit};
-ghost use Rattle.plans.specs.Limits.{pointTotal};
+ghost use Rattle.plans.specs.Limits.{maxTotal};
 ghost use Rattle.plans.specs.Level.{IsPoint};
 ghost use Rattle.levels.specs.Storage.{pointIn, floorIn, roofIn};
 ghost use Rattle.levels.specs.Judged.{floorsVerdict, cornersVerdict, pointsVerdict};
@@ -79,7 +79,7 @@ fn backup_at<'a, 'b>(
     a: Action,
 ) -> i64
     requires { ⌜ (c .states ≤ maxStates) × ((c .observations ≤ maxObservations) × ((a .0 < maxActions) × (c .discount ≤ one))) ⌝ }
-    requires { ⌜ Below pointTotal (c .states) (now p) ⌝ }
+    requires { ⌜ Below maxTotal (c .states) (now p) ⌝ }
     requires { ⌜ (TransitionsFit (c .states) (now transition) (a .0)) ×
         ((ObservationsFit (c .states) (c .observations) (now observation) (a .0)) × (RewardsFit (c .states) (now reward) (a .0))) ⌝ }
     requires { ⌜ (CornersFit (c .states) (now corners)) × ((PointsFit (c .states) points (now weights)) × (Below maxGain points (now gains))) ⌝ }
@@ -144,7 +144,7 @@ pub fn backups_at<'a, 'b>(
 // Whether a value is at least every action's backup.
 fn covers(backups: &[i64], actions: usize, w: i64) -> bool
     requires { ⌜ actions ≤ length (now backups) ⌝ }
-    requires { ⌜ natAbs w ≤ pointTotal * maxEntry ⌝ }
+    requires { ⌜ natAbs w ≤ maxTotal * maxEntry ⌝ }
     ensures { λ r. ⌜ r ≡ every actions (λ a. leZ (getD (now (backups .entry)) a (pos 0)) (K · w)) ⌝ }
 {
     let most = integers::scaled(Tables::K, w);

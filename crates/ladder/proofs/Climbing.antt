@@ -9,11 +9,12 @@ use borrow.Author.Tests.{le-leb, lt-ltb}
 use lib.ListN.{getD}
 use Rattle.integers.specs.Whole.{totalTo}
 use Rattle.integers.proofs.Searches.{and-is, at-every}
-use Rattle.integers.proofs.Sums.{total-cong, total-part}
+use Rattle.integers.proofs.Sums.{total-part}
 use Rattle.tables.specs.declared.Tables.{Tables}
 use Rattle.tables.specs.declared.Verdict.the-variants.{Fine}
 use Rattle.tables.specs.Limits.{maxStates, maxWeight, maxLevels}
 use Rattle.tables.specs.Storage.{weightIn}
+use Rattle.plans.proofs.Agreement.{point-weights}
 use Rattle.levels.specs.declared.Level.{Level}
 use Rattle.levels.specs.Storage.{pointIn}
 use Rattle.runs.specs.declared.Certifier.{Certifier}
@@ -46,7 +47,7 @@ acceptances-more c (k ∷ ls) l =
 -- ---- points and mixtures
 module _ {m : Tables} {b : List ℕ} (g : Given m b) where
   points-hold : {p : Points} → OnePoint b p → PointsHold m p
-  points-hold {p} o = record { few = omega (arith, o .one); total = λ i l. total-cong (m .states) _ _ (same i l) ∙ g .total }
+  points-hold {p} o = record { few = omega (arith, o .one); total = λ i l. point-weights (m .states) (same i l) (g .total) }
     where
       same : (i : ℕ) → i < p .count → (s : ℕ) → s < m .states → pointIn (m .states) (p .weights) i s ≡ weightIn b s
       same i l s h =
@@ -66,7 +67,7 @@ unfolding opened
 read-given {f} {b} file e fine alike = record {
   opens = rw (read .tables-fine) refl;
   few-states = few;
-  total = total-cong (f .tables .states) (weightIn b) (weightIn (f .start)) (λ s l. alike s (omega (arith, few))) ∙ read .start-total;
+  total = point-weights (f .tables .states) (λ s l. alike s (omega (arith, few))) (omega (arith, read .start-total), omega (arith, read .start-total));
 }
   where
     read : FileOpens f

@@ -1,4 +1,5 @@
 -- Laws for this crate's proofs and those above it.
 pub mod Laws
 pub mod Over
+pub mod Points
 pub mod Prelude

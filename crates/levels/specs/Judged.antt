@@ -1,7 +1,7 @@
 -- What an offer is refused for, 7 to 15, in checking order; each number is tested throughout before the next.
 use Prim.Native.Nat.{ℕ, _+_, _*_}
-use mathlib.Core.Bool.{Bool, true, false, _&&_}
-use lib.Dec.{leb, ltb, eqb}
+use mathlib.Core.Bool.{Bool, true, false, not, _&&_, _||_}
+use lib.Dec.{leb, ltb}
 use lib.ListN.{length}
 use lib.IntN.{ℤ, natAbs}
 use lib.Signed.{leZ}
@@ -15,7 +15,7 @@ use Rattle.tables.specs.Model.{Model, backup}
 use Rattle.tables.specs.Storage.{modelOf}
 use Rattle.tables.specs.Verdicts.{_before_, unless, firstOf}
 use Rattle.tables.specs.Judged.{countWithin, tablesVerdict}
-use Rattle.plans.specs.Limits.{maxPoints, pointTotal, range}
+use Rattle.plans.specs.Limits.{maxPoints, maxTotal, range}
 use Rattle.plans.specs.Level.{Level, backupAt, corner-weight, follows}
 use Rattle.levels.specs.Storage.{LentLevel, Lent, stateSize, levelOf, readable, complete, numberIn, standingIn, lentFor}
 
@@ -29,16 +29,28 @@ countsHold vectors points = countWithin maxVectors vectors && leb points maxPoin
 unfoldable pub rowsWithin : ℕ → ℕ → ℕ → ℕ → (ℕ → ℕ → ℤ) → Verdict
 rowsWithin number rows w limit cell = firstOf rows (λ r. firstOf w (λ x. unless (leb (natAbs (cell r x)) limit) number r))
 
+-- what the weights of a point total: 1 to 100
+abbrev pub totalHolds : ℕ → Bool
+totalHolds total = countWithin maxTotal total
+
+-- the value of a point whose weights total so much lies within ± that total × limit; it is passed over where the total is outside 1 to 100
+abbrev pub valueHolds : ℕ → ℕ → ℤ → Bool
+valueHolds total limit value = not (totalHolds total) || leb (natAbs value) (total * limit)
+
+-- the first point whose value does not
+unfoldable pub valuesWithin : ℕ → ℕ → ℕ → (ℕ → ℕ → ℕ) → (ℕ → ℤ) → Verdict
+valuesWithin n points limit weight value = firstOf points (λ i. unless (valueHolds (totalTo n (weight i)) limit (value i)) 11 i)
+
 -- 11: entries, then corners, then point values, each within its range at level t
 unfoldable pub rangesVerdict : ℕ → ℕ → Level → Verdict
 rangesVerdict n t W =
     rowsWithin 11 (W .vectors) n (range t) (W .entry)
     before rowsWithin 11 n 1 (range t) (λ s x. W .corner s)
-    before rowsWithin 11 (W .points) 1 (pointTotal * range t) (λ i x. W .value i)
+    before valuesWithin n (W .points) (range t) (W .weight) (W .value)
 
--- 12: a point's weights do not total 100
+-- 12: the total of a point's weights is outside 1 to 100
 unfoldable pub weightsVerdict : ℕ → ℕ → (ℕ → ℕ → ℕ) → Verdict
-weightsVerdict n points weight = firstOf points (λ i. unless (eqb (totalTo n (weight i)) pointTotal) 12 i)
+weightsVerdict n points weight = firstOf points (λ i. unless (totalHolds (totalTo n (weight i))) 12 i)
 
 abbrev pub actionsExist : ℕ → ℕ → (ℕ → ℕ) → Bool
 actionsExist m vectors action = every vectors (λ v. ltb (action v) m)

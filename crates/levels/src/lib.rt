@@ -18,7 +18,7 @@ impl Level {
 
     pub const BUILT: usize = 16; // points that the builder takes
 
-    pub const TOTAL: u64 = 100; // of a point's weights
+    pub const TOTAL: u64 = 100; // at most, of a point's weights
 
     pub const WEIGHT: u64 = 1_000_000; // of a mixture
 }

@@ -5,12 +5,12 @@ ghost use lib.ListN.{length, getD};
 ghost use lib.IntN.{pos};
 ghost use Rattle.integers.specs.Whole.{totalTo};
 ghost use Rattle.integers.specs.Cells.{padded};
-ghost use Rattle.tables.specs.Limits.{maxStates, maxObservations, maxVectors};
+ghost use Rattle.tables.specs.Limits.{maxStates, maxObservations, maxVectors, maxEntry};
 ghost use Rattle.plans.specs.Limits.{maxPoints};
 ghost use Rattle.tables.specs.Steps.{rowsTo};
 ghost use Rattle.tables.specs.Storage.{rowPlace, choiceIn};
 ghost use Rattle.levels.specs.Storage.{pointIn, longEnough};
-ghost use Rattle.levels.specs.Judged.{countsHold, rowsWithin, weightsVerdict, actionsExist, numbersIn};
+ghost use Rattle.levels.specs.Judged.{countsHold, rowsWithin, totalHolds, valueHolds, valuesWithin, weightsVerdict, actionsExist, numbersIn};
 use super::Level;
 use tables::Observation;
 use tables::Tables;
@@ -30,7 +30,7 @@ pub fn counts_hold(vectors: usize, points: usize) -> bool
     points <= Level::POINTS
 }
 
-// 11: the first row, of width w, with a number outside ± limit.
+// 11 of entries and corners: the first row, of width w, with a number outside ± limit.
 pub fn rows_within(cells: &[i64], rows: usize, w: usize, limit: u64, number: u8) -> Verdict
     requires { ⌜ (rows ≤ maxVectors) × ((w ≤ maxStates) × (limit < 2 ^ 63)) ⌝ }
     requires { ⌜ rows * w ≤ length (now cells) ⌝ }
@@ -82,14 +82,55 @@ fn weights_total(cells: &[u32], at: usize, n: usize) -> u64
     sum
 }
 
-// 12: the first point whose weights do not total 100.
+fn total_holds(total: u64) -> bool
+    ensures { λ r. ⌜ r ≡ totalHolds total ⌝ }
+{
+    if total < 1 {
+        return false;
+    }
+    total <= Level::TOTAL
+}
+
+// Whether a value lies within ± total × limit. It is passed over where the total is no point's: that is refused by 12.
+fn value_holds(total: u64, limit: u64, value: i64) -> bool
+    requires { ⌜ limit ≤ maxEntry ⌝ }
+    ensures { λ r. ⌜ r ≡ valueHolds total limit value ⌝ }
+{
+    if !total_holds(total) {
+        return true;
+    }
+    integers::within(total * limit, value)
+}
+
+// 11 of points: the first whose value is outside its range.
+pub fn values_within<'a>(
+    weights: &'a [u32],
+    values: &'a [i64],
+    n: usize,
+    points: usize,
+    limit: u64,
+) -> Verdict
+    requires { ⌜ (n ≤ maxStates) × ((points ≤ maxPoints) × (limit ≤ maxEntry)) ⌝ }
+    requires { ⌜ (points * n ≤ length (now weights)) × (points ≤ length (now values)) ⌝ }
+    ensures { λ r. ⌜ r ≡ valuesWithin n points limit (pointIn n (now (weights .entry))) (λ i. getD (now (values .entry)) i (pos 0)) ⌝ }
+{
+    for i in 0..points {
+        let total = weights_total(weights, read::start(i, n), n);
+        if !value_holds(total, limit, values[i]) {
+            return Verdict::Refused(11, i);
+        }
+    }
+    Verdict::Fine
+}
+
+// 12: the first point whose weights total less than 1 or more than 100.
 pub fn weights_hold(cells: &[u32], n: usize, points: usize) -> Verdict
     requires { ⌜ (n ≤ maxStates) × (points ≤ maxPoints) ⌝ }
     requires { ⌜ points * n ≤ length (now cells) ⌝ }
     ensures { λ r. ⌜ r ≡ weightsVerdict n points (pointIn n (now (cells .entry))) ⌝ }
 {
     for i in 0..points {
-        if weights_total(cells, read::start(i, n), n) != Level::TOTAL {
+        if !total_holds(weights_total(cells, read::start(i, n), n)) {
             return Verdict::Refused(12, i);
         }
     }

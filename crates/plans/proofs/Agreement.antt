@@ -4,13 +4,13 @@ use mathlib.Core.Path.{_≡_, refl, _∙_, ap}
 use Prim.Native.Nat.{ℕ, zero, suc, _<_}
 use native.Mathlib.Omega.{arith}
 use lib.IntN.{ℤ, pos, negsuc, _+ℤ_, _-ℤ_}
-use Rattle.integers.specs.Whole.{_·_, sumTo, largestTo}
+use Rattle.integers.specs.Whole.{_·_, sumTo, totalTo, largestTo}
 use Rattle.integers.proofs.Sums.{sum-cong, total-cong, largestTo-cong}
 use Rattle.integers.proofs.Searches.{largest-cong}
 use Rattle.tables.specs.Limits.{K}
 use Rattle.tables.proofs.Same.{Same, expected-same, successor-same, backup-same}
 use Rattle.tables.specs.Model.{Model, successor, expectedReward, backup}
-use Rattle.plans.specs.Level.{Level, product, smallest, orNone, drop, gain, ceiling, backupAt, corner-weight, follows, Meets, Shaped, Agree}
+use Rattle.plans.specs.Level.{Level, product, smallest, orNone, drop, gain, ceiling, backupAt, corner-weight, follows, Meets, Shaped, IsPoint, Agree}
 use Rattle.plans.specs.Totals.{best, lower, advice, upper}
 use Rattle.plans.proofs.Bracket.{best-exists}
 
@@ -57,6 +57,9 @@ module _ (n : ℕ) (L L' : Level) (corners : (s : ℕ) → s < n → L .corner s
 pub ceiling-weights : (n : ℕ) (L : Level) (q q' : ℕ → ℕ) → ((s : ℕ) → s < n → q s ≡ q' s) → ceiling n L q ≡ ceiling n L q'
 ceiling-weights n L q q' h = ceiling-cong n L L (λ s l. refl) refl (λ i l s b. refl) (λ i l. refl) q q' h
 
+pub point-weights : (n : ℕ) {p p' : ℕ → ℕ} → ((s : ℕ) → s < n → p s ≡ p' s) → IsPoint n p' → IsPoint n p
+point-weights n {p} {p'} h t = rw (total-cong n p p' h) t
+
 pub successor-weights : (M : Model) (p p' : ℕ → ℕ) (a o s' : ℕ) → ((s : ℕ) → s < M .states → p s ≡ p' s) → successor M p a o s' ≡ successor M p' a o s'
 unfolding successor
 successor-weights M p p' a o s' h = total-cong (M .states) _ _ (λ s l. rw (h s l))
@@ -83,6 +86,9 @@ module _ (M : Model) (W W' : Level) (e : Agree M W W') where
   point-in : {i : ℕ} → i < W' .points → i < W .points
   point-in l = omega (arith, e .points-same)
 
+  total-same : (i : ℕ) → i < W .points → totalTo (M .states) (W' .weight i) ≡ totalTo (M .states) (W .weight i)
+  total-same i l = total-cong (M .states) _ _ (e .weight-same i l)
+
   -- Each limit is of a part that agrees. Qed.
   pub shaped-agree : (t : ℕ) → Shaped M t W → Shaped M t W'
   shaped-agree t S = record {
@@ -92,8 +98,8 @@ module _ (M : Model) (W W' : Level) (e : Agree M W W') where
     action-in = λ v l. rw (e .action-same v (vector-in l)) (S .action-in v (vector-in l));
     entry-in = λ v l s b. rw (e .entry-same v (vector-in l) s b) (S .entry-in v (vector-in l) s b);
     corner-in = λ s l. rw (e .corner-same s l) (S .corner-in s l);
-    value-in = λ i l. rw (e .value-same i (point-in l)) (S .value-in i (point-in l));
-    total = λ i l. total-cong (M .states) _ _ (λ s b. e .weight-same i (point-in l) s b) ∙ S .total i (point-in l);
+    value-in = λ i l. rw (e .value-same i (point-in l), total-same i (point-in l)) (S .value-in i (point-in l));
+    total = λ i l. point-weights (M .states) (e .weight-same i (point-in l)) (S .total i (point-in l));
   }
 
   pub ceiling-agree : (q : ℕ → ℕ) → ceiling (M .states) W' q ≡ ceiling (M .states) W q

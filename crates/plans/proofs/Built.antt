@@ -14,7 +14,7 @@ use Rattle.integers.proofs.Rounding.{floor-≤, floor-range, ceil-≥, ceil-lea
 use Rattle.integers.proofs.Searches.{largest-in, largest-max}
 use Rattle.tables.specs.Limits.{one, maxReward, maxEntry, K, maxLevels}
 use Rattle.tables.specs.Model.{Model, Valid, successor, expectedReward, backup, backedUp}
-use Rattle.plans.specs.Limits.{maxBuilt, pointTotal, range}
+use Rattle.plans.specs.Limits.{maxBuilt, range}
 use Rattle.plans.specs.Level.{Level, level0, product, drop, gain, ceiling, backupAt, corner-weight, follows, Meets, Shaped, IsPoint}
 use Rattle.plans.specs.Build.{chosen, entryFor, bestAction, leastFor, leastValue, built}
 use Rattle.plans.proofs.Ceiling.{sawtooth, product-const, corner-total}
@@ -115,8 +115,8 @@ unfolding ceiling
 ceiling-below n L q = sub-≤ (product n q (L .corner)) (largestTo (L .points) (λ i. drop n (L .weight i) q (gain n L i)))
 
 -- The ceiling at weights q lies within the total of q times the range.
--- Above: it is at most corners · q, and each corner is at most the range. Below: minus the range is at most every corner, and at every point minus
--- pointTotal × range is at most its value, since the point's weights total that; so `sawtooth` puts minus the range, at q, below the ceiling. Qed.
+-- Above: it is at most corners · q, and each corner is at most the range. Below: minus the range is at most every corner, and at every point minus the
+-- range times the total of its weights is at most its value, whatever that total is; so `sawtooth` puts minus the range, at q, below the ceiling. Qed.
 pub ceiling-range : (M : Model) (L : Level) (t : ℕ) → Shaped M t L → (q : ℕ → ℕ) → natAbs (ceiling (M .states) L q) ≤ totalTo (M .states) q * range t
 unfolding product
 ceiling-range M L t S q = multiple-between (totalTo (M .states) q) (range t) (ceiling (M .states) L q) high low
@@ -128,8 +128,8 @@ ceiling-range M L t S q = multiple-between (totalTo (M .states) q) (range t) (ce
 
     point-low : (i : ℕ) → i < L .points → product (M .states) (L .weight i) (λ s. negℤ (pos (range t))) ≤ℤ L .value i
     point-low i l =
-        rw (product-const (M .states) (L .weight i) (negℤ (pos (range t))), S .total i l)
-        (multiple-above pointTotal (range t) (L .value i) (S .value-in i l))
+        rw (product-const (M .states) (L .weight i) (negℤ (pos (range t))))
+        (multiple-above (totalTo (M .states) (L .weight i)) (range t) (L .value i) (S .value-in i l))
 
     low : totalTo (M .states) q · negℤ (pos (range t)) ≤ℤ ceiling (M .states) L q
     low =
@@ -187,7 +187,7 @@ module _ (M : Model) (L : Level) (t : ℕ) (T : Valid M) (S : Shaped M t L) wher
     -- The built level has the shape of level t + 1.
     -- It has a vector for each state and each point, at most maxStates + maxBuilt = maxVectors. An entry is a backup over K, rounded down; a corner or
     -- value is the largest of the backups over K, rounded up. Backups lie within K × range (t + 1) times the total of the weights, which is 1 at a
-    -- corner and pointTotal at a point; rounding keeps a range with whole ends. Qed.
+    -- corner; rounding keeps a range with whole ends. Qed.
     pub built-shaped : Shaped M (suc t) (built M L points weight)
     unfolding built
     built-shaped = record {
@@ -197,7 +197,7 @@ module _ (M : Model) (L : Level) (t : ℕ) (T : Valid M) (S : Shaped M t L) wher
       action-in = λ v l. action-exists M L _ (T .some-actions);
       entry-in = λ v l s b. entry-range _ _ (action-exists M L _ (T .some-actions)) s b;
       corner-in = λ s l. omega (arith, rw (corner-total (M .states) s l) at (value-range (corner-weight s)));
-      value-in = λ i l. rw (total i l) at (value-range (weight i));
+      value-in = λ i l. value-range (weight i);
       total = total;
     }
 
@@ -226,7 +226,7 @@ level0-shaped M v = record {
   action-in = λ i l. v .some-actions;
   entry-in = λ i l s b. omega arith;
   corner-in = λ s l. omega arith;
-  value-in = λ i l. omega arith;
+  value-in = λ i l. absurd (omega arith);
   total = λ i l. absurd (omega arith);
 }
 
@@ -249,6 +249,6 @@ shaped-mono M L t t' l S = record {
   action-in = S .action-in;
   entry-in = λ v h s b. omega (arith, S .entry-in v h s b, range-mono t t' l);
   corner-in = λ s h. omega (arith, S .corner-in s h, range-mono t t' l);
-  value-in = λ i h. omega (arith, S .value-in i h, range-mono t t' l);
+  value-in = λ i h. NatL.le-trans (S .value-in i h) (NatL.mul-le-mul-left (totalTo (M .states) (L .weight i)) (range-mono t t' l));
   total = S .total;
 }

@@ -6,7 +6,7 @@ use lib.Signed.{_≤ℤ_}
 use Rattle.integers.specs.Whole.{_·_, sumTo, totalTo, largestTo}
 use Rattle.tables.specs.Limits.{K, maxVectors}
 use Rattle.tables.specs.Model.{Model, successor, expectedReward, backup}
-use Rattle.plans.specs.Limits.{maxPoints, pointTotal, range}
+use Rattle.plans.specs.Limits.{maxPoints, maxTotal, range}
 
 pub record Level : Type 0 where
   pub vectors : ℕ
@@ -16,7 +16,7 @@ pub record Level : Type 0 where
   pub corner : ℕ → ℤ  -- in ticks
   pub points : ℕ
   pub weight : ℕ → ℕ → ℕ  -- by point and state
-  pub value : ℕ → ℤ  -- in hundredths of a tick
+  pub value : ℕ → ℤ  -- by point, in ticks times the total of its weights
 
 -- level 0: one zero vector, zero corners, no points
 unfoldable pub level0 : Level
@@ -96,9 +96,9 @@ pub record Meets (M : Model) (L W : Level) : Type 0 where
   pub corner : (s : ℕ) → s < M .states → (a : ℕ) → a < M .actions → backupAt M L (corner-weight s) a ≤ℤ K · W .corner s
   pub point : (i : ℕ) → i < W .points → (a : ℕ) → a < M .actions → backupAt M L (W .weight i) a ≤ℤ K · W .value i
 
--- what a point's weights are: they total pointTotal
+-- what a point's weights are: they total 1 to maxTotal
 abbrev pub IsPoint : ℕ → (ℕ → ℕ) → Type 0
-IsPoint n weight = totalTo n weight ≡ pointTotal
+IsPoint n weight = (0 < totalTo n weight) × (totalTo n weight ≤ maxTotal)
 
 -- level W is within the limits of level t
 pub record Shaped (M : Model) (t : ℕ) (W : Level) : Type 0 where
@@ -108,7 +108,7 @@ pub record Shaped (M : Model) (t : ℕ) (W : Level) : Type 0 where
   pub action-in : (v : ℕ) → v < W .vectors → W .action v < M .actions
   pub entry-in : (v : ℕ) → v < W .vectors → (s : ℕ) → s < M .states → natAbs (W .entry v s) ≤ range t
   pub corner-in : (s : ℕ) → s < M .states → natAbs (W .corner s) ≤ range t
-  pub value-in : (i : ℕ) → i < W .points → natAbs (W .value i) ≤ pointTotal * range t
+  pub value-in : (i : ℕ) → i < W .points → natAbs (W .value i) ≤ totalTo (M .states) (W .weight i) * range t
   pub total : (i : ℕ) → i < W .points → IsPoint (M .states) (W .weight i)
 
 -- two levels that agree in every part that is read

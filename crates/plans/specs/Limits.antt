@@ -9,14 +9,14 @@ maxPoints = 32
 abbrev pub maxBuilt : ℕ
 maxBuilt = 16
 
--- what the weights of a point total
-abbrev pub pointTotal : ℕ
-pointTotal = 100
+-- the most that the weights of a point total
+abbrev pub maxTotal : ℕ
+maxTotal = 100
 
--- entries and corners of level t lie within ± range t, in ticks; a point's value within ± pointTotal × range t
+-- entries and corners of level t lie within ± range t, in ticks; a point's value within ± the total of its weights × range t
 unfoldable pub range : ℕ → ℕ
 range t = maxReward * t
 
 -- the largest weight at which a ceiling is asked: that of a state reached from a point
 abbrev pub maxReached : ℕ
-maxReached = pointTotal * (one * one)
+maxReached = maxTotal * (one * one)

@@ -26,7 +26,7 @@ use Rattle.plans.specs.Level.{level0, product, joined, smallest, orNone, drop, 
 use Rattle.plans.specs.Totals.{best, lower, upper, advice}
 use Rattle.plans.specs.Build.{chosen, entryFor, bestAction, leastFor, leastValue, seed, built}
 use Rattle.levels.specs.Storage.{Cells, LentLevel, Lent, levelOf, cornerIn, over}
-use Rattle.levels.specs.Judged.{rowsWithin, rangesVerdict, weightsVerdict, holds, numbersIn, floorsVerdict, cornersVerdict, pointsVerdict}
+use Rattle.levels.specs.Judged.{rowsWithin, valuesWithin, rangesVerdict, weightsVerdict, holds, numbersIn, floorsVerdict, cornersVerdict, pointsVerdict}
 use Rattle.levels.specs.Judged.{levelVerdict, shapeVerdict, backupsVerdict, offerVerdict}
 use Rattle.runs.specs.declared.Bounds.{Bounds}
 use Rattle.runs.specs.State.{openVerdict, opened, offered, totalsVerdict, totalsOf, buildVerdict, builtOf}
@@ -250,7 +250,7 @@ table : Table
 unfolding dough slices blank fresh half one two three level standing alone changed mixture pair
     openVerdict opened offered offerVerdict shapeVerdict levelVerdict backupsVerdict floorsVerdict cornersVerdict pointsVerdict numbersIn holds over level0
     totalsOf totalsVerdict best lower upper advice builtOf buildVerdict tablesVerdict limitsHold rowsTotal
-    firstOf every totalTo rangesVerdict rowsWithin weightsVerdict range built seed bestAction chosen entryFor leastValue leastFor firstLargest
+    firstOf every totalTo rangesVerdict rowsWithin valuesWithin weightsVerdict range built seed bestAction chosen entryFor leastValue leastFor firstLargest
     product successor sumTo backedUp backup follows floorDiv ceilDiv backupAt expectedReward ceiling largestTo drop gain smallest joined orNone
     corner-weight laid laidRows listed _·_ K
 table = record {

@@ -1,13 +1,14 @@
 -- From verdicts to facts, and back: what a standing level that holds, and an offer that is fine, are known to have. Assumes nothing.
 use mathlib.Core.Path.{_≡_, refl}
-use mathlib.Core.Bool.{true}
+use mathlib.Core.Bool.{Bool, true, false, not, _||_}
 use Prim.Native.Nat.{ℕ, _+_, _*_, _≤_, _<_}
 use native.Mathlib.Omega.{arith}
+use lib.Dec.{leb}
 use lib.ListN.{length}
 use lib.IntN.{ℤ, natAbs}
 use lib.Signed.{_≤ℤ_}
-use borrow.Author.Tests.{leb-true, le-leb, ltb-true, lt-ltb, eqb-true, eq-eqb}
-use Rattle.integers.specs.Whole.{_·_}
+use borrow.Author.Tests.{leb-true, le-leb, ltb-true, lt-ltb}
+use Rattle.integers.specs.Whole.{_·_, totalTo}
 use Rattle.integers.proofs.Parts.{is-T, leZ-is, le-true}
 use Rattle.integers.proofs.Searches.{and-true, and-is, every-at, at-every}
 use Rattle.tables.specs.declared.Tables.{Tables}
@@ -20,9 +21,9 @@ use Rattle.tables.specs.Steps.{Stored}
 use Rattle.tables.specs.Judged.{tablesVerdict}
 use Rattle.tables.proofs.Refusals.{before-fine, unless-fine, fine-at, at-fine}
 use Rattle.tables.proofs.Accepted.{tables-valid, tables-stored, tables-fine}
-use Rattle.plans.specs.Limits.{pointTotal, range}
+use Rattle.plans.specs.Limits.{maxTotal, range}
 use Rattle.plans.specs.Level.{Level, backupAt, corner-weight, follows, Meets, Shaped, IsPoint}
-use Rattle.levels.specs.Judged.{countsHold, rowsWithin, rangesVerdict, weightsVerdict, actionsExist, isFine, holds, fits}
+use Rattle.levels.specs.Judged.{countsHold, rowsWithin, totalHolds, valuesWithin, rangesVerdict, weightsVerdict, actionsExist, isFine, holds, fits}
 use Rattle.levels.specs.Judged.{numbersIn, numbersVerdict, floorsVerdict, coversBackups, cornersVerdict, pointsVerdict, levelVerdict, shapeVerdict}
 use Rattle.levels.specs.Judged.{backupsVerdict, offerVerdict}
 use Rattle.levels.specs.Storage.{LentLevel, Lent, stateSize, levelOf, readable, complete, numberIn, standingIn, lentFor}
@@ -47,6 +48,14 @@ rows-is : (number rows w limit : ℕ) (cell : ℕ → ℕ → ℤ) → ((r : ℕ
 unfolding rowsWithin
 rows-is number rows w limit cell h = at-fine _ rows (λ r l. at-fine _ w (λ x b. passed number r (le-leb _ _ (h r l x b))))
 
+-- a number that is not passed over
+only-if : (a b : Bool) → (not a || b) ≡ true → a ≡ true → b ≡ true
+only-if a b e h = rw h at e
+
+if-so : (a b : Bool) → b ≡ true → (not a || b) ≡ true
+if-so true b e = e
+if-so false b e = refl
+
 covers-true : (M : Model) (L : Level) (p : ℕ → ℕ) (w : ℤ) → coversBackups M L p w ≡ true → (a : ℕ) → a < M .actions → backupAt M L p a ≤ℤ K · w
 covers-true M L p w e a l = le-true _ _ (every-at (M .actions) _ e a l)
 
@@ -54,15 +63,34 @@ covers-is : (M : Model) (L : Level) (p : ℕ → ℕ) (w : ℤ) → ((a : ℕ) �
 covers-is M L p w h = at-every (M .actions) _ (λ a l. leZ-is _ _ (h a l))
 
 -- ---- a level by itself
+point-true : (n : ℕ) (p : ℕ → ℕ) → totalHolds (totalTo n p) ≡ true → IsPoint n p
+point-true n p e = let h = and-true (leb 1 (totalTo n p)) (leb (totalTo n p) maxTotal) e in (leb-true 1 _ (h .0), leb-true _ maxTotal (h .1))
+
+point-is : (n : ℕ) (p : ℕ → ℕ) → IsPoint n p → totalHolds (totalTo n p) ≡ true
+point-is n p h = and-is (le-leb 1 (totalTo n p) (h .0)) (le-leb (totalTo n p) maxTotal (h .1))
+
 pub weights-fine : (n points : ℕ) (weight : ℕ → ℕ → ℕ) → weightsVerdict n points weight ≡ Fine
     → (i : ℕ) → i < points → IsPoint n (weight i)
 unfolding weightsVerdict
-weights-fine n points weight e i l = eqb-true _ _ (unless-fine _ _ _ (fine-at _ points e i l))
+weights-fine n points weight e i l = point-true n (weight i) (unless-fine _ 12 i (fine-at _ points e i l))
 
 pub weights-is : (n points : ℕ) (weight : ℕ → ℕ → ℕ) → ((i : ℕ) → i < points → IsPoint n (weight i))
     → weightsVerdict n points weight ≡ Fine
 unfolding weightsVerdict
-weights-is n points weight h = at-fine _ points (λ i l. passed 12 i (eq-eqb _ _ (h i l)))
+weights-is n points weight h = at-fine _ points (λ i l. passed 12 i (point-is n (weight i) (h i l)))
+
+-- no value is passed over where 12 refuses no total
+module _ (n points limit : ℕ) (weight : ℕ → ℕ → ℕ) (value : ℕ → ℤ) where
+  values-fine : weightsVerdict n points weight ≡ Fine → valuesWithin n points limit weight value ≡ Fine
+      → (i : ℕ) → i < points → natAbs (value i) ≤ totalTo n (weight i) * limit
+  unfolding valuesWithin
+  values-fine weights e i l =
+      leb-true _ _ (only-if (totalHolds (totalTo n (weight i))) _ (unless-fine _ 11 i (fine-at _ points e i l))
+      (point-is n (weight i) (weights-fine n points weight weights i l)))
+
+  values-is : ((i : ℕ) → i < points → natAbs (value i) ≤ totalTo n (weight i) * limit) → valuesWithin n points limit weight value ≡ Fine
+  unfolding valuesWithin
+  values-is h = at-fine _ points (λ i l. passed 11 i (if-so (totalHolds (totalTo n (weight i))) _ (le-leb _ _ (h i l))))
 
 -- the tests of a level by itself, in the order of the standing level's
 record Tests (M : Model) (t : ℕ) (W : Level) : Type 0 where
@@ -86,7 +114,7 @@ module _ (M : Model) (t : ℕ) (W : Level) where
         action-in = λ v l. ltb-true _ _ (every-at _ _ (e .actions) v l);
         entry-in = rows-fine 11 (W .vectors) (M .states) (range t) (W .entry) (r .0);
         corner-in = λ s l. rows-fine 11 (M .states) 1 (range t) (λ s x. W .corner s) (q .0) s l 0 (omega arith);
-        value-in = λ i l. rows-fine 11 (W .points) 1 (pointTotal * range t) (λ i x. W .value i) (q .1) i l 0 (omega arith);
+        value-in = values-fine (M .states) (W .points) (range t) (W .weight) (W .value) (e .weights) (q .1);
         total = weights-fine _ _ _ (e .weights);
       }
 
@@ -98,7 +126,7 @@ module _ (M : Model) (t : ℕ) (W : Level) where
     ranges =
         fine-before (rows-is 11 (W .vectors) (M .states) (range t) (W .entry) (S .entry-in))
         (fine-before (rows-is 11 (M .states) 1 (range t) (λ s x. W .corner s) (λ s l x b. S .corner-in s l))
-        (rows-is 11 (W .points) 1 (pointTotal * range t) (λ i x. W .value i) (λ i l x b. S .value-in i l)));
+        (values-is (M .states) (W .points) (range t) (W .weight) (W .value) (S .value-in)));
     weights = weights-is _ _ _ (S .total);
   }
 

@@ -22,7 +22,7 @@ use Rattle.integers.proofs.Sums.{largest-ind, largest-more}
 use Rattle.integers.proofs.Terms.{Terms, terms-limit}
 use Rattle.tables.specs.Limits.{maxStates, maxEntry}
 use Rattle.tables.specs.Storage.{rowStart, weightIn}
-use Rattle.plans.specs.Limits.{pointTotal, maxReached}
+use Rattle.plans.specs.Limits.{maxTotal, maxReached}
 use Rattle.plans.specs.Level.{Ratio, none, ratio, joined, smallest, orNone, product}
 use Rattle.plans.proofs.Agreement.{product-cong}
 use Rattle.plans.proofs.Drops.{drop-capped, drop-cross}
@@ -164,10 +164,10 @@ product-limit {n} {corners} W p l h k =
     let t : Terms n W maxEntry p (cornerIn corners) = record { weights = k; values = h .corner } in
     omega (arith, terms-limit t n (omega arith), NatL.mul-le-mul-right (W * maxEntry) l)
 
-module _ {n : ℕ} {corners : List ℤ} (p : ℕ → ℕ) (value : ℤ) (few : n ≤ maxStates) (fit : CornersFit n corners) (small : (s : ℕ) → s < n → p s ≤ pointTotal)
-    (within : natAbs value ≤ pointTotal * maxEntry) where
+module _ {n : ℕ} {corners : List ℤ} (p : ℕ → ℕ) (value : ℤ) (few : n ≤ maxStates) (fit : CornersFit n corners) (small : (s : ℕ) → s < n → p s ≤ maxTotal)
+    (within : natAbs value ≤ maxTotal * maxEntry) where
   pub gain-parts : natAbs (product n p (cornerIn corners)) + natAbs value ≤ maxGain
-  gain-parts = omega (arith, product-limit pointTotal p few fit small)
+  gain-parts = omega (arith, product-limit maxTotal p few fit small)
 
   pub gain-limit : natAbs (product n p (cornerIn corners) -ℤ value) ≤ maxGain
   gain-limit = omega (arith, abs-sub (product n p (cornerIn corners)) value, gain-parts)
@@ -190,12 +190,12 @@ pub point-inside : (i n : ℕ) {points at : ℕ} {weights : List ℕ} → Points
 point-inside i n {points} fit l starts = rw starts (omega (arith, row-below i points n l, fit .stored))
 
 pub point-within : (i n : ℕ) {points at : ℕ} {weights : List ℕ} → PointsFit n points weights → i < points → at ≡ rowStart n i
-    → (s : ℕ) → s < n → getD weights (at + s) 0 ≤ pointTotal
+    → (s : ℕ) → s < n → getD weights (at + s) 0 ≤ maxTotal
 point-within i n fit l starts s b = rw starts (fit .weight i l s b)
 
 -- filled up to the size of an array
 module _ (n i : ℕ) (weights p : List ℕ) (filled : p ≡ padded 0 maxStates n (pointIn n weights i)) where
-  pub filled-below : {points : ℕ} → PointsFit n points weights → i < points → n ≤ maxStates → Below pointTotal n p
+  pub filled-below : {points : ℕ} → PointsFit n points weights → i < points → n ≤ maxStates → Below maxTotal n p
   filled-below f l few = record {
     long = rw (filled, padded-length 0 maxStates n (pointIn n weights i) few) few;
     below = λ s k. rw (filled, padded-at 0 maxStates n (pointIn n weights i) s 0 k) (f .weight i l s k);

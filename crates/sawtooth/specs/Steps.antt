@@ -6,7 +6,7 @@ use lib.IntN.{ℤ, pos, negsuc, natAbs, _-ℤ_}
 use Rattle.integers.specs.Whole.{largestTo}
 use Rattle.tables.specs.Limits.{maxStates, maxEntry}
 use Rattle.tables.specs.Storage.{weightIn}
-use Rattle.plans.specs.Limits.{maxPoints, pointTotal}
+use Rattle.plans.specs.Limits.{maxPoints, maxTotal}
 use Rattle.plans.specs.Level.{product, smallest, orNone}
 use Rattle.levels.specs.Storage.{cornerIn, pointIn}
 
@@ -36,15 +36,15 @@ pub record CornersFit (n : ℕ) (corners : List ℤ) : Type 0 where
 pub record PointsFit (n points : ℕ) (weights : List ℕ) : Type 0 where
   pub few : points ≤ maxPoints
   pub stored : points * n ≤ length weights
-  pub weight : (i : ℕ) → i < points → (s : ℕ) → s < n → pointIn n weights i s ≤ pointTotal
+  pub weight : (i : ℕ) → i < points → (s : ℕ) → s < n → pointIn n weights i s ≤ maxTotal
 
 pub record ValuesFit (points : ℕ) (values : List ℤ) : Type 0 where
   pub long : points ≤ length values
-  pub value : (i : ℕ) → i < points → natAbs (getD values i (pos 0)) ≤ pointTotal * maxEntry
+  pub value : (i : ℕ) → i < points → natAbs (getD values i (pos 0)) ≤ maxTotal * maxEntry
 
 -- the largest gain
 abbrev pub maxGain : ℕ
-maxGain = (maxStates + 1) * (pointTotal * maxEntry)
+maxGain = (maxStates + 1) * (maxTotal * maxEntry)
 
 -- no drop is compared with more than one more than this, so that a weight times it fits 64 bits
 abbrev pub cap : ℕ

@@ -10,7 +10,7 @@ ghost use Rattle.integers.specs.Search.{every};
 ghost use Rattle.integers.specs.Cells.{padded};
 ghost use Rattle.tables.specs.Limits.{maxStates, maxEntry};
 ghost use Rattle.tables.specs.Storage.{weightIn};
-ghost use Rattle.plans.specs.Limits.{maxPoints, pointTotal, maxReached};
+ghost use Rattle.plans.specs.Limits.{maxPoints, maxTotal, maxReached};
 ghost use Rattle.plans.specs.Level.{product, smallest, orNone};
 ghost use Rattle.levels.specs.Storage.{cornerIn};
 ghost use Rattle.sawtooth.specs.Steps.{positive, gainIn, dropIn, ceilingIn, CornersFit, PointsFit, ValuesFit, maxGain, cap};
@@ -28,8 +28,8 @@ const CAP: u64 = 100_000_000_000_000_000;
 fn gain_of(corners: &[i64], p: &[u64], value: i64, n: usize) -> u64
     requires { ⌜ n ≤ maxStates ⌝ }
     requires { ⌜ CornersFit n (now corners) ⌝ }
-    requires { ⌜ Below pointTotal n (now p) ⌝ }
-    requires { ⌜ natAbs value ≤ pointTotal * maxEntry ⌝ }
+    requires { ⌜ Below maxTotal n (now p) ⌝ }
+    requires { ⌜ natAbs value ≤ maxTotal * maxEntry ⌝ }
     ensures { λ r. ⌜ r ≡ positive (product n (weightIn (now (p .entry))) (cornerIn (now (corners .entry))) -ℤ value) ⌝ }
 {
     let g = integers::minus(vectors::product(p, corners, 0, n), value);
@@ -71,7 +71,7 @@ fn reach(q: u64, gain: u64) -> u64
 
 // a × b, of a number up to one more than CAP and a point's weight
 fn wanted(least: u64, p: u64) -> u64
-    requires { ⌜ (least ≤ cap + 1) × (p ≤ pointTotal) ⌝ }
+    requires { ⌜ (least ≤ cap + 1) × (p ≤ maxTotal) ⌝ }
     ensures { λ r. ⌜ r ≡ least * p ⌝ }
 {
     least * p
@@ -81,7 +81,7 @@ fn wanted(least: u64, p: u64) -> u64
 fn reaches(q: &[u64], weights: &[u32], at: usize, gain: u64, n: usize, least: u64) -> bool
     requires { ⌜ (n ≤ maxStates) × ((at + n ≤ length (now weights)) × ((gain ≤ maxGain) × (least ≤ cap + 1))) ⌝ }
     requires { ⌜ Below maxReached n (now q) ⌝ }
-    requires { ⌜ ((s : ℕ) → s < n → getD (now weights) (at + s) 0 ≤ pointTotal) ⌝ }
+    requires { ⌜ ((s : ℕ) → s < n → getD (now weights) (at + s) 0 ≤ maxTotal) ⌝ }
     ensures { λ r. ⌜ r ≡ every n (λ s. leb (least * getD (now (weights .entry)) (at + s) 0) (getD (now (q .entry)) s 0 * gain)) ⌝ }
 {
     for s in 0..n {
@@ -95,7 +95,7 @@ fn reaches(q: &[u64], weights: &[u32], at: usize, gain: u64, n: usize, least: u6
 
 // a × b, of a weight of a state reached and a point's weight
 fn cross(q: u64, p: u64) -> u64
-    requires { ⌜ (q ≤ maxReached) × (p ≤ pointTotal) ⌝ }
+    requires { ⌜ (q ≤ maxReached) × (p ≤ maxTotal) ⌝ }
     ensures { λ r. ⌜ r ≡ q * p ⌝ }
 {
     q * p
@@ -105,7 +105,7 @@ fn cross(q: u64, p: u64) -> u64
 fn drop_of(q: &[u64], weights: &[u32], at: usize, gain: u64, n: usize) -> u64
     requires { ⌜ (n ≤ maxStates) × ((at + n ≤ length (now weights)) × (gain ≤ maxGain)) ⌝ }
     requires { ⌜ Below maxReached n (now q) ⌝ }
-    requires { ⌜ ((s : ℕ) → s < n → getD (now weights) (at + s) 0 ≤ pointTotal) ⌝ }
+    requires { ⌜ ((s : ℕ) → s < n → getD (now weights) (at + s) 0 ≤ maxTotal) ⌝ }
     ensures { λ r. ⌜ r ≡ orNone (smallest n (λ s. getD (now (weights .entry)) (at + s) 0) (weightIn (now (q .entry))) gain) ⌝ }
 {
     let mut top: u64 = 1; // under no weight: any state with weight takes its place

@@ -106,8 +106,10 @@ pub fn floating_level(level: &plain::Level) -> floating::Level {
         choices: vector.choices.clone(),
         entries: scaled(&vector.entries, 1.0),
     };
-    let point =
-        |point: &plain::Point| floating::Point { weights: belief(&point.weights), value: point.value as f64 / 100.0 };
+    let point = |point: &plain::Point| floating::Point {
+        weights: belief(&point.weights),
+        value: point.value as f64 / point.weights.iter().sum::<i64>() as f64,
+    };
     floating::Level {
         vectors: level.vectors.iter().map(vector).collect(),
         corners: scaled(&level.corners, 1.0),

@@ -77,7 +77,7 @@ pub const NODES: usize = 32;
 pub const STEPS: usize = 4;
 pub const THOUSAND: i64 = 1_000;
 pub const REWARD: i64 = 100_000;
-/// What a point's weights total.
+/// What start numbers total, and a point's weights at most.
 pub const TOTAL: i64 = 100;
 pub const WEIGHT: i64 = 1_000_000;
 pub const FILE_BYTES: usize = 32_768;

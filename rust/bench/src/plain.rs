@@ -114,9 +114,10 @@ fn corner(n: usize, state: usize) -> Vec<i64> {
     (0..n).map(|s| i64::from(s == state)).collect()
 }
 
-/// Whether weights total 100; none of them is below 0 or above that.
-fn totals_hundred(weights: &[i64]) -> bool {
-    weights.iter().all(|weight| (0..=TOTAL).contains(weight)) && weights.iter().sum::<i64>() == TOTAL
+/// What the weights of a point total, if that is 1 to 100 and none of them is below 0.
+fn total(weights: &[i64]) -> Option<i64> {
+    let within = weights.iter().all(|weight| (0..=TOTAL).contains(weight));
+    within.then(|| weights.iter().sum()).filter(|total| (1..=TOTAL).contains(total))
 }
 
 impl Level {
@@ -144,19 +145,20 @@ impl Level {
         (1..=VECTORS).contains(&self.vectors.len()) && self.points.len() <= POINTS
     }
 
-    /// 11: the first vector, else corner, else point outside the range of level t.
+    /// 11: the first vector, else corner, else point outside the range of level t. Points that get 12 are passed over.
     fn first_outside(&self, t: usize) -> Option<usize> {
         let end = REWARD * t as i64;
         let outside = |value: &i64, end: i64| !(-end..=end).contains(value);
         let vector = self.vectors.iter().position(|vector| vector.entries.iter().any(|entry| outside(entry, end)));
         let corner = self.corners.iter().position(|corner| outside(corner, end));
-        let point = self.points.iter().position(|point| outside(&point.value, TOTAL * end));
+        let outlying = |point: &Point| total(&point.weights).map_or(false, |total| outside(&point.value, total * end));
+        let point = self.points.iter().position(outlying);
         vector.or(corner).or(point)
     }
 
     /// 12.
     fn first_untotalled(&self) -> Option<usize> {
-        self.points.iter().position(|point| !totals_hundred(&point.weights))
+        self.points.iter().position(|point| total(&point.weights).is_none())
     }
 }
 
@@ -278,7 +280,7 @@ pub fn build(certifier: &Certifier, points: &[Vec<i64>]) -> Result<Level, Refuse
     if points.len() > BUILT_POINTS {
         return Err(Refused::at(9, 0));
     }
-    refuse(12, points.iter().position(|weights| !totals_hundred(weights)))?;
+    refuse(12, points.iter().position(|weights| total(weights).is_none()))?;
     let (tables, standing) = (&certifier.tables, &certifier.level);
     let corners: Vec<Vec<i64>> = (0..tables.states).map(|s| corner(tables.states, s)).collect();
     let point = |p: &Vec<i64>| Point { weights: p.clone(), value: least_value(tables, standing, p) };

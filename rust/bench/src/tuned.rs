@@ -66,10 +66,15 @@ fn refuse(number: u8, offender: Option<usize>) -> Result<(), Refused> {
     }
 }
 
-/// 12: the first point whose weights do not total 100.
+/// What the weights of a point total, if that is 1 to 100.
+fn total(row: &[i64]) -> Option<i64> {
+    let within = row.iter().all(|&p| p as u64 <= TOTAL as u64);
+    within.then(|| row.iter().sum()).filter(|total| (1..=TOTAL).contains(total))
+}
+
+/// 12: the first point whose weights total less than 1 or more than 100.
 fn first_untotalled(weights: &[i64], n: usize) -> Option<usize> {
-    let totals = |row: &[i64]| row.iter().all(|&p| p as u64 <= TOTAL as u64) && row.iter().sum::<i64>() == TOTAL;
-    weights.chunks_exact(n).position(|row| !totals(row))
+    weights.chunks_exact(n).position(|row| total(row).is_none())
 }
 
 impl Level {
@@ -89,9 +94,10 @@ impl Level {
         let end = REWARD * t as i64;
         let outside = |value: &i64, end: i64| !(-end..=end).contains(value);
         let vector = self.entries.iter().position(|entry| outside(entry, end)).map(|cell| cell / n);
-        vector
-            .or_else(|| self.corners.iter().position(|corner| outside(corner, end)))
-            .or_else(|| self.values.iter().position(|value| outside(value, TOTAL * end)))
+        vector.or_else(|| self.corners.iter().position(|corner| outside(corner, end))).or_else(|| {
+            let mut points = self.values.iter().zip(self.weights.chunks_exact(n));
+            points.position(|(value, p)| total(p).map_or(false, |total| outside(value, total * end)))
+        })
     }
 
     /// What each point takes off the corners at its weights.

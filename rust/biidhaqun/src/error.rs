@@ -56,7 +56,7 @@ impl fmt::Display for Refusal {
                 "an entry of vector {0}, or corner {0}, or the value of point {0} is outside its level's range",
                 place
             ),
-            12 => write!(f, "the weights of point {} do not total 100", place),
+            12 => write!(f, "the weights of point {} total less than 1 or more than 100", place),
             13 => write!(f, "vector {} has an entry above its backup; lower it, or choose other vectors", place),
             14 => write!(f, "corner {} is below its backup; raise it", place),
             15 => write!(f, "point {} is below its backup; raise its value", place),

@@ -17,9 +17,9 @@ pub struct Vector {
 /// A point of a level: the ceiling at some weights.
 #[derive(Clone, Debug, Default, PartialEq, Eq, Hash)]
 pub struct Point {
-    /// A weight for each state; they total 100.
+    /// A weight for each state; they total 1 to 100.
     pub weights: Vec<u64>,
-    /// The ceiling there, in hundredths of a tick.
+    /// The ceiling there, in ticks times the total of the weights.
     pub value: i64,
 }
 
@@ -37,7 +37,7 @@ pub struct Level {
 /// The weights of points to build a level upon.
 #[derive(Clone, Debug, Default, PartialEq, Eq, Hash)]
 pub struct Points {
-    /// 0 to 16 points, each with a weight for each state; they total 100.
+    /// 0 to 16 points, each with a weight for each state; the weights of each total 1 to 100.
     pub weights: Vec<Vec<u64>>,
 }
 

@@ -28,7 +28,7 @@ pub enum Rule {
     Numbers,
     /// 11: entries, corners and point values are within their level's range.
     Range,
-    /// 12: a point's weights total 100.
+    /// 12: a point's weights total 1 to 100.
     PointTotal,
     /// 13: no entry is above its backup.
     VectorBackup,

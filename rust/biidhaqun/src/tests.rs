@@ -114,7 +114,29 @@ fn a_fresh_certifier_has_no_totals_and_builds_at_sixteen_points() {
     let many = |count| Points { weights: vec![start.weights.clone(); count] };
     assert_eq!(certifier.build(&many(16)).unwrap().points.len(), 16);
     assert_eq!(refusal(certifier.build(&many(17))), (9, 0));
-    assert_eq!(refusal(certifier.build(&Points::one(&[50, 51]))), (12, 0));
+}
+
+#[test]
+fn the_weights_of_a_point_total_1_to_100() {
+    let (_, _, mut certifier) = standing(0);
+    for weights in [[0, 1], [1, 1], [1, 2], [50, 50]] {
+        let level = certifier.build(&Points::one(&weights)).unwrap();
+        assert_eq!(certifier.clone().offer(&level), Ok(()));
+    }
+    for weights in [[0, 0], [50, 51], [u64::from(u32::MAX), 2], [u64::MAX, 1]] {
+        assert_eq!(refusal(certifier.build(&Points::one(&weights))), (12, 0));
+    }
+    // The value of a point lies within 100,000 ticks a level times that total; where 12 refuses the total, 11 passes over.
+    let built = certifier.build(&Points::one(&[1, 2])).unwrap();
+    let mut with = |weights: [u64; 2], value: i64| {
+        let mut level = built.clone();
+        level.points[0] = Point { weights: weights.to_vec(), value };
+        certifier.offer(&level).map_err(|error| refusal::<()>(Err(error)))
+    };
+    assert_eq!(with([1, 2], 300_001), Err((11, 0)));
+    assert_eq!(with([50, 51], 10_100_001), Err((12, 0)));
+    assert_eq!(with([0, 0], 1), Err((12, 0)));
+    assert_eq!(with([1, 2], 300_000), Ok(()));
 }
 
 #[test]

@@ -51,7 +51,7 @@ const EXPLANATIONS: &[Explanation] = &[
         means: "The start numbers do not total 1.",
         place: LENGTH,
         causes: &[
-            "Thirds: 0.33 0.33 0.33 total 0.99; one of them has to be 0.34.",
+            "Thirds: 0.33 0.33 0.33 total 0.99; one of them has to be 0.34 (the point 1,1,1 says thirds).",
             "A start state instead of a mixture: `start: 1 0`, not `start: 0 0`.",
         ],
     },
@@ -101,15 +101,15 @@ const EXPLANATIONS: &[Explanation] = &[
     Explanation {
         number: 11,
         means: "An entry, a corner or a point's value is outside its level's range: at level t within 100,000 x t ticks of 0, \
-                for values times 100.",
+                for values times the total of the point's weights.",
         place: "the number of the vector, corner or point",
         causes: &["Units of reward were taken for ticks, or the other way round: 1 unit is 100 ticks."],
     },
     Explanation {
         number: 12,
-        means: "The weights of a point do not total 100.",
+        means: "The weights of a point total less than 1 or more than 100.",
         place: "the point's number",
-        causes: &["Thirds: 33,33,34.", "Weights that total 1, or 1000."],
+        causes: &["Weights in thousandths: divide them.", "Weights of a mixture, which may be larger: 1,1,1 says thirds."],
     },
     Explanation {
         number: 13,
@@ -137,7 +137,7 @@ const EXPLANATIONS: &[Explanation] = &[
         place: "the point's number",
         causes: &[
             "Values that were rounded to the nearest: round them up.",
-            "A point's value is in hundredths of a tick: it is that of the weights as they stand, which total 100.",
+            "A point's value is that of the weights as they stand: in ticks times their total.",
             "`biidhaqun certify` says which action it is, and how many ticks are missing.",
         ],
     },

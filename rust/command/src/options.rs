@@ -103,7 +103,7 @@ pub struct Built {
     /// How many levels to build, 1 to 100 [default: 3]
     #[arg(long, value_name = "N", value_parser = clap::value_parser!(u64).range(1..=100))]
     pub levels: Option<u64>,
-    /// A point to build at: a weight for each state, 100 in total; up to 16 times [default: the start mixture]
+    /// A point to build at: a weight for each state, 1 to 100 in total; up to 16 times [default: the start mixture]
     #[arg(long = "point", value_name = "W,W,..", value_parser = weights)]
     pub points: Vec<Weights>,
     /// A mixture to ask at, beside the points: a weight for each state, up to 1000000

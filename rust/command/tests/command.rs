@@ -185,7 +185,7 @@ fn levels_from_a_file() {
     assert!(corner.contains("refused 14 at 0") && corner.contains("level 2 is not accepted"), "{}", corner);
     assert!(corner.contains("corner 0: -40 is 8 ticks below the backup of action 0; -32 would pass"), "{}", corner);
     let point = changed(&|level| level["points"][0]["value"] = 12_499.into());
-    assert!(point.contains("refused 15 at 0") && point.contains("0.01 ticks below"), "{}", point);
+    assert!(point.contains("refused 15 at 0") && point.contains("total weight, 100) is 1 below"), "{}", point);
     assert!(point.contains("12500 would pass"), "{}", point);
     let vector = changed(&|level| level["vectors"][0]["entries"][0] = (-50).into());
     assert!(vector.contains("refused 13 at 0") && vector.contains("entry of state 0 is -50"), "{}", vector);
@@ -208,10 +208,20 @@ fn a_hundred_levels() {
     assert!(out.lines().any(|line| line.trim_start().starts_with("100 ")));
 }
 
+/// Points of small totals, and what they certify where three states are equally likely.
+#[test]
+fn points_say_thirds() {
+    let points = ["1,1,1", "4,5,1", "1,5,9", "1,2,2", "1,1,0"].map(|point| ["--point", point]).concat();
+    let out = served(&[&["levels", "examples/tempering.pomdp"], &points[..]].concat());
+    let third = out.lines().nth(4).unwrap().split_whitespace().collect::<Vec<_>>();
+    assert_eq!(third, ["3", "1.3900", "1.5167", "0.1267", "417", "455", "0", "(stir)"]);
+}
+
 #[test]
 fn what_the_certifier_refuses() {
     let point = |weights: &str| stopped(&["levels", "examples/dough.pomdp", "--point", weights], 1);
     assert!(point("50,51").contains("refused 12 at 0") && point("50,51").contains("total 101"));
+    assert!(point("0,0").contains("refused 12 at 0") && point("0,0").contains("total 0"));
     let many = ["--point", "50,50"].repeat(17);
     let err = stopped(&[&["levels", "examples/dough.pomdp"], &many[..]].concat(), 1);
     assert!(err.contains("refused 9 at 0") && err.contains("there are 17 points"), "{}", err);

@@ -30,8 +30,10 @@ fn the_runs_of_the_front_page() {
     // The folder that the front page speaks of: the examples, and a dough model with a wrong row.
     let folder = Path::new(env!("CARGO_TARGET_TMPDIR")).join("front");
     fs::create_dir_all(folder.join("examples")).unwrap();
+    for example in ["examples/dough.pomdp", "examples/tempering.pomdp"] {
+        fs::write(folder.join(example), text(example)).unwrap();
+    }
     let dough = text("examples/dough.pomdp");
-    fs::write(folder.join("examples/dough.pomdp"), &dough).unwrap();
     fs::write(folder.join("dough.pomdp"), dough.replace("T: 0 : 1 0 1", "T: 0 : 1 0 0.9")).unwrap();
     let mut runs = 0;
     for block in blocks(&text("README.md")) {
@@ -42,7 +44,7 @@ fn the_runs_of_the_front_page() {
             runs += 1;
         }
     }
-    assert_eq!(runs, 2);
+    assert_eq!(runs, 3);
 }
 
 /// The image in the front page is what the command beside it draws.

@@ -9,8 +9,11 @@ use reference::{all_plans, best, scale, Certifier, Earned, Level, Model, Points,
 /// No list is followed further than this many levels.
 const LEVELS: u64 = 3;
 
-/// A list of offers upon a small model.
+/// A list of offers upon a small model; one in four is of three states thought equally likely.
 pub fn random(rng: &mut Rng) -> List {
+    if rng.once_in(4) {
+        return gen::thirds(rng, LEVELS);
+    }
     let shape = gen::tiny_shape(rng);
     let levels = 1 + rng.below(LEVELS);
     gen::list(rng, shape, levels)
@@ -22,6 +25,8 @@ pub struct Seen {
     pub accepted: u64,
     pub refused: u64,
     pub compared: u64,
+    /// Those at the mixture (1, 1, 1).
+    pub thirds: u64,
     pub above_corners: u64,
 }
 
@@ -127,6 +132,7 @@ impl Run<'_> {
             return Err(format!("the gap of {:?} is wrong", totals));
         }
         self.seen.compared += 1;
+        self.seen.thirds += u64::from(mixture == [1, 1, 1]);
         Ok(())
     }
 }
@@ -139,4 +145,41 @@ fn above_corners(certifier: &Certifier, n: usize) -> bool {
         let corners: BigInt = weights.iter().zip(&level.corners).map(|(&p, &c)| BigInt::from(p) * c).sum();
         BigInt::from(level.values[j]) > corners
     })
+}
+
+#[cfg(test)]
+mod tests {
+    use super::*;
+
+    /// Three crystal forms thought equally likely: what is certified at (1, 1, 1) brackets the exact best of all plans, here
+    /// in thousandths, rounded down.
+    #[test]
+    fn the_tempering_example() {
+        let file = include_bytes!("../../../examples/tempering.pomdp");
+        let tables = reference::read(file, &DOCUMENT).unwrap().tables;
+        let list = gen::at_thirds(tables.clone(), LEVELS);
+        let seen = check(&list, &DOCUMENT).unwrap();
+        assert_eq!((seen.accepted, seen.thirds), (3, 3));
+
+        let model = Model::of(&tables, &DOCUMENT).unwrap();
+        let mut certifier = DOCUMENT.open(&tables).unwrap();
+        let whole = |number: &BigInt| i64::try_from(number).unwrap();
+        let mut figures = Vec::new();
+        for step in &list.steps {
+            match step {
+                Step::Raise(points) => {
+                    let level = DOCUMENT.build(&certifier, points).unwrap();
+                    DOCUMENT.offer(&mut certifier, &level).unwrap();
+                }
+                Step::Totals(mixture) => {
+                    let steps = certifier.level as u32;
+                    let totals = DOCUMENT.totals(&certifier, mixture).unwrap();
+                    let most = best(&all_plans(&model, steps), &mixture[..3], None).unwrap() * 1_000 / scale(steps);
+                    figures.push((whole(&totals.lower), whole(&most), whole(&totals.upper), totals.action));
+                }
+                _ => {}
+            }
+        }
+        assert_eq!(figures, [(-100, -100_000, -100, 2), (78, 78_000, 586, 0), (417, 419_088, 1_279, 0)]);
+    }
 }

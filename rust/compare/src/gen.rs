@@ -146,10 +146,17 @@ pub fn spoil_tables(rng: &mut Rng, tables: &mut Tables) {
 pub fn points(rng: &mut Rng, n: usize, count: usize) -> Points {
     let mut points = Points { count: count as u64, weights: vec![0; (BUILT_POINTS + 1) * STATES] };
     for j in 0..count {
-        points.weights[j * n..(j + 1) * n].copy_from_slice(&shares(rng, n, POINT_TOTAL));
+        points.weights[j * n..(j + 1) * n].copy_from_slice(&point(rng, n));
     }
     litter(rng, &mut points.weights, count * n, junk);
     points
+}
+
+/// The weights of a point: totals at the limits, of three and of any other number.
+fn point(rng: &mut Rng, n: usize) -> Vec<u64> {
+    let any = 1 + rng.below(POINT_TOTAL);
+    let total = rng.pick(&[1, 2, 3, POINT_TOTAL - 1, POINT_TOTAL, POINT_TOTAL, any, any]);
+    shares(rng, n, total)
 }
 
 /// Puts the number of points, or one weight, at a limit or past it.
@@ -162,17 +169,24 @@ pub fn spoil_points(rng: &mut Rng, n: usize, points: &mut Points) {
     }
 }
 
-/// Weights that total 99 or 101, or 100 only in 64 bits, or anything.
+/// Weights that total one more or one less, 0, 1, 100 or 101, or as before only in 32 or in 64 bits, or anything.
 fn spoil_weights(rng: &mut Rng, weights: &mut [u64]) {
     let at = rng.index(weights.len());
-    match rng.below(4) {
+    match rng.below(7) {
         0 => weights[at] = weights[at].wrapping_add(1),
         1 => weights[at] = weights[at].wrapping_sub(1),
         2 => {
             let other = rng.index(weights.len());
-            weights[at] = weights[at].wrapping_add(1 << 63);
-            weights[other] = weights[other].wrapping_add(1 << 63);
+            let half = rng.pick(&[1 << 31, 1 << 63]);
+            weights[at] = weights[at].wrapping_add(half);
+            weights[other] = weights[other].wrapping_add(half);
         }
+        3 => weights.fill(0),
+        4 => {
+            let total = rng.pick(&[1, POINT_TOTAL, POINT_TOTAL + 1, POINT_TOTAL + 1]);
+            weights.copy_from_slice(&shares(rng, weights.len(), total));
+        }
+        5 => weights[at] = u64::from(u32::MAX) + rng.below(3) - 1,
         _ => weights[at] = junk(rng),
     }
 }
@@ -266,17 +280,22 @@ impl Unpacked {
     }
 }
 
-/// The ends of the ranges of level t: entries and corners, point values.
-fn ranges(t: u64) -> (i64, i64) {
-    let t = t.min(LEVELS + 1) as i64;
-    (REWARD * t, POINT_TOTAL as i64 * REWARD * t)
+/// What entries and corners of level t lie within.
+fn range(t: u64) -> i64 {
+    REWARD * t.min(LEVELS + 1) as i64
+}
+
+/// What a point's value lies within, by its weights, where entries lie within `ticks`.
+fn value_range(weights: &[u64], ticks: i64) -> i64 {
+    let total = weights.iter().fold(0, |sum: u64, &weight| sum.saturating_add(weight));
+    total.min(POINT_TOTAL + 1) as i64 * ticks
 }
 
 /// A level that the document accepts where it accepts the given one: vectors lowered, left out, doubled or put in another
 /// order, corners and points raised, points left out or doubled. Points may come to lie above the corners.
 pub fn loosened(rng: &mut Rng, level: &Level, shape: Shape, t: u64) -> Level {
     let Shape { n, k, .. } = shape;
-    let (ticks, values) = ranges(t);
+    let ticks = range(t);
     let mut parts = Unpacked::of(level, n, k);
     let most = rng.pick(&[0, 1, 7, 300]);
     for vector in &mut parts.vectors {
@@ -308,7 +327,7 @@ pub fn loosened(rng: &mut Rng, level: &Level, shape: Shape, t: u64) -> Level {
     let most = rng.pick(&[0, 0, 1, 5_000, 100_000]);
     for point in &mut parts.points {
         if !rng.once_in(3) {
-            point.value = (point.value + rng.within(0, most)).min(values);
+            point.value = (point.value + rng.within(0, most)).min(value_range(&point.weights, ticks));
         }
     }
     if !parts.points.is_empty() && rng.once_in(4) {
@@ -341,7 +360,7 @@ pub fn nudged(rng: &mut Rng, level: &Level, shape: Shape) -> Level {
 /// Puts one number of a level for t at a limit, or past it, or anywhere. `below` is the previous level's vector count.
 pub fn spoil_level(rng: &mut Rng, level: &mut Level, shape: Shape, t: u64, below: u64) {
     let Shape { n, m, k } = shape;
-    let (ticks, values) = ranges(t);
+    let ticks = range(t);
     let vectors = (level.vectors.min(VECTORS as u64) as usize).max(1);
     let points = level.points.min(POINTS as u64) as usize;
     let anything = junk(rng);
@@ -371,8 +390,11 @@ pub fn spoil_level(rng: &mut Rng, level: &mut Level, shape: Shape, t: u64, below
             level.corners[rng.index(n)] = corner;
         }
         7 => {
-            let value = rng.pick(&[values, -values, values + 1, -values - 1, i64::MIN, i64::MAX, anything as i64]);
-            level.values[rng.index(points)] = value;
+            // At the ends of its own range, and of the widest.
+            let point = rng.index(points);
+            let own = value_range(&level.weights[point * n..(point + 1) * n], ticks);
+            let end = rng.pick(&[own, own, POINT_TOTAL as i64 * ticks]);
+            level.values[point] = rng.pick(&[end, -end, end + 1, -end - 1, i64::MIN, i64::MAX, anything as i64]);
         }
         _ => {
             let point = rng.index(points);
@@ -496,6 +518,22 @@ pub fn list(rng: &mut Rng, shape: Shape, levels: u64) -> List {
     List { tables, steps }
 }
 
+/// So many levels upon a small model of three states thought equally likely.
+pub fn thirds(rng: &mut Rng, levels: u64) -> List {
+    let shape = Shape { n: 3, ..tiny_shape(rng) };
+    at_thirds(tables(rng, shape), levels)
+}
+
+/// So many levels upon three states, each built and offered at the point (1, 1, 1), and the totals there.
+pub fn at_thirds(tables: Tables, levels: u64) -> List {
+    let mut points = Points { count: 1, ..Points::none() };
+    points.weights[..3].fill(1);
+    let mut mixture = vec![0; STATES];
+    mixture[..3].fill(1);
+    let level = |_| [Step::Raise(points.clone()), Step::Totals(mixture.clone())];
+    List { tables, steps: (0..levels).flat_map(level).collect() }
+}
+
 /// A built level upon the certifier, at up to so many points.
 fn built(rng: &mut Rng, certifier: &Certifier, shape: Shape, most_points: usize) -> Level {
     let count = rng.index(most_points + 1);
@@ -590,7 +628,7 @@ pub fn at_ends(rng: &mut Rng, cells: &mut [i64], end: i64) {
 /// A level for t whose every number is at an end of its range; where all counts are at their limits, so are its own.
 fn level_at_ends(rng: &mut Rng, shape: Shape, t: u64) -> Level {
     let Shape { n, m, .. } = shape;
-    let (ticks, values) = ranges(t);
+    let ticks = range(t);
     let (vectors, points) = match shape {
         Shape::LARGEST => (VECTORS, POINTS),
         _ => (rng.pick(&[1, 2, VECTORS]), rng.pick(&[0, 1, 2, POINTS])),
@@ -601,10 +639,12 @@ fn level_at_ends(rng: &mut Rng, shape: Shape, t: u64) -> Level {
     }
     at_ends(rng, &mut level.entries[..vectors * n], ticks);
     at_ends(rng, &mut level.corners[..n], ticks);
+    at_ends(rng, &mut level.values[..points], 1);
     for j in 0..points {
-        level.weights[j * n..(j + 1) * n].copy_from_slice(&shares(rng, n, POINT_TOTAL));
+        let weights = &mut level.weights[j * n..(j + 1) * n];
+        weights.copy_from_slice(&point(rng, n));
+        level.values[j] *= value_range(weights, ticks);
     }
-    at_ends(rng, &mut level.values[..points], values);
     // Choices stay at 0: the level below has at least one vector.
     level
 }
@@ -627,13 +667,15 @@ pub fn ends(rng: &mut Rng, shape: Shape) -> (Certifier, Vec<Step>) {
         _ => rng.pick(&[0, 1, 3, BUILT_POINTS]),
     };
     let mut lowest = level_at_ends(rng, shape, level + 1);
-    let (ticks, values) = ranges(level + 1);
+    let ticks = range(level + 1);
     let (vectors, points) = (lowest.vectors as usize, lowest.points as usize);
     let any = lowest.clone();
     // The loosest level of all passes.
     lowest.entries[..vectors * n].fill(-ticks);
     lowest.corners[..n].fill(ticks);
-    lowest.values[..points].fill(values);
+    for (value, weights) in lowest.values[..points].iter_mut().zip(lowest.weights.chunks_exact(n)) {
+        *value = value_range(weights, ticks);
+    }
     let steps = vec![
         Step::Totals(vec![WEIGHT; STATES]),
         Step::Totals(most),

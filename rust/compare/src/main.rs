@@ -5,7 +5,8 @@
 //! - `fixed`: files that are the same for every seed (each word and byte of a model damaged in turn, cut at every byte, lengths at and
 //!   past the longest),
 //! - `random`: random models in random dress, half of them damaged,
-//! - `plans`: lists of offers upon small models, the totals held against the best of all plans,
+//! - `plans`: lists of offers upon small models, the totals held against the best of all plans; a quarter of them are of three
+//!   states thought equally likely, at the point (1, 1, 1),
 //! - `ticks`: levels built and offered in turn, each entry held against what the plan named by its vector earns,
 //! - `calls`: storage of any content, lists of offers up to level 100 and past it, used with `--library` and `--traps`,
 //! - `ends`: storage with every number at an end of its range, for the largest sums, used with `--library`,
@@ -146,8 +147,12 @@ impl Comparison<'_> {
         }
         println!("lists of offers against all plans: {}", lists);
         println!(
-            "  {} levels accepted ({} with a point above the corners), {} refused, {} totals compared",
-            self.plans.accepted, self.plans.above_corners, self.plans.refused, self.plans.compared
+            "  {} levels accepted ({} with a point above the corners), {} refused, {} totals compared ({} at equal thirds)",
+            self.plans.accepted,
+            self.plans.above_corners,
+            self.plans.refused,
+            self.plans.compared,
+            self.plans.thirds
         );
         if !self.climbs()? {
             return Ok(false);
@@ -234,6 +239,7 @@ impl Comparison<'_> {
                 self.plans.accepted += seen.accepted;
                 self.plans.refused += seen.refused;
                 self.plans.compared += seen.compared;
+                self.plans.thirds += seen.thirds;
                 self.plans.above_corners += seen.above_corners;
                 Ok(true)
             }

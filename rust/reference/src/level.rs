@@ -10,14 +10,15 @@ use num_bigint::BigInt;
 pub const VECTORS: usize = 32;
 /// A level has at most so many points.
 pub const POINTS: usize = 32;
-/// What the weights of a point total.
+/// The weights of a point total 1 to this.
 pub const POINT_TOTAL: u64 = 100;
 /// At most so many levels are accepted.
 pub const LEVELS: u64 = 100;
-/// Entries and corners of level t lie within t times this of 0.
+/// Entries and corners of level t lie within t times this of 0, a point's value within that times its weights' total.
 const TICKS: u64 = 100_000;
-/// Point values of level t lie within t times this of 0.
-const POINT_VALUE: u64 = 10_000_000;
+
+/// The rule for totals as it was when hundredths were all that a point could say.
+const HUNDRED_ONLY: Rules = Rules { trap: Some(Trap::HundredOnly) };
 
 /// A level of any content, in storage.
 #[derive(Clone, Debug, PartialEq, Eq)]
@@ -36,7 +37,7 @@ pub struct Level {
     pub points: u64,
     /// Weights, by point and state.
     pub weights: Vec<u64>,
-    /// Each point's value in hundredths of a tick.
+    /// Each point's value, in ticks times the total of its weights.
     pub values: Vec<i64>,
 }
 
@@ -94,20 +95,29 @@ impl Level {
         })
     }
 
-    /// 11: the number of the first vector, else corner, else point that is outside the range of level t.
+    /// 11: the number of the first vector, else corner, else point that is outside the range of level t. The value of a
+    /// point whose total is outside 1 to 100 is passed over.
     fn first_outside(&self, n: usize, t: u64, rules: &Rules) -> Option<usize> {
-        let outside = |value: i64, unit: u64| {
-            let end = BigInt::from(unit) * t + u8::from(rules.has(Trap::RangeOffByOne));
+        let outside = |value: i64, times: &BigInt| {
+            let end = BigInt::from(TICKS) * t * times + u8::from(rules.has(Trap::RangeOffByOne));
             let value = BigInt::from(value);
             value < -&end || value > end
         };
-        let vector = (0..self.vectors as usize).find(|&v| (0..n).any(|s| outside(self.entries[v * n + s], TICKS)));
-        let corner = (0..n).find(|&s| outside(self.corners[s], TICKS));
-        let point = (0..self.points as usize).find(|&j| outside(self.values[j], POINT_VALUE));
+        let one = BigInt::from(1);
+        let vector = (0..self.vectors as usize).find(|&v| (0..n).any(|s| outside(self.entries[v * n + s], &one)));
+        let corner = (0..n).find(|&s| outside(self.corners[s], &one));
+        let point = (0..self.points as usize).find(|&j| {
+            let total = total(&self.weights[j * n..(j + 1) * n], rules);
+            if !total_fits(&total, rules) && !rules.has(Trap::ValuesOfRefusedTotals) {
+                return false;
+            }
+            let times = if rules.has(Trap::ValuesTimesHundred) { BigInt::from(POINT_TOTAL) } else { total };
+            outside(self.values[j], &times)
+        });
         vector.or(corner).or(point)
     }
 
-    /// 12: the first point whose weights do not total 100.
+    /// 12: the first point whose weights total less than 1 or more than 100.
     fn first_untotalled(&self, n: usize, rules: &Rules) -> Option<usize> {
         first_untotalled(&self.weights, self.points as usize, n, rules)
     }
@@ -145,16 +155,29 @@ impl Level {
     }
 }
 
-/// The first of `count` points over `n` states whose weights do not total 100.
+/// What the weights of a point total.
+fn total(point: &[u64], rules: &Rules) -> BigInt {
+    if rules.has(Trap::SumsWrap) {
+        BigInt::from(point.iter().fold(0, |sum: u64, &weight| sum.wrapping_add(weight)))
+    } else {
+        weights(point).iter().sum()
+    }
+}
+
+/// Whether a total is 1 to 100.
+fn total_fits(total: &BigInt, rules: &Rules) -> bool {
+    let least = match rules.trap {
+        Some(Trap::TotalOfZero) => 0,
+        Some(Trap::HundredOnly) => POINT_TOTAL,
+        _ => 1,
+    };
+    let most = POINT_TOTAL + u64::from(rules.has(Trap::TotalOf101));
+    *total >= BigInt::from(least) && *total <= BigInt::from(most)
+}
+
+/// The first of `count` points over `n` states whose weights total less than 1 or more than 100.
 pub fn first_untotalled(cells: &[u64], count: usize, n: usize, rules: &Rules) -> Option<usize> {
-    (0..count).find(|&j| {
-        let point = &cells[j * n..(j + 1) * n];
-        if rules.has(Trap::SumsWrap) {
-            point.iter().fold(0, |sum: u64, &weight| sum.wrapping_add(weight)) != POINT_TOTAL
-        } else {
-            weights(point).iter().sum::<BigInt>() != BigInt::from(POINT_TOTAL)
-        }
-    })
+    (0..count).find(|&j| !total_fits(&total(&cells[j * n..(j + 1) * n], rules), rules))
 }
 
 /// The ceiling of a level at weights q: corners·q less the largest drop of a point, or less 0.
@@ -170,7 +193,9 @@ pub fn ceiling(lists: &Lists, q: &[BigInt], rules: &Rules) -> BigInt {
             continue;
         }
         let weighted = p.iter().zip(q).filter(|(p, _)| **p > zero());
-        let mut ratios: Vec<BigInt> = weighted.map(|(p, q)| round_down(&(q * &gain), p, &Rules::default())).collect();
+        let over = |p: &BigInt| if rules.has(Trap::DropOverHundred) { BigInt::from(POINT_TOTAL) } else { p.clone() };
+        let ratio = |(p, q): (&BigInt, &BigInt)| round_down(&(q * &gain), &over(p), &Rules::default());
+        let mut ratios: Vec<BigInt> = weighted.map(ratio).collect();
         if rules.has(Trap::RatioOverZeroWeights) && ratios.len() < p.len() {
             ratios.push(zero());
         }
@@ -222,6 +247,10 @@ pub fn examine(certifier: &Certifier, rules: &Rules) -> Result<(Model, Lists), R
     }
     let choices = &standing.choices[..standing.vectors as usize * model.k];
     if rules.has(Trap::StandingChoicesRead) && choices.iter().any(|&v| v >= VECTORS as u64) {
+        return Err(seven);
+    }
+    let hundred = || first_untotalled(&standing.weights, standing.points as usize, model.n, &HUNDRED_ONLY).is_none();
+    if rules.has(Trap::StandingHundredOnly) && !hundred() {
         return Err(seven);
     }
     if rules.has(Trap::FreshOnly) && certifier.level == 0 && *standing != Level::fresh() {

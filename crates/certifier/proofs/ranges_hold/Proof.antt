@@ -45,25 +45,23 @@ returns-2 c =
     corners-refused (r .before .args .m) (r .before .args .t) (r .before .args .t3) (r .range-of .ensures) (e .rows-within .ensures)
     (g .before .before .before .before .enum-told .given .1) (g .rows-within2 .ensures) (c .enum-told4 .given .1)
 
-mul-rows-within : tie.Need-mul-rows-within
-mul-rows-within c = omega (arith, small (of-entries (of-corners (c .before .before .before .before .before))))
-
-rows-within-requires-3 : tie.Need-rows-within-requires-3
-rows-within-requires-3 c κs =
-    let r = of-entries (of-corners (c .before .before .before .before .before)) in
+values-within-requires : tie.Need-values-within-requires
+values-within-requires c κs =
+    let r = of-entries (of-corners (c .before .before .before .before .before .before .before)) in
     let s = r .before in
-    ((s .pre .1 .1, (omega arith, omega (arith, small r))), omega (arith, s .pre .1 .1, long s .values))
+    let size = mul-le-mul (s .pre .1 .1) (s .pre .0 .0) in
+    ((s .pre .0 .0, (s .pre .1 .1, small r)), (omega (arith, size, long s .weights), omega (arith, s .pre .1 .1, long s .values)))
 
 returns-3 : tie.Need-returns-3
 returns-3 c =
-    let g = c .before .before .before .before .before .before in
+    let g = c .before .before .before .before .before .before .before .before in
     let e = of-corners g in
     let r = of-entries e in
     values-left (r .before .args .m) (r .before .args .t) (r .before .args .t3) (r .range-of .ensures) (e .rows-within .ensures)
-    (g .before .before .before .before .enum-told .given .1) (g .rows-within2 .ensures) (c .before .before .before .before .enum-told3 .given .1)
-    (c .rows-within3 .ensures)
+    (g .before .before .before .before .enum-told .given .1) (g .rows-within2 .ensures)
+    (c .before .before .before .before .before .before .enum-told3 .given .1) (c .values-within .ensures)
 
 pub ranges-hold-spec : {M : Type 1} → statement M
 ranges-hold-spec =
     tie.close (tie.spec (λ c κs. search needs) rows-within-requires (λ c. search needs) (λ c. search needs) returns rows-within-requires-2
-    (λ c. search needs) (λ c. search needs) returns-2 mul-rows-within rows-within-requires-3 returns-3)
+    (λ c. search needs) (λ c. search needs) returns-2 values-within-requires returns-3)

@@ -1,6 +1,6 @@
 use Rattle.sawtooth.proofs.Prelude.{_+_, _-_, _≤_, _≡_, sym, _∙_, ⊎-elim, arith, needs, getD, weightIn, maxReached}
 use lib.Dec.{lit≤}
-use Rattle.plans.specs.Limits.{pointTotal}
+use Rattle.plans.specs.Limits.{maxTotal}
 use Rattle.sawtooth.proofs.Laws.{Least, least-start, least-taken, least-left, least-limits, least-none, least-drop}
 use Rattle.sawtooth.proofs.drop_of.Statement.{statement}
 use Rattle.sawtooth.proofs.drop_of.Tie as tie
@@ -11,7 +11,7 @@ Inv-loop q weights at gain n top₀ under₀ s₀ top under s = (s ≤ n) × Lea
 abbrev μ-loop : tie.MeasureT-loop
 μ-loop q weights at gain n top₀ under₀ s₀ top under s = n - s
 
-limits : (c : tie.At-loop Inv-loop μ-loop) → (c .loop .top ≤ maxReached) × (c .loop .under ≤ pointTotal)
+limits : (c : tie.At-loop Inv-loop μ-loop) → (c .loop .top ≤ maxReached) × (c .loop .under ≤ maxTotal)
 limits c = let a = c .before .before .before in least-limits _ _ (c .loop .inv .1) (c .loop .inv .0) (a .pre .1 .1) (a .pre .1 .0 .below) (lit≤ tt)
 
 loop-holds : tie.Need-loop-holds Inv-loop μ-loop

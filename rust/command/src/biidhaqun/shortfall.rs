@@ -5,7 +5,6 @@
 
 use biidhaqun::{Certifier, Level, Model, Refusal, Rule};
 use command::names::Named;
-use command::numerals::shown;
 
 /// The denominator of backups: T x O x discount are thousandths each.
 const K: i128 = 1_000_000_000;
@@ -48,15 +47,16 @@ pub fn told(model: &Model, named: &Named, certifier: &Certifier, level: &Level, 
             ))
         }
         Rule::PointBackup => {
-            let (action, parts) = offer.point(at)?;
-            let value = level.points.get(at)?.value;
+            let (action, short) = offer.point(at)?;
+            let point = level.points.get(at)?;
             Some(format!(
-                "point {}: its value {} (hundredths of a tick) is {} ticks below the backup of action {}; {} would pass",
+                "point {}: its value {} (ticks x its total weight, {}) is {} below the backup of action {}; {} would pass",
                 at,
-                value,
-                shown(i64::try_from(parts).ok()?, 2),
+                point.value,
+                point.weights.iter().sum::<u64>(),
+                short,
                 named.actions.with(action),
-                i128::from(value) + parts
+                i128::from(point.value) + short
             ))
         }
         _ => None,
@@ -96,7 +96,7 @@ impl Offer<'_> {
         self.below(&weights, *self.level.corners.get(state)?)
     }
 
-    /// The action whose backup a point's value is furthest below, and by how many hundredths of a tick.
+    /// The action whose backup a point's value is furthest below, and by how much: ticks times its total weight.
     fn point(&self, number: usize) -> Option<(usize, i128)> {
         let point = self.level.points.get(number)?;
         self.below(&point.weights, point.value)
@@ -186,7 +186,7 @@ mod tests {
             let (model, start) = Model::read(file).unwrap();
             let mut certifier = Certifier::open(&model).unwrap();
             for _ in 0..6 {
-                let built = certifier.build(&Points { weights: vec![start.weights.clone(), vec![90, 10]] }).unwrap();
+                let built = certifier.build(&Points { weights: vec![start.weights.clone(), vec![1, 2]] }).unwrap();
                 let standing = certifier.standing();
                 for by in [1, 2, 57, 1_000] {
                     for (v, s) in (0..built.vectors.len()).flat_map(|v| [(v, 0), (v, 1)]) {

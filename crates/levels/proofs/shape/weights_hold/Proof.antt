@@ -1,17 +1,15 @@
 use Rattle.levels.proofs.Prelude.{ℕ, _+_, _*_, _≤_, _-_, _≡_, sym, _∙_, arith, List, length, getD, totalTo, row-below, Verdict, Fine, unless, firstOf}
-use Rattle.levels.proofs.Prelude.{first-none, first-more, first-here, passed, failed}
+use Rattle.levels.proofs.Prelude.{first-none, first-more, first-here, passed, failed, needs}
 use mathlib.Core.Path.{ap}
-use borrow.Author.Tests.{eq-eqb, ne-eqb}
-use lib.Dec.{eqb}
-use Rattle.plans.specs.Limits.{pointTotal}
+use borrow.Author.Tests.{not-true, not-false}
 use Rattle.levels.specs.Storage.{pointIn}
-use Rattle.levels.specs.Judged.{weightsVerdict}
+use Rattle.levels.specs.Judged.{totalHolds, weightsVerdict}
 use Rattle.levels.proofs.shape.weights_hold.Statement.{statement}
 use Rattle.levels.proofs.shape.weights_hold.Tie as tie
 
 -- the verdict on point i
 abbrev verdict : ℕ → List ℕ → ℕ → Verdict
-verdict n cells i = unless (eqb (totalTo n (pointIn n cells i)) pointTotal) 12 i
+verdict n cells i = unless (totalHolds (totalTo n (pointIn n cells i))) 12 i
 
 abbrev Inv-loop : tie.InvT-loop
 Inv-loop cells n points i₀ i = (i ≤ points) × (firstOf i (verdict n cells) ≡ Fine)
@@ -31,24 +29,25 @@ loop-holds c = (omega arith, first-none _)
 weights-total-requires : tie.Need-weights-total-requires Inv-loop μ-loop
 weights-total-requires c κs = rw (c .start .ensures) (omega (arith, row-here (c .before), c .before .before .before .before .pre .0))
 
--- the total, by the point's own number
-said : (c : tie.After-weights-total Inv-loop μ-loop) → let a = c .before .before .before .before .before .args in c .weights-total .result ≡ totalTo (a .n)
-    (pointIn (a .n) (a .cells .now) (c .before .before .before .loop .i))
+-- the test, by the point's own number
+said : (c : tie.After-total-holds Inv-loop μ-loop) →
+    let a = c .before .before .before .before .before .before .args in
+    c .total-holds .result ≡ totalHolds (totalTo (a .n) (pointIn (a .n) (a .cells .now) (c .before .before .before .before .loop .i)))
 said c =
-    let a = c .before .before .before .before .before .args in
-    c .weights-total .ensures ∙ ap (λ (z : ℕ). totalTo (a .n) (λ s. getD (a .cells .now) (z + s) 0)) (c .before .start .ensures)
+    let a = c .before .before .before .before .before .before .args in
+    c .total-holds .ensures ∙ ap totalHolds (c .before .weights-total .ensures
+    ∙ ap (λ (z : ℕ). totalTo (a .n) (λ s. getD (a .cells .now) (z + s) 0)) (c .before .before .start .ensures))
 
 returns : tie.Need-returns Inv-loop μ-loop
 unfolding weightsVerdict
 returns c =
-    sym (first-here _ _ (c .before .before .before .before .loop .i) (omega arith) (c .before .before .before .before .loop .inv .1)
-    (failed _ _ (ne-eqb _ _ (λ e. c .if1 .taken (said (c .before) ∙ e)))))
+    let t = c .before .before .before .before .before in
+    sym (first-here _ _ (t .loop .i) (omega arith) (t .loop .inv .1) (failed _ _ (sym (said (c .before)) ∙ not-true _ (c .if1 .taken))))
 
 loop-again : tie.Need-loop-again Inv-loop μ-loop
-loop-again c = (
-  omega arith,
-  first-more _ _ (c .before .before .before .before .loop .inv .1) (passed _ _ (eq-eqb _ _ (sym (said (c .before)) ∙ c .if1 .left))),
-)
+loop-again c =
+    let t = c .before .before .before .before .before in
+    (omega arith, first-more _ _ (t .loop .inv .1) (passed _ _ (sym (said (c .before)) ∙ not-false _ (c .if1 .left))))
 
 returns-2 : tie.Need-returns-2 Inv-loop μ-loop
 unfolding weightsVerdict
@@ -58,5 +57,5 @@ returns-2 c =
 
 pub weights-hold-spec : {M : Type 1} → statement M
 weights-hold-spec =
-    tie.close (tie.spec Inv-loop μ-loop loop-holds (λ c κs. omega arith) weights-total-requires returns (λ c. omega arith) (λ c. omega arith) loop-again
-    returns-2)
+    tie.close (tie.spec Inv-loop μ-loop loop-holds (λ c κs. omega arith) weights-total-requires (λ c κs. search needs) returns (λ c. omega arith)
+    (λ c. omega arith) loop-again returns-2)
