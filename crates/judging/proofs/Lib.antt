@@ -1,1 +1,3 @@
--- The tests in their order, as the code goes through them.
+-- Laws of an offer's tests as the code goes through them.
+pub mod Stages
+pub mod Prelude

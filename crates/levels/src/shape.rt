@@ -1,6 +1,8 @@
 // Refusals 9 to 12 of a level by itself.
 ghost use mathlib.Core.Path.{_≡_};
+ghost use mathlib.Core.Bool.{_&&_};
 ghost use Prim.Native.Nat.{_+_, _*_, _≤_, _<_, _^_};
+ghost use lib.Dec.{leb};
 ghost use lib.ListN.{length, getD};
 ghost use lib.IntN.{pos};
 ghost use Rattle.integers.specs.Whole.{totalTo};
@@ -214,4 +216,35 @@ pub fn readable(
         return false;
     }
     points <= values
+}
+
+// Whether slices are long enough for all of a level.
+pub fn complete(
+    n: usize,
+    k: usize,
+    vectors: usize,
+    points: usize,
+    actions: usize,
+    choices: usize,
+    entries: usize,
+    corners: usize,
+    weights: usize,
+    values: usize,
+) -> bool
+    requires { ⌜ (n ≤ maxStates) × ((k ≤ maxObservations) × ((vectors ≤ maxVectors) × (points ≤ maxPoints))) ⌝ }
+    ensures { λ r. ⌜ r ≡ leb (vectors * k) choices && longEnough n vectors points actions entries corners weights values ⌝ }
+{
+    if choices < vectors * k {
+        return false;
+    }
+    readable(
+        n,
+        vectors,
+        points,
+        actions,
+        entries,
+        corners,
+        weights,
+        values,
+    )
 }

@@ -149,6 +149,15 @@ pub record Accepted (m : Tables) (x : Lent) (l : LentLevel) : Type 0 where
   pub shaped : Shaped (modelOf m) (numberIn x + 1) (levelOf m l)
   pub meets : Meets (modelOf m) (levelOf m (standingIn x)) (levelOf m l)
 
+-- what 7 to 12 test
+pub record Fitting (m : Tables) (x : Lent) (l : LentLevel) : Type 0 where
+  pub standing : Standing m x
+  pub room : numberIn x < maxLevels
+  pub given : Complete m l
+  pub held : Complete m (lentFor (l .vectors) (l .points) (x .cells))
+  pub shaped : Shaped (modelOf m) (numberIn x + 1) (levelOf m l)
+  pub chosen : (v : ℕ) → v < l .vectors → (o : ℕ) → o < m .observations → levelOf m l .choice v o < standingIn x .vectors
+
 module _ (m : Tables) (x : Lent) where
   pub standing-true : holds m x ≡ true → Standing m x
   unfolding holds
@@ -211,20 +220,15 @@ module _ (m : Tables) (x : Lent) where
     unfolding pointsVerdict
     points-fine e i l = covers-true M L (W .weight i) (W .value i) (unless-fine _ _ _ (fine-at _ (W .points) e i l))
 
-    -- An accepted offer has the shape of the next level and meets its inequalities over the standing one.
-    -- Each stage of a fine verdict is fine, so each of its tests passed: the tests of 9 to 12 are the limits of `Shaped`, with the actions of 10, and
-    -- those of 10 and 13 to 15 are the conditions of `Meets`. Qed.
-    pub accepted : offerVerdict m x l ≡ Fine → Accepted m x l
-    unfolding offerVerdict shapeVerdict levelVerdict backupsVerdict
-    accepted e =
-        let stages = before-fine _ _ e in
-        let e8 = before-fine _ _ (stages .0) in
+    -- Each stage of a fine verdict is fine, so each of its tests passed: the tests of 9 to 12 are the limits of `Shaped`, with the actions of 10. Qed.
+    pub fitting : shapeVerdict m x l ≡ Fine → Fitting m x l
+    unfolding shapeVerdict levelVerdict
+    fitting e =
+        let e8 = before-fine _ _ e in
         let e9 = before-fine _ _ (e8 .1) in
         let e10 = before-fine _ _ (e9 .1) in
         let e11 = before-fine _ _ (e10 .1) in
         let e12 = before-fine _ _ (e11 .1) in
-        let e14 = before-fine _ _ (stages .1) in
-        let e15 = before-fine _ _ (e14 .1) in
         let numbers = numbers-fine (e11 .0) in
         let sizes = and-true _ _ (unless-fine (fits m x l) 9 0 (e10 .0)) in
         let slices = and-true _ _ (sizes .1) in
@@ -239,12 +243,26 @@ module _ (m : Tables) (x : Lent) where
             ranges = e12 .0;
             weights = e12 .1;
           };
+          chosen = λ v b. numbers v b .1;
+        }
+
+    -- An accepted offer has the shape of the next level and meets its inequalities over the standing one: the tests of 10 and 13 to 15 are the conditions
+    -- of `Meets`. Qed.
+    pub accepted : offerVerdict m x l ≡ Fine → Accepted m x l
+    unfolding offerVerdict backupsVerdict
+    accepted e =
+        let stages = before-fine _ _ e in
+        let f = fitting (stages .0) in
+        let e14 = before-fine _ _ (stages .1) in
+        let e15 = before-fine _ _ (e14 .1) in
+        record {
+          standing = f .standing;
+          room = f .room;
+          given = f .given;
+          held = f .held;
+          shaped = f .shaped;
           meets = record {
-            vector = λ v l. record {
-              action-exists = numbers v l .0;
-              choice-exists = numbers v l .1;
-              entry-holds = floors-fine (e14 .0) v l;
-            };
+            vector = λ v b. record { action-exists = f .shaped .action-in v b; choice-exists = f .chosen v b; entry-holds = floors-fine (e14 .0) v b };
             corner = corners-fine (e15 .0);
             point = points-fine (e15 .1);
           };

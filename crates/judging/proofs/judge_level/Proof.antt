@@ -1,61 +1,49 @@
-use borrow.Author.Needs.{needs}
+use Rattle.judging.proofs.Prelude.{_≡_, _∙_, needs, Verdict, levelIn}
+use Rattle.tables.proofs.Refusals.{stops, goes}
+use Rattle.levels.specs.Judged.{rangesVerdict, levelVerdict}
+use Rattle.judging.proofs.Stages.{ranges-read}
 use Rattle.judging.proofs.judge_level.Statement.{statement}
 use Rattle.judging.proofs.judge_level.Tie as tie
-use Rattle.judging.proofs.judge_level.Reads as reads
-use Rattle.judging.proofs.judge_level.Lts as lts
-use Rattle.judging.proofs.ranges_hold.Reads as ranges-hold-reads
-use Rattle.levels.proofs.shape.numbers_exist.Reads as numbers-exist-reads
-use Rattle.levels.proofs.shape.weights_hold.Reads as weights-hold-reads
 
--- src/lib.rt:134:9
-numbers-exist-requires : tie.Need-numbers-exist-requires
-numbers-exist-requires c κs = search needs
+abbrev start : tie.After-numbers-exist → tie.Start
+start c = c .before .before .before .before
 
-enum-told : tie.Need-enum-told
-enum-told c = search needs
+abbrev of-numbers : tie.After-ranges-hold → tie.After-numbers-exist
+of-numbers c = c .before .before .before
 
--- src/lib.rt:144:9
-enum-told-2 : tie.Need-enum-told-2
-enum-told-2 c = search needs
+-- 11, of the level as it is offered
+abbrev Ranges : tie.Start → Verdict
+Ranges c =
+    let a = c .args in
+    rangesVerdict (a .c .states) (a .t)
+    (levelIn (a .c .states) (a .c .observations) (a .vectors) (a .actions .now) (a .choices .now) (a .entries .now) (a .corners .now) (a .points)
+    (a .weights .now) (a .values .now))
 
--- src/lib.rt:144:9
+ranges-said : (c : tie.After-ranges-hold) → c .ranges-hold .result ≡ Ranges (start (of-numbers c))
+ranges-said c =
+    let a = start (of-numbers c) .args in
+    c .ranges-hold .ensures
+    ∙ ranges-read (a .c .states) (a .c .observations) (a .t) (a .vectors) (a .points) (a .actions .now) (a .choices .now) (a .entries .now)
+    (a .corners .now) (a .weights .now) (a .values .now)
+
 returns : tie.Need-returns
-returns c = ?
+unfolding levelVerdict
+returns c = stops _ (c .before .before .numbers-exist .ensures) (c .enum-told2 .given .1)
 
--- src/lib.rt:146:9
-ranges-hold-requires : tie.Need-ranges-hold-requires
-ranges-hold-requires c κs = search needs
-
-enum-told-3 : tie.Need-enum-told-3
-enum-told-3 c = search needs
-
--- src/lib.rt:148:9
-enum-told-4 : tie.Need-enum-told-4
-enum-told-4 c = search needs
-
--- src/lib.rt:148:9
 returns-2 : tie.Need-returns-2
-returns-2 c = ?
+unfolding levelVerdict
+returns-2 c =
+    let r = c .before .before in
+    goes (of-numbers r .numbers-exist .ensures) (r .before .enum-told .given .1) (stops _ (ranges-said r) (c .enum-told4 .given .1))
 
--- src/lib.rt:150:5
-weights-hold-requires : tie.Need-weights-hold-requires
-weights-hold-requires c κs = search needs
-
--- src/lib.rt:114:1
 returns-3 : tie.Need-returns-3
-returns-3 c = ?
+unfolding levelVerdict
+returns-3 c =
+    let r = c .before .before .before in
+    goes (of-numbers r .numbers-exist .ensures) (r .before .enum-told .given .1)
+    (goes (ranges-said r) (c .before .enum-told3 .given .1) (c .weights-hold .ensures))
 
 pub judge-level-spec : {M : Type 1} → statement M
 judge-level-spec =
-    tie.close
-    (tie.spec
-    numbers-exist-requires
-    enum-told
-    enum-told-2
-    returns
-    ranges-hold-requires
-    enum-told-3
-    enum-told-4
-    returns-2
-    weights-hold-requires
-    returns-3)
+    tie.close (tie.spec (λ c κs. search needs) (λ c. search needs) (λ c. search needs) returns (λ c κs. search needs) (λ c. search needs) (λ c. search needs)
+    returns-2 (λ c κs. search needs) returns-3)
