@@ -93,10 +93,13 @@ loop-again c =
     )
 
 slice-set : tie.Need-slice-set-from-least Inv-loop μ-loop
-slice-set c = let l = c .before .before .before .before .before .before in omega (arith, laid-long _ _ _ (l .before .loop .inv .1) (omega (arith, room l)), room l)
+slice-set c =
+    let l = c .before .before .before .before .before .before in
+    omega (arith, laid-long _ _ _ (l .before .loop .inv .1) (omega (arith, room l)), room l)
 
 same-length : tie.Need-same-length Inv-loop μ-loop
-same-length c = laid-long _ _ _ (c .before .loop .inv .1) (omega (arith, c .before .loop .inv .0, c .before .before .before .before .before .before .before .pre .1 .1 .1))
+same-length c = laid-long _ _ _ (c .before .loop .inv .1)
+    (omega (arith, c .before .loop .inv .0, c .before .before .before .before .before .before .before .pre .1 .1 .1))
 
 returns : tie.Need-returns Inv-loop μ-loop
 returns c =

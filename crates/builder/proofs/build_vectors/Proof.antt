@@ -144,7 +144,8 @@ loop-again c =
       omega (arith, b .before .before .before .loop-test .taken),
       filled-more _ _ _ (s .pre .1 .1 .1) (l .loop .inv .1) (b .before .before .before .loop-test .taken) (made b) (s .pre .0 .valid .few-observations)
           (s .pre .0 .valid .few-states) (c .before .before .before .before .before .before .before .before .before .before .before .number .ensures)
-          (rw (c .before .before .before .before .before .before .before .before .before .start .ensures) at (c .before .before .before .before .before .before .before .paste-u16 .ensures))
+          (rw (c .before .before .before .before .before .before .before .before .before .start .ensures) at
+          (c .before .before .before .before .before .before .before .paste-u16 .ensures))
           (rw (c .before .before .before .start2 .ensures) at (c .before .paste-i64 .ensures)),
     )
 
