@@ -20,7 +20,7 @@ use Rattle.worth.specs.Storage.{LentGraph, graphOf, graphStored}
 abbrev pub askedWithin : ℕ → ℕ → ℕ → ℕ → ℕ → Bool
 askedWithin nodes n v s d = ltb v nodes && (ltb s n && leb d maxSteps)
 
--- the tables; then 18: the node count, for which a slice may be too short, by node an action or next node, and what is asked
+-- the tables; then 18: the node count (a slice too short for it too), by node an action or next node, and what is asked
 unfoldable pub worthVerdict : Tables → LentGraph → ℕ → ℕ → ℕ → Verdict
 worthVerdict m g v s d =
     let M : Model = modelOf m in
