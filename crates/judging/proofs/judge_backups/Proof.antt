@@ -1,67 +1,90 @@
-use borrow.Author.Needs.{needs}
+use Rattle.judging.proofs.Prelude.{_≡_, needs, Tables, tablesIn, cells, lent}
+use Rattle.levels.specs.declared.Standing.{Standing}
+use Rattle.levels.specs.Storage.{LentLevel, Lent, lentFor, standingAt}
+use Rattle.runs.proofs.Judged.{Fitting, fitting}
+use Rattle.checks.proofs.Roofs.{corners-fit, points-fit, values-fit}
+use Rattle.judging.proofs.Offers.{refused-13, refused-14, left-15, judging, standing-roof, offered-roof, offered-shaped}
 use Rattle.judging.proofs.judge_backups.Statement.{statement}
 use Rattle.judging.proofs.judge_backups.Tie as tie
-use Rattle.judging.proofs.judge_backups.Reads as reads
-use Rattle.judging.proofs.judge_backups.Lts as lts
-use Rattle.checks.proofs.corners_hold.Reads as corners-hold-reads
-use Rattle.checks.proofs.floors_hold.Reads as floors-hold-reads
-use Rattle.checks.proofs.points_hold.Reads as points-hold-reads
-use Rattle.levels.proofs.standing_in.Reads as standing-in-reads
 
--- src/lib.rt:295:9
+-- from each place to the one before it
+abbrev start : tie.After-standing-in → tie.Start
+start c = c .before .before .before .before .before .before .before .before .before .before
+
+abbrev of-floor : tie.After-floors-hold → tie.After-standing-in
+of-floor c = c .before
+
+abbrev of-roof : tie.After-corners-hold → tie.After-floors-hold
+of-roof c = c .before .before .before
+
+-- what is lent
+abbrev tables : tie.Start → Tables
+tables c = tablesIn (c .args .c) (c .args .transition .now) (c .args .observation .now) (c .args .reward .now)
+
+abbrev certifier : tie.Start → Lent
+certifier c =
+    let a = c .args in
+    lent (a .state .now) (cells (a .actions .now) (a .choices .now) (a .entries .now) (a .corners .now) (a .weights .now) (a .values .now))
+
+abbrev offered : tie.Start → LentLevel
+offered c =
+    let a = c .args in
+    lentFor (a .vectors) (a .points)
+    (cells (a .newactions .now) (a .newchoices .now) (a .newentries .now) (a .newcorners .now) (a .newweights .now) (a .newvalues .now))
+
+known : (c : tie.Start) → Fitting (tables c) (certifier c) (offered c)
+known c = fitting (tables c) (certifier c) (offered c) (c .pre)
+
+stands : (c : tie.After-standing-in) → c .standing-in .result ≡ standingAt (start c .args .state .now)
+stands c = c .standing-in .ensures
+
 standing-in-requires : tie.Need-standing-in-requires
-standing-in-requires c κs = ?
+standing-in-requires c κs = known (c .before .before .before .before .before .before .before .before .before) .standing .state-long
 
--- src/lib.rt:296:9
 floors-hold-requires : tie.Need-floors-hold-requires
-floors-hold-requires c κs = ?
+floors-hold-requires c κs = let s = start c in judging (tables s) (certifier s) (offered s) (known s)
 
-enum-told : tie.Need-enum-told
-enum-told c = search needs
-
--- src/lib.rt:308:9
-enum-told-2 : tie.Need-enum-told-2
-enum-told-2 c = search needs
-
--- src/lib.rt:308:9
 returns : tie.Need-returns
-returns c = ?
+returns c =
+    let f = c .before .before in
+    let s = start (of-floor f) in
+    refused-13 (tables s) (certifier s) (offered s) (f .floors-hold .ensures) (c .enum-told2 .given .1)
 
--- src/lib.rt:310:9
 corners-hold-requires : tie.Need-corners-hold-requires
-corners-hold-requires c κs = ?
+corners-hold-requires c κs =
+    let b = of-floor (c .before .before) in
+    let s = start b in
+    rw (stands b) (standing-roof (tables s) (certifier s) (offered s) (known s), corners-fit (offered-roof (tables s) (certifier s) (offered s) (known s)))
 
-enum-told-3 : tie.Need-enum-told-3
-enum-told-3 c = search needs
-
--- src/lib.rt:322:9
-enum-told-4 : tie.Need-enum-told-4
-enum-told-4 c = search needs
-
--- src/lib.rt:322:9
 returns-2 : tie.Need-returns-2
-returns-2 c = ?
+returns-2 c =
+    let r = c .before .before in
+    let f = of-roof r in
+    let b = of-floor f in
+    let s = start b in
+    refused-14 (tables s) (certifier s) (offered s) (f .floors-hold .ensures) (r .before .enum-told .given .1)
+    (rw (stands b) at (r .corners-hold .ensures)) (c .enum-told4 .given .1)
 
--- src/lib.rt:324:5
 points-hold-requires : tie.Need-points-hold-requires
-points-hold-requires c κs = ?
+points-hold-requires c κs =
+    let b = of-floor (of-roof (c .before .before)) in
+    let s = start b in
+    let w = offered-roof (tables s) (certifier s) (offered s) (known s) in
+    rw (stands b) (
+      standing-roof (tables s) (certifier s) (offered s) (known s),
+      (points-fit w, (values-fit w, offered-shaped (tables s) (certifier s) (offered s) (known s) .total)),
+    )
 
--- src/lib.rt:265:1
 returns-3 : tie.Need-returns-3
-returns-3 c = ?
+returns-3 c =
+    let r = c .before .before .before in
+    let f = of-roof r in
+    let b = of-floor f in
+    let s = start b in
+    left-15 (tables s) (certifier s) (offered s) (f .floors-hold .ensures) (r .before .enum-told .given .1)
+    (rw (stands b) at (r .corners-hold .ensures)) (rw (stands b) at (c .points-hold .ensures)) (c .before .enum-told3 .given .1)
 
 pub judge-backups-spec : {M : Type 1} → statement M
 judge-backups-spec =
-    tie.close
-    (tie.spec
-    standing-in-requires
-    floors-hold-requires
-    enum-told
-    enum-told-2
-    returns
-    corners-hold-requires
-    enum-told-3
-    enum-told-4
-    returns-2
-    points-hold-requires
-    returns-3)
+    tie.close (tie.spec standing-in-requires floors-hold-requires (λ c. search needs) (λ c. search needs) returns corners-hold-requires (λ c. search needs)
+    (λ c. search needs) returns-2 points-hold-requires returns-3)
