@@ -221,6 +221,12 @@ module _ {A : Type 0} where
       rw (listed-same z (rows * w), drop-replicate z (rows * w) size) (replicate-append-replicate (rows * w) (size - rows * w) z)
       ∙ ap (λ (k : ℕ). replicate k z) e
 
+-- a default that fills a list is found at every place
+pub replicate-at : {A : Type 0} (z : A) (n i : ℕ) → getD (replicate n z) i z ≡ z
+replicate-at z zero i = refl
+replicate-at z (suc n) zero = refl
+replicate-at z (suc n) (suc i) = replicate-at z n i
+
 -- ---- bounds on what an array is filled with
 pub filled-below : (size : ℕ) {n limit : ℕ} (f : ℕ → ℕ) {xs : List ℕ} → xs ≡ padded 0 size n f → n ≤ size → ((i : ℕ) → i < n → f i ≤ limit)
     → Below limit n xs

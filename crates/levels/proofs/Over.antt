@@ -3,15 +3,16 @@
 use mathlib.Core.Path.{_≡_, refl}
 use mathlib.Core.Bool.{true}
 use Prim.Native.Nat.{ℕ, _*_, _≤_}
+use mathlib.Core.List.{List}
 use lib.ListN.{length}
-use lib.IntN.{pos}
+use lib.IntN.{ℤ, pos}
 use borrow.Author.Tests.{leb-true, le-leb}
 use Rattle.integers.proofs.Lists.{laid-at, laid-length, laid-cong, laidRows-at, laidRows-length, laidRows-cong}
 use Rattle.integers.proofs.Searches.{and-true, and-is}
 use Rattle.tables.specs.declared.Tables.{Tables}
 use Rattle.tables.specs.Storage.{modelOf}
 use Rattle.plans.specs.Level.{Level, Agree}
-use Rattle.levels.specs.Storage.{Cells, LentLevel, levelOf, readable, complete, over, lentFor}
+use Rattle.levels.specs.Storage.{Cells, cells, LentLevel, levelOf, readable, complete, over, lentFor}
 
 -- what `readable` and `complete` test
 pub record Readable (m : Tables) (l : LentLevel) : Type 0 where
@@ -125,3 +126,8 @@ long-long a b = record {
   weights = rw (b .weights) (a .weights);
   values = rw (b .values) (a .values);
 }
+
+-- slices that are the same, one by one
+pub cells-same : {a a' b b' : List ℕ} {e e' f f' : List ℤ} {w w' : List ℕ} {v v' : List ℤ} → a ≡ a' → b ≡ b' → e ≡ e' → f ≡ f' → w ≡ w' → v ≡ v'
+    → cells a b e f w v ≡ cells a' b' e' f' w' v'
+cells-same p q r s t u = rw (p, q, r, s, t, u)

@@ -56,7 +56,7 @@ module _ (m : Tables) (x : Lent) (o : ModelAccepted m x) where
   unfolding openVerdict
   fine-tables = before-fine _ _ o .0
 
-  room-for-level-0 : (stateSize ≤ length (x .state)) × Complete m (lentFor (level0 .vectors) (level0 .points) (x .cells))
+  pub room-for-level-0 : (stateSize ≤ length (x .state)) × Complete m (lentFor (level0 .vectors) (level0 .points) (x .cells))
   unfolding openVerdict
   room-for-level-0 =
       let l = lentFor (level0 .vectors) (level0 .points) (x .cells) in
