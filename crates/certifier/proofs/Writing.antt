@@ -1,20 +1,28 @@
 -- What is written is what the calls are said to leave. Assumes nothing.
 use mathlib.Core.Path.{_≡_, refl, sym, _∙_, ap}
+use mathlib.Core.Bool.{true}
 use mathlib.Core.List.{List, _∷_}
 use Prim.Native.Nat.{ℕ, _+_, _*_, _≤_, _<_}
 use native.Mathlib.Omega.{arith}
-use lib.ListN.{length, drop}
+use lib.Dec.{leb}
+use lib.ListN.{drop}
+use borrow.Author.Tests.{leb-true, ltb-true}
 use lib.IntN.{ℤ, pos}
 use Rattle.integers.specs.Cells.{laid, laidRows}
 use Rattle.integers.proofs.Lists.{laid-none, laidRows-none, laidRows-flat}
+use Rattle.integers.proofs.Searches.{and-true}
 use Rattle.tables.specs.declared.Tables.{Tables}
 use Rattle.tables.specs.declared.Verdict.{Verdict}
 use Rattle.tables.specs.declared.Verdict.the-variants.{Fine, Refused}
-use Rattle.plans.specs.Level.{level0}
-use Rattle.levels.specs.Storage.{Cells, LentLevel, Lent, stateSize, cells, lent, levelOf, over, numberIn}
+use Rattle.tables.specs.Limits.{maxLevels}
+use Rattle.tables.proofs.Refusals.{before-fine, unless-fine}
+use Rattle.plans.specs.Limits.{maxBuilt}
+use Rattle.plans.specs.Level.{level0, IsPoint}
+use Rattle.levels.specs.Storage.{Cells, LentLevel, Lent, stateSize, cells, lent, levelOf, pointIn, longEnough, complete, over, numberIn, standingIn}
 use Rattle.levels.specs.Judged.{offerVerdict}
 use Rattle.levels.proofs.Over.{cells-same}
-use Rattle.runs.specs.State.{left, openVerdict, opened, offered}
+use Rattle.runs.specs.State.{openVerdict, opened, offered, answerFor, buildVerdict, builtFrom, builtOf}
+use Rattle.runs.proofs.Judged.{Standing, standing-true, weights-fine}
 use Rattle.certifier.specs.Steps.{laidBy}
 
 -- a row alone
@@ -63,3 +71,46 @@ module _ (m : Tables) (x : Lent) where
         → y ≡ laidBy (m .states) (m .observations) (l .vectors) (l .points) (l .cells) (x .cells) → lent state y ≡ offered m x l
     unfolding offered
     offered-fine e f s c = rw (sym e ∙ f) (lent-same s (c ∙ laid-over))
+
+-- ---- building
+-- slices that are long enough have room for the points' weights
+pub weights-long : (n vectors points actions entries corners weights values : ℕ)
+    → longEnough n vectors points actions entries corners weights values ≡ true → points * n ≤ weights
+weights-long n vectors points actions entries corners weights values e =
+    let a = and-true (leb vectors actions) _ e in
+    let b = and-true (leb (vectors * n) entries) _ (a .1) in
+    let c = and-true (leb n corners) _ (b .1) in
+    leb-true _ _ (and-true (leb (points * n) weights) (leb points values) (c .1) .0)
+
+-- what 7, 8, 9 and 12 leave known
+pub record Buildable (m : Tables) (x : Lent) (count : ℕ) (y : Cells) : Type 0 where
+  pub standing : Standing m x
+  pub room : numberIn x < maxLevels
+  pub few : count ≤ maxBuilt
+  pub whole : complete m (answerFor m count y) ≡ true
+  pub total : (i : ℕ) → i < count → IsPoint (m .states) (pointIn (m .states) (y .weights) i)
+
+module _ (m : Tables) (x : Lent) (count : ℕ) (y : Cells) where
+  pub buildable : buildVerdict m x count y ≡ Fine → Buildable m x count y
+  unfolding buildVerdict
+  buildable e =
+      let e8 = before-fine _ _ e in
+      let e9 = before-fine _ _ (e8 .1) in
+      let e12 = before-fine _ _ (e9 .1) in
+      let sizes = and-true (leb count maxBuilt) _ (unless-fine _ 9 0 (e12 .0)) in
+      record {
+        standing = standing-true m x (unless-fine _ 7 0 (e8 .0));
+        room = ltb-true _ _ (unless-fine _ 8 0 (e9 .0));
+        few = leb-true _ _ (sizes .0);
+        whole = sizes .1;
+        total = weights-fine _ _ _ (e12 .1);
+      }
+
+  pub built-refused : {k i : ℕ} {v : Verdict} → v ≡ buildVerdict m x count y → v ≡ Refused k i → y ≡ builtOf m x count y
+  unfolding builtOf
+  built-refused e f = rw (sym e ∙ f)
+
+  pub built-fine : {v : Verdict} → v ≡ buildVerdict m x count y → v ≡ Fine → {z : Cells}
+      → z ≡ over m (builtFrom m (levelOf m (standingIn x)) count y) y → z ≡ builtOf m x count y
+  unfolding builtOf
+  built-fine e f g = rw (sym e ∙ f) g

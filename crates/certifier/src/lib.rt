@@ -1,10 +1,10 @@
 // The calls that write what a certifier lends: open and offer; and build, which writes the slices lent for the level that it makes. Each serves or refuses
 // whatever it is handed, and a refusal writes nothing.
 ghost use mathlib.Core.Path.{_≡_};
-ghost use mathlib.Core.Bool.{true, _&&_};
+ghost use mathlib.Core.Bool.{_&&_};
 ghost use mathlib.Core.List.{List};
-ghost use Prim.Native.Nat.{ℕ, _*_, _≤_, _<_};
-ghost use lib.Dec.{leb};
+ghost use Prim.Native.Nat.{ℕ, _+_, _*_, _≤_, _<_};
+ghost use lib.Dec.{leb, ltb};
 ghost use lib.ListN.{length};
 ghost use lib.IntN.{pos};
 ghost use Rattle.integers.specs.Cells.{laid};
@@ -12,9 +12,9 @@ ghost use Rattle.tables.specs.Limits.{maxStates, maxObservations, maxLevels};
 ghost use Rattle.tables.specs.Storage.{tablesIn};
 ghost use Rattle.tables.specs.Verdicts.{_before_, unless};
 ghost use Rattle.tables.specs.Judged.{tablesVerdict};
-ghost use Rattle.plans.specs.Level.{level0};
-ghost use Rattle.levels.specs.Storage.{LentLevel, Lent, stateSize, cells, lent, lentFor, levelOf, longEnough, complete, over};
-ghost use Rattle.levels.specs.Judged.{offerVerdict};
+ghost use Rattle.plans.specs.Limits.{maxBuilt};
+ghost use Rattle.levels.specs.Storage.{LentLevel, Lent, stateSize, cells, lent, lentFor, standingAt, pointIn, longEnough};
+ghost use Rattle.levels.specs.Judged.{holds, weightsVerdict, offerVerdict};
 ghost use Rattle.runs.specs.State.{openVerdict, opened, offered, buildVerdict, builtOf};
 ghost use Rattle.certifier.specs.Steps.{Lays, laidBy};
 ghost use Rattle.runs.specs.Demand3.{ModelAccepted, after, steps, PointsHold, BuildHolds};
@@ -249,6 +249,157 @@ pub fn offer<'a, 'b>(
         newentries,
         newcorners,
         newweights,
+        newvalues,
+    );
+    Verdict::Fine
+}
+
+// ---- building
+
+// 7, 8, 9 and 12: the certifier, the points, and slices of such lengths for the level that is built of them.
+fn judge_build<'a, 'b>(
+    transition: &'a [u16],
+    observation: &'a [u16],
+    reward: &'a [i64],
+    c: Counts,
+    state: &'b [usize],
+    actions: &'b [u8],
+    entries: &'b [i64],
+    corners: &'b [i64],
+    weights: &'b [u32],
+    values: &'b [i64],
+    given: &[u32],
+    count: usize,
+    newactions: usize,
+    newchoices: usize,
+    newentries: usize,
+    newcorners: usize,
+    newvalues: usize,
+) -> Verdict
+    ensures { λ r. ⌜ ((choices : List ℕ) → r ≡ (
+        unless (holds (tablesIn c (now (transition .entry)) (now (observation .entry)) (now (reward .entry)))
+        (lent (now (state .entry)) (cells (now (actions .entry)) choices (now (entries .entry)) (now (corners .entry)) (now (weights .entry)) (now (values .entry))))) 7 0
+        before unless (ltb (standingAt (now (state .entry)) .number) maxLevels) 8 0
+        before unless (leb count maxBuilt && (leb ((c .states + count) * c .observations) newchoices
+        && longEnough (c .states) (c .states + count) count newactions newentries newcorners (length (now (given .entry))) newvalues)) 9 0
+        before weightsVerdict (c .states) count (pointIn (c .states) (now (given .entry))))) ⌝ }
+{
+    if !judging::standing_holds(
+        transition,
+        observation,
+        reward,
+        c,
+        state,
+        actions,
+        entries,
+        corners,
+        weights,
+        values,
+    ) {
+        return Verdict::Refused(7, 0);
+    }
+    let s = levels::standing_in(state);
+    if Level::LEVELS <= s.number {
+        return Verdict::Refused(8, 0);
+    }
+    if Level::BUILT < count {
+        return Verdict::Refused(9, 0);
+    }
+    if !shape::complete(
+        c.states,
+        c.observations,
+        c.states + count,
+        count,
+        newactions,
+        newchoices,
+        newentries,
+        newcorners,
+        given.len(),
+        newvalues,
+    ) {
+        return Verdict::Refused(9, 0);
+    }
+    shape::weights_hold(given, c.states, count)
+}
+
+// Builds the next level from a count of points of any content, whose weights are the level's own: it is accepted where it is offered to the same
+// certifier; or refused by 7, 8, 9 or 12.
+pub fn build<'a, 'b>(
+    transition: &'a [u16],
+    observation: &'a [u16],
+    reward: &'a [i64],
+    c: Counts,
+    state: &'b [usize],
+    actions: &'b [u8],
+    entries: &'b [i64],
+    corners: &'b [i64],
+    weights: &'b [u32],
+    values: &'b [i64],
+    given: &[u32],
+    count: usize,
+    newactions: &mut [u8],
+    newchoices: &mut [u16],
+    newentries: &mut [i64],
+    newcorners: &mut [i64],
+    newvalues: &mut [i64],
+) -> Verdict
+    ensures { λ r. ⌜ ((choices : List ℕ) → r ≡ buildVerdict (tablesIn c (now (transition .entry)) (now (observation .entry)) (now (reward .entry)))
+        (lent (now (state .entry)) (cells (now (actions .entry)) choices (now (entries .entry)) (now (corners .entry)) (now (weights .entry)) (now (values .entry)))) count
+        (cells (now (newactions .entry)) (now (newchoices .entry)) (now (newentries .entry)) (now (newcorners .entry)) (now (given .entry)) (now (newvalues .entry)))) ⌝ }
+    ensures { λ _. ⌜ ((choices : List ℕ) → (cells (now (newactions .exit)) (now (newchoices .exit)) (now (newentries .exit)) (now (newcorners .exit)) (now (given .entry)) (now (newvalues .exit)))
+        ≡ builtOf (tablesIn c (now (transition .entry)) (now (observation .entry)) (now (reward .entry)))
+        (lent (now (state .entry)) (cells (now (actions .entry)) choices (now (entries .entry)) (now (corners .entry)) (now (weights .entry)) (now (values .entry)))) count
+        (cells (now (newactions .entry)) (now (newchoices .entry)) (now (newentries .entry)) (now (newcorners .entry)) (now (given .entry)) (now (newvalues .entry)))) ⌝ }
+    ensures { λ r. ⌜ ((choices : List ℕ) (x : Lent) (ls : List LentLevel) → ModelAccepted (tablesIn c (now (transition .entry)) (now (observation .entry)) (now (reward .entry))) x →
+        lent (now (state .entry)) (cells (now (actions .entry)) choices (now (entries .entry)) (now (corners .entry)) (now (weights .entry)) (now (values .entry)))
+        ≡ after (tablesIn c (now (transition .entry)) (now (observation .entry)) (now (reward .entry))) x ls →
+        steps (tablesIn c (now (transition .entry)) (now (observation .entry)) (now (reward .entry))) x ls < maxLevels →
+        PointsHold (tablesIn c (now (transition .entry)) (now (observation .entry)) (now (reward .entry))) x count
+        (cells (now (newactions .entry)) (now (newchoices .entry)) (now (newentries .entry)) (now (newcorners .entry)) (now (given .entry)) (now (newvalues .entry))) →
+        BuildHolds (tablesIn c (now (transition .entry)) (now (observation .entry)) (now (reward .entry))) x ls count
+        (cells (now (newactions .entry)) (now (newchoices .entry)) (now (newentries .entry)) (now (newcorners .entry)) (now (given .entry)) (now (newvalues .entry))) r
+        (cells (now (newactions .exit)) (now (newchoices .exit)) (now (newentries .exit)) (now (newcorners .exit)) (now (given .entry)) (now (newvalues .exit)))) ⌝ }
+{
+    let verdict = judge_build(
+        transition,
+        observation,
+        reward,
+        c,
+        state,
+        actions,
+        entries,
+        corners,
+        weights,
+        values,
+        given,
+        count,
+        newactions.len(),
+        newchoices.len(),
+        newentries.len(),
+        newcorners.len(),
+        newvalues.len(),
+    );
+    let Verdict::Fine = verdict else {
+        return verdict;
+    };
+    let s = levels::standing_in(state);
+    builder::build_level(
+        transition,
+        observation,
+        reward,
+        c,
+        entries,
+        corners,
+        weights,
+        values,
+        s.vectors,
+        s.points,
+        given,
+        count,
+        newactions,
+        newchoices,
+        newentries,
+        newcorners,
         newvalues,
     );
     Verdict::Fine

@@ -34,8 +34,7 @@ returns c =
     let h = of-entries e in
     let s = start h in
     let a = s .args in
-    let p = s .pre in
-    (
+    let p = s .pre in (
       laid-turn (λ v. 0) 0 (a .actions .now) 0 (sym (laid-none (λ v. 0) (a .actions .now))) refl (p .1 .0),
       (
         h .paste-u16 .ensures ∙ zeros-laid 0 maxObservations (a .k) (a .choices .now) (p .0 .1),

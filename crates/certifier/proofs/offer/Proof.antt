@@ -82,8 +82,7 @@ lay-level-requires : tie.Need-lay-level-requires
 lay-level-requires c κs =
     let p = passed (c .before .before .before .before .before .before .before .before .before .before .before .before) in
     let v = p .standing .valid-tables in
-    let few = p .shaped in
-    (
+    let few = p .shaped in (
       record {
         few-states = v .few-states;
         few-observations = v .few-observations;
@@ -117,11 +116,10 @@ returns-2 c =
     let n = of-standing p in
     let g = n .before in
     let j = of-verdict g in
-    let s = start j in
-    (
+    let s = start j in (
       sym (fine g),
       offered-fine (tables s) (certifier s) (offered s) (said j) (g .before .enum-told .given .1)
-      (written p) (l .lay-level .ensures),
+          (written p) (l .lay-level .ensures),
     )
 
 pub offer-spec : {M : Type 1} → statement M

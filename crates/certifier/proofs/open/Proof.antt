@@ -83,11 +83,10 @@ returns-2 c =
     let f = p .before in
     let j = of-verdict f in
     let s = start j in
-    let e = l .lay-level-0 .ensures in
-    (
+    let e = l .lay-level-0 .ensures in (
       sym (opens f),
       opened-fine (tables s) (certifier s) (said j) (f .before .before .enum-told .given .1) (written p) (e .0)
-      (e .1 .0) (e .1 .1 .0) (e .1 .1 .1),
+          (e .1 .0) (e .1 .1 .0) (e .1 .1 .1),
     )
 
 pub open-spec : {M : Type 1} → statement M
