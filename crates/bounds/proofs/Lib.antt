@@ -1,0 +1,3 @@
+-- Laws of the totals.
+pub mod Bounds
+pub mod Prelude

@@ -1,0 +1,2 @@
+-- Totals over storage.
+pub mod Steps

@@ -1,0 +1,170 @@
+// Totals at a mixture: the floor, the ceiling, and the action to open with. Tables and the standing level are lent.
+ghost use mathlib.Core.Path.{_≡_};
+ghost use mathlib.Core.Bool.{true};
+ghost use mathlib.Core.List.{List};
+ghost use Prim.Native.Nat.{ℕ, _≤_, _<_};
+ghost use Rattle.integers.specs.Whole.{Below};
+ghost use Rattle.tables.specs.Limits.{maxStates, maxWeight};
+ghost use Rattle.tables.specs.Storage.{tablesIn};
+ghost use Rattle.levels.specs.Storage.{LentLevel, Lent, cells, lent};
+ghost use Rattle.runs.specs.State.{mixtureHolds, totalsOf};
+ghost use Rattle.runs.specs.Demand3.{ModelAccepted, after, steps, TotalsHold};
+ghost use Rattle.bounds.specs.Steps.{noBounds, boundsIn, widened, unless17, Asked};
+use levels::Level;
+use levels::shape;
+use levels::vectors;
+use runs::Bounds;
+use tables::Action;
+use tables::Counts;
+use tables::Verdict;
+use tables::read;
+
+// 17: whether there is a weight for each state, none exceeds 1,000,000 and some is above 0.
+fn mixture_holds(mixture: &[u32], n: usize) -> bool
+    requires { ⌜ n ≤ maxStates ⌝ }
+    ensures { λ r. ⌜ r ≡ mixtureHolds n (now (mixture .entry)) ⌝ }
+{
+    if mixture.len() < n {
+        return false;
+    }
+    let mut total: u64 = 0;
+    for s in 0..n {
+        let w = shape::weight(mixture[s]);
+        if Level::WEIGHT < w {
+            return false;
+        }
+        total += w;
+    }
+    0 < total
+}
+
+// A refusal, with every other part 0.
+fn no_bounds(number: u8) -> Bounds
+    ensures { λ r. ⌜ r ≡ noBounds number ⌝ }
+{
+    Bounds {
+        verdict: Verdict::Refused(number, 0),
+        lower: 0,
+        upper: 0,
+        gap: 0,
+        action: Action(0),
+    }
+}
+
+// The totals at weights within the limits.
+fn bounds_at<'b>(
+    actions: &'b [u8],
+    entries: &'b [i64],
+    corners: &'b [i64],
+    weights: &'b [u32],
+    gains: &[u64],
+    n: usize,
+    vectors: usize,
+    points: usize,
+    q: &[u64],
+) -> Bounds
+    requires { ⌜ Asked n vectors points (now actions) (now entries) (now corners) (now weights) (now gains) ⌝ }
+    requires { ⌜ Below maxWeight n (now q) ⌝ }
+    ensures { λ r. ⌜ r ≡ boundsIn n vectors points (now (actions .entry)) (now (entries .entry)) (now (corners .entry)) (now (weights .entry))
+        (now (gains .entry)) (now (q .entry)) ⌝ }
+{
+    let v = vectors::best_vector(q, entries, n, vectors);
+    let i = v.0;
+    let lower = vectors::product(q, entries, read::start(i, n), n);
+    let upper = sawtooth::ceiling(q, corners, weights, gains, points, n);
+    Bounds {
+        verdict: Verdict::Fine,
+        lower: lower,
+        upper: upper,
+        gap: integers::minus(upper, lower),
+        action: Action(shape::action(actions[i])),
+    }
+}
+
+// The totals at a mixture of any content, or refused by 17.
+fn answer<'b>(
+    actions: &'b [u8],
+    entries: &'b [i64],
+    corners: &'b [i64],
+    weights: &'b [u32],
+    gains: &[u64],
+    n: usize,
+    vectors: usize,
+    points: usize,
+    mixture: &[u32],
+) -> Bounds
+    requires { ⌜ Asked n vectors points (now actions) (now entries) (now corners) (now weights) (now gains) ⌝ }
+    ensures { λ r. ⌜ r ≡ unless17 (mixtureHolds n (now (mixture .entry))) (boundsIn n vectors points (now (actions .entry)) (now (entries .entry))
+        (now (corners .entry)) (now (weights .entry)) (now (gains .entry)) (widened n (now (mixture .entry)))) ⌝ }
+{
+    if !mixture_holds(mixture, n) {
+        return no_bounds(17);
+    }
+    let q = shape::point_weights(mixture, n, 0);
+    bounds_at(
+        actions,
+        entries,
+        corners,
+        weights,
+        gains,
+        n,
+        vectors,
+        points,
+        &q,
+    )
+}
+
+// The lower and the upper total at a mixture of any content, their gap and the action to open with; or refused by 7, 16 or 17.
+pub fn totals<'a, 'b>(
+    transition: &'a [u16],
+    observation: &'a [u16],
+    reward: &'a [i64],
+    c: Counts,
+    state: &'b [usize],
+    actions: &'b [u8],
+    entries: &'b [i64],
+    corners: &'b [i64],
+    weights: &'b [u32],
+    values: &'b [i64],
+    mixture: &[u32],
+) -> Bounds
+    ensures { λ r. ⌜ ((choices : List ℕ) → r ≡ totalsOf (tablesIn c (now (transition .entry)) (now (observation .entry)) (now (reward .entry)))
+        (lent (now (state .entry)) (cells (now (actions .entry)) choices (now (entries .entry)) (now (corners .entry)) (now (weights .entry))
+        (now (values .entry)))) (now (mixture .entry))) ⌝ }
+    ensures { λ r. ⌜ (let m = tablesIn c (now (transition .entry)) (now (observation .entry)) (now (reward .entry)) in
+        (choices : List ℕ) (x : Lent) (ls : List LentLevel) → ModelAccepted m x
+        → lent (now (state .entry)) (cells (now (actions .entry)) choices (now (entries .entry)) (now (corners .entry)) (now (weights .entry))
+        (now (values .entry))) ≡ after m x ls → 0 < steps m x ls → mixtureHolds (m .states) (now (mixture .entry)) ≡ true
+        → TotalsHold m x ls (now (mixture .entry)) r) ⌝ }
+{
+    if !judging::standing_holds(
+        transition,
+        observation,
+        reward,
+        c,
+        state,
+        actions,
+        entries,
+        corners,
+        weights,
+        values,
+    ) {
+        return no_bounds(7);
+    }
+    let s = levels::standing_in(state);
+    if s.number == 0 {
+        return no_bounds(16);
+    }
+    let gains = sawtooth::gains(corners, weights, values, s.points, c.states);
+    answer(
+        actions,
+        entries,
+        corners,
+        weights,
+        &gains,
+        c.states,
+        s.vectors,
+        s.points,
+        mixture,
+    )
+}
