@@ -26,9 +26,12 @@ use Rattle.numerals.specs.Steps.{mostPlaces, Written}
 never : {A : Type 0} → false ≡ true → A
 never e = absurd (false≢true e)
 
-digit-byte : (b : ℕ) → isDigit (classOf b) ≡ true → (48 ≤ b) × (b ≤ 57)
+pub digit-byte : (b : ℕ) → isDigit (classOf b) ≡ true → (48 ≤ b) × (b ≤ 57)
 digit-byte b = by-class (λ k. isDigit k ≡ true → (48 ≤ b) × (b ≤ 57)) b never (λ h. never) (λ h. never) (λ l h e. (l, h)) (λ h. never) (λ h. never)
     (λ h. never) never
+
+pub point-byte : (b : ℕ) → isPoint (classOf b) ≡ true → b ≡ 46
+point-byte b = by-class (λ k. isPoint k ≡ true → b ≡ 46) b never (λ h. never) (λ h. never) (λ l h. never) (λ h e. h) (λ h. never) (λ h. never) never
 
 pub negative-none : (w : List ℕ) → length w ≡ 0 → negative w ≡ false
 negative-none [] e = refl

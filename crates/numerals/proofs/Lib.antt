@@ -1,3 +1,5 @@
 -- Laws for this crate's proofs and those above it.
 pub mod Laws
+pub mod Before
+pub mod Worth
 pub mod Prelude

@@ -1,3 +1,5 @@
 -- Words to numbers.
 pub mod Numeral
+pub mod Before
+pub mod Worth
 pub mod Steps

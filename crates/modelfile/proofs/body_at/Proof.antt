@@ -10,6 +10,7 @@ use Rattle.statements.specs.Statements.{wholly, startNumber, row, draft, statem
 use Rattle.statements.specs.Steps.{CellsFit}
 use Rattle.modelfile.specs.ModelFile.{Text, textOf, noCells}
 use Rattle.modelfile.proofs.Laws.{stops-there, fills-further, leaves-next}
+use Rattle.modelfile.specs.ModelFile.{bodyBy}
 use Rattle.modelfile.proofs.body_at.Statement.{statement}
 use Rattle.modelfile.proofs.body_at.Tie as tie
 
@@ -46,7 +47,7 @@ abbrev after-name : ℕ → ℕ → ℕ → ℕ → ℕ → ℕ → Words → An
 after-name fuel d n m k _ ws = wholly (row startNumber (stated 1 1 n 0 0) 0 n (replicate maxStates 0) ws) then λ start ws. after-start fuel d n m k start ws
 
 returns : tie.Need-returns
-unfolding body
+unfolding bodyBy
 returns c =
     let a = before-keys-at (c .before .before .before) .args in
     let size = length (a .file .now) in
@@ -72,7 +73,7 @@ row-at-requires c κs =
     )
 
 returns-2 : tie.Need-returns-2
-unfolding body
+unfolding bodyBy
 returns-2 c =
     let a = before-keys-at (before-row-at (c .before .before .before .before)) .args in
     let size = length (a .file .now) in
@@ -99,7 +100,7 @@ statements-at-requires c κs =
     )
 
 returns-3 : tie.Need-returns-3
-unfolding body
+unfolding bodyBy
 returns-3 c =
     let a = before-keys-at (before-row-at (before-statements-at (c .before .before .before .before .before .before))) .args in
     let size = length (a .file .now) in
@@ -121,7 +122,7 @@ finished-requires c κs =
     (p .1 .0 .1, (p .0 .1, p .1 .1 .1))
 
 returns-4 : tie.Need-returns-4
-unfolding body
+unfolding bodyBy
 returns-4 c =
     let a = before-keys-at (before-row-at (before-statements-at (c .before .before .before .before .before .before))) .args in
     let size = length (a .file .now) in

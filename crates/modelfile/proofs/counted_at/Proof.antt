@@ -9,6 +9,7 @@ use Rattle.grammar.specs.Steps.{Reads}
 use Rattle.grammar.proofs.Laws.{value-is}
 use Rattle.grammar.proofs.Gives.{given-value, field-gives}
 use Rattle.modelfile.specs.ModelFile.{statesName, actionsName, observationsName}
+use Rattle.modelfile.specs.ModelFile.{countedBy}
 use Rattle.modelfile.proofs.counted_at.Statement.{statement}
 use Rattle.modelfile.proofs.counted_at.Tie as tie
 
@@ -30,7 +31,7 @@ count-within name most {file} {at} v next t e = given-value (λ v. (1 ≤ v) × 
     (value-is v next t e)
 
 returns : tie.Need-returns
-unfolding counted
+unfolding countedBy
 returns c =
     let size = length (before-field-at (c .before .before .before) .args .file .now) in
     let d = before-field-at (c .before .before .before) .args .discount in
@@ -45,7 +46,7 @@ field-at-requires-2 c κs = (
 )
 
 returns-2 : tie.Need-returns-2
-unfolding counted
+unfolding countedBy
 returns-2 c =
     let size = length (before-field-at (before-field-at2 (c .before .before .before)) .args .file .now) in
     let d = before-field-at (before-field-at2 (c .before .before .before)) .args .discount in
@@ -63,7 +64,7 @@ field-at-requires-3 c κs = (
 )
 
 returns-3 : tie.Need-returns-3
-unfolding counted
+unfolding countedBy
 returns-3 c =
     let size = length (before-field-at (before-field-at2 (before-field-at3 (c .before .before .before))) .args .file .now) in
     let d = before-field-at (before-field-at2 (before-field-at3 (c .before .before .before))) .args .discount in
@@ -93,7 +94,7 @@ body-at-requires c κs =
     )
 
 returns-4 : tie.Need-returns-4
-unfolding counted
+unfolding countedBy
 returns-4 c =
     let size = length (before-field-at (before-field-at2 (before-field-at3 (c .before .before .before .before))) .args .file .now) in
     let d = before-field-at (before-field-at2 (before-field-at3 (c .before .before .before .before))) .args .discount in
