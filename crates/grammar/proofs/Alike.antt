@@ -1,6 +1,6 @@
 -- What one form of number reads, a wider one reads alike. Assumes nothing.
 use Prim.Native.Nat.{ℕ}
-use mathlib.Core.Path.{_≡_, refl, sym, ap, subst⁻¹}
+use mathlib.Core.Path.{_≡_, refl, subst⁻¹}
 use mathlib.Core.List.{List}
 use Rattle.words.specs.Words.{Words, word, end}
 use Rattle.numerals.specs.declared.Amount.{Amount}
@@ -8,7 +8,7 @@ use Rattle.numerals.specs.declared.Amount.the-variants.{Is, Not}
 use Rattle.numerals.specs.declared.Form.{Form}
 use Rattle.numerals.specs.Numeral.{amountOf, unsigned, signed}
 use Rattle.numerals.proofs.Before.{Keeps}
-use Rattle.grammar.specs.Grammar.{Answer, got, refused, _then_, answered, oneWord, limited, number, magnitude, minus, signedNumber, named, field}
+use Rattle.grammar.specs.Grammar.{Answer, got, refused, _then_, answered, limited, number, magnitude, minus, signedNumber, named, field}
 
 -- where the first is a value, the second is the same
 abbrev pub Alike : {A : Type 0} → Answer A → Answer A → Type 0

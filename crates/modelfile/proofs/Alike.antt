@@ -10,14 +10,13 @@ use Rattle.tables.specs.Limits.{maxStates, maxActions, maxObservations, one}
 use Rattle.tables.proofs.Refusals.{never}
 use Rattle.words.specs.Words.{Words, wordsIn, between}
 use Rattle.drafts.specs.Drafts.{stated}
-use Rattle.numerals.specs.Numeral.{countForm, probabilityForm, startForm, rewardForm, plain}
+use Rattle.numerals.specs.Numeral.{countForm, probabilityForm, startForm, rewardForm}
 use Rattle.numerals.proofs.Before.{plain-keeps}
 use Rattle.grammar.specs.Grammar.{Answer, got, refused, _then_, key, named, field}
 use Rattle.grammar.proofs.Alike.{Alike, alike-same, alike-then, field-alike}
 use Rattle.statements.specs.Statements.{wholly, Forms, forms, startNumberBy, row, statementsBy}
 use Rattle.statements.proofs.Alike.{AllWider, wholly-alike, row-alike, start-alike, statements-alike}
-use Rattle.modelfile.specs.declared.ModelFile.{ModelFile}
-use Rattle.modelfile.specs.ModelFile.{maxBytes, discountName, valuesName, rewardWord, statesName, actionsName, observationsName, startName, Text, textOf}
+use Rattle.modelfile.specs.ModelFile.{maxBytes, discountName, valuesName, rewardWord, statesName, actionsName, observationsName, startName, Text}
 use Rattle.modelfile.specs.ModelFile.{noCells, bodyBy, countedBy, headedBy, refusedFile, ended, modelFileBy, modelFile}
 use Rattle.modelfile.specs.Before.{formsBefore}
 

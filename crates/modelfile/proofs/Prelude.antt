@@ -13,3 +13,4 @@ pub use mathlib.Core.List.{List}
 pub use mathlib.Core.Path.{_∙_, _≡_, ap, sym}
 pub use native.Mathlib.Omega.{arith}
 pub use Rattle.modelfile.specs.ModelFile.{body, counted, headed}
+unfoldable pub use Rattle.modelfile.specs.ModelFile.{bodyBy, countedBy, headedBy}

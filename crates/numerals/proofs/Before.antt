@@ -1,5 +1,5 @@
 -- Words that were numbers before a part could be missing and an exponent follow are the same numbers. Assumes nothing.
-use Prim.Native.Nat.{ℕ, suc, _+_, _-_, _*_, _^_, _≤_, _<_}
+use Prim.Native.Nat.{ℕ, suc, _+_, _-_, _*_, _^_, _≤_}
 use mathlib.Core.Path.{_≡_, refl, sym, ap, subst, _∙_}
 use mathlib.Core.Bool.{Bool, true, false, false≢true, _&&_, _||_, cond, and-eq-true-iff}
 use mathlib.Core.List.{List, [], _∷_}
@@ -7,12 +7,12 @@ use native.Mathlib.Omega.{arith}
 use native.Mathlib.Decide.{decLt}
 use borrow.Author.Tests.{eq-eqb, ne-eqb}
 use lib.Dec.{eqb, leb}
-use lib.ListN.{length, getD, drop}
+use lib.ListN.{length, drop}
 use Rattle.words.specs.Class.{classOf}
 use Rattle.numerals.specs.declared.Amount.{Amount}
 use Rattle.numerals.specs.declared.Amount.the-variants.{Is, Not}
 use Rattle.numerals.specs.declared.Form.{Form}
-use Rattle.numerals.specs.Numeral.{plain, isDigit, isPoint, digits, value, fitting, exponentMark, powered, exponent, pointed, enough, decimal, fraction}
+use Rattle.numerals.specs.Numeral.{plain, isDigit, isPoint, digits, value, fitting, exponent, pointed, enough, decimal, fraction}
 use Rattle.numerals.specs.Numeral.{amountOf}
 use Rattle.numerals.specs.Before.{fractionBefore, amountBefore}
 use Rattle.numerals.proofs.Laws.{exponent-end, exponent-not}

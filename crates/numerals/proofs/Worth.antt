@@ -10,11 +10,10 @@ use borrow.Author.Tests.{eqb-true, ne-eqb, leb-true}
 use lib.Dec.{eqb, leb}
 use lib.ListN.{drop}
 use Rattle.words.specs.Class.{classOf}
-use Rattle.words.proofs.Laws.{by-class}
 use Rattle.numerals.specs.declared.Amount.{Amount}
 use Rattle.numerals.specs.declared.Amount.the-variants.{Is, Not}
 use Rattle.numerals.specs.declared.Form.{Form}
-use Rattle.numerals.specs.Numeral.{isDigit, isPoint, digits, value, negative, unsigned, fitting, scaled, isPower, powered, exponentMark, exponent, pointed}
+use Rattle.numerals.specs.Numeral.{isDigit, isPoint, digits, value, negative, unsigned, fitting, scaled, isPower, powered, exponentMark, exponent}
 use Rattle.numerals.specs.Numeral.{enough, decimal, fraction, amountOf}
 use Rattle.numerals.specs.Worth.{mantissa, decimals, powerPart, raised, lowered, IsWorth}
 use Rattle.numerals.proofs.Laws.{digit-byte, point-byte}
@@ -110,8 +109,10 @@ beside x l u z s t k r c e =
   where
     first : k * (u * t) ≡ u * k * t
     first = mul-left-comm k u t ∙ sym (mul-assoc u k t)
+
     second : k * (z * s) ≡ z * t
     second = mul-left-comm k z s ∙ ap (λ (n : ℕ). z * n) (mul-comm k s ∙ sym c)
+
     both : k * (u * t + z * s) ≡ (u * k + z) * t
     both = mul-add k (u * t) (z * s) ∙ ap (λ (n : ℕ). n + k * (z * s)) first ∙ ap (λ (n : ℕ). u * k * t + n) second ∙ sym (add-mul (u * k) z t)
 

@@ -195,7 +195,12 @@ fn decimal_of(w: &[u8], from: usize, form: Form, n: usize, whole: u64) -> Amount
     if !is_enough(form.loose, n, k) {
         return Amount::Not;
     }
-    exponent_of(w, d.end, form.loose, whole + d.value * scale(form.places - k))
+    exponent_of(
+        w,
+        d.end,
+        form.loose,
+        whole + d.value * scale(form.places - k),
+    )
 }
 
 // Whether a point stands at an offset.

@@ -13,4 +13,4 @@ pub use mathlib.Core.List.{List}
 pub use mathlib.Core.Path.{_∙_}
 pub use native.Mathlib.Omega.{arith}
 pub use Rattle.statements.specs.Statements.{entry, observationOrReward, rewardStatement, rewards, table}
-unfoldable pub use Rattle.statements.specs.Statements.{indexed}
+unfoldable pub use Rattle.statements.specs.Statements.{entryBy, indexed, observationOrRewardBy, rewardStatementBy, rewardsBy, tableBy}

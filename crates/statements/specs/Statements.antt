@@ -117,7 +117,8 @@ abbrev pub rewardKey : List ℕ
 rewardKey = 82 ∷ []
 
 unfoldable pub rewardStatementBy : Forms → ℕ → ℕ → Draft → Words → Outcome Draft
-rewardStatementBy f m n d ws = upon d (key rewardKey ws) (λ _ ws. within (λ cells. draft (d .transition) (d .observation) cells) (rewardsBy f m n (d .reward) ws))
+rewardStatementBy f m n d ws =
+    upon d (key rewardKey ws) (λ _ ws. within (λ cells. draft (d .transition) (d .observation) cells) (rewardsBy f m n (d .reward) ws))
 
 unfoldable pub observationOrRewardBy : Forms → ℕ → ℕ → ℕ → Draft → Words → Outcome Draft
 observationOrRewardBy f m n k d ws =

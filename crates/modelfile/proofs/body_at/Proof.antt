@@ -1,4 +1,4 @@
-use Rattle.modelfile.proofs.Prelude.{ℕ, _+_, _≤_, _∙_, List, arith, needs, length, replicate, maxStates, maxActions, _then_, value-next, body}
+use Rattle.modelfile.proofs.Prelude.{ℕ, _+_, _≤_, _∙_, List, arith, needs, length, replicate, maxStates, maxActions, _then_, value-next, bodyBy}
 use Rattle.modelfile.proofs.Prelude.{goes-back, goes-on, sizes}
 use Prim.Native.Nat.{_*_}
 use lib.ListN.{length-replicate}
@@ -10,7 +10,6 @@ use Rattle.statements.specs.Statements.{wholly, startNumber, row, draft, statem
 use Rattle.statements.specs.Steps.{CellsFit}
 use Rattle.modelfile.specs.ModelFile.{Text, textOf, noCells}
 use Rattle.modelfile.proofs.Laws.{stops-there, fills-further, leaves-next}
-use Rattle.modelfile.specs.ModelFile.{bodyBy}
 use Rattle.modelfile.proofs.body_at.Statement.{statement}
 use Rattle.modelfile.proofs.body_at.Tie as tie
 

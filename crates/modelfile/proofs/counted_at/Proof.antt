@@ -1,5 +1,5 @@
 use Rattle.modelfile.proofs.Prelude.{ℕ, _+_, _≤_, _≡_, _∙_, List, arith, needs, length, maxStates, maxActions, wordsIn, between, _then_}
-use Rattle.modelfile.proofs.Prelude.{value-next, body, counted, goes-back, goes-on}
+use Rattle.modelfile.proofs.Prelude.{value-next, body, countedBy, goes-back, goes-on}
 use Rattle.tables.specs.Limits.{maxObservations}
 use Rattle.grammar.specs.declared.Read.{Read}
 use Rattle.grammar.specs.declared.Read.the-variants.{Value}
@@ -9,7 +9,6 @@ use Rattle.grammar.specs.Steps.{Reads}
 use Rattle.grammar.proofs.Laws.{value-is}
 use Rattle.grammar.proofs.Gives.{given-value, field-gives}
 use Rattle.modelfile.specs.ModelFile.{statesName, actionsName, observationsName}
-use Rattle.modelfile.specs.ModelFile.{countedBy}
 use Rattle.modelfile.proofs.counted_at.Statement.{statement}
 use Rattle.modelfile.proofs.counted_at.Tie as tie
 

@@ -1,7 +1,6 @@
-use Rattle.modelfile.proofs.Prelude.{_+_, _∙_, needs, length, _then_, value-next, counted, headed, goes-back, goes-on}
+use Rattle.modelfile.proofs.Prelude.{_+_, _∙_, needs, length, _then_, value-next, counted, headedBy, goes-back, goes-on}
 use Rattle.grammar.specs.Grammar.{key, named}
 use Rattle.modelfile.specs.ModelFile.{valuesName, rewardWord}
-use Rattle.modelfile.specs.ModelFile.{headedBy}
 use Rattle.modelfile.proofs.headed_at.Statement.{statement}
 use Rattle.modelfile.proofs.headed_at.Tie as tie
 

@@ -2,8 +2,7 @@ use Rattle.modelfile.proofs.Prelude.{ℕ, _+_, sym, ap, _∙_, List, ne
 use mathlib.Core.Bool.{Bool, cond}
 use borrow.Author.Tests.{le-leb, lt-leb}
 use Rattle.modelfile.specs.declared.ModelFile.{ModelFile}
-use Rattle.modelfile.specs.ModelFile.{maxBytes, refusedFile, ended, modelFile}
-use Rattle.modelfile.specs.ModelFile.{modelFileBy}
+use Rattle.modelfile.specs.ModelFile.{maxBytes, refusedFile, ended, modelFileBy}
 use Rattle.modelfile.proofs.read.Statement.{statement}
 use Rattle.modelfile.proofs.read.Tie as tie
 

@@ -1,7 +1,6 @@
 use Rattle.numerals.proofs.Prelude.{ℕ, _-_, _*_, _^_, _≡_, sym, ap, _∙_, arith, needs, drop, digits, value, product}
 use native.Mathlib.Decide.{decLt}
 use lib.Seq.{drop-drop}
-use Rattle.numerals.specs.Numeral.{fraction}
 use Rattle.numerals.proofs.Laws.{amount-is, amount-not, written-all, digit-fraction}
 use Rattle.numerals.proofs.amount_of.Statement.{statement}
 use Rattle.numerals.proofs.amount_of.Tie as tie

@@ -1,5 +1,5 @@
 use Rattle.numerals.proofs.Prelude.{ℕ, _+_, _-_, _*_, _^_, _≤_, _≡_, sym, ap, _∙_, arith, needs, drop, digits, value, product}
-use mathlib.Core.Bool.{Bool, true, false, true≢false}
+use mathlib.Core.Bool.{true, false, true≢false}
 use mathlib.Core.List.{List}
 use native.Mathlib.Decide.{decLt}
 use borrow.Author.Tests.{not-true, not-false}
@@ -26,29 +26,11 @@ returns c =
     sym (decimal-not (a .form) (a .n) (a .whole) (drop (a .from) (a .w .now)) (λ few some.
     true≢false (sym some ∙ sym (ap (enough (a .form .loose) (a .n)) (all-read (a .w .now) d few)) ∙ sym e ∙ not-true _ (c .if1 .taken))))
 
-mul-exponent-of : tie.Need-mul-exponent-of
-mul-exponent-of c = omega (
-  arith,
-  product _ 3 (c .before .before .before .before .before .before .digits-from .ensures .small)
-      (omega (arith, c .before .before .before .before .before .before .digits-from .ensures .few)) (c .before .scale .ensures .1),
-)
-
-add-exponent-of : tie.Need-add-exponent-of
-add-exponent-of c = omega (
-  arith,
-  product _ 3 (c .before .before .before .before .before .before .digits-from .ensures .small)
-      (omega (arith, c .before .before .before .before .before .before .digits-from .ensures .few)) (c .before .scale .ensures .1),
-)
-
-exponent-of-requires : tie.Need-exponent-of-requires
-exponent-of-requires c κs = (
-  c .before .before .before .before .before .before .digits-from .ensures .low,
-  omega (
-    arith,
+-- what is read of the fraction is small
+small : (c : tie.After-struct-known3) → c .before .before .before .before .before .before .digits-from .result .value * c .before .scale .result ≤ 10 ^ 3 * 10 ^ 3
+small c =
     product _ 3 (c .before .before .before .before .before .before .digits-from .ensures .small)
-        (omega (arith, c .before .before .before .before .before .before .digits-from .ensures .few)) (c .before .scale .ensures .1),
-  ),
-)
+    (omega (arith, c .before .before .before .before .before .before .digits-from .ensures .few)) (c .before .scale .ensures .1)
 
 returns-2 : tie.Need-returns-2
 returns-2 c =
@@ -79,4 +61,5 @@ pub decimal-of-spec : {M : Type 1} → statement M
 decimal-of-spec =
     tie.close (tie.spec (λ c κs. search needs) (λ c. search needs) (λ c κs. search needs) returns
     (λ c. omega (arith, c .before .before .before .before .digits-from .ensures .few)) (λ c κs. search needs)
-    mul-exponent-of add-exponent-of exponent-of-requires returns-2)
+    (λ c. omega (arith, small c)) (λ c. omega (arith, small c))
+    (λ c κs. (c .before .before .before .before .before .before .digits-from .ensures .low, omega (arith, small c))) returns-2)

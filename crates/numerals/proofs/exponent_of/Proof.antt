@@ -26,7 +26,8 @@ returns-4 : tie.Need-returns-4
 returns-4 c =
     let a = c .before .before .before .before .before .before .before .args in
     c .powered-by .ensures ∙ ap (powered (a .v)) (rest-is (a .from + 1) (a .w .now))
-    ∙ sym (exponent-is (a .loose) (a .v) (a .w .now) (a .from) (omega arith) (not-false _ (c .before .before .before .before .if2 .left)) (c .before .before .if3 .left))
+    ∙ sym (exponent-is (a .loose) (a .v) (a .w .now) (a .from) (omega arith)
+    (not-false _ (c .before .before .before .before .if2 .left)) (c .before .before .if3 .left))
 
 pub exponent-of-spec : {M : Type 1} → statement M
 exponent-of-spec =

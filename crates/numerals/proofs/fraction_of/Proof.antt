@@ -1,4 +1,4 @@
-use Rattle.numerals.proofs.Prelude.{ℕ, _+_, _≤_, _≡_, sym, ap, _∙_, arith, needs, drop}
+use Rattle.numerals.proofs.Prelude.{sym, ap, _∙_, arith, needs, drop}
 use lib.Seq.{drop-drop}
 use Rattle.numerals.specs.Numeral.{decimal}
 use Rattle.numerals.proofs.Laws.{pointed-low, fraction-pointed, fraction-plain, fraction-none}
@@ -19,7 +19,8 @@ returns c =
 returns-2 : tie.Need-returns-2
 returns-2 c =
     let a = c .before .before .before .before .args in
-    sym (fraction-none (a .form) (a .n) (a .whole) (drop (a .from) (a .w .now)) (sym (c .before .before .is-pointed .ensures) ∙ c .before .if1 .left) (c .if2 .taken))
+    sym (fraction-none (a .form) (a .n) (a .whole) (drop (a .from) (a .w .now)) (sym (c .before .before .is-pointed .ensures) ∙ c .before .if1 .left)
+    (c .if2 .taken))
 
 returns-3 : tie.Need-returns-3
 returns-3 c =

@@ -1,4 +1,3 @@
-use Rattle.numerals.proofs.Prelude.{arith}
 use Rattle.numerals.proofs.Laws.{enough-none, enough-some}
 use Rattle.numerals.proofs.is_enough.Statement.{statement}
 use Rattle.numerals.proofs.is_enough.Tie as tie

@@ -47,8 +47,7 @@ returns-4 c =
     let all = written-end (a .w .now) (d .ensures) (omega (arith, d .ensures .low)) in
     c .scaled-by .ensures ∙ ap (λ (t : Bool). scaled t (d .result .value) (a .v)) (n .ensures)
     ∙ ap (λ (p : ℕ). scaled (negative (a .w .now)) p (a .v)) (all .1)
-    ∙ sym (powered-is (a .v) (a .w .now) (drop (boolByte (n .result)) (a .w .now)) (past (n .result) (a .w .now) (n .ensures)) (record
-    {
+    ∙ sym (powered-is (a .v) (a .w .now) (drop (boolByte (n .result)) (a .w .now)) (past (n .result) (a .w .now) (n .ensures)) (record {
       alone = omega (arith, d .ensures .up, d .ensures .few, length-drop (boolByte (n .result)) (a .w .now));
       digit = omega (arith, d .ensures .up, d .ensures .few, all .0);
       small = omega (arith, all .1);

@@ -1,6 +1,6 @@
 use Rattle.numerals.proofs.Prelude.{ℕ, _^_, _≤_, _<_, _≡_, arith, needs}
 use native.Mathlib.Nat.{mul-le-mul, pow-le-pow-right, pow-zero}
-use Rattle.numerals.specs.Steps.{mostPlaces, mostUnits}
+use Rattle.numerals.specs.Steps.{mostUnits}
 use Rattle.numerals.proofs.Laws.{scaled-times, scaled-over, scaled-not}
 use Rattle.numerals.proofs.scaled_by.Statement.{statement}
 use Rattle.numerals.proofs.scaled_by.Tie as tie

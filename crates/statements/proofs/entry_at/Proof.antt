@@ -1,6 +1,5 @@
-use Rattle.statements.proofs.Prelude.{ℕ, List, arith, needs, stated, index, inside, takes-reads, second-word, value-next, probability, entry}
+use Rattle.statements.proofs.Prelude.{ℕ, List, arith, needs, stated, index, inside, takes-reads, second-word, value-next, probability, entryBy}
 use Rattle.statements.proofs.Prelude.{upon, filled, leaves-back, leaves-on, leaves-done}
-use Rattle.statements.specs.Statements.{entryBy}
 use Rattle.statements.proofs.entry_at.Statement.{statement}
 use Rattle.statements.proofs.entry_at.Tie as tie
 

@@ -1,6 +1,5 @@
-use Rattle.statements.proofs.Prelude.{needs, told, value-next, table, draft, rewardStatement, observationOrReward, within}
+use Rattle.statements.proofs.Prelude.{needs, told, value-next, table, draft, rewardStatement, observationOrRewardBy, within}
 use Rattle.statements.proofs.Prelude.{chooses-back, chooses-on, leaves-within, takes-begin}
-use Rattle.statements.specs.Statements.{observationOrRewardBy}
 use Rattle.statements.proofs.other_statement_at.Statement.{statement}
 use Rattle.statements.proofs.other_statement_at.Tie as tie
 

@@ -1,5 +1,4 @@
-use Rattle.statements.proofs.Prelude.{needs, value-next, rewards, draft, rewardStatement, within, leaves-back, leaves-on, leaves-within, takes-begin}
-use Rattle.statements.specs.Statements.{rewardStatementBy}
+use Rattle.statements.proofs.Prelude.{needs, value-next, rewards, draft, rewardStatementBy, within, leaves-back, leaves-on, leaves-within, takes-begin}
 use Rattle.statements.proofs.reward_statement_at.Statement.{statement}
 use Rattle.statements.proofs.reward_statement_at.Tie as tie
 

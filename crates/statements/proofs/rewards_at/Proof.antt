@@ -1,6 +1,5 @@
-use Rattle.statements.proofs.Prelude.{ℕ, ℤ, List, needs, Words, value-next, indexed, reward, rewards, Outcome, upon, leaves-back, leaves-on}
+use Rattle.statements.proofs.Prelude.{ℕ, ℤ, List, needs, Words, value-next, indexed, reward, rewardsBy, Outcome, upon, leaves-back, leaves-on}
 use Rattle.statements.specs.Statements.{starred}
-use Rattle.statements.specs.Statements.{rewardsBy}
 use Rattle.statements.proofs.rewards_at.Statement.{statement}
 use Rattle.statements.proofs.rewards_at.Tie as tie
 

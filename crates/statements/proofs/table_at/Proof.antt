@@ -1,8 +1,7 @@
-use Rattle.statements.proofs.Prelude.{ℕ, List, arith, needs, Words, wordsIn, between, stated, key, colon, value-next, probability, indexed, entry, table}
+use Rattle.statements.proofs.Prelude.{ℕ, List, arith, needs, Words, wordsIn, between, stated, key, colon, value-next, probability, indexed, entry, tableBy}
 use Rattle.statements.proofs.Prelude.{Outcome, upon, leaves-back, leaves-on, chooses-back, chooses-on}
 use Rattle.grammar.specs.Grammar.{choose}
 use Rattle.statements.specs.Statements.{row}
-use Rattle.statements.specs.Statements.{tableBy}
 use Rattle.statements.proofs.table_at.Statement.{statement}
 use Rattle.statements.proofs.table_at.Tie as tie
 
