@@ -135,7 +135,10 @@ pub fn number_form(bytes: &[u8], form: Form, rules: &Rules) -> Option<BigInt> {
         None => (number, None),
     };
     let (unpointed, decimals) = (decimals.is_none(), decimals.unwrap_or(&[]));
-    if bytes.is_empty() || !parts_fit(whole, decimals, unpointed, rules) || !counts_fit(bytes, whole, decimals, form, rules) {
+    if bytes.is_empty()
+        || !parts_fit(whole, decimals, unpointed, rules)
+        || !counts_fit(bytes, whole, decimals, form, rules)
+    {
         return None;
     }
     let mut all = [whole, decimals].concat();
