@@ -158,14 +158,11 @@ fn powered_by(w: &[u8], v: u64) -> Amount
     scaled_by(minus, d.value as usize, v)
 }
 
-// What follows the digits.
-fn exponent_of(w: &[u8], from: usize, loose: bool, v: u64) -> Amount
-    requires { ⌜ (from ≤ length (now w)) × (v ≤ mostUnits) ⌝ }
+// An exponent, from its `e` on.
+fn marked_of(w: &[u8], from: usize, loose: bool, v: u64) -> Amount
+    requires { ⌜ (from < length (now w)) × (v ≤ mostUnits) ⌝ }
     ensures { λ r. ⌜ r ≡ exponent loose v (drop from (now (w .entry))) ⌝ }
 {
-    if from == w.len() {
-        return Amount::Is(v);
-    }
     if !loose {
         return Amount::Not;
     }
@@ -173,6 +170,17 @@ fn exponent_of(w: &[u8], from: usize, loose: bool, v: u64) -> Amount
         return Amount::Not;
     }
     powered_by(&w[from + 1..], v)
+}
+
+// What follows the digits: mostly nothing.
+fn exponent_of(w: &[u8], from: usize, loose: bool, v: u64) -> Amount
+    requires { ⌜ (from ≤ length (now w)) × (v ≤ mostUnits) ⌝ }
+    ensures { λ r. ⌜ r ≡ exponent loose v (drop from (now (w .entry))) ⌝ }
+{
+    if from == w.len() {
+        return Amount::Is(v);
+    }
+    marked_of(w, from, loose, v)
 }
 
 // Whether n digits before a point and k after it make a number.
