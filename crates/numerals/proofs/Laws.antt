@@ -30,6 +30,9 @@ pub digit-byte : (b : ℕ) → isDigit (classOf b) ≡ true → (48 ≤ b) × (b
 digit-byte b = by-class (λ k. isDigit k ≡ true → (48 ≤ b) × (b ≤ 57)) b never (λ h. never) (λ h. never) (λ l h e. (l, h)) (λ h. never) (λ h. never)
     (λ h. never) never
 
+pub low-byte : (b : ℕ) → b < 48 → isDigit (classOf b) ≡ false
+low-byte b h = by-class (λ k. isDigit k ≡ false) b refl (λ _. refl) (λ _. refl) (λ l _. absurd (omega arith)) (λ _. refl) (λ _. refl) (λ _. refl) refl
+
 pub point-byte : (b : ℕ) → isPoint (classOf b) ≡ true → b ≡ 46
 point-byte b = by-class (λ k. isPoint k ≡ true → b ≡ 46) b never (λ h. never) (λ h. never) (λ l h. never) (λ h e. h) (λ h. never) (λ h. never) never
 
@@ -222,9 +225,13 @@ pub enough-none : (loose : Bool) (n k : ℕ) → n ≡ 0 → (loose && ltb 0 k) 
 enough-none true n k e = rw e
 enough-none false n k e = rw e
 
-pub enough-some : (loose : Bool) (n k : ℕ) → (n ≡ 0 → ⊥) → (loose || ltb 0 k) ≡ enough loose n k
-enough-some true n k h = sym (ap (λ (t : Bool). t || leb 1 k) (le-leb 1 n (omega arith)))
-enough-some false n k h = sym (ap (λ (t : Bool). t && leb 1 k) (le-leb 1 n (omega arith)))
+pub enough-whole : (loose : Bool) (n k : ℕ) → (n ≡ 0 → ⊥) → k ≡ 0 → loose ≡ enough loose n k
+enough-whole true n k h e = sym (ap (λ (t : Bool). t || leb 1 k) (le-leb 1 n (omega arith)))
+enough-whole false n k h e = sym (ap (λ (t : Bool). t && leb 1 k) (le-leb 1 n (omega arith)) ∙ ap (leb 1) e)
+
+pub enough-both : (loose : Bool) (n k : ℕ) → (n ≡ 0 → ⊥) → (k ≡ 0 → ⊥) → true ≡ enough loose n k
+enough-both true n k h l = sym (ap (λ (t : Bool). t || leb 1 k) (le-leb 1 n (omega arith)))
+enough-both false n k h l = sym (and-is (le-leb 1 n (omega arith)) (le-leb 1 k (omega arith)))
 
 module _ (form : Form) (n whole : ℕ) (w : List ℕ) where
   pub decimal-is : digits w ≤ form .places → enough (form .loose) n (digits w) ≡ true

@@ -30,10 +30,6 @@ startForm = record { digits = 1; places = 2; loose = true }
 abbrev pub rewardForm : Form
 rewardForm = record { digits = 4; places = 2; loose = true }
 
--- a form without that
-abbrev pub plain : Form → Form
-plain form = record { digits = form .digits; places = form .places; loose = false }
-
 -- ---- digits
 
 abbrev pub isDigit : Class → Bool

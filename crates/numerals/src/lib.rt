@@ -65,7 +65,7 @@ fn bounded(length: usize, from: usize, most: usize) -> usize
     from + most
 }
 
-// The digits from an offset on, `most` of them at most.
+// The digits from an offset on, `most` of them at most. Bytes below them are told first, so that the class takes one test more.
 fn digits_from(w: &[u8], from: usize, most: usize) -> Digits
     requires { ⌜ (from ≤ length (now w)) × (most ≤ mostDigits) ⌝ }
     ensures { λ r. ⌜ Written (now (w .entry)) from most (r .end) (r .value) ⌝ }
@@ -75,6 +75,9 @@ fn digits_from(w: &[u8], from: usize, most: usize) -> Digits
     let mut at = from;
     while at < stop {
         let b = w[at];
+        if b < b'0' {
+            return Digits { end: at, value: v };
+        }
         let k = words::class_of(b);
         let Class::Digit = k else {
             return Digits { end: at, value: v };
@@ -163,10 +166,10 @@ fn marked_of(w: &[u8], from: usize, loose: bool, v: u64) -> Amount
     requires { ⌜ (from < length (now w)) × (v ≤ mostUnits) ⌝ }
     ensures { λ r. ⌜ r ≡ exponent loose v (drop from (now (w .entry))) ⌝ }
 {
-    if !loose {
+    if w[from] != b'e' {
         return Amount::Not;
     }
-    if w[from] != b'e' {
+    if !loose {
         return Amount::Not;
     }
     powered_by(&w[from + 1..], v)
@@ -190,7 +193,10 @@ fn is_enough(loose: bool, n: usize, k: usize) -> bool
     if n == 0 {
         return loose & (0 < k);
     }
-    loose | (0 < k)
+    if k == 0 {
+        return loose;
+    }
+    true
 }
 
 // What follows a point.
