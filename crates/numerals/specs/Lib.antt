@@ -2,4 +2,5 @@
 pub mod Numeral
 pub mod Before
 pub mod Worth
+pub mod Typed
 pub mod Steps

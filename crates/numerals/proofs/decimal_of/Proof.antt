@@ -27,7 +27,8 @@ returns c =
     true≢false (sym some ∙ sym (ap (enough (a .form .loose) (a .n)) (all-read (a .w .now) d few)) ∙ sym e ∙ not-true _ (c .if1 .taken))))
 
 -- what is read of the fraction is small
-small : (c : tie.After-struct-known3) → c .before .before .before .before .before .before .digits-from .result .value * c .before .scale .result ≤ 10 ^ 3 * 10 ^ 3
+small : (c : tie.After-struct-known3)
+    → c .before .before .before .before .before .before .digits-from .result .value * c .before .scale .result ≤ 10 ^ 3 * 10 ^ 3
 small c =
     product _ 3 (c .before .before .before .before .before .before .digits-from .ensures .small)
     (omega (arith, c .before .before .before .before .before .before .digits-from .ensures .few)) (c .before .scale .ensures .1)

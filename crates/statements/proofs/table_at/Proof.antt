@@ -1,4 +1,5 @@
-use Rattle.statements.proofs.Prelude.{ℕ, List, arith, needs, Words, wordsIn, between, stated, key, colon, value-next, probability, indexed, entry, tableBy}
+use Rattle.statements.proofs.Prelude.{ℕ, List, arith, needs, Words, wordsIn, between, stated, key, colon, value-next}
+use Rattle.statements.proofs.Prelude.{probability, indexed, entry, tableBy}
 use Rattle.statements.proofs.Prelude.{Outcome, upon, leaves-back, leaves-on, chooses-back, chooses-on}
 use Rattle.grammar.specs.Grammar.{choose}
 use Rattle.statements.specs.Statements.{row}
