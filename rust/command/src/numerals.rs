@@ -48,7 +48,7 @@ impl Form {
             return Err("only digits, one point and an exponent make a number here".to_string());
         }
         if whole.is_empty() && fraction.is_empty() {
-            return Err("a digit must stand before or behind the point".to_string());
+            return Err("a digit must stand before or behind the point, and before an exponent".to_string());
         }
         self.few(whole)?;
         if fraction.len() > self.decimals {
