@@ -1,7 +1,1 @@
--- What the proofs of several functions use.
-mod Laid
-mod Naturals
-mod Decoding
-mod Encoding
-mod Fits
-mod Calls
+-- No laws are needed: the calls hand on what the crates below are proved to answer.
