@@ -1,6 +1,6 @@
-use Rattle.bounds.proofs.Prelude.{_-_, _*_, _≤_, _≡_, sym, true, arith, needs, le-leb, lt-leb, leb, weightIn, maxWeight}
-use lib.ListN.{length}
+use Rattle.bounds.proofs.Prelude.{_-_, _*_, _≤_, _≡_, sym, true, arith, needs, le-leb, lt-leb, leb, weightIn, length}
 use Rattle.integers.specs.Whole.{totalTo}
+use Rattle.tables.specs.Limits.{maxWeight}
 use Rattle.integers.specs.Search.{every}
 use Rattle.integers.proofs.Sums.{total-none, total-step}
 use Rattle.integers.proofs.Searches.{every-none, every-more, every-not}
