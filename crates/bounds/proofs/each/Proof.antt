@@ -75,8 +75,8 @@ returns c =
     let j = c .before .before in
     let s = start j in
     let f = c .enum-told2 .given .1 in
-    let e : Said s (j .judge-standing .result) = λ choices. refused-standing (tables s) (certifier s choices) (s .args .mixtures .now) (s .args .count) (lent-for s)
-    (j .judge-standing .ensures choices) f in
+    let e : Said s (j .judge-standing .result) = λ choices. refused-standing (tables s) (certifier s choices) (s .args .mixtures .now) (s .args .count)
+    (lent-for s) (j .judge-standing .ensures choices) f in
     (e, λ choices. left-alone (tables s) (certifier s choices) (s .args .mixtures .now) (s .args .count) (lent-for s) (sym (e choices) ∙ f))
 
 returns-2 : tie.Need-returns-2

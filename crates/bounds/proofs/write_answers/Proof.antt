@@ -123,7 +123,8 @@ write-answers-spec =
     tie.close (tie.spec Inv-loop μ-loop loop-holds (λ c. omega (arith, fit c)) (λ c. omega (arith, fit c)) (λ c. omega (arith, fit c))
     (λ c. omega (arith, fit c)) (λ c. omega (arith, fit c)) (λ c. omega (arith, fit c)) answer-requires (λ c κs. search needs) verdicts-write
     (λ c. let k = of-answer (of-refusal c) in omega (arith, lower-fits (start k), room (start k) .lower, k .loop-test .taken)) lower-write
-    (λ c. let k = of-answer (of-refusal c) in omega (arith, upper-fits (start k), room (start k) .upper, k .loop-test .taken)) upper-write number-requires advice-write
+    (λ c. let k = of-answer (of-refusal c) in omega (arith, upper-fits (start k), room (start k) .upper, k .loop-test .taken)) upper-write
+    number-requires advice-write
     (λ c. let k = of-answer (of-number c) in omega (arith, room (start k) .lower, k .loop-test .taken))
     (λ c. omega (arith, of-answer (of-number c) .loop-test .taken)) loop-again (λ c. left c .verdicts) (λ c. left c .lower) (λ c. left c .upper)
     (λ c. left c .advice) returns)
