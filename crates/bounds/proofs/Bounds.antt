@@ -1,12 +1,12 @@
 -- Laws of the totals of a certifier that is not refused by 7: what is known of its parts, how large the totals are, and that they read weights of states only.
 -- Assumes nothing.
-use mathlib.Core.Path.{_≡_, refl, _∙_, ap}
+use mathlib.Core.Path.{_≡_, refl, sym, _∙_, ap}
 use mathlib.Core.Bool.{Bool, true, false}
 use mathlib.Core.List.{List}
 use Prim.Native.Nat.{ℕ, _+_, _*_, _≤_, _<_, _^_}
 use native.Mathlib.Nat as NatL
 use native.Mathlib.Omega.{arith}
-use borrow.Author.Tests.{leb-true, lt-ltb}
+use borrow.Author.Tests.{leb-true}
 use lib.Dec.{leb, ltb}
 use lib.ListN.{length, getD}
 use lib.IntN.{ℤ, natAbs, _-ℤ_}
@@ -18,11 +18,14 @@ use Rattle.integers.proofs.Searches.{and-true, every-at, largest-cong, largest-
 use Rattle.integers.proofs.Sizes.{times-bound, sum-weighed}
 use Rattle.integers.proofs.Sums.{total-bound}
 use Rattle.tables.specs.declared.Tables.{Tables}
-use Rattle.tables.specs.declared.Verdict.the-variants.{Fine}
-use Rattle.tables.specs.Limits.{maxStates, maxWeight, maxEntry, maxLevels}
+use Rattle.tables.specs.declared.Verdict.{Verdict}
+use Rattle.tables.specs.declared.Verdict.the-variants.{Fine, Refused}
+use Rattle.tables.specs.Limits.{maxStates, maxActions, maxWeight, maxEntry, maxLevels}
 use Rattle.tables.specs.Model.{Model}
 use Rattle.tables.specs.Storage.{weightIn, countsOf, modelOf}
+use Rattle.tables.specs.Verdicts.{_before_, unless}
 use Rattle.tables.proofs.Fitting.{row-alone}
+use Rattle.tables.proofs.Refusals.{before-fine, unless-fine}
 use Rattle.plans.specs.Limits.{maxPoints, range, maxReached}
 use Rattle.plans.specs.Level.{Level, product, gain, ceiling, Shaped}
 use Rattle.plans.specs.Totals.{best, lower, upper, advice}
@@ -39,7 +42,7 @@ use Rattle.checks.proofs.Roofs.{corners-fit, points-fit, gains-below}
 use Rattle.runs.specs.declared.Bounds.{Bounds}
 use Rattle.runs.specs.State.{mixtureHolds, totalsVerdict, boundsBy, totalsOf}
 use Rattle.runs.proofs.Judged.{Standing, standing-true}
-use Rattle.bounds.specs.Steps.{noBounds, bestIn, lowerIn, boundsIn, widened, unless17, Asked}
+use Rattle.bounds.specs.Steps.{standingVerdict, noBounds, bestIn, lowerIn, boundsIn, widened, unless17, answerIn, Asked}
 
 product-range : (n r : ℕ) (q : ℕ → ℕ) (e : ℕ → ℤ) → ((s : ℕ) → s < n → natAbs (e s) ≤ r) → natAbs (product n q e) ≤ totalTo n q * r
 unfolding product
@@ -103,7 +106,36 @@ widened-below {n} {b} few h = record {
 pub below-reached : {n : ℕ} {q : List ℕ} → Below maxWeight n q → Below maxReached n q
 below-reached b = record { long = b .long; below = λ s l. omega (arith, b .below s l) }
 
+-- ---- an answer: its action exists or is 0, and its totals fit 64 bits
+module _ {n vectors points : ℕ} {actions : List ℕ} {entries corners : List ℤ} {weights gains : List ℕ}
+    (h : Asked n vectors points actions entries corners weights gains) (b : List ℕ) where
+  abbrev r : Bounds
+  r = answerIn n vectors points actions entries corners weights gains b
+
+  abbrev by-17 : Bool → Bounds
+  by-17 held = unless17 held (boundsIn n vectors points actions entries corners weights gains (widened n b))
+
+  pub acts-within : r .action .0 < maxActions
+  acts-within = by (mixtureHolds n b)
+    where
+      by : (held : Bool) → by-17 held .action .0 < maxActions
+      by true = h .acts _ (largest-in _ _ (h .some-vectors))
+      by false = omega arith
+
+  pub sizes-within : (natAbs (r .lower) < 2 ^ 63) × (natAbs (r .upper) < 2 ^ 63)
+  sizes-within = by (mixtureHolds n b) refl
+    where
+      by : (held : Bool) → mixtureHolds n b ≡ held → (natAbs (by-17 held .lower) < 2 ^ 63) × (natAbs (by-17 held .upper) < 2 ^ 63)
+      by true e = let f = h .fits (widened n b) (widened-below (h .few-states) (mixed n b e)) in (omega (arith, f), omega (arith, f))
+      by false e = (omega arith, omega arith)
+
 -- ---- a certifier that is not refused by 7
+-- the gains of the standing level, as the code lists them
+abbrev pub Gained : Tables → Lent → List ℕ → Type 0
+Gained m x gains =
+    gains ≡ padded 0 maxPoints (standingIn x .points)
+    (λ i. positive (gainIn (m .states) (x .cells .corners) (x .cells .weights) (x .cells .values) i))
+
 module _ (m : Tables) (x : Lent) (h : holds m x ≡ true) where
   abbrev M : Model
   M = modelOf m
@@ -146,10 +178,7 @@ module _ (m : Tables) (x : Lent) (h : holds m x ≡ true) where
               (stands .shaped .entry-in v (best-exists M L (weightIn q) some-vectors)),
         )
 
-  -- the gains, as the code lists them
-  module _ {gains : List ℕ}
-      (e : gains ≡ padded 0 maxPoints (standingIn x .points)
-      (λ i. positive (gainIn (m .states) (x .cells .corners) (x .cells .weights) (x .cells .values) i))) where
+  module _ {gains : List ℕ} (e : Gained m x gains) where
     gains-at : (i : ℕ) → i < standingIn x .points
         → getD gains i 0 ≡ positive (gainIn (m .states) (x .cells .corners) (x .cells .weights) (x .cells .values) i)
     gains-at i l = rw e (padded-at 0 maxPoints (standingIn x .points) _ i 0 l)
@@ -197,33 +226,36 @@ module _ (m : Tables) (x : Lent) (h : holds m x ≡ true) where
         )
 
 -- ---- each way out of totals
-above-zero : (t : ℕ) → (t ≡ 0 → ⊥) → ltb 0 t ≡ true
-above-zero t k = lt-ltb 0 t (omega arith)
+before-assoc : (u v w : Verdict) → ((u before v) before w) ≡ (u before (v before w))
+before-assoc Fine v w = refl
+before-assoc (Refused k i) v w = refl
 
-module _ (m : Tables) (x : Lent) (b : List ℕ) where
-  pub refused-7 : holds m x ≡ false → noBounds 7 ≡ totalsOf m x b
-  unfolding totalsOf totalsVerdict
-  refused-7 h = rw h
+module _ (m : Tables) (x : Lent) where
+  pub standing-holds : standingVerdict m x ≡ Fine → holds m x ≡ true
+  unfolding standingVerdict
+  standing-holds e = unless-fine _ 7 0 (before-fine _ _ e .0)
 
-  module _ (h : holds m x ≡ true) where
-    pub refused-16 : numberIn x ≡ 0 → noBounds 16 ≡ totalsOf m x b
-    unfolding totalsOf totalsVerdict
-    refused-16 k = rw (h, k)
+  module _ (b : List ℕ) where
+    totals-verdict : totalsVerdict m x b ≡ (standingVerdict m x before unless (mixtureHolds (m .states) b) 17 0)
+    unfolding totalsVerdict standingVerdict
+    totals-verdict = sym (before-assoc (unless (holds m x) 7 0) (unless (ltb 0 (numberIn x)) 16 0) (unless (mixtureHolds (m .states) b) 17 0))
 
-    module _ (k : numberIn x ≡ 0 → ⊥) where
-      -- 17, or the totals
-      at-mixture : (held : Bool) → mixtureHolds (m .states) b ≡ held → unless17 held (boundsBy Fine m (levelOf m (standingIn x)) b) ≡ totalsOf m x b
-      unfolding totalsOf totalsVerdict
-      at-mixture true f = rw (h, above-zero (numberIn x) k, f)
-      at-mixture false f = rw (h, above-zero (numberIn x) k, f)
+    pub refused : {v : Verdict} {k i : ℕ} → v ≡ standingVerdict m x → v ≡ Refused k i → noBounds v ≡ totalsOf m x b
+    unfolding totalsOf
+    refused e f = rw (totals-verdict, sym e ∙ f, f)
 
-      pub answered : {gains : List ℕ}
-          → gains ≡ padded 0 maxPoints (standingIn x .points)
-          (λ i. positive (gainIn (m .states) (x .cells .corners) (x .cells .weights) (x .cells .values) i))
-          → unless17 (mixtureHolds (m .states) b)
-          (boundsIn (m .states) (standingIn x .vectors) (standingIn x .points) (x .cells .actions) (x .cells .entries) (x .cells .corners)
-          (x .cells .weights) gains (widened (m .states) b))
-          ≡ totalsOf m x b
-      answered g =
-          ap (λ (a : Bounds). unless17 (mixtureHolds (m .states) b) a) (bounds-are m x h g (widened (m .states) b) ∙ bounds-widened m x h g b)
-          ∙ at-mixture (mixtureHolds (m .states) b) refl
+    -- 17, or the totals
+    at-mixture : (held : Bool) → mixtureHolds (m .states) b ≡ held → standingVerdict m x ≡ Fine
+        → unless17 held (boundsBy Fine m (levelOf m (standingIn x)) b) ≡ totalsOf m x b
+    unfolding totalsOf
+    at-mixture true f s = rw (totals-verdict, s, f)
+    at-mixture false f s = rw (totals-verdict, s, f)
+
+    pub answered : {gains : List ℕ} → standingVerdict m x ≡ Fine → Gained m x gains
+        → answerIn (m .states) (standingIn x .vectors) (standingIn x .points) (x .cells .actions) (x .cells .entries) (x .cells .corners)
+        (x .cells .weights) gains b
+        ≡ totalsOf m x b
+    answered s g =
+        let h = standing-holds s in
+        ap (λ (a : Bounds). unless17 (mixtureHolds (m .states) b) a) (bounds-are m x h g (widened (m .states) b) ∙ bounds-widened m x h g b)
+        ∙ at-mixture (mixtureHolds (m .states) b) refl s

@@ -1,5 +1,4 @@
-use Rattle.bounds.proofs.Prelude.{ℕ, _+_, _*_, _<_, _≡_, _∙_, arith, needs, weightIn}
-use mathlib.Core.Path.{ap}
+use Rattle.bounds.proofs.Prelude.{ℕ, _+_, _*_, _<_, _≡_, _∙_, arith, needs, weightIn, ap}
 use lib.IntN.{pos}
 use lib.ListN.{getD}
 use mir.Syntax.{w64}

@@ -1,6 +1,7 @@
-use Rattle.bounds.proofs.Prelude.{_-_, _*_, _≤_, _≡_, sym, true, arith, needs, le-leb, lt-leb, leb, weightIn, maxWeight}
-use lib.ListN.{length}
+use Rattle.bounds.proofs.Prelude.{_-_, _*_, _≤_, _≡_, sym, true, arith, needs, le-leb, lt-leb, leb, weightIn, length}
+use mathlib.Core.Bool.{false}
 use Rattle.integers.specs.Whole.{totalTo}
+use Rattle.tables.specs.Limits.{maxWeight}
 use Rattle.integers.specs.Search.{every}
 use Rattle.integers.proofs.Sums.{total-none, total-step}
 use Rattle.integers.proofs.Searches.{every-none, every-more, every-not}
@@ -15,7 +16,10 @@ abbrev μ-loop : tie.MeasureT-loop
 μ-loop mixture n total₀ s₀ total s = n - s
 
 returns : tie.Need-returns Inv-loop μ-loop
-returns c = rw (lt-leb _ _ (c .if1 .taken))
+returns c =
+    let a = c .before .before .args in
+    let short : leb (a .n) (length (a .mixture .now)) ≡ false = lt-leb _ _ (c .if1 .taken) in
+    rw short
 
 loop-holds : tie.Need-loop-holds Inv-loop μ-loop
 loop-holds c = (omega arith, (every-none _, (sym (total-none _), omega arith)))
