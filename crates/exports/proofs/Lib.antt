@@ -1,1 +1,2 @@
--- No laws are needed: the calls hand on what the crates below are proved to answer.
+-- Laws of what is read.
+pub mod Room

@@ -3,15 +3,19 @@
 ghost use mathlib.Core.Path.{_≡_};
 ghost use mathlib.Core.Bool.{true};
 ghost use mathlib.Core.List.{List};
-ghost use Prim.Native.Nat.{ℕ, _<_};
-ghost use Rattle.tables.specs.Limits.{maxLevels};
+ghost use Prim.Native.Nat.{ℕ, _*_, _≤_, _<_};
+ghost use lib.ListN.{length};
+ghost use Rattle.tables.specs.Limits.{maxStates, maxActions, maxObservations, maxLevels};
 ghost use Rattle.levels.specs.Storage.{LentLevel, Lent, cells, lent, lentFor};
 ghost use Rattle.levels.specs.Judged.{offerVerdict};
-ghost use Rattle.runs.specs.State.{openVerdict, opened, offered, mixtureHolds, totalsOf, buildVerdict, builtOf};
+ghost use Rattle.modelfile.specs.ModelFile.{modelFile};
+ghost use Rattle.runs.specs.State.{left, openVerdict, opened, offered, mixtureHolds, totalsOf, buildVerdict, builtOf};
 ghost use Rattle.runs.specs.Demand3.{ModelAccepted, after, steps, PointsHold};
 ghost use Rattle.worth.specs.Storage.{lentGraph};
 ghost use Rattle.worth.specs.Judged.{worthAnswer};
 ghost use Rattle.exports.specs.Calls.{model, refusalOf, totalsBy, worthBy, Brackets, Builds};
+ghost use Rattle.exports.specs.Reading.{roomVerdict, readVerdict, readingBy, readingOf, laidTransitions, laidObservations, laidRewards, laidStart};
+use integers::cells;
 use tables::Counts;
 use tables::State;
 use tables::Verdict;
@@ -22,6 +26,21 @@ use worth::Node;
 pub struct Refusal {
     pub number: u64,
     pub place: usize,
+}
+
+// What a model file has, with its refusal: every count 0 where it is refused.
+#[repr(C)]
+pub struct Reading {
+    pub number: u64,
+    pub place: usize,
+    pub states: usize,
+    pub actions: usize,
+    pub observations: usize,
+    pub discount: u64,
+}
+
+impl Reading {
+    pub const SHORT: u8 = 100; // a slice lent for what is read is too short
 }
 
 #[repr(C)]
@@ -53,6 +72,107 @@ fn refusal_of(v: Verdict) -> Refusal
             number: number as u64,
             place: place,
         },
+    }
+}
+
+// The answer on a file whose reading is refused.
+fn no_reading(v: Verdict) -> Reading
+    ensures { λ r. ⌜ r ≡ readingBy (refusalOf v) 0 0 0 0 ⌝ }
+{
+    let refusal = refusal_of(v);
+    Reading {
+        number: refusal.number,
+        place: refusal.place,
+        states: 0,
+        actions: 0,
+        observations: 0,
+        discount: 0,
+    }
+}
+
+// Whether slices of such lengths have room for tables and start numbers: 100, with the length that the first short one needs.
+fn judge_room(
+    n: usize,
+    rows: usize,
+    k: usize,
+    transition: usize,
+    observation: usize,
+    reward: usize,
+    start: usize,
+) -> Verdict
+    requires { ⌜ (n ≤ maxStates) × ((rows ≤ maxActions * maxStates) × (k ≤ maxObservations)) ⌝ }
+    ensures { λ r. ⌜ r ≡ roomVerdict n rows k transition observation reward start ⌝ }
+{
+    if transition < rows * n {
+        return Verdict::Refused(Reading::SHORT, rows * n);
+    }
+    if observation < rows * k {
+        return Verdict::Refused(Reading::SHORT, rows * k);
+    }
+    if reward < rows {
+        return Verdict::Refused(Reading::SHORT, rows);
+    }
+    if start < n {
+        return Verdict::Refused(Reading::SHORT, n);
+    }
+    Verdict::Fine
+}
+
+// Reads a model file into tables and start numbers, in hundredths.
+#[no_mangle]
+pub extern "C" fn biidhaqun_read(
+    file: &[u8],
+    transition: &mut [u16],
+    observation: &mut [u16],
+    reward: &mut [i64],
+    start: &mut [u16],
+) -> Reading
+    ensures { λ r. ⌜ r ≡ readingOf (readVerdict (modelFile (now (file .entry))) (length (now (transition .entry))) (length (now (observation .entry))) (length (now (reward .entry)))
+        (length (now (start .entry)))) (modelFile (now (file .entry))) ⌝ }
+    ensures { λ _. ⌜ now (transition .exit) ≡ left (readVerdict (modelFile (now (file .entry))) (length (now (transition .entry))) (length (now (observation .entry))) (length (now (reward .entry)))
+        (length (now (start .entry))))
+        (laidTransitions (modelFile (now (file .entry))) (now (transition .entry))) (now (transition .entry)) ⌝ }
+    ensures { λ _. ⌜ now (observation .exit) ≡ left (readVerdict (modelFile (now (file .entry))) (length (now (transition .entry))) (length (now (observation .entry))) (length (now (reward .entry)))
+        (length (now (start .entry))))
+        (laidObservations (modelFile (now (file .entry))) (now (observation .entry))) (now (observation .entry)) ⌝ }
+    ensures { λ _. ⌜ now (reward .exit) ≡ left (readVerdict (modelFile (now (file .entry))) (length (now (transition .entry))) (length (now (observation .entry))) (length (now (reward .entry)))
+        (length (now (start .entry))))
+        (laidRewards (modelFile (now (file .entry))) (now (reward .entry))) (now (reward .entry)) ⌝ }
+    ensures { λ _. ⌜ now (start .exit) ≡ left (readVerdict (modelFile (now (file .entry))) (length (now (transition .entry))) (length (now (observation .entry))) (length (now (reward .entry)))
+        (length (now (start .entry))))
+        (laidStart (modelFile (now (file .entry))) (now (start .entry))) (now (start .entry)) ⌝ }
+{
+    let x = modelfile::read(file);
+    let verdict = x.verdict;
+    let Verdict::Fine = verdict else {
+        return no_reading(verdict);
+    };
+    let m = x.tables;
+    let n = m.states;
+    let rows = m.actions * n;
+    let room = judge_room(
+        n,
+        rows,
+        m.observations,
+        transition.len(),
+        observation.len(),
+        reward.len(),
+        start.len(),
+    );
+    let Verdict::Fine = room else {
+        return no_reading(room);
+    };
+    cells::paste_u16(transition, 0, &m.transition, rows * n);
+    cells::paste_u16(observation, 0, &m.observation, rows * m.observations);
+    cells::paste_i64(reward, 0, &m.reward, rows);
+    cells::paste_u16(start, 0, &x.start, n);
+    Reading {
+        number: 0,
+        place: 0,
+        states: n,
+        actions: m.actions,
+        observations: m.observations,
+        discount: m.discount,
     }
 }
 

@@ -7,8 +7,7 @@ use Rattle.exports.proofs.biidhaqun_build.Tie as tie
 returns : tie.Need-returns
 returns c =
     let b = c .before .before .before .before .before .before .before .before .build .ensures in
-    let same = c .refusal-of .ensures in
-    (
+    let same = c .refusal-of .ensures in (
       λ choices. same ∙ ap refusalOf (b .0 choices),
       (
         b .1 .0,

@@ -14,8 +14,7 @@ returns c =
     let l : mag (t .result .lower) < 2 ^ 63 = search (needs, t .ok) in
     let u : mag (t .result .upper) < 2 ^ 63 = search (needs, t .ok) in
     let g : mag (t .result .gap) < 2 ^ 63 = search (needs, t .ok) in
-    let same = c .before .before .refusal-of .ensures in
-    (
+    let same = c .before .before .refusal-of .ensures in (
       λ choices. rw (back _ l, back _ u, back _ g, same) (ap totalsBy (t .ensures .0 choices)),
       λ choices x ls o e h b. record {
         bounds = t .result;
