@@ -18,7 +18,6 @@ use Rattle.tables.specs.Limits.{maxStates, maxObservations, maxWeight, maxLevel
 use Rattle.tables.specs.Model.{Valid}
 use Rattle.tables.specs.Storage.{weightIn, countsOf, modelOf}
 use Rattle.tables.specs.Steps.{Stored}
-use Rattle.tables.specs.Judged.{tablesVerdict}
 use Rattle.tables.proofs.Accepted.{tables-valid, tables-fine}
 use Rattle.tables.proofs.Fitting.{Long, sizes}
 use Rattle.plans.specs.Level.{IsPoint, level0}
@@ -28,9 +27,8 @@ use Rattle.levels.specs.Storage.{Cells, LentLevel, Lent, stateSize, cells, lent
 use Rattle.levels.specs.Judged.{offerVerdict}
 use Rattle.levels.proofs.Laws.{passed, fine-before}
 use Rattle.levels.proofs.Over.{Complete, complete-is, complete-true, complete-long, over-long}
-use Rattle.runs.specs.declared.Bounds.{Bounds}
 use Rattle.runs.specs.State.{openVerdict, opened, offered, mixtureHolds, answerFor, builtFrom}
-use Rattle.runs.specs.Demand3.{ModelAccepted, run, counted, acceptances, after, steps, last, TotalsHold, BuildHolds, PointsHold}
+use Rattle.runs.specs.Demand3.{ModelAccepted, run, counted, acceptances, after, steps, last, BuildHolds, PointsHold}
 use Rattle.runs.proofs.Demand3.{fine-tables}
 use Rattle.modelfile.specs.declared.ModelFile.{ModelFile}
 use Rattle.modelfile.specs.ModelFile.{modelFile}
@@ -67,18 +65,18 @@ first-point n b i s l =
 -- ---- climbing
 pub climbed-0 : {m : Tables} {x z : Lent} {y : Cells} → ModelAccepted m x → PointsHold m x 1 y → z ≡ opened m x → Climbed 0 m z y
 unfolding run acceptances
-climbed-0 {m} {x} o p e = record { lent-first = x; offers = []; opens = o; left = e; accepted = refl; points = p }
+climbed-0 {m} {x} o p e = record { first = x; offers = []; opens = o; left = e; accepted = refl; points = p }
 
 module _ {t : ℕ} {m : Tables} {z : Lent} {y : Cells} (k : Climbed t m z y) where
   pub few-states : m .states ≤ maxStates
-  few-states = tables-valid m (fine-tables m (k .lent-first) (k .opens)) .few-states
+  few-states = tables-valid m (fine-tables m (k .first) (k .opens)) .few-states
 
   -- what the builder's contract says of its verdict v and of the slices y' that it left
   module _ {v : Verdict} {y' : Cells} (few : t < maxLevels)
       (h : (x : Lent) (ls : List LentLevel) → ModelAccepted m x → z ≡ after m x ls → steps m x ls < maxLevels → PointsHold m x 1 y
       → BuildHolds m x ls 1 y v y') where
-    built-holds : BuildHolds m (k .lent-first) (k .offers) 1 y v y'
-    built-holds = h (k .lent-first) (k .offers) (k .opens) (k .left) (rw (k .accepted) few) (k .points)
+    built-holds : BuildHolds m (k .first) (k .offers) 1 y v y'
+    built-holds = h (k .first) (k .offers) (k .opens) (k .left) (rw (k .accepted) few) (k .points)
 
     pub built-given : v ≡ Fine
     built-given = built-holds .given
@@ -91,18 +89,18 @@ module _ {t : ℕ} {m : Tables} {z : Lent} {y : Cells} (k : Climbed t m z y) whe
     unfolding built
     built-room =
         let room = complete-true m (answerFor m 1 y) (k .points .answer-room) in
-        let W = builtFrom m (last m (k .lent-first) (k .offers)) 1 y in
+        let W = builtFrom m (last m (k .first) (k .offers)) 1 y in
         complete-is m (answerFor m 1 y') (subst (λ (w : Cells). Complete m (answerFor m 1 w)) (sym (built-holds .level-is))
         (complete-long m (over-long m W y room) room))
 
     pub climbed-next : {z' : Lent} → y' .weights ≡ y .weights → z' ≡ offered m z (answerFor m 1 y') → Climbed (t + 1) m z' y'
     climbed-next e f = record {
-      lent-first = k .lent-first;
+      first = k .first;
       offers = k .offers ++ (answerFor m 1 y' ∷ []);
       opens = k .opens;
-      left = f ∙ rw (k .left) (sym (run-more m (opened m (k .lent-first)) (k .offers) (answerFor m 1 y')));
+      left = f ∙ rw (k .left) (sym (run-more m (opened m (k .first)) (k .offers) (answerFor m 1 y')));
       accepted =
-          acceptances-more m (opened m (k .lent-first)) (k .offers) (answerFor m 1 y')
+          acceptances-more m (opened m (k .first)) (k .offers) (answerFor m 1 y')
           ∙ rw (built-holds .accepted) (ap (λ (n : ℕ). n + 1) (k .accepted));
       points = record {
         few = k .points .few;
@@ -118,7 +116,7 @@ module _ {t : ℕ} {m : Tables} {z : Lent} {y : Cells} (k : Climbed t m z y) whe
       let room = complete-true m (answerFor m 1 y) (k .points .answer-room) in
       record {
         choices = choices;
-        lent-first = k .lent-first;
+        first = k .first;
         offers = k .offers;
         opens = k .opens;
         left = sym e ∙ k .left;

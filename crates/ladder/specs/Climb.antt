@@ -10,23 +10,23 @@ use Rattle.levels.specs.Storage.{Cells, LentLevel, Lent, cells, lent}
 use Rattle.runs.specs.State.{mixtureHolds}
 use Rattle.runs.specs.Demand3.{ModelAccepted, after, steps, PointsHold}
 
--- slices z after t acceptances, with slices y for one level more: it has room in both
+-- slices z after t acceptances, opened as `first`, with slices y for one level more: it has room in both
 pub record Climbed (t : ℕ) (m : Tables) (z : Lent) (y : Cells) : Type 0 where
-  pub lent-first : Lent
+  pub first : Lent
   pub offers : List LentLevel
-  pub opens : ModelAccepted m lent-first
-  pub left : z ≡ after m lent-first offers
-  pub accepted : steps m lent-first offers ≡ t
-  pub points : PointsHold m lent-first 1 y
+  pub opens : ModelAccepted m first
+  pub left : z ≡ after m first offers
+  pub accepted : steps m first offers ≡ t
+  pub points : PointsHold m first 1 y
 
 -- a certifier above level 0, whatever its choices are, with a mixture within the limits
 pub record Asked (m : Tables) (state actions : List ℕ) (entries corners : List ℤ) (weights : List ℕ) (values : List ℤ) (b : List ℕ) : Type 0 where
   pub choices : List ℕ
-  pub lent-first : Lent
+  pub first : Lent
   pub offers : List LentLevel
-  pub opens : ModelAccepted m lent-first
-  pub left : lent state (cells actions choices entries corners weights values) ≡ after m lent-first offers
-  pub some : 0 < steps m lent-first offers
+  pub opens : ModelAccepted m first
+  pub left : lent state (cells actions choices entries corners weights values) ≡ after m first offers
+  pub some : 0 < steps m first offers
   pub mixture : mixtureHolds (m .states) b ≡ true
 
 -- the first cells of two lists are the same

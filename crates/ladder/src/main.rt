@@ -90,7 +90,43 @@ fn print_refusal(number: u8, place: usize) -> bool {
     print_unsigned(place as u64, b"\n")
 }
 
-// One level higher: the level that the builder makes of the point, offered.
+// The line of level t, which stands; false where it could not be written.
+fn print_level<'a, 'b>(
+    transition: &'a [u16],
+    observation: &'a [u16],
+    reward: &'a [i64],
+    c: Counts,
+    t: usize,
+    state: &'b [usize],
+    actions: &'b [u8],
+    entries: &'b [i64],
+    corners: &'b [i64],
+    weights: &'b [u32],
+    values: &'b [i64],
+    given: &[u32],
+) -> bool
+    requires { ⌜ Asked (tablesIn c (now transition) (now observation) (now reward)) (now state) (now actions) (now entries) (now corners)
+        (now weights) (now values) (now given) ⌝ }
+{
+    let r = bounds::totals(
+        transition,
+        observation,
+        reward,
+        c,
+        state,
+        actions,
+        entries,
+        corners,
+        weights,
+        values,
+        given,
+    );
+    let told = r.verdict;
+    served(told);
+    print_totals(t, r)
+}
+
+// One level higher: the level that the builder makes of the point, offered, and its line; false where that could not be written.
 fn rung<'a>(
     transition: &'a [u16],
     observation: &'a [u16],
@@ -110,7 +146,7 @@ fn rung<'a>(
     newentries: &mut [i64],
     newcorners: &mut [i64],
     newvalues: &mut [i64],
-)
+) -> bool
     requires { ⌜ t < maxLevels ⌝ }
     requires { ⌜ Climbed t (tablesIn c (now transition) (now observation) (now reward))
         (lent (now state) (cells (now actions) (now choices) (now entries) (now corners)
@@ -119,7 +155,8 @@ fn rung<'a>(
     ensures { λ _. ⌜ Climbed (t + 1) (tablesIn c (now (transition .entry)) (now (observation .entry)) (now (reward .entry)))
         (lent (now (state .exit)) (cells (now (actions .exit)) (now (choices .exit)) (now (entries .exit)) (now (corners .exit))
         (now (weights .exit)) (now (values .exit))))
-        (cells (now (newactions .exit)) (now (newchoices .exit)) (now (newentries .exit)) (now (newcorners .exit)) (now (given .entry)) (now (newvalues .exit))) ⌝ }
+        (cells (now (newactions .exit)) (now (newchoices .exit)) (now (newentries .exit)) (now (newcorners .exit)) (now (given .entry))
+        (now (newvalues .exit))) ⌝ }
 {
     let made = certifier::build(
         transition,
@@ -163,42 +200,20 @@ fn rung<'a>(
         &newvalues[..],
     );
     served(accepted);
-}
-
-// The line of level t, which stands; false where it could not be written.
-fn print_level<'a, 'b>(
-    transition: &'a [u16],
-    observation: &'a [u16],
-    reward: &'a [i64],
-    c: Counts,
-    t: usize,
-    state: &'b [usize],
-    actions: &'b [u8],
-    entries: &'b [i64],
-    corners: &'b [i64],
-    weights: &'b [u32],
-    values: &'b [i64],
-    given: &[u32],
-) -> bool
-    requires { ⌜ Asked (tablesIn c (now transition) (now observation) (now reward)) (now state) (now actions) (now entries) (now corners)
-        (now weights) (now values) (now given) ⌝ }
-{
-    let r = bounds::totals(
+    print_level(
         transition,
         observation,
         reward,
         c,
-        state,
-        actions,
-        entries,
-        corners,
-        weights,
-        values,
+        t + 1,
+        &state[..],
+        &actions[..],
+        &entries[..],
+        &corners[..],
+        &weights[..],
+        &values[..],
         given,
-    );
-    let told = r.verdict;
-    served(told);
-    print_totals(t, r)
+    )
 }
 
 // The lines of the levels; false where one could not be written.
@@ -244,7 +259,7 @@ fn climb<'a>(
     );
     served(opened);
     for t in 0..LEVELS {
-        rung(
+        if !rung(
             transition,
             observation,
             reward,
@@ -263,20 +278,6 @@ fn climb<'a>(
             newentries,
             newcorners,
             newvalues,
-        );
-        if !print_level(
-            transition,
-            observation,
-            reward,
-            c,
-            t + 1,
-            &state[..],
-            &actions[..],
-            &entries[..],
-            &corners[..],
-            &weights[..],
-            &values[..],
-            given,
         ) {
             return false;
         }

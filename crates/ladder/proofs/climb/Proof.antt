@@ -8,7 +8,7 @@ use Rattle.tables.specs.Storage.{tablesIn}
 use Rattle.levels.specs.Storage.{Cells, cells, lent}
 use Rattle.levels.proofs.Over.{AsLong, as-long, long-long}
 use Rattle.ladder.specs.Climb.{Climbed}
-use Rattle.ladder.proofs.Climbing.{climbed-0, asked}
+use Rattle.ladder.proofs.Climbing.{climbed-0}
 use Rattle.ladder.proofs.climb.Statement.{statement}
 use Rattle.ladder.proofs.climb.Tie as tie
 
@@ -132,22 +132,9 @@ of-rung c =
     let d = c .before .before .before .before .before .before .before .before .before .before .before .before .before .before in
     d .before .before .before .before
 
-add-print-level : tie.Need-add-print-level Inv-loop μ-loop
-add-print-level c = omega (arith, in-turn (of-rung c) .loop-test .taken)
-
-print-level-requires : tie.Need-print-level-requires Inv-loop μ-loop
-print-level-requires c κs =
-    let r = of-rung (c .before .before .before .before .before .before) in
-    asked (r .rung .ensures) (omega arith) refl
-
-abbrev of-line : tie.After-print-level Inv-loop μ-loop → tie.After-rung Inv-loop μ-loop
-of-line c =
-    let d = c .before .before .before .before .before .before .before .before .before .before .before .before .before .before in
-    d .before .before .before .before .before .before .before .before .before .before .before
-
 loop-again : tie.Need-loop-again Inv-loop μ-loop
 loop-again c =
-    let r = of-line (c .before) in
+    let r = of-rung (c .before) in
     let i = in-turn r .before .loop .inv .1 .1 in (
       omega (arith, in-turn r .loop-test .taken),
       (r .rung .ensures, (r .rung .kept .1 .1 .1 .1 .1 .0 ∙ i .0, (long-long (i .1 .0) (climbed-long r), long-long (i .1 .1) (built-long r)))),
@@ -155,14 +142,14 @@ loop-again c =
 
 pub climb-spec : {M : Type 1} → statement M
 climb-spec =
-    tie.close (tie.spec Inv-loop μ-loop (λ c κs. search needs) served-requires loop-holds rung-requires add-print-level print-level-requires
-    (λ c. kept-turn (of-line (c .before)) .0) (λ c. kept-turn (of-line (c .before)) .1 .0 .actions) (λ c. kept-turn (of-line (c .before)) .1 .0 .choices)
-    (λ c. kept-turn (of-line (c .before)) .1 .0 .entries) (λ c. kept-turn (of-line (c .before)) .1 .0 .corners)
-    (λ c. kept-turn (of-line (c .before)) .1 .0 .weights) (λ c. kept-turn (of-line (c .before)) .1 .0 .values)
-    (λ c. kept-turn (of-line (c .before)) .1 .1 .actions) (λ c. kept-turn (of-line (c .before)) .1 .1 .choices)
-    (λ c. kept-turn (of-line (c .before)) .1 .1 .entries) (λ c. kept-turn (of-line (c .before)) .1 .1 .corners)
-    (λ c. kept-turn (of-line (c .before)) .1 .1 .values) (λ c. search needs) (λ c. omega (arith, in-turn (of-line (c .before)) .loop-test .taken))
-    (λ c. omega (arith, in-turn (of-line (c .before)) .loop-test .taken)) loop-again (λ c. kept-loop (c .before) .0)
+    tie.close (tie.spec Inv-loop μ-loop (λ c κs. search needs) served-requires loop-holds rung-requires
+    (λ c. kept-turn (of-rung (c .before)) .0) (λ c. kept-turn (of-rung (c .before)) .1 .0 .actions) (λ c. kept-turn (of-rung (c .before)) .1 .0 .choices)
+    (λ c. kept-turn (of-rung (c .before)) .1 .0 .entries) (λ c. kept-turn (of-rung (c .before)) .1 .0 .corners)
+    (λ c. kept-turn (of-rung (c .before)) .1 .0 .weights) (λ c. kept-turn (of-rung (c .before)) .1 .0 .values)
+    (λ c. kept-turn (of-rung (c .before)) .1 .1 .actions) (λ c. kept-turn (of-rung (c .before)) .1 .1 .choices)
+    (λ c. kept-turn (of-rung (c .before)) .1 .1 .entries) (λ c. kept-turn (of-rung (c .before)) .1 .1 .corners)
+    (λ c. kept-turn (of-rung (c .before)) .1 .1 .values) (λ c. search needs) (λ c. omega (arith, in-turn (of-rung (c .before)) .loop-test .taken))
+    (λ c. omega (arith, in-turn (of-rung (c .before)) .loop-test .taken)) loop-again (λ c. kept-loop (c .before) .0)
     (λ c. kept-loop (c .before) .1 .0 .actions) (λ c. kept-loop (c .before) .1 .0 .choices) (λ c. kept-loop (c .before) .1 .0 .entries)
     (λ c. kept-loop (c .before) .1 .0 .corners) (λ c. kept-loop (c .before) .1 .0 .weights) (λ c. kept-loop (c .before) .1 .0 .values)
     (λ c. kept-loop (c .before) .1 .1 .actions) (λ c. kept-loop (c .before) .1 .1 .choices) (λ c. kept-loop (c .before) .1 .1 .entries)
