@@ -107,12 +107,16 @@ pub fn open<'a>(
     weights: &[u32],
     values: &[i64],
 ) -> Verdict
-    ensures { λ r. ⌜ r ≡ openVerdict (tablesIn c (now (transition .entry)) (now (observation .entry)) (now (reward .entry)))
-        (lent (now (state .entry)) (cells (now (actions .entry)) (now (choices .entry)) (now (entries .entry)) (now (corners .entry)) (now (weights .entry)) (now (values .entry)))) ⌝ }
-    ensures { λ _. ⌜ lent (now (state .exit)) (cells (now (actions .exit)) (now (choices .exit)) (now (entries .exit)) (now (corners .exit))
+    ensures { λ r. ⌜ (let m = tablesIn c (now (transition .entry)) (now (observation .entry)) (now (reward .entry)) in
+        let x = lent (now (state .entry)) (cells (now (actions .entry)) (now (choices .entry)) (now (entries .entry)) (now (corners .entry))
+        (now (weights .entry)) (now (values .entry))) in
+        r ≡ openVerdict m x) ⌝ }
+    ensures { λ _. ⌜ (let m = tablesIn c (now (transition .entry)) (now (observation .entry)) (now (reward .entry)) in
+        let x = lent (now (state .entry)) (cells (now (actions .entry)) (now (choices .entry)) (now (entries .entry)) (now (corners .entry))
+        (now (weights .entry)) (now (values .entry))) in
+        lent (now (state .exit)) (cells (now (actions .exit)) (now (choices .exit)) (now (entries .exit)) (now (corners .exit))
         (now (weights .entry)) (now (values .entry)))
-        ≡ opened (tablesIn c (now (transition .entry)) (now (observation .entry)) (now (reward .entry)))
-        (lent (now (state .entry)) (cells (now (actions .entry)) (now (choices .entry)) (now (entries .entry)) (now (corners .entry)) (now (weights .entry)) (now (values .entry)))) ⌝ }
+        ≡ opened m x) ⌝ }
 {
     let verdict = judge_open(
         transition,
@@ -158,9 +162,12 @@ fn lay_level<'b>(
 )
     requires { ⌜ Lays n k vectors points (now actions) (now choices) (now entries) (now corners) (now weights) (now values) ⌝ }
     requires { ⌜ Lays n k vectors points (now newactions) (now newchoices) (now newentries) (now newcorners) (now newweights) (now newvalues) ⌝ }
-    ensures { λ _. ⌜ (cells (now (actions .exit)) (now (choices .exit)) (now (entries .exit)) (now (corners .exit)) (now (weights .exit)) (now (values .exit)))
-        ≡ laidBy n k vectors points (cells (now (newactions .entry)) (now (newchoices .entry)) (now (newentries .entry)) (now (newcorners .entry)) (now (newweights .entry)) (now (newvalues .entry)))
-        (cells (now (actions .entry)) (now (choices .entry)) (now (entries .entry)) (now (corners .entry)) (now (weights .entry)) (now (values .entry))) ⌝ }
+    ensures { λ _. ⌜ (let new = cells (now (newactions .entry)) (now (newchoices .entry)) (now (newentries .entry)) (now (newcorners .entry))
+        (now (newweights .entry)) (now (newvalues .entry)) in
+        let x = cells (now (actions .entry)) (now (choices .entry)) (now (entries .entry)) (now (corners .entry)) (now (weights .entry))
+        (now (values .entry)) in
+        cells (now (actions .exit)) (now (choices .exit)) (now (entries .exit)) (now (corners .exit)) (now (weights .exit)) (now (values .exit))
+        ≡ laidBy n k vectors points new x) ⌝ }
 {
     cells::paste_u8(actions, 0, newactions, vectors);
     cells::paste_u16(choices, 0, newchoices, vectors * k);
@@ -192,13 +199,20 @@ pub fn offer<'a, 'b>(
     newweights: &'b [u32],
     newvalues: &'b [i64],
 ) -> Verdict
-    ensures { λ r. ⌜ r ≡ offerVerdict (tablesIn c (now (transition .entry)) (now (observation .entry)) (now (reward .entry)))
-        (lent (now (state .entry)) (cells (now (actions .entry)) (now (choices .entry)) (now (entries .entry)) (now (corners .entry)) (now (weights .entry)) (now (values .entry))))
-        (lentFor vectors points (cells (now (newactions .entry)) (now (newchoices .entry)) (now (newentries .entry)) (now (newcorners .entry)) (now (newweights .entry)) (now (newvalues .entry)))) ⌝ }
-    ensures { λ _. ⌜ lent (now (state .exit)) (cells (now (actions .exit)) (now (choices .exit)) (now (entries .exit)) (now (corners .exit)) (now (weights .exit)) (now (values .exit)))
-        ≡ offered (tablesIn c (now (transition .entry)) (now (observation .entry)) (now (reward .entry)))
-        (lent (now (state .entry)) (cells (now (actions .entry)) (now (choices .entry)) (now (entries .entry)) (now (corners .entry)) (now (weights .entry)) (now (values .entry))))
-        (lentFor vectors points (cells (now (newactions .entry)) (now (newchoices .entry)) (now (newentries .entry)) (now (newcorners .entry)) (now (newweights .entry)) (now (newvalues .entry)))) ⌝ }
+    ensures { λ r. ⌜ (let m = tablesIn c (now (transition .entry)) (now (observation .entry)) (now (reward .entry)) in
+        let x = lent (now (state .entry)) (cells (now (actions .entry)) (now (choices .entry)) (now (entries .entry)) (now (corners .entry))
+        (now (weights .entry)) (now (values .entry))) in
+        let l = lentFor vectors points (cells (now (newactions .entry)) (now (newchoices .entry)) (now (newentries .entry))
+        (now (newcorners .entry)) (now (newweights .entry)) (now (newvalues .entry))) in
+        r ≡ offerVerdict m x l) ⌝ }
+    ensures { λ _. ⌜ (let m = tablesIn c (now (transition .entry)) (now (observation .entry)) (now (reward .entry)) in
+        let x = lent (now (state .entry)) (cells (now (actions .entry)) (now (choices .entry)) (now (entries .entry)) (now (corners .entry))
+        (now (weights .entry)) (now (values .entry))) in
+        let l = lentFor vectors points (cells (now (newactions .entry)) (now (newchoices .entry)) (now (newentries .entry))
+        (now (newcorners .entry)) (now (newweights .entry)) (now (newvalues .entry))) in
+        lent (now (state .exit)) (cells (now (actions .exit)) (now (choices .exit)) (now (entries .exit)) (now (corners .exit))
+        (now (weights .exit)) (now (values .exit)))
+        ≡ offered m x l) ⌝ }
 {
     let verdict = judging::judge_offer(
         transition,
@@ -276,9 +290,11 @@ fn judge_build<'a, 'b>(
     newcorners: usize,
     newvalues: usize,
 ) -> Verdict
-    ensures { λ r. ⌜ ((choices : List ℕ) → r ≡ (
-        unless (holds (tablesIn c (now (transition .entry)) (now (observation .entry)) (now (reward .entry)))
-        (lent (now (state .entry)) (cells (now (actions .entry)) choices (now (entries .entry)) (now (corners .entry)) (now (weights .entry)) (now (values .entry))))) 7 0
+    ensures { λ r. ⌜ ((choices : List ℕ) →
+        let m = tablesIn c (now (transition .entry)) (now (observation .entry)) (now (reward .entry)) in
+        let standing = lent (now (state .entry)) (cells (now (actions .entry)) choices (now (entries .entry)) (now (corners .entry))
+        (now (weights .entry)) (now (values .entry))) in
+        r ≡ (unless (holds m standing) 7 0
         before unless (ltb (standingAt (now (state .entry)) .number) maxLevels) 8 0
         before unless (leb count maxBuilt && (leb ((c .states + count) * c .observations) newchoices
         && longEnough (c .states) (c .states + count) count newactions newentries newcorners (length (now (given .entry))) newvalues)) 9 0
@@ -343,22 +359,31 @@ pub fn build<'a, 'b>(
     newcorners: &mut [i64],
     newvalues: &mut [i64],
 ) -> Verdict
-    ensures { λ r. ⌜ ((choices : List ℕ) → r ≡ buildVerdict (tablesIn c (now (transition .entry)) (now (observation .entry)) (now (reward .entry)))
-        (lent (now (state .entry)) (cells (now (actions .entry)) choices (now (entries .entry)) (now (corners .entry)) (now (weights .entry)) (now (values .entry)))) count
-        (cells (now (newactions .entry)) (now (newchoices .entry)) (now (newentries .entry)) (now (newcorners .entry)) (now (given .entry)) (now (newvalues .entry)))) ⌝ }
-    ensures { λ _. ⌜ ((choices : List ℕ) → (cells (now (newactions .exit)) (now (newchoices .exit)) (now (newentries .exit)) (now (newcorners .exit)) (now (given .entry)) (now (newvalues .exit)))
-        ≡ builtOf (tablesIn c (now (transition .entry)) (now (observation .entry)) (now (reward .entry)))
-        (lent (now (state .entry)) (cells (now (actions .entry)) choices (now (entries .entry)) (now (corners .entry)) (now (weights .entry)) (now (values .entry)))) count
-        (cells (now (newactions .entry)) (now (newchoices .entry)) (now (newentries .entry)) (now (newcorners .entry)) (now (given .entry)) (now (newvalues .entry)))) ⌝ }
-    ensures { λ r. ⌜ ((choices : List ℕ) (x : Lent) (ls : List LentLevel) → ModelAccepted (tablesIn c (now (transition .entry)) (now (observation .entry)) (now (reward .entry))) x →
-        lent (now (state .entry)) (cells (now (actions .entry)) choices (now (entries .entry)) (now (corners .entry)) (now (weights .entry)) (now (values .entry)))
-        ≡ after (tablesIn c (now (transition .entry)) (now (observation .entry)) (now (reward .entry))) x ls →
-        steps (tablesIn c (now (transition .entry)) (now (observation .entry)) (now (reward .entry))) x ls < maxLevels →
-        PointsHold (tablesIn c (now (transition .entry)) (now (observation .entry)) (now (reward .entry))) x count
-        (cells (now (newactions .entry)) (now (newchoices .entry)) (now (newentries .entry)) (now (newcorners .entry)) (now (given .entry)) (now (newvalues .entry))) →
-        BuildHolds (tablesIn c (now (transition .entry)) (now (observation .entry)) (now (reward .entry))) x ls count
-        (cells (now (newactions .entry)) (now (newchoices .entry)) (now (newentries .entry)) (now (newcorners .entry)) (now (given .entry)) (now (newvalues .entry))) r
-        (cells (now (newactions .exit)) (now (newchoices .exit)) (now (newentries .exit)) (now (newcorners .exit)) (now (given .entry)) (now (newvalues .exit)))) ⌝ }
+    ensures { λ r. ⌜ ((choices : List ℕ) →
+        let m = tablesIn c (now (transition .entry)) (now (observation .entry)) (now (reward .entry)) in
+        let standing = lent (now (state .entry)) (cells (now (actions .entry)) choices (now (entries .entry)) (now (corners .entry))
+        (now (weights .entry)) (now (values .entry))) in
+        let y = cells (now (newactions .entry)) (now (newchoices .entry)) (now (newentries .entry)) (now (newcorners .entry)) (now (given .entry))
+        (now (newvalues .entry)) in
+        r ≡ buildVerdict m standing count y) ⌝ }
+    ensures { λ _. ⌜ ((choices : List ℕ) →
+        let m = tablesIn c (now (transition .entry)) (now (observation .entry)) (now (reward .entry)) in
+        let standing = lent (now (state .entry)) (cells (now (actions .entry)) choices (now (entries .entry)) (now (corners .entry))
+        (now (weights .entry)) (now (values .entry))) in
+        let y = cells (now (newactions .entry)) (now (newchoices .entry)) (now (newentries .entry)) (now (newcorners .entry)) (now (given .entry))
+        (now (newvalues .entry)) in
+        let made = cells (now (newactions .exit)) (now (newchoices .exit)) (now (newentries .exit)) (now (newcorners .exit)) (now (given .entry))
+        (now (newvalues .exit)) in
+        made ≡ builtOf m standing count y) ⌝ }
+    ensures { λ r. ⌜ ((choices : List ℕ) (x : Lent) (ls : List LentLevel) →
+        let m = tablesIn c (now (transition .entry)) (now (observation .entry)) (now (reward .entry)) in
+        let standing = lent (now (state .entry)) (cells (now (actions .entry)) choices (now (entries .entry)) (now (corners .entry))
+        (now (weights .entry)) (now (values .entry))) in
+        let y = cells (now (newactions .entry)) (now (newchoices .entry)) (now (newentries .entry)) (now (newcorners .entry)) (now (given .entry))
+        (now (newvalues .entry)) in
+        let made = cells (now (newactions .exit)) (now (newchoices .exit)) (now (newentries .exit)) (now (newcorners .exit)) (now (given .entry))
+        (now (newvalues .exit)) in
+        ModelAccepted m x → standing ≡ after m x ls → steps m x ls < maxLevels → PointsHold m x count y → BuildHolds m x ls count y r made) ⌝ }
 {
     let verdict = judge_build(
         transition,

@@ -1,6 +1,9 @@
 -- The verdict on a reading, as the code goes through it. Assumes nothing.
 use Prim.Native.Nat.{ℕ, _*_, _≤_}
 use mathlib.Core.Path.{_≡_, sym, _∙_}
+use mathlib.Core.List.{List}
+use lib.ListN.{length}
+use lib.IntN.{ℤ}
 use borrow.Author.Tests.{leb-true}
 use Rattle.tables.specs.declared.Verdict.{Verdict}
 use Rattle.tables.specs.declared.Verdict.the-variants.{Fine, Refused}
@@ -29,13 +32,14 @@ room-fine n rows k transition observation reward start e =
       starts = leb-true _ _ (unless-fine _ _ _ (r .1));
     }
 
-module _ {x f : ModelFile} (e : x ≡ f) (transition observation reward start : ℕ) where
+module _ {x f : ModelFile} (e : x ≡ f) (transition observation : List ℕ) (reward : List ℤ) (start : List ℕ) where
   pub refused-file : {k i : ℕ} → x .verdict ≡ Refused k i → readVerdict f transition observation reward start ≡ Refused k i
   unfolding readVerdict
   refused-file h = rw (sym e, h)
 
   pub after-file : x .verdict ≡ Fine → {v w : Verdict}
-      → v ≡ roomVerdict (x .tables .states) (x .tables .actions * x .tables .states) (x .tables .observations) transition observation reward start
+      → v ≡ roomVerdict (x .tables .states) (x .tables .actions * x .tables .states) (x .tables .observations) (length transition)
+      (length observation) (length reward) (length start)
       → v ≡ w → readVerdict f transition observation reward start ≡ w
   unfolding readVerdict
   after-file h r g = rw (sym e, h) (sym r ∙ g)

@@ -2,7 +2,7 @@
 use Prim.Native.Nat.{ℕ, _*_}
 use mathlib.Core.List.{List}
 use lib.Dec.{leb}
-use lib.ListN.{getD}
+use lib.ListN.{length, getD}
 use lib.IntN.{ℤ, pos}
 use Rattle.integers.specs.Cells.{laid}
 use Rattle.tables.specs.declared.Verdict.{Verdict}
@@ -23,10 +23,11 @@ roomVerdict n rows k transition observation reward start =
     room (rows * n) transition before room (rows * k) observation before room rows reward before room n start
 
 -- the file's own refusals come first
-unfoldable pub readVerdict : ModelFile → ℕ → ℕ → ℕ → ℕ → Verdict
+unfoldable pub readVerdict : ModelFile → List ℕ → List ℕ → List ℤ → List ℕ → Verdict
 readVerdict x transition observation reward start =
     let m = x .tables in
-    x .verdict before roomVerdict (m .states) (m .actions * m .states) (m .observations) transition observation reward start
+    x .verdict
+    before roomVerdict (m .states) (m .actions * m .states) (m .observations) (length transition) (length observation) (length reward) (length start)
 
 abbrev pub readingBy : Refusal → ℕ → ℕ → ℕ → ℕ → Reading
 readingBy r n m k g = record { number = r .number; place = r .place; states = n; actions = m; observations = k; discount = g }

@@ -128,27 +128,28 @@ pub extern "C" fn biidhaqun_read(
     reward: &mut [i64],
     start: &mut [u16],
 ) -> Reading
-    ensures { λ r. ⌜ r ≡ readingOf (readVerdict (modelFile (now (file .entry))) (length (now (transition .entry))) (length (now (observation .entry))) (length (now (reward .entry)))
-        (length (now (start .entry)))) (modelFile (now (file .entry))) ⌝ }
-    ensures { λ _. ⌜ now (transition .exit) ≡ left (readVerdict (modelFile (now (file .entry))) (length (now (transition .entry))) (length (now (observation .entry))) (length (now (reward .entry)))
-        (length (now (start .entry))))
-        (laidTransitions (modelFile (now (file .entry))) (now (transition .entry))) (now (transition .entry)) ⌝ }
-    ensures { λ _. ⌜ now (observation .exit) ≡ left (readVerdict (modelFile (now (file .entry))) (length (now (transition .entry))) (length (now (observation .entry))) (length (now (reward .entry)))
-        (length (now (start .entry))))
-        (laidObservations (modelFile (now (file .entry))) (now (observation .entry))) (now (observation .entry)) ⌝ }
-    ensures { λ _. ⌜ now (reward .exit) ≡ left (readVerdict (modelFile (now (file .entry))) (length (now (transition .entry))) (length (now (observation .entry))) (length (now (reward .entry)))
-        (length (now (start .entry))))
-        (laidRewards (modelFile (now (file .entry))) (now (reward .entry))) (now (reward .entry)) ⌝ }
-    ensures { λ _. ⌜ now (start .exit) ≡ left (readVerdict (modelFile (now (file .entry))) (length (now (transition .entry))) (length (now (observation .entry))) (length (now (reward .entry)))
-        (length (now (start .entry))))
-        (laidStart (modelFile (now (file .entry))) (now (start .entry))) (now (start .entry)) ⌝ }
+    ensures { λ r. ⌜ (let x = modelFile (now (file .entry)) in
+        let v = readVerdict x (now (transition .entry)) (now (observation .entry)) (now (reward .entry)) (now (start .entry)) in
+        r ≡ readingOf v x) ⌝ }
+    ensures { λ _. ⌜ (let x = modelFile (now (file .entry)) in
+        let v = readVerdict x (now (transition .entry)) (now (observation .entry)) (now (reward .entry)) (now (start .entry)) in
+        now (transition .exit) ≡ left v (laidTransitions x (now (transition .entry))) (now (transition .entry))) ⌝ }
+    ensures { λ _. ⌜ (let x = modelFile (now (file .entry)) in
+        let v = readVerdict x (now (transition .entry)) (now (observation .entry)) (now (reward .entry)) (now (start .entry)) in
+        now (observation .exit) ≡ left v (laidObservations x (now (observation .entry))) (now (observation .entry))) ⌝ }
+    ensures { λ _. ⌜ (let x = modelFile (now (file .entry)) in
+        let v = readVerdict x (now (transition .entry)) (now (observation .entry)) (now (reward .entry)) (now (start .entry)) in
+        now (reward .exit) ≡ left v (laidRewards x (now (reward .entry))) (now (reward .entry))) ⌝ }
+    ensures { λ _. ⌜ (let x = modelFile (now (file .entry)) in
+        let v = readVerdict x (now (transition .entry)) (now (observation .entry)) (now (reward .entry)) (now (start .entry)) in
+        now (start .exit) ≡ left v (laidStart x (now (start .entry))) (now (start .entry))) ⌝ }
 {
-    let x = modelfile::read(file);
-    let verdict = x.verdict;
+    let read = modelfile::read(file);
+    let verdict = read.verdict;
     let Verdict::Fine = verdict else {
         return no_reading(verdict);
     };
-    let m = x.tables;
+    let m = read.tables;
     let n = m.states;
     let rows = m.actions * n;
     let room = judge_room(
@@ -166,7 +167,7 @@ pub extern "C" fn biidhaqun_read(
     cells::paste_u16(transition, 0, &m.transition, rows * n);
     cells::paste_u16(observation, 0, &m.observation, rows * m.observations);
     cells::paste_i64(reward, 0, &m.reward, rows);
-    cells::paste_u16(start, 0, &x.start, n);
+    cells::paste_u16(start, 0, &read.start, n);
     Reading {
         number: 0,
         place: 0,
@@ -195,14 +196,16 @@ pub extern "C" fn biidhaqun_open<'a>(
     weights: &[u32],
     values: &[i64],
 ) -> Refusal
-    ensures { λ r. ⌜ r ≡ refusalOf (openVerdict (model n m k g (now (transition .entry)) (now (observation .entry)) (now (reward .entry)))
-        (lent (now (state .entry)) (cells (now (actions .entry)) (now (choices .entry)) (now (entries .entry))
-        (now (corners .entry)) (now (weights .entry)) (now (values .entry))))) ⌝ }
-    ensures { λ _. ⌜ (lent (now (state .exit)) (cells (now (actions .exit)) (now (choices .exit)) (now (entries .exit))
-        (now (corners .exit)) (now (weights .entry)) (now (values .entry))))
-        ≡ opened (model n m k g (now (transition .entry)) (now (observation .entry)) (now (reward .entry)))
-        (lent (now (state .entry)) (cells (now (actions .entry)) (now (choices .entry)) (now (entries .entry))
-        (now (corners .entry)) (now (weights .entry)) (now (values .entry)))) ⌝ }
+    ensures { λ r. ⌜ (let tables = model n m k g (now (transition .entry)) (now (observation .entry)) (now (reward .entry)) in
+        let x = lent (now (state .entry)) (cells (now (actions .entry)) (now (choices .entry)) (now (entries .entry)) (now (corners .entry))
+        (now (weights .entry)) (now (values .entry))) in
+        r ≡ refusalOf (openVerdict tables x)) ⌝ }
+    ensures { λ _. ⌜ (let tables = model n m k g (now (transition .entry)) (now (observation .entry)) (now (reward .entry)) in
+        let x = lent (now (state .entry)) (cells (now (actions .entry)) (now (choices .entry)) (now (entries .entry)) (now (corners .entry))
+        (now (weights .entry)) (now (values .entry))) in
+        lent (now (state .exit)) (cells (now (actions .exit)) (now (choices .exit)) (now (entries .exit)) (now (corners .exit))
+        (now (weights .entry)) (now (values .entry)))
+        ≡ opened tables x) ⌝ }
 {
     let c = Counts {
         states: n,
@@ -252,18 +255,20 @@ pub extern "C" fn biidhaqun_offer<'a, 'b>(
     newweights: &'b [u32],
     newvalues: &'b [i64],
 ) -> Refusal
-    ensures { λ r. ⌜ r ≡ refusalOf (offerVerdict (model n m k g (now (transition .entry)) (now (observation .entry)) (now (reward .entry)))
-        (lent (now (state .entry)) (cells (now (actions .entry)) (now (choices .entry)) (now (entries .entry))
-        (now (corners .entry)) (now (weights .entry)) (now (values .entry))))
-        (lentFor vectors points (cells (now (newactions .entry)) (now (newchoices .entry)) (now (newentries .entry))
-        (now (newcorners .entry)) (now (newweights .entry)) (now (newvalues .entry))))) ⌝ }
-    ensures { λ _. ⌜ (lent (now (state .exit)) (cells (now (actions .exit)) (now (choices .exit)) (now (entries .exit))
-        (now (corners .exit)) (now (weights .exit)) (now (values .exit))))
-        ≡ offered (model n m k g (now (transition .entry)) (now (observation .entry)) (now (reward .entry)))
-        (lent (now (state .entry)) (cells (now (actions .entry)) (now (choices .entry)) (now (entries .entry))
-        (now (corners .entry)) (now (weights .entry)) (now (values .entry))))
-        (lentFor vectors points (cells (now (newactions .entry)) (now (newchoices .entry)) (now (newentries .entry))
-        (now (newcorners .entry)) (now (newweights .entry)) (now (newvalues .entry)))) ⌝ }
+    ensures { λ r. ⌜ (let tables = model n m k g (now (transition .entry)) (now (observation .entry)) (now (reward .entry)) in
+        let x = lent (now (state .entry)) (cells (now (actions .entry)) (now (choices .entry)) (now (entries .entry)) (now (corners .entry))
+        (now (weights .entry)) (now (values .entry))) in
+        let l = lentFor vectors points (cells (now (newactions .entry)) (now (newchoices .entry)) (now (newentries .entry))
+        (now (newcorners .entry)) (now (newweights .entry)) (now (newvalues .entry))) in
+        r ≡ refusalOf (offerVerdict tables x l)) ⌝ }
+    ensures { λ _. ⌜ (let tables = model n m k g (now (transition .entry)) (now (observation .entry)) (now (reward .entry)) in
+        let x = lent (now (state .entry)) (cells (now (actions .entry)) (now (choices .entry)) (now (entries .entry)) (now (corners .entry))
+        (now (weights .entry)) (now (values .entry))) in
+        let l = lentFor vectors points (cells (now (newactions .entry)) (now (newchoices .entry)) (now (newentries .entry))
+        (now (newcorners .entry)) (now (newweights .entry)) (now (newvalues .entry))) in
+        lent (now (state .exit)) (cells (now (actions .exit)) (now (choices .exit)) (now (entries .exit)) (now (corners .exit))
+        (now (weights .exit)) (now (values .exit)))
+        ≡ offered tables x l) ⌝ }
 {
     let c = Counts {
         states: n,
@@ -313,15 +318,17 @@ pub extern "C" fn biidhaqun_totals<'a, 'b>(
     values: &'b [i64],
     mixture: &[u32],
 ) -> Totals
-    ensures { λ r. ⌜ ((choices : List ℕ) → r ≡ totalsBy (totalsOf (model n m k g (now (transition .entry)) (now (observation .entry)) (now (reward .entry)))
-        (lent (now (state .entry)) (cells (now (actions .entry)) choices (now (entries .entry))
-        (now (corners .entry)) (now (weights .entry)) (now (values .entry))))
-        (now (mixture .entry)))) ⌝ }
-    ensures { λ r. ⌜ ((choices : List ℕ) (x : Lent) (ls : List LentLevel) → ModelAccepted (model n m k g (now (transition .entry)) (now (observation .entry)) (now (reward .entry))) x →
-        lent (now (state .entry)) (cells (now (actions .entry)) choices (now (entries .entry))
-        (now (corners .entry)) (now (weights .entry)) (now (values .entry))) ≡ after (model n m k g (now (transition .entry)) (now (observation .entry)) (now (reward .entry))) x ls →
-        0 < steps (model n m k g (now (transition .entry)) (now (observation .entry)) (now (reward .entry))) x ls → mixtureHolds n (now (mixture .entry)) ≡ true →
-        Brackets (model n m k g (now (transition .entry)) (now (observation .entry)) (now (reward .entry))) x ls (now (mixture .entry)) r) ⌝ }
+    ensures { λ r. ⌜ ((choices : List ℕ) →
+        let tables = model n m k g (now (transition .entry)) (now (observation .entry)) (now (reward .entry)) in
+        let standing = lent (now (state .entry)) (cells (now (actions .entry)) choices (now (entries .entry)) (now (corners .entry))
+        (now (weights .entry)) (now (values .entry))) in
+        r ≡ totalsBy (totalsOf tables standing (now (mixture .entry)))) ⌝ }
+    ensures { λ r. ⌜ ((choices : List ℕ) (x : Lent) (ls : List LentLevel) →
+        let tables = model n m k g (now (transition .entry)) (now (observation .entry)) (now (reward .entry)) in
+        let standing = lent (now (state .entry)) (cells (now (actions .entry)) choices (now (entries .entry)) (now (corners .entry))
+        (now (weights .entry)) (now (values .entry))) in
+        ModelAccepted tables x → standing ≡ after tables x ls → 0 < steps tables x ls → mixtureHolds n (now (mixture .entry)) ≡ true →
+        Brackets tables x ls (now (mixture .entry)) r) ⌝ }
 {
     let c = Counts {
         states: n,
@@ -378,15 +385,19 @@ pub extern "C" fn biidhaqun_each<'a, 'b>(
     upper: &mut [i64],
     advice: &mut [u8],
 ) -> Refusal
-    ensures { λ r. ⌜ ((choices : List ℕ) → r ≡ refusalOf (eachVerdict (model n m k g (now (transition .entry)) (now (observation .entry)) (now (reward .entry)))
-        (lent (now (state .entry)) (cells (now (actions .entry)) choices (now (entries .entry))
-        (now (corners .entry)) (now (weights .entry)) (now (values .entry))))
-        (now (mixtures .entry)) count (answers (now (verdicts .entry)) (now (lower .entry)) (now (upper .entry)) (now (advice .entry))))) ⌝ }
-    ensures { λ _. ⌜ ((choices : List ℕ) → answers (now (verdicts .exit)) (now (lower .exit)) (now (upper .exit)) (now (advice .exit))
-        ≡ eachOf (model n m k g (now (transition .entry)) (now (observation .entry)) (now (reward .entry)))
-        (lent (now (state .entry)) (cells (now (actions .entry)) choices (now (entries .entry))
-        (now (corners .entry)) (now (weights .entry)) (now (values .entry))))
-        (now (mixtures .entry)) count (answers (now (verdicts .entry)) (now (lower .entry)) (now (upper .entry)) (now (advice .entry)))) ⌝ }
+    ensures { λ r. ⌜ ((choices : List ℕ) →
+        let tables = model n m k g (now (transition .entry)) (now (observation .entry)) (now (reward .entry)) in
+        let standing = lent (now (state .entry)) (cells (now (actions .entry)) choices (now (entries .entry)) (now (corners .entry))
+        (now (weights .entry)) (now (values .entry))) in
+        r ≡ refusalOf (eachVerdict tables standing (now (mixtures .entry)) count
+        (answers (now (verdicts .entry)) (now (lower .entry)) (now (upper .entry)) (now (advice .entry))))) ⌝ }
+    ensures { λ _. ⌜ ((choices : List ℕ) →
+        let tables = model n m k g (now (transition .entry)) (now (observation .entry)) (now (reward .entry)) in
+        let standing = lent (now (state .entry)) (cells (now (actions .entry)) choices (now (entries .entry)) (now (corners .entry))
+        (now (weights .entry)) (now (values .entry))) in
+        answers (now (verdicts .exit)) (now (lower .exit)) (now (upper .exit)) (now (advice .exit))
+        ≡ eachOf tables standing (now (mixtures .entry)) count
+        (answers (now (verdicts .entry)) (now (lower .entry)) (now (upper .entry)) (now (advice .entry)))) ⌝ }
 {
     let c = Counts {
         states: n,
@@ -439,29 +450,32 @@ pub extern "C" fn biidhaqun_build<'a, 'b>(
     newcorners: &mut [i64],
     newvalues: &mut [i64],
 ) -> Refusal
-    ensures { λ r. ⌜ ((choices : List ℕ) → r ≡ refusalOf (buildVerdict (model n m k g (now (transition .entry)) (now (observation .entry)) (now (reward .entry)))
-        (lent (now (state .entry)) (cells (now (actions .entry)) choices (now (entries .entry))
-        (now (corners .entry)) (now (weights .entry)) (now (values .entry)))) count
-        (cells (now (newactions .entry)) (now (newchoices .entry)) (now (newentries .entry))
-        (now (newcorners .entry)) (now (given .entry)) (now (newvalues .entry))))) ⌝ }
-    ensures { λ _. ⌜ ((choices : List ℕ) → cells (now (newactions .exit)) (now (newchoices .exit)) (now (newentries .exit))
-        (now (newcorners .exit)) (now (given .entry)) (now (newvalues .exit))
-        ≡ builtOf (model n m k g (now (transition .entry)) (now (observation .entry)) (now (reward .entry)))
-        (lent (now (state .entry)) (cells (now (actions .entry)) choices (now (entries .entry))
-        (now (corners .entry)) (now (weights .entry)) (now (values .entry)))) count
-        (cells (now (newactions .entry)) (now (newchoices .entry)) (now (newentries .entry))
-        (now (newcorners .entry)) (now (given .entry)) (now (newvalues .entry)))) ⌝ }
-    ensures { λ r. ⌜ ((choices : List ℕ) (x : Lent) (ls : List LentLevel) → ModelAccepted (model n m k g (now (transition .entry)) (now (observation .entry)) (now (reward .entry))) x →
-        lent (now (state .entry)) (cells (now (actions .entry)) choices (now (entries .entry))
-        (now (corners .entry)) (now (weights .entry)) (now (values .entry))) ≡ after (model n m k g (now (transition .entry)) (now (observation .entry)) (now (reward .entry))) x ls →
-        steps (model n m k g (now (transition .entry)) (now (observation .entry)) (now (reward .entry))) x ls < maxLevels → PointsHold (model n m k g (now (transition .entry)) (now (observation .entry)) (now (reward .entry))) x count
-        (cells (now (newactions .entry)) (now (newchoices .entry)) (now (newentries .entry))
-        (now (newcorners .entry)) (now (given .entry)) (now (newvalues .entry))) →
-        Builds (model n m k g (now (transition .entry)) (now (observation .entry)) (now (reward .entry))) x ls count
-        (cells (now (newactions .entry)) (now (newchoices .entry)) (now (newentries .entry))
-        (now (newcorners .entry)) (now (given .entry)) (now (newvalues .entry))) r
-        (cells (now (newactions .exit)) (now (newchoices .exit)) (now (newentries .exit))
-        (now (newcorners .exit)) (now (given .entry)) (now (newvalues .exit)))) ⌝ }
+    ensures { λ r. ⌜ ((choices : List ℕ) →
+        let tables = model n m k g (now (transition .entry)) (now (observation .entry)) (now (reward .entry)) in
+        let standing = lent (now (state .entry)) (cells (now (actions .entry)) choices (now (entries .entry)) (now (corners .entry))
+        (now (weights .entry)) (now (values .entry))) in
+        let y = cells (now (newactions .entry)) (now (newchoices .entry)) (now (newentries .entry)) (now (newcorners .entry)) (now (given .entry))
+        (now (newvalues .entry)) in
+        r ≡ refusalOf (buildVerdict tables standing count y)) ⌝ }
+    ensures { λ _. ⌜ ((choices : List ℕ) →
+        let tables = model n m k g (now (transition .entry)) (now (observation .entry)) (now (reward .entry)) in
+        let standing = lent (now (state .entry)) (cells (now (actions .entry)) choices (now (entries .entry)) (now (corners .entry))
+        (now (weights .entry)) (now (values .entry))) in
+        let y = cells (now (newactions .entry)) (now (newchoices .entry)) (now (newentries .entry)) (now (newcorners .entry)) (now (given .entry))
+        (now (newvalues .entry)) in
+        let made = cells (now (newactions .exit)) (now (newchoices .exit)) (now (newentries .exit)) (now (newcorners .exit)) (now (given .entry))
+        (now (newvalues .exit)) in
+        made ≡ builtOf tables standing count y) ⌝ }
+    ensures { λ r. ⌜ ((choices : List ℕ) (x : Lent) (ls : List LentLevel) →
+        let tables = model n m k g (now (transition .entry)) (now (observation .entry)) (now (reward .entry)) in
+        let standing = lent (now (state .entry)) (cells (now (actions .entry)) choices (now (entries .entry)) (now (corners .entry))
+        (now (weights .entry)) (now (values .entry))) in
+        let y = cells (now (newactions .entry)) (now (newchoices .entry)) (now (newentries .entry)) (now (newcorners .entry)) (now (given .entry))
+        (now (newvalues .entry)) in
+        let made = cells (now (newactions .exit)) (now (newchoices .exit)) (now (newentries .exit)) (now (newcorners .exit)) (now (given .entry))
+        (now (newvalues .exit)) in
+        ModelAccepted tables x → standing ≡ after tables x ls → steps tables x ls < maxLevels → PointsHold tables x count y →
+        Builds tables x ls count y r made) ⌝ }
 {
     let c = Counts {
         states: n,
@@ -508,8 +522,8 @@ pub extern "C" fn biidhaqun_worth<'a, 'b>(
     state: usize,
     steps: usize,
 ) -> Worth
-    ensures { λ r. ⌜ r ≡ worthBy (worthAnswer (model n m k g (now (transition .entry)) (now (observation .entry)) (now (reward .entry)))
-        (lentGraph nodes (now (actions .entry)) (now (next .entry))) node state steps) ⌝ }
+    ensures { λ r. ⌜ (let tables = model n m k g (now (transition .entry)) (now (observation .entry)) (now (reward .entry)) in
+        r ≡ worthBy (worthAnswer tables (lentGraph nodes (now (actions .entry)) (now (next .entry))) node state steps)) ⌝ }
 {
     let c = Counts {
         states: n,

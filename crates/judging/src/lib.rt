@@ -37,7 +37,8 @@ fn ranges_hold<'a>(
     t: usize,
 ) -> Verdict
     requires { ⌜ (n ≤ maxStates) × ((t ≤ maxLevels) × ((vectors ≤ maxVectors) × (points ≤ maxPoints))) ⌝ }
-    requires { ⌜ (vectors * n ≤ length (now entries)) × ((n ≤ length (now corners)) × ((points * n ≤ length (now weights)) × (points ≤ length (now values)))) ⌝ }
+    requires { ⌜ (vectors * n ≤ length (now entries)) × ((n ≤ length (now corners)) ×
+        ((points * n ≤ length (now weights)) × (points ≤ length (now values)))) ⌝ }
     ensures { λ r. ⌜ r ≡ rangesVerdict n t
         (levelIn n 0 vectors [] [] (now (entries .entry)) (now (corners .entry)) points (now (weights .entry))
         (now (values .entry))) ⌝ }
@@ -191,11 +192,12 @@ fn judge_shape<'a, 'b, 'c>(
     newweights: &'c [u32],
     newvalues: &'c [i64],
 ) -> Verdict
-    ensures { λ r. ⌜ r ≡ shapeVerdict (tablesIn c (now (transition .entry)) (now (observation .entry)) (now (reward .entry)))
-        (lent (now (state .entry)) (cells (now (actions .entry)) (now (choices .entry)) (now (entries .entry)) (now (corners .entry))
-        (now (weights .entry)) (now (values .entry))))
-        (lentFor vectors points (cells (now (newactions .entry)) (now (newchoices .entry)) (now (newentries .entry)) (now (newcorners .entry))
-        (now (newweights .entry)) (now (newvalues .entry)))) ⌝ }
+    ensures { λ r. ⌜ (let m = tablesIn c (now (transition .entry)) (now (observation .entry)) (now (reward .entry)) in
+        let x = lent (now (state .entry)) (cells (now (actions .entry)) (now (choices .entry)) (now (entries .entry)) (now (corners .entry))
+        (now (weights .entry)) (now (values .entry))) in
+        let l = lentFor vectors points (cells (now (newactions .entry)) (now (newchoices .entry)) (now (newentries .entry))
+        (now (newcorners .entry)) (now (newweights .entry)) (now (newvalues .entry))) in
+        r ≡ shapeVerdict m x l) ⌝ }
 {
     if !standing_holds(
         transition,
@@ -287,10 +289,11 @@ fn judge_backups<'a, 'b, 'c>(
         (lent (now state) (cells (now actions) (now choices) (now entries) (now corners) (now weights) (now values)))
         (lentFor vectors points (cells (now newactions) (now newchoices) (now newentries) (now newcorners) (now newweights) (now newvalues))) ≡ Fine ⌝ }
     ensures { λ r. ⌜ (let m = tablesIn c (now (transition .entry)) (now (observation .entry)) (now (reward .entry)) in
-        r ≡ backupsVerdict (modelOf m) (levelOf m (standingIn (lent (now (state .entry)) (cells (now (actions .entry)) (now (choices .entry)) (now (entries .entry)) (now (corners .entry))
-        (now (weights .entry)) (now (values .entry))))))
-        (levelOf m (lentFor vectors points (cells (now (newactions .entry)) (now (newchoices .entry)) (now (newentries .entry)) (now (newcorners .entry))
-        (now (newweights .entry)) (now (newvalues .entry)))))) ⌝ }
+        let x = lent (now (state .entry)) (cells (now (actions .entry)) (now (choices .entry)) (now (entries .entry)) (now (corners .entry))
+        (now (weights .entry)) (now (values .entry))) in
+        let l = lentFor vectors points (cells (now (newactions .entry)) (now (newchoices .entry)) (now (newentries .entry))
+        (now (newcorners .entry)) (now (newweights .entry)) (now (newvalues .entry))) in
+        r ≡ backupsVerdict (modelOf m) (levelOf m (standingIn x)) (levelOf m l)) ⌝ }
 {
     let s = levels::standing_in(state);
     let floor = checks::floors_hold(
@@ -358,11 +361,12 @@ pub fn judge_offer<'a, 'b, 'c>(
     newweights: &'c [u32],
     newvalues: &'c [i64],
 ) -> Verdict
-    ensures { λ r. ⌜ r ≡ offerVerdict (tablesIn c (now (transition .entry)) (now (observation .entry)) (now (reward .entry)))
-        (lent (now (state .entry)) (cells (now (actions .entry)) (now (choices .entry)) (now (entries .entry)) (now (corners .entry))
-        (now (weights .entry)) (now (values .entry))))
-        (lentFor vectors points (cells (now (newactions .entry)) (now (newchoices .entry)) (now (newentries .entry)) (now (newcorners .entry))
-        (now (newweights .entry)) (now (newvalues .entry)))) ⌝ }
+    ensures { λ r. ⌜ (let m = tablesIn c (now (transition .entry)) (now (observation .entry)) (now (reward .entry)) in
+        let x = lent (now (state .entry)) (cells (now (actions .entry)) (now (choices .entry)) (now (entries .entry)) (now (corners .entry))
+        (now (weights .entry)) (now (values .entry))) in
+        let l = lentFor vectors points (cells (now (newactions .entry)) (now (newchoices .entry)) (now (newentries .entry))
+        (now (newcorners .entry)) (now (newweights .entry)) (now (newvalues .entry))) in
+        r ≡ offerVerdict m x l) ⌝ }
 {
     let shape = judge_shape(
         transition,

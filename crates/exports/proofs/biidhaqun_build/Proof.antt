@@ -7,11 +7,13 @@ use Rattle.exports.proofs.biidhaqun_build.Tie as tie
 returns : tie.Need-returns
 returns c =
     let b = c .before .before .before .before .before .before .before .before .build .ensures in
+    let v = c .before .before .before .before .before .before .before .before .build .result in
     let same = c .refusal-of .ensures in (
       λ choices. same ∙ ap refusalOf (b .0 choices),
       (
         b .1 .0,
-        λ choices x ls o e h p. record { verdict = c .before .before .before .before .before .before .before .before .build .result; answer = same; holds = b .1 .1 choices x ls o e h p },
+        λ choices x ls o e h p.
+            record { verdict = v; answer = same; holds = b .1 .1 choices x ls o e h p },
       ),
     )
 

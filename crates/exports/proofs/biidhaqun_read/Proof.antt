@@ -66,7 +66,7 @@ returns : tie.Need-returns
 returns c =
     let f = c .before .before .before in
     let a = start f .args in
-    let e = refused-file (f .read .ensures) (length (a .transition .now)) (length (a .observation .now)) (length (a .reward .now)) (length (a .start .now))
+    let e = refused-file (f .read .ensures) (a .transition .now) (a .observation .now) (a .reward .now) (a .start .now)
     (c .before .enum-told2 .given .1) in (
       rw e (c .no-reading .ensures ∙ ap (λ v. readingBy (refusalOf v) 0 0 0 0) (c .before .enum-told2 .given .1)),
       (rw e, (rw e, (rw e, rw e))),
@@ -84,7 +84,7 @@ returns-2 c =
     let t = of-room j in
     let f = of-file t in
     let a = start f .args in
-    let e = after-file (f .read .ensures) (length (a .transition .now)) (length (a .observation .now)) (length (a .reward .now)) (length (a .start .now))
+    let e = after-file (f .read .ensures) (a .transition .now) (a .observation .now) (a .reward .now) (a .start .now)
     (t .enum-told .given .1) (j .judge-room .ensures) (c .before .enum-told4 .given .1) in (
       rw e (c .no-reading2 .ensures ∙ ap (λ v. readingBy (refusalOf v) 0 0 0 0) (c .before .enum-told4 .given .1)),
       (rw e, (rw e, (rw e, rw e))),
@@ -133,7 +133,7 @@ returns-3 c =
     let a = start f .args in
     let m = f .read .result .tables in
     let same = f .read .ensures in
-    let e = after-file same (length (a .transition .now)) (length (a .observation .now)) (length (a .reward .now)) (length (a .start .now))
+    let e = after-file same (a .transition .now) (a .observation .now) (a .reward .now) (a .start .now)
     (h .enum-told .given .1) (j .judge-room .ensures) (v .enum-told3 .given .1) in (
       rw (e, sym same),
       (

@@ -1,4 +1,5 @@
-use Rattle.judging.proofs.Prelude.{_≤_, _<_, _≡_, sym, _∙_, true, arith, needs, not-true, not-false, Tables, Verdict, Refused, tablesIn, cells, lent, counts-few}
+use Rattle.judging.proofs.Prelude.{_≤_, _<_, _≡_, sym, _∙_, true, arith, needs, not-true, not-false, Tables, Verdict, Refused}
+use Rattle.judging.proofs.Prelude.{tablesIn, cells, lent, counts-few}
 use mathlib.Core.Path.{ap}
 use lib.Dec.{ltb}
 use borrow.Author.Tests.{lt-ltb, le-ltb}
@@ -110,7 +111,8 @@ returns-3 : tie.Need-returns-3
 unfolding shapeVerdict
 returns-3 c =
     let s = of-certifier (of-number (c .before .before)) in
-    on-8 (c .before .before) (breaks {b = fits (tables s) (certifier s) (offered s)} _ (rw (sym (c .before .counts-hold .ensures) ∙ not-true _ (c .if3 .taken))))
+    on-8 (c .before .before) (breaks {b = fits (tables s) (certifier s) (offered s)} _
+    (rw (sym (c .before .counts-hold .ensures) ∙ not-true _ (c .if3 .taken))))
 
 small : (c : tie.Else3) → let a = of-certifier (of-number (of-counts c)) .args in
     (a .c .states ≤ maxStates) × ((a .c .observations ≤ maxObservations) × ((a .vectors ≤ maxVectors) × (a .points ≤ maxPoints)))
@@ -124,7 +126,8 @@ unfolding shapeVerdict
 returns-4 c =
     let e = c .before .before in
     let s = of-certifier (of-number (of-counts e)) in
-    on-8 (of-counts e) (breaks {b = fits (tables s) (certifier s) (offered s)} _ (rw (counted e, sym (c .before .complete .ensures) ∙ not-true _ (c .if4 .taken))))
+    on-8 (of-counts e) (breaks {b = fits (tables s) (certifier s) (offered s)} _
+    (rw (counted e, sym (c .before .complete .ensures) ∙ not-true _ (c .if4 .taken))))
 
 complete-requires-2 : tie.Need-complete-requires-2
 complete-requires-2 c κs = small (of-offered c)
@@ -135,7 +138,8 @@ returns-5 c =
     let e = c .before .before in
     let s = of-certifier (of-number (of-counts (of-offered e))) in
     on-8 (of-counts (of-offered e))
-    (breaks {b = fits (tables s) (certifier s) (offered s)} _ (rw (counted (of-offered e), offered-complete e, sym (c .before .complete2 .ensures) ∙ not-true _ (c .if5 .taken))))
+    (breaks {b = fits (tables s) (certifier s) (offered s)} _
+    (rw (counted (of-offered e), offered-complete e, sym (c .before .complete2 .ensures) ∙ not-true _ (c .if5 .taken))))
 
 judge-level-requires : tie.Need-judge-level-requires
 judge-level-requires c κs =

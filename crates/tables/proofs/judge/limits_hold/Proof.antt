@@ -32,7 +32,9 @@ tables-stored-requires : tie.Need-tables-stored-requires
 tables-stored-requires c κs = let f = few-here c in (f .states, (f .actions, f .observations))
 
 returns-2 : tie.Need-returns-2
-returns-2 c = sym (and-false (limitsHold (modelOf (tables (c .before .before .before .before .before .before)))) _ (sym (c .before .tables-stored .ensures) ∙ not-true _ (c .if2 .taken)))
+returns-2 c =
+    sym (and-false (limitsHold (modelOf (tables (c .before .before .before .before .before .before)))) _
+    (sym (c .before .tables-stored .ensures) ∙ not-true _ (c .if2 .taken)))
 
 returns-3 : tie.Need-returns-3
 unfolding limitsHold
