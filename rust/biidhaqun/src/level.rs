@@ -19,7 +19,7 @@ use std::fmt;
 /// let mut level = Level::new(Shape { states: 2, actions: 2, observations: 2 });
 /// level.add_vector(0, &[0, 0], &[-100, -100])?;
 /// level.add_vector(1, &[0, 0], &[-1_000, 600])?;
-/// level.corners_mut().copy_from_slice(&[-100, 600]);
+/// level.set_corners(&[-100, 600])?;
 /// level.add_point(&[1, 1], 500)?;
 /// assert_eq!(level.vector(1).map(|vector| vector.entries[1]), Some(600));
 /// assert_eq!(level.to_string(), "\
@@ -89,6 +89,13 @@ impl Level {
         self.slices.actions.push(action);
         self.slices.choices.extend_from_slice(choices);
         self.slices.entries.extend_from_slice(entries);
+        Ok(())
+    }
+
+    /// Sets the corners, if there is one for each state.
+    pub fn set_corners(&mut self, corners: &[i64]) -> Result<(), Length> {
+        Length::test("corners of the level", None, corners.len(), self.states)?;
+        self.slices.corners.copy_from_slice(corners);
         Ok(())
     }
 
