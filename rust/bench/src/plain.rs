@@ -92,7 +92,7 @@ fn corner(n: usize, state: usize) -> Vec<i64> {
 /// What the weights of a point total, if that is 1 to 100.
 fn total(weights: &[u32]) -> Option<i64> {
     let total = whole(weights).iter().sum();
-    (1..=TOTAL).contains(&total).then(|| total)
+    (1..=TOTAL).contains(&total).then_some(total)
 }
 
 /// Corners·q less the largest drop, or less 0.
@@ -130,7 +130,7 @@ fn first_untotalled(weights: &[u32], n: usize) -> Option<usize> {
 fn examine<'a>(tables: &'a Tables, certifier: &'a Certifier, choices: bool) -> Answer<(Model<'a>, usize, Cut<'a>)> {
     let seven = Refusal { number: 7, place: 0 };
     let model = judge(tables).map_err(|_| seven)?;
-    let (number, level) = Cut::standing(certifier, model.n, choices.then(|| model.k)).ok_or(seven)?;
+    let (number, level) = Cut::standing(certifier, model.n, choices.then_some(model.k)).ok_or(seven)?;
     let holds = level.actions.iter().all(|&action| usize::from(action) < model.m)
         && first_outside(&level, model.n, number).is_none()
         && first_untotalled(level.weights, model.n).is_none();

@@ -63,7 +63,7 @@ fn judge(tables: &Tables) -> Answer<Model<'_>> {
 /// What the weights of a point total, if that is 1 to 100.
 fn total(row: &[u32]) -> Option<i64> {
     let total = row.iter().map(|&weight| i64::from(weight)).sum();
-    (1..=TOTAL).contains(&total).then(|| total)
+    (1..=TOTAL).contains(&total).then_some(total)
 }
 
 /// 12: the first point whose weights total less than 1 or more than 100.
@@ -158,7 +158,7 @@ fn drop_of(q: &[i64], p: &[i64], gain: i64) -> i64 {
 fn examine<'a>(tables: &'a Tables, certifier: &'a Certifier, choices: bool) -> Answer<(Model<'a>, usize, Cut<'a>)> {
     let seven = Refusal { number: 7, place: 0 };
     let model = judge(tables).map_err(|_| seven)?;
-    let (number, level) = Cut::standing(certifier, model.n, choices.then(|| model.k)).ok_or(seven)?;
+    let (number, level) = Cut::standing(certifier, model.n, choices.then_some(model.k)).ok_or(seven)?;
     let holds = level.actions.iter().all(|&action| usize::from(action) < model.m)
         && first_outside(&level, model.n, number).is_none()
         && first_untotalled(level.weights, model.n).is_none();

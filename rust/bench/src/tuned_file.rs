@@ -76,7 +76,7 @@ impl<'a> Reader<'a> {
     }
 
     fn word(&mut self) -> Answer<Word<'a>> {
-        self.next().ok_or_else(|| Refusal { number: 2, place: self.file.len() })
+        self.next().ok_or(Refusal { number: 2, place: self.file.len() })
     }
 
     fn key(&mut self, key: &[u8]) -> Answer<()> {
