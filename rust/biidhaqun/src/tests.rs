@@ -229,6 +229,44 @@ fn every_refusal_has_a_rule_and_a_sentence() {
     assert_eq!((Rule::of(0), Rule::of(19), Rule::of(101)), (None, None, None));
 }
 
+/// The C header says the same numbers.
+#[test]
+fn the_header_has_the_same_numbers() {
+    let header = include_str!("../../../include/biidhaqun.h");
+    let says = |name: &str, number: u64| {
+        let line = format!("BIIDHAQUN_{} = {}", name, number);
+        let ends = |rest: &str| !rest.starts_with(|next: char| next.is_ascii_digit());
+        assert_eq!(header.split(&line).skip(1).filter(|rest| ends(rest)).count(), 1, "{}", line);
+    };
+    for rule in Rule::ALL {
+        // VectorBackup, VECTOR_BACKUP
+        let mut name = String::new();
+        for letter in format!("{:?}", rule).chars() {
+            if letter.is_uppercase() && !name.is_empty() {
+                name.push('_');
+            }
+            name.extend(letter.to_uppercase());
+        }
+        says(&name, rule.number());
+        assert_eq!(header.matches(&format!("case BIIDHAQUN_{}: return", name)).count(), 1, "{}", name);
+    }
+    let limits = [
+        ("STATES", slices::STATES),
+        ("ACTIONS", slices::ACTIONS),
+        ("OBSERVATIONS", slices::OBSERVATIONS),
+        ("VECTORS", slices::VECTORS),
+        ("POINTS", slices::POINTS),
+        ("BUILT_POINTS", slices::BUILT_POINTS),
+        ("NODES", slices::NODES),
+        ("STEPS", slices::STEPS),
+        ("ACCEPTED", slices::LEVELS),
+        ("FILE_BYTES", slices::FILE_BYTES),
+    ];
+    for (name, limit) in limits {
+        says(name, limit as u64);
+    }
+}
+
 #[test]
 fn a_model_from_rows() {
     let (model, _, _) = standing(0);

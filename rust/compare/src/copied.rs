@@ -5,7 +5,7 @@
 //! (18). What is written is written at the front of the slices; the rest stays.
 
 use crate::gen::{Question, DOCUMENT};
-use crate::lent::{Cell, Library};
+use crate::lent::{narrowed, stored, Cell, Library};
 use biidhaqun::slices::{Certifier, Graph, Level, Reading, Refusal, Tables, Totals, Worth};
 use reference::{Rules, BUILT_POINTS, NODES, OBSERVATIONS, POINTS, STATES, VECTORS};
 
@@ -68,18 +68,6 @@ const NINE: reference::Refusal = reference::Refusal { number: 9, place: 0 };
 
 fn refused(refusal: reference::Refusal) -> Refusal {
     Refusal { number: refusal.number.into(), place: refusal.place as usize }
-}
-
-/// The first cells of a slice in storage of so many; what is missing is 0.
-fn stored<Of: Copy, To: Clone + Default + From<Of>>(slice: &[Of], count: usize, cells: usize) -> Vec<To> {
-    let mut storage: Vec<To> = slice.iter().take(count).map(|&cell| To::from(cell)).collect();
-    storage.resize(cells, To::default());
-    storage
-}
-
-/// A number of storage that the type of a slice holds.
-fn held<Of: Cell + TryFrom<u64>>(cells: &[u64]) -> Vec<Of> {
-    cells.iter().map(|&cell| Of::try_from(cell).unwrap_or(Of::MOST)).collect()
 }
 
 /// How long the slices of a level are at least.
@@ -237,22 +225,23 @@ impl Copied {
             state[0] -= 1;
         }
         self.lay(&state, &mut lent.state);
-        self.lay(&held(&level.actions[..needed.vectors]), &mut lent.actions);
-        self.lay(&held(&level.choices[..needed.choices]), &mut lent.choices);
+        self.lay(&narrowed(&level.actions, needed.vectors), &mut lent.actions);
+        self.lay(&narrowed(&level.choices, needed.choices), &mut lent.choices);
         self.lay(&level.entries[..needed.entries], &mut lent.entries);
         self.lay(&level.corners[..needed.states], &mut lent.corners);
         if standing.level > 0 {
-            self.lay(&held(&level.weights[..needed.weights]), &mut lent.weights);
+            self.lay(&narrowed(&level.weights, needed.weights), &mut lent.weights);
             self.lay(&level.values[..needed.points], &mut lent.values);
         }
     }
 
-    fn clear(&self, lent: &mut Certifier) {
-        if self.has(Slip::RefusalClears) {
+    /// How a call on a certifier ends.
+    fn ended(&self, answer: Result<(), reference::Refusal>, lent: &mut Certifier) -> Refusal {
+        if answer.is_err() && self.has(Slip::RefusalClears) {
             lent.state.fill(0);
-            lent.actions.fill(0);
             lent.entries.fill(0);
         }
+        answer.err().map_or(Refusal::default(), refused)
     }
 
     fn opened(&self, tables: &Tables, lent: &mut Certifier) -> Result<(), reference::Refusal> {
@@ -326,8 +315,8 @@ impl Copied {
         if !room {
             return Err(NINE);
         }
-        self.lay(&held(&built.actions[..needed.vectors]), &mut level.actions);
-        self.lay(&held(&built.choices[..needed.choices]), &mut level.choices);
+        self.lay(&narrowed(&built.actions, needed.vectors), &mut level.actions);
+        self.lay(&narrowed(&built.choices, needed.choices), &mut level.choices);
         self.lay(&built.entries[..needed.entries], &mut level.entries);
         self.lay(&built.corners[..needed.states], &mut level.corners);
         self.lay(&built.values[..needed.points], &mut level.values);
@@ -349,10 +338,10 @@ impl Copied {
             short.reverse();
         }
         if short.is_empty() || self.has(Slip::ReadInParts) {
-            self.lay(&held(&read.tables.transitions[..t]), &mut lent.transition);
-            self.lay(&held(&read.tables.sights[..o]), &mut lent.observation);
+            self.lay(&narrowed(&read.tables.transitions, t), &mut lent.transition);
+            self.lay(&narrowed(&read.tables.sights, o), &mut lent.observation);
             self.lay(&read.tables.rewards[..r], &mut lent.reward);
-            self.lay(&held(&read.start[..n]), start);
+            self.lay(&narrowed(&read.start, n), start);
         }
         match short.first() {
             None => Ok(()),
@@ -366,46 +355,28 @@ impl Library for Copied {
     fn read(&self, file: &[u8], lent: &mut Tables, start: &mut [u16]) -> Reading {
         let read = reference::read(file, &self.rules);
         let laid = read.as_ref().map_err(|&refusal| refused(refusal)).and_then(|read| self.laid(read, lent, start));
-        let counts = match (&read, laid) {
-            (Ok(read), Ok(())) => &read.tables,
-            (Ok(read), Err(_)) if self.has(Slip::RefusedReading) => &read.tables,
-            _ => {
-                return laid.err().map_or(Reading::default(), |Refusal { number, place }| Reading {
-                    number,
-                    place,
-                    ..Reading::default()
-                })
-            }
-        };
         let Refusal { number, place } = laid.err().unwrap_or_default();
-        Reading {
-            number,
-            place,
-            states: counts.states as usize,
-            actions: counts.actions as usize,
-            observations: counts.observations as usize,
-            discount: counts.discount,
+        match read {
+            Ok(read) if laid.is_ok() || self.has(Slip::RefusedReading) => Reading {
+                number,
+                place,
+                states: read.tables.states as usize,
+                actions: read.tables.actions as usize,
+                observations: read.tables.observations as usize,
+                discount: read.tables.discount,
+            },
+            _ => Reading { number, place, ..Reading::default() },
         }
     }
 
     fn open(&self, tables: &Tables, certifier: &mut Certifier) -> Refusal {
-        self.opened(tables, certifier).map_or_else(
-            |refusal| {
-                self.clear(certifier);
-                refused(refusal)
-            },
-            |()| Refusal::default(),
-        )
+        let answer = self.opened(tables, certifier);
+        self.ended(answer, certifier)
     }
 
     fn offer(&self, tables: &Tables, certifier: &mut Certifier, level: &Level) -> Refusal {
-        self.offered(tables, certifier, level).map_or_else(
-            |refusal| {
-                self.clear(certifier);
-                refused(refusal)
-            },
-            |()| Refusal::default(),
-        )
+        let answer = self.offered(tables, certifier, level);
+        self.ended(answer, certifier)
     }
 
     fn totals(&self, tables: &Tables, certifier: &Certifier, mixture: &[u32]) -> Totals {

@@ -77,12 +77,19 @@ impl<Of: Cell> Slice for Vec<Of> {
     }
 }
 
-// ---- storage in slices
+// ---- storage in slices, and slices in storage
 
 /// The first cells of storage in a slice of its type. A number that the type does not hold cannot be lent; the largest of the
 /// type stands for it, which is outside of the same limits.
-fn narrowed<Of: Cell + TryFrom<u64>>(cells: &[u64], count: usize) -> Vec<Of> {
+pub fn narrowed<Of: Cell + TryFrom<u64>>(cells: &[u64], count: usize) -> Vec<Of> {
     cells[..count.min(cells.len())].iter().map(|&cell| Of::try_from(cell).unwrap_or(Of::MOST)).collect()
+}
+
+/// The first cells of a slice in storage of so many; what is missing is 0.
+pub fn stored<Of: Copy, To: Clone + Default + From<Of>>(slice: &[Of], count: usize, cells: usize) -> Vec<To> {
+    let mut storage: Vec<To> = slice.iter().take(count).map(|&cell| To::from(cell)).collect();
+    storage.resize(cells, To::default());
+    storage
 }
 
 fn size(count: u64) -> usize {

@@ -2,7 +2,7 @@
 
 use crate::calls::{Calls, Case};
 use crate::gen::{List, Question, Step};
-use crate::lent::{self, Call, Library};
+use crate::lent::{self, stored, Call, Library};
 use crate::rng::Rng;
 use biidhaqun::slices::{Certifier, Level, Tables};
 use num_bigint::BigInt;
@@ -114,19 +114,6 @@ fn served(number: u64, place: usize) -> Result<(), Refusal> {
     }
 }
 
-/// The first cells of a slice, in storage.
-fn stored<Of: Copy + Into<u64>>(slice: &[Of], count: usize, cells: usize) -> Vec<u64> {
-    let mut storage: Vec<u64> = slice[..count].iter().map(|&cell| cell.into()).collect();
-    storage.resize(cells, 0);
-    storage
-}
-
-fn stored_ticks(slice: &[i64], count: usize, cells: usize) -> Vec<i64> {
-    let mut storage = slice[..count].to_vec();
-    storage.resize(cells, 0);
-    storage
-}
-
 /// A level that the library wrote, in storage.
 fn storage(level: &Level, n: usize, k: usize) -> reference::Level {
     let Level { vectors, points, .. } = *level;
@@ -134,11 +121,11 @@ fn storage(level: &Level, n: usize, k: usize) -> reference::Level {
         vectors: vectors as u64,
         actions: stored(&level.actions, vectors, VECTORS),
         choices: stored(&level.choices, vectors * k, VECTORS * OBSERVATIONS),
-        entries: stored_ticks(&level.entries, vectors * n, VECTORS * STATES),
-        corners: stored_ticks(&level.corners, n, STATES),
+        entries: stored(&level.entries, vectors * n, VECTORS * STATES),
+        corners: stored(&level.corners, n, STATES),
         points: points as u64,
         weights: stored(&level.weights, points * n, POINTS * STATES),
-        values: stored_ticks(&level.values, points, POINTS),
+        values: stored(&level.values, points, POINTS),
     }
 }
 
