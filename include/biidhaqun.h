@@ -52,7 +52,8 @@
  *    4  BIIDHAQUN_START_TOTAL         the file's length
  *    5  BIIDHAQUN_TRANSITION_TOTAL    in a file its length; on tables action x n + state left
  *    6  BIIDHAQUN_OBSERVATION_TOTAL   in a file its length; on tables action x n + state reached
- *    7  BIIDHAQUN_CERTIFIER           0; a slice is too short for the tables, or for the level that stands
+ *    7  BIIDHAQUN_CERTIFIER           0; a slice is too short for the tables, or for the level that stands (its choices, which
+ *                                     no call reads, are not asked for)
  *    8  BIIDHAQUN_LEVELS              0
  *    9  BIIDHAQUN_LEVEL_SIZE          0; a slice is too short for the level offered or to be built, for the points, or for
  *                                     level 0 in biidhaqun_open

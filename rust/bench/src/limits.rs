@@ -86,8 +86,8 @@ impl<'a> Cut<'a> {
         })
     }
 
-    /// What stands, likewise, and its number. Choices are lent where an offer is made, and read nowhere.
-    pub fn standing(certifier: &'a Certifier, n: usize, choices: Option<usize>) -> Option<(usize, Cut<'a>)> {
+    /// What stands, likewise, and its number. Its choices are read nowhere, and left out.
+    pub fn standing(certifier: &'a Certifier, n: usize) -> Option<(usize, Cut<'a>)> {
         let (number, vectors, points) = match certifier.state[..] {
             [number, vectors, points, ..] if number <= LEVELS && counts_fit(vectors, points) => {
                 (number, vectors, points)
@@ -96,7 +96,7 @@ impl<'a> Cut<'a> {
         };
         let level = Cut {
             actions: certifier.actions.get(..vectors)?,
-            choices: certifier.choices.get(..vectors * choices.unwrap_or(0))?,
+            choices: &[],
             entries: certifier.entries.get(..vectors * n)?,
             corners: certifier.corners.get(..n)?,
             weights: certifier.weights.get(..points * n)?,

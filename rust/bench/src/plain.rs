@@ -127,10 +127,10 @@ fn first_untotalled(weights: &[u32], n: usize) -> Option<usize> {
 }
 
 /// 7.
-fn examine<'a>(tables: &'a Tables, certifier: &'a Certifier, choices: bool) -> Answer<(Model<'a>, usize, Cut<'a>)> {
+fn examine<'a>(tables: &'a Tables, certifier: &'a Certifier) -> Answer<(Model<'a>, usize, Cut<'a>)> {
     let seven = Refusal { number: 7, place: 0 };
     let model = judge(tables).map_err(|_| seven)?;
-    let (number, level) = Cut::standing(certifier, model.n, choices.then_some(model.k)).ok_or(seven)?;
+    let (number, level) = Cut::standing(certifier, model.n).ok_or(seven)?;
     let holds = level.actions.iter().all(|&action| usize::from(action) < model.m)
         && first_outside(&level, model.n, number).is_none()
         && first_untotalled(level.weights, model.n).is_none();
@@ -142,7 +142,7 @@ fn examine<'a>(tables: &'a Tables, certifier: &'a Certifier, choices: bool) -> A
 }
 
 fn offer(tables: &Tables, certifier: &mut Certifier, level: &Level) -> Answer<()> {
-    let (model, number, standing) = examine(tables, certifier, true)?;
+    let (model, number, standing) = examine(tables, certifier)?;
     let (n, k) = (model.n, model.k);
     if number == LEVELS {
         return refused(8, 0);
@@ -172,7 +172,7 @@ fn offer(tables: &Tables, certifier: &mut Certifier, level: &Level) -> Answer<()
 }
 
 fn totals(tables: &Tables, certifier: &Certifier, mixture: &[u32]) -> Answer<Totals> {
-    let (model, number, level) = examine(tables, certifier, false)?;
+    let (model, number, level) = examine(tables, certifier)?;
     if number == 0 {
         return refused(16, 0);
     }
@@ -222,7 +222,7 @@ fn least_value(model: &Model, level: &Cut, p: &[i64]) -> i64 {
 }
 
 fn build(tables: &Tables, certifier: &Certifier, (count, points): (usize, &[u32]), level: &mut Level) -> Answer<()> {
-    let (model, number, standing) = examine(tables, certifier, false)?;
+    let (model, number, standing) = examine(tables, certifier)?;
     let (n, k) = (model.n, model.k);
     if number == LEVELS {
         return refused(8, 0);

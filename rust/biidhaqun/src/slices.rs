@@ -8,9 +8,9 @@
 //! it is lent, what its definitions say; one that is refused leaves all as it was.
 //!
 //! A slice that is too short is refused: one of the tables by 3 at 0 where they are opened or a worth is asked, else by 7;
-//! one of a certifier by 7 for what stands, by 9 for what is to stand; one of an offered level, of points or of a level to
-//! be built by 9; a mixture by 17; one of a plan graph by 18; one that a file is read into by 100, and the place is then
-//! the length that it needs.
+//! one of a certifier by 7 for what stands (its choices are read by no call, and not asked for), by 9 for what is to stand;
+//! one of an offered level, of points or of a level to be built by 9; a mixture by 17; one of a plan graph by 18; one that
+//! a file is read into by 100, and the place is then the length that it needs.
 
 #[cfg(feature = "linked")]
 pub use crate::ffi::{build, offer, open, read, totals, worth};

@@ -36,7 +36,7 @@ slips! {
     OneShortPasses: "a slice that is one short passes",
     OneMoreAsked: "a slice must have one cell more than is needed",
     LongerRefused: "a slice that is longer than needed is refused",
-    ShortChoicesPass: "a certifier's choices may be too short, because they are not read",
+    StandingChoicesAsked: "7 asks for choices as many as what stands has, although no call reads them",
     ReceivingAtTheEnd: "a certifier's room for an offered level is asked for after the level is judged",
     BuiltRoomAtTheEnd: "a built level's room is asked for after the points are judged",
     RoomFirst: "room for level 0 is asked for before the tables are judged",
@@ -172,18 +172,18 @@ impl Copied {
         level
     }
 
-    /// What stands. Its choices are not read; where they are not even lent, none is too short.
-    fn standing(&self, tables: &Tables, lent: &Certifier, choices: bool) -> reference::Certifier {
+    /// What stands. Its choices are not read, so they are not asked for.
+    fn standing(&self, tables: &Tables, lent: &Certifier) -> reference::Certifier {
         let tables = self.tables(tables);
         let (n, k) = (tables.states as usize, tables.observations as usize);
         let at = |at: usize| lent.state.get(at).copied().unwrap_or(0);
-        let choices = choices && !self.has(Slip::ShortChoicesPass);
         let (vectors, points) = if self.has(Slip::StateInOtherOrder) { (at(2), at(1)) } else { (at(1), at(2)) };
+        let choices = stored(&lent.choices, vectors.min(VECTORS) * k, vectors.min(VECTORS) * k);
         let level = Level {
             vectors: if self.long(&lent.state, 3) { vectors } else { 0 },
             points,
             actions: lent.actions.clone(),
-            choices: if choices { lent.choices.clone() } else { vec![0; vectors.min(VECTORS) * k] },
+            choices: if self.has(Slip::StandingChoicesAsked) { lent.choices.clone() } else { choices },
             entries: lent.entries.clone(),
             corners: lent.corners.clone(),
             weights: lent.weights.clone(),
@@ -265,7 +265,7 @@ impl Copied {
     }
 
     fn offered(&self, tables: &Tables, lent: &mut Certifier, level: &Level) -> Result<(), reference::Refusal> {
-        let mut standing = self.standing(tables, lent, true);
+        let mut standing = self.standing(tables, lent);
         let (n, k) = (standing.tables.states as usize, standing.tables.observations as usize);
         let mut offered = self.level(level, n, k);
         let needed = Needed::of(offered.vectors as usize, offered.points as usize, n, k);
@@ -274,7 +274,7 @@ impl Copied {
             offered = reference::Level::zero();
         }
         let answer = reference::offer(&mut standing, &offered, &self.rules);
-        if answer.is_err() && standing != self.standing(tables, lent, true) {
+        if answer.is_err() && standing != self.standing(tables, lent) {
             // Only a trap changes a certifier that refuses.
             self.stand(&standing, lent);
         }
@@ -297,7 +297,7 @@ impl Copied {
         (count, points): (usize, &[u32]),
         level: &mut Level,
     ) -> Result<(), reference::Refusal> {
-        let standing = self.standing(tables, lent, false);
+        let standing = self.standing(tables, lent);
         let (n, k) = (standing.tables.states as usize, standing.tables.observations as usize);
         let few = count.min(BUILT_POINTS + 1);
         let needed = Needed::of(n + few, few, n, k);
@@ -380,7 +380,7 @@ impl Library for Copied {
     }
 
     fn totals(&self, tables: &Tables, certifier: &Certifier, mixture: &[u32]) -> Totals {
-        let standing = self.standing(tables, certifier, false);
+        let standing = self.standing(tables, certifier);
         let n = standing.tables.states as usize;
         let count = if self.long(mixture, n) { n } else { 0 };
         let ticks = |total: &num_bigint::BigInt| i64::try_from(total).unwrap_or(i64::MAX);

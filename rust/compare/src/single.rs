@@ -206,12 +206,13 @@ fn served(rng: &mut Rng, kind: u64) -> Call {
 /// How a call ends that is served, if this slice is one short: the number and the place. None, if the slice needs nothing.
 fn if_short(call: &Call, name: &str, length: usize) -> Option<(u64, usize)> {
     let level = name.starts_with("level's");
+    // The choices of what stands are not read, so they are not asked for.
     let stands = |certifier: &Certifier, tables: &Tables| {
         let (vectors, points) = (certifier.state[1], certifier.state[2]);
         match name {
             "standing state" => 3,
+            "standing choices" => 0,
             "standing actions" => vectors,
-            "standing choices" => vectors * tables.observations,
             "standing entries" => vectors * tables.states,
             "standing corners" => tables.states,
             "standing weights" => points * tables.states,
@@ -226,6 +227,7 @@ fn if_short(call: &Call, name: &str, length: usize) -> Option<(u64, usize)> {
         Call::Open { .. } => 9,
         Call::Offer { .. } | Call::Totals { .. } | Call::Build { .. } if of_tables => 7,
         Call::Offer { .. } if level => 9,
+        Call::Offer { level, .. } if name == "standing choices" && length > level.choices.len() => 0,
         Call::Offer { tables, certifier, .. } if length > stands(certifier, tables) => 9,
         Call::Offer { .. } => 7,
         Call::Totals { .. } if name == "mixture" => 17,
