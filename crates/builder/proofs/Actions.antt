@@ -7,7 +7,7 @@ use native.Mathlib.Omega.{arith}
 use lib.ListN.{getD, length}
 use lib.IntN.{ℤ, pos, natAbs}
 use lib.Signed.{ltZ}
-use Rattle.integers.specs.Whole.{totalTo, Below}
+use Rattle.integers.specs.Whole.{Below}
 use Rattle.integers.specs.Search.{firstLargest}
 use Rattle.integers.specs.Cells.{padded}
 use Rattle.integers.proofs.Lists.{padded-at, padded-length}

@@ -1,11 +1,10 @@
 -- Laws of the builder's steps: the candidates over storage are the model's, and what the steps are handed is within the limits. Assumes nothing.
-use mathlib.Core.Path.{_≡_, refl, sym, _∙_, ap}
+use mathlib.Core.Path.{_≡_, refl, _∙_, ap}
 use mathlib.Core.List.{List}
-use Prim.Native.Nat.{ℕ, _/_, _%_, _≤_, _<_}
-use native.Mathlib.Nat.{div-add-mod'}
+use Prim.Native.Nat.{ℕ, _≤_, _<_}
 use native.Mathlib.Omega.{arith}
 use lib.ListN.{getD}
-use lib.IntN.{ℤ, pos, natAbs}
+use lib.IntN.{ℤ, pos}
 use Rattle.integers.specs.Whole.{floorDiv}
 use Rattle.integers.specs.Search.{firstLargest}
 use Rattle.integers.specs.Cells.{padded}
@@ -21,14 +20,9 @@ use Rattle.tables.proofs.Regroup.{backup-regrouped}
 use Rattle.plans.specs.Level.{product, follows}
 use Rattle.plans.specs.Build.{chosen, entryFor}
 use Rattle.plans.proofs.Agreement.{product-cong, backup-cong}
-use Rattle.levels.specs.Storage.{pointIn}
 use Rattle.checks.proofs.Roofs.{successors-are}
 use Rattle.builder.specs.declared.Candidate.{Candidate}
 use Rattle.builder.specs.Steps.{choiceFor, candidateIn, candidateOf, uponIn}
-
--- the cell at i is that of its row and place
-pub cell-is : (n i : ℕ) (cells : List ℕ) → getD cells i 0 ≡ pointIn n cells (i / n) (i % n)
-cell-is n i cells = ap (λ (j : ℕ). getD cells j 0) (sym (div-add-mod' i n))
 
 -- what a vector chooses, of a table of one row
 pub alone-at : (k : ℕ) (chosen : List ℕ) (o : ℕ) → choiceIn k chosen 0 o ≡ getD chosen o 0

@@ -1,12 +1,12 @@
 -- Laws of the builder's level: the least values, the weights that vectors are made at, and the rows of vectors. Assumes nothing.
 use mathlib.Core.Path.{_≡_, refl, sym, _∙_, ap}
-use mathlib.Core.List.{List}
+use mathlib.Core.List.{List, []}
 use mathlib.Core.Bool.{true, false}
 use Prim.Native.Nat.{ℕ, _+_, _*_, _-_, _^_, _≤_, _<_}
 use native.Mathlib.Decide.{decLt}
-use native.Mathlib.Nat.{mul-le-mul}
+use native.Mathlib.Nat.{mul-le-mul-right}
 use native.Mathlib.Omega.{arith}
-use lib.ListN.{length, getD, set, replicate}
+use lib.ListN.{length, getD, set}
 use lib.Seq.{paste}
 use lib.Arith.{le→nltb}
 use lib.Dec.{ltb, lt→ltb}
@@ -16,32 +16,30 @@ use mir.Syntax.{w64}
 use mir.Val.{toZ, ofZ}
 use Rattle.integers.specs.Whole.{totalTo, floorDiv, ceilDiv}
 use Rattle.integers.specs.Search.{firstLargest}
-use Rattle.integers.specs.Cells.{padded, grid}
-use Rattle.integers.proofs.Lists.{padded-none, padded-turn, padded-at, padded-length, grid-length, grid-more}
+use Rattle.integers.specs.Cells.{laid}
+use Rattle.integers.proofs.Lists.{row-below, padded-at, padded-length, laid-none, laid-turn, laid-length, laid-self}
+use Rattle.integers.proofs.Lists.{laidRows-none, laidRows-more, laidRows-length, laidRows-flat}
 use Rattle.integers.proofs.Words.{answer}
 use Rattle.integers.proofs.Parts.{T-true, T-false}
 use Rattle.integers.proofs.Searches.{largest-later, largest-same, largest-cong, largest-in}
 use Rattle.tables.specs.declared.Counts.{Counts}
 use Rattle.tables.specs.declared.Tables.{Tables}
-use Rattle.tables.specs.Limits.{maxStates, maxActions, maxObservations, maxVectors, K, maxLevels}
-use Rattle.tables.specs.Model.{Model, backedUp}
+use Rattle.tables.specs.Limits.{maxStates, maxActions, maxObservations, K, maxLevels}
+use Rattle.tables.specs.Model.{Model, Valid, backedUp}
 use Rattle.tables.specs.Storage.{weightIn, countsOf, modelIn, modelOf}
-use Rattle.tables.proofs.Fitting as tables
-use Rattle.plans.specs.Limits.{maxPoints, maxTotal}
-use Rattle.plans.specs.Level.{Level as Ideal, ceiling, gain, backupAt, corner-weight, follows, Shaped, IsPoint}
+use Rattle.tables.specs.Steps.{Stored}
+use Rattle.plans.specs.Limits.{maxTotal}
+use Rattle.plans.specs.Level.{Level, ceiling, gain, backupAt, corner-weight, follows, Shaped, IsPoint}
 use Rattle.plans.specs.Build.{chosen, entryFor, bestAction, leastFor, leastValue, seed, built}
 use Rattle.plans.proofs.Agreement.{product-cong, successor-weights, backupAt-weights, backup-cong}
 use Rattle.plans.proofs.Ceiling.{corner-total}
 use Rattle.plans.proofs.Built.{action-exists, shaped-mono}
-use Rattle.levels.specs.declared.Level.{Level}
-use Rattle.levels.specs.Storage.{roofIn, levelOf}
-use Rattle.levels.proofs.Laws.{Long}
+use Rattle.levels.specs.Storage.{Cells, cells, LentLevel, roofIn, levelIn, levelOf, pointIn, over}
+use Rattle.levels.proofs.Over.{Readable}
 use Rattle.checks.specs.Steps.{Roofed}
-use Rattle.checks.proofs.Lent.{floor-shaped, entries-lent, roof-lent}
-use Rattle.runs.specs.State.{stored}
+use Rattle.checks.proofs.Lent.{floor-shaped, roof-lent}
 use Rattle.builder.specs.declared.Best.{Best}
-use Rattle.builder.specs.declared.Rows.{Rows}
-use Rattle.builder.specs.Steps.{topBuilt, candidateOf, bestOf, leastFrom, leastOf, rowsOf, uponIn, Upon, Buildable}
+use Rattle.builder.specs.Steps.{topBuilt, candidateOf, bestOf, leastFrom, leastOf, uponIn, Upon, RowsFit, Filled}
 
 -- ---- the largest so far, as a loop takes it
 module _ (f : ℕ → ℤ) (n : ℕ) {most here : ℤ} (so-far : most ≡ f (firstLargest n f)) (next : here ≡ f n) where
@@ -52,15 +50,19 @@ module _ (f : ℕ → ℤ) (n : ℕ) {most here : ℤ} (so-far : most ≡ f (fir
   no-more-here t = so-far ∙ ap f (sym (largest-same n f (rw (← so-far, ← next) t)))
 
 -- ---- the least value, from what each action allows
-pub least-is : (M : Model) (L : Ideal) (p : ℕ → ℕ) (backups : List ℤ) → ((a : ℕ) → a < M .actions → getD backups a (pos 0) ≡ backupAt M L p a)
+pub least-is : (M : Model) (L : Level) (p : ℕ → ℕ) (backups : List ℤ) → ((a : ℕ) → a < M .actions → getD backups a (pos 0) ≡ backupAt M L p a)
     → 0 < M .actions → leastOf (M .actions) backups ≡ leastValue M L p
 unfolding leastValue leastFor
 least-is M L p backups h some =
     let same = largest-cong (M .actions) (leastFrom backups) (λ a. ceilDiv (backupAt M L p a) K) some (λ a l. ap (λ (z : ℤ). ceilDiv z K) (h a l)) in
     ap (λ (z : ℤ). ceilDiv z K) (h _ (largest-in (M .actions) (leastFrom backups) some)) ∙ ap (λ (a : ℕ). ceilDiv (backupAt M L p a) K) same
 
+-- slices over which least values are laid are as long as they were
+pub laid-long : (i : ℕ) (f : ℕ → ℤ) (xs : List ℤ) {ys : List ℤ} → ys ≡ laid i f xs → i ≤ length xs → length ys ≡ length xs
+laid-long i f xs e b = rw e (laid-length i f xs b)
+
 -- ---- weights are read below the number of states only
-module _ (M : Model) (L : Ideal) (p p' : ℕ → ℕ) (h : (s : ℕ) → s < M .states → p s ≡ p' s) (some : 0 < M .actions) where
+module _ (M : Model) (L : Level) (p p' : ℕ → ℕ) (h : (s : ℕ) → s < M .states → p s ≡ p' s) (some : 0 < M .actions) where
   for-weights : (a : ℕ) → leastFor M L p a ≡ leastFor M L p' a
   unfolding leastFor
   for-weights a = ap (λ (z : ℤ). ceilDiv z K) (backupAt-weights M L p p' a h)
@@ -74,7 +76,7 @@ module _ (M : Model) (L : Ideal) (p p' : ℕ → ℕ) (h : (s : ℕ) → s < M .
   pub value-at : {z : ℤ} → mag z < 2 ^ 63 → z ≡ leastValue M L p → toZ w64 (ofZ w64 z) ≡ leastValue M L p'
   value-at ok e = answer ok (e ∙ value-weights)
 
-module _ (M : Model) (L : Ideal) (p p' : ℕ → ℕ) (h : (s : ℕ) → s < M .states → p s ≡ p' s) (some : 0 < L .vectors) (acts : 0 < M .actions) where
+module _ (M : Model) (L : Level) (p p' : ℕ → ℕ) (h : (s : ℕ) → s < M .states → p s ≡ p' s) (some : 0 < L .vectors) (acts : 0 < M .actions) where
   chosen-weights : (a o : ℕ) → chosen M L p a o ≡ chosen M L p' a o
   unfolding chosen
   chosen-weights a o =
@@ -117,7 +119,7 @@ seed-light n count weight total v l = by (decLt v n)
 
 -- ---- the rows of vectors, as a loop makes them
 -- vector v of a level, as the best candidate at some weights
-pub record Made (n k : ℕ) (W : Ideal) (v : ℕ) (best : Best) : Type 0 where
+pub record Made (n k : ℕ) (W : Level) (v : ℕ) (best : Best) : Type 0 where
   pub action-in : best .action .0 < maxActions
   pub action-is : best .action .0 ≡ W .action v
   pub chosen-long : length (best .candidate .chosen) ≡ maxObservations
@@ -142,110 +144,101 @@ vector-made {c} {T} {O} {R} {entries} {vectors} count weight v p h e f =
       entries-are = λ s b. rw f (padded-at (pos 0) maxStates (c .states) _ s (pos 0) b ∙ best-entry (modelIn c T O R) _ _ _ e some acts s);
     }
 
--- the first v vectors of a level in storage
-pub record Filled (n k : ℕ) (W : Ideal) (v : ℕ) (actions choices : List ℕ) (entries : List ℤ) : Type 0 where
-  pub actions-are : actions ≡ padded 0 maxVectors v (W .action)
-  pub choices-are : choices ≡ grid 0 (maxVectors * maxObservations) v k (W .choice)
-  pub entries-are : entries ≡ grid (pos 0) (maxVectors * maxStates) v n (W .entry)
-
-grid-none : {A : Type 0} (z : A) (size w : ℕ) (f : ℕ → ℕ → A) → grid z size 0 w f ≡ replicate size z
-unfolding grid
-grid-none z size w f = let e : 0 * w ≡ 0 = omega arith in rw e (padded-none z size _)
-
 -- there is room for a row more
-pub record Room (n k v : ℕ) (choices : List ℕ) (entries : List ℤ) : Type 0 where
-  pub choices-long : length choices ≡ maxVectors * maxObservations
-  pub choices-fit : v * k + k ≤ maxVectors * maxObservations
-  pub entries-long : length entries ≡ maxVectors * maxStates
-  pub entries-fit : v * n + n ≤ maxVectors * maxStates
+pub record Room (n k v : ℕ) (actions choices : List ℕ) (entries : List ℤ) : Type 0 where
+  pub actions-fit : v < length actions
+  pub choices-fit : v * k + k ≤ length choices
+  pub entries-fit : v * n + n ≤ length entries
 
-row-room : {X : ℕ} (v w : ℕ) → v < maxVectors → w ≤ X → (v + 1) * w ≤ maxVectors * X
-row-room v w b l = mul-le-mul (let h : v + 1 ≤ maxVectors = omega arith in h) l
+-- slices that are filled are as long as they were
+pub record SameLengths (actions choices : List ℕ) (entries : List ℤ) (actions' choices' : List ℕ) (entries' : List ℤ) : Type 0 where
+  pub actions-long : length actions' ≡ length actions
+  pub choices-long : length choices' ≡ length choices
+  pub entries-long : length entries' ≡ length entries
 
-module _ (n k : ℕ) (W : Ideal) where
-  pub filled-none : Filled n k W 0 (replicate maxVectors 0) (replicate (maxVectors * maxObservations) 0) (replicate (maxVectors * maxStates) (pos 0))
+module _ (n k : ℕ) (W : Level) {actions choices : List ℕ} {entries : List ℤ} where
+  pub filled-none : Filled n k W 0 actions choices entries actions choices entries
   filled-none = record {
-    actions-are = sym (padded-none 0 maxVectors (W .action));
-    choices-are = sym (grid-none 0 (maxVectors * maxObservations) k (W .choice));
-    entries-are = sym (grid-none (pos 0) (maxVectors * maxStates) n (W .entry));
+    actions-are = sym (laid-none (W .action) actions);
+    choices-are = sym (laidRows-none k (W .choice) choices);
+    entries-are = sym (laidRows-none n (W .entry) entries);
   }
 
-  module _ (few : n ≤ maxStates) (little : k ≤ maxObservations) {v : ℕ} {actions choices : List ℕ} {entries : List ℤ}
-      (h : Filled n k W v actions choices entries) (b : v < maxVectors) where
-    pub rows-room : Room n k v choices entries
-    rows-room =
-        let r = row-room v k b little in
-        let q = row-room v n b few in record {
-          choices-long = rw (h .choices-are) (grid-length 0 (maxVectors * maxObservations) v k (W .choice) (omega arith));
-          choices-fit = omega arith;
-          entries-long = rw (h .entries-are) (grid-length (pos 0) (maxVectors * maxStates) v n (W .entry) (omega arith));
-          entries-fit = omega arith;
-        }
-
-    pub filled-more : {best : Best} {x : ℕ} {choices' : List ℕ} {entries' : List ℤ} → Made n k W v best → x ≡ best .action .0
-        → choices' ≡ paste choices (v * k) (best .candidate .chosen) k → entries' ≡ paste entries (v * n) (best .candidate .entries) n
-        → Filled n k W (v + 1) (set actions v x) choices' entries'
-    filled-more {best} made e f g = record {
-      actions-are = padded-turn 0 maxVectors (W .action) v (h .actions-are) (e ∙ made .action-is) b;
-      choices-are =
-          rw (f, h .choices-are)
-          (grid-more 0 (maxVectors * maxObservations) v k (W .choice) (best .candidate .chosen) (row-room v k b little)
-          (omega (arith, made .chosen-long)) (made .chosen-is));
-      entries-are =
-          rw (g, h .entries-are)
-          (grid-more (pos 0) (maxVectors * maxStates) v n (W .entry) (best .candidate .entries) (row-room v n b few)
-          (omega (arith, made .entries-long)) (made .entries-are));
+  module _ {count v : ℕ} {actions' choices' : List ℕ} {entries' : List ℤ} (fit : RowsFit n k count actions choices entries)
+      (h : Filled n k W v actions choices entries actions' choices' entries') where
+    pub filled-long : v ≤ count → SameLengths actions choices entries actions' choices' entries'
+    filled-long b = record {
+      actions-long = rw (h .actions-are) (laid-length v (W .action) actions (omega (arith, fit .actions-fit)));
+      choices-long = rw (h .choices-are) (laidRows-length v k (W .choice) choices (omega (arith, fit .choices-fit, mul-le-mul-right k b)));
+      entries-long = rw (h .entries-are) (laidRows-length v n (W .entry) entries (omega (arith, fit .entries-fit, mul-le-mul-right n b)));
     }
 
-  pub filled-all : {v : ℕ} {actions choices : List ℕ} {entries : List ℤ} → Filled n k W v actions choices entries → v ≡ W .vectors
-      → record { actions = actions; choices = choices; entries = entries } ≡ rowsOf n k W
-  unfolding rowsOf
-  filled-all h e = rw (h .actions-are, h .choices-are, h .entries-are, e)
+    module _ (b : v < count) where
+      pub rows-room : Room n k v actions' choices' entries'
+      rows-room =
+          let l = filled-long (omega arith) in record {
+            actions-fit = omega (arith, l .actions-long, fit .actions-fit);
+            choices-fit = omega (arith, l .choices-long, fit .choices-fit, row-below v count k b);
+            entries-fit = omega (arith, l .entries-long, fit .entries-fit, row-below v count n b);
+          }
 
--- tables and a level by value that can be built upon lend what can be
-module _ {m : Tables} {l : Level} (h : Buildable m l) (lent : tables.Long m) (long : Long l) where
+      row-fits : (w : ℕ) → (v + 1) * w ≤ count * w
+      row-fits w = omega (arith, row-below v count w b)
+
+      pub filled-more : {best : Best} {x : ℕ} {choices″ : List ℕ} {entries″ : List ℤ} → Made n k W v best → k ≤ maxObservations → n ≤ maxStates
+          → x ≡ best .action .0
+          → choices″ ≡ paste choices' (v * k) (best .candidate .chosen) k → entries″ ≡ paste entries' (v * n) (best .candidate .entries) n
+          → Filled n k W (v + 1) actions choices entries (set actions' v x) choices″ entries″
+      filled-more {best} made little few e f g = record {
+        actions-are = laid-turn (W .action) v actions 0 (h .actions-are) (e ∙ made .action-is) (omega (arith, fit .actions-fit));
+        choices-are =
+            rw (f, h .choices-are)
+            (laidRows-more v k (W .choice) choices (best .candidate .chosen) 0 (omega (arith, row-fits k, fit .choices-fit))
+            (omega (arith, made .chosen-long)) (made .chosen-is));
+        entries-are =
+            rw (g, h .entries-are)
+            (laidRows-more v n (W .entry) entries (best .candidate .entries) (pos 0) (omega (arith, row-fits n, fit .entries-fit))
+            (omega (arith, made .entries-long)) (made .entries-are));
+      }
+
+-- tables and a level in slices that can be built upon lend what can be
+module _ {m : Tables} {l : LentLevel} (valid : Valid (modelOf m)) (stored : Stored (countsOf m) (m .transition) (m .observation) (m .reward))
+    (long : Readable m l) (shaped : Shaped (modelOf m) topBuilt (levelOf m l)) where
   -- the level is within the limits
-  built-upon : Shaped (modelOf m) maxLevels (levelOf (m .states) (m .observations) l)
-  built-upon = shaped-mono _ _ topBuilt maxLevels (omega arith) (h .shaped)
+  built-upon : Shaped (modelOf m) maxLevels (levelOf m l)
+  built-upon = shaped-mono _ _ topBuilt maxLevels (omega arith) shaped
 
-  pub upon-lent : Upon (countsOf m) (m .transition) (m .observation) (m .reward) (l .entries) (l .vectors)
+  pub upon-lent : Upon (countsOf m) (m .transition) (m .observation) (m .reward) (l .cells .entries) (l .vectors)
   upon-lent = record {
-    valid = h .valid;
-    stored = tables.stored-valid m lent (h .valid);
-    shaped = floor-shaped (modelOf m) (h .valid .some-actions) (m .states) (m .observations) topBuilt l (h .shaped);
-    entries-stored = entries-lent m l (h .valid) lent long built-upon .stored;
+    valid = valid;
+    stored = stored;
+    shaped = floor-shaped m (valid .some-actions) topBuilt l shaped;
+    entries-stored = long .entries;
   }
 
-  pub roofed-lent : Roofed (countsOf m) (m .transition) (m .observation) (m .reward) (l .corners) (l .points) (l .weights) (l .values)
-  roofed-lent = roof-lent m l (h .valid) lent long built-upon
+  pub roofed-lent : Roofed (countsOf m) (m .transition) (m .observation) (m .reward) (l .cells .corners) (l .points) (l .cells .weights) (l .cells .values)
+  roofed-lent = roof-lent m l valid stored long built-upon
 
--- of the standing level, vectors are built from its vectors, and least values from its corners and points
-module _ (m : Tables) (l : Level) where
-  pub rows-read : (count : ℕ) (weight : ℕ → ℕ → ℕ)
-      → rowsOf (m .states) (m .observations) (built (modelOf m) (uponIn (countsOf m) (l .vectors) (l .entries)) count weight)
-      ≡ rowsOf (m .states) (m .observations) (built (modelOf m) (levelOf (m .states) (m .observations) l) count weight)
-  unfolding rowsOf built bestAction entryFor chosen follows
-  rows-read count weight = refl
+-- the builder reads no action and no choice of the standing level
+pub built-read : (m : Tables) (l : LentLevel) (count : ℕ) (weight : ℕ → ℕ → ℕ)
+    → built (modelOf m) (levelIn (m .states) (m .observations) (l .vectors) [] [] (l .cells .entries) (l .cells .corners) (l .points) (l .cells .weights)
+    (l .cells .values)) count weight
+    ≡ built (modelOf m) (levelOf m l) count weight
+unfolding built bestAction entryFor chosen follows leastValue leastFor backupAt ceiling gain
+built-read m l count weight = refl
 
-  pub least-read : (p : ℕ → ℕ) → leastValue (modelOf m) (roofIn (m .states) (l .corners) (l .points) (l .weights) (l .values)) p
-      ≡ leastValue (modelOf m) (levelOf (m .states) (m .observations) l) p
-  unfolding leastValue leastFor backupAt ceiling gain
-  least-read p = refl
-
--- the built level in storage, from its parts
-pub level-made : (M : Model) (L : Ideal) (count : ℕ) (weight : ℕ → ℕ → ℕ) {rows : Rows} {corners values : List ℤ} {weights : List ℕ}
-    → rows ≡ rowsOf (M .states) (M .observations) (built M L count weight)
-    → corners ≡ padded (pos 0) maxStates (M .states) (λ s. leastValue M L (corner-weight s))
-    → values ≡ padded (pos 0) maxPoints count (λ i. leastValue M L (weight i)) → weights ≡ grid 0 (maxPoints * maxStates) count (M .states) weight
-    → record {
-      vectors = M .states + count;
-      actions = rows .actions;
-      choices = rows .choices;
-      entries = rows .entries;
-      corners = corners;
-      points = count;
-      weights = weights;
-      values = values;
-    } ≡ stored (M .states) (M .observations) (built M L count weight)
-unfolding rowsOf built stored
-level-made M L count weight e f g h = rw (e, f, g, h)
+-- The built level over slices, from its parts. Vectors are made from the standing vectors, least values from its corners and points, and the weights of
+-- the points lie where they were given. Qed.
+pub level-made : (m : Tables) (vectors : ℕ) (entries corners : List ℤ) (points : ℕ) (weights : List ℕ) (values : List ℤ) (count : ℕ) (x : Cells)
+    {actions choices : List ℕ} {made least worths : List ℤ} → count * m .states ≤ length (x .weights)
+    → Filled (m .states) (m .observations) (built (modelOf m) (uponIn (countsOf m) vectors entries) count (pointIn (m .states) (x .weights)))
+    (m .states + count) (x .actions) (x .choices) (x .entries) actions choices made
+    → least ≡ laid (m .states) (λ s. leastValue (modelOf m) (roofIn (m .states) corners points weights values) (corner-weight s)) (x .corners)
+    → worths ≡ laid count (λ i. leastValue (modelOf m) (roofIn (m .states) corners points weights values) (pointIn (m .states) (x .weights) i)) (x .values)
+    → cells actions choices made least (x .weights) worths
+    ≡ over m (built (modelOf m) (levelIn (m .states) (m .observations) vectors [] [] entries corners points weights values) count
+    (pointIn (m .states) (x .weights))) x
+unfolding over built bestAction entryFor chosen follows leastValue leastFor backupAt ceiling gain
+level-made m vectors entries corners points weights values count x fit f e g =
+    let w = laidRows-flat count (m .states) (x .weights) (x .weights) 0 ∙ laid-self (count * m .states) (x .weights) 0 fit in
+    rw (f .actions-are, f .choices-are, f .entries-are, e, g, w)

@@ -1,15 +1,13 @@
 -- What more than one proof of this crate names.
-pub use Prim.Native.Nat.{_*_, _+_, _-_, _<_, _≤_}
-pub use Rattle.builder.proofs.Levels.{value-at}
+pub use Prim.Native.Nat.{_-_, _<_, _≤_}
+pub use Rattle.builder.proofs.Levels.{value-at, laid-long}
 pub use Rattle.checks.proofs.Roofs.{corner-at, point-at}
-pub use Rattle.integers.proofs.Lists.{padded-none, padded-turn}
-pub use Rattle.integers.proofs.Words.{answer}
-pub use Rattle.integers.specs.Cells.{padded}
+pub use Rattle.integers.proofs.Lists.{laid-none, laid-turn}
+pub use Rattle.integers.specs.Cells.{laid}
 pub use Rattle.levels.specs.Storage.{pointIn, roofIn}
-pub use Rattle.plans.specs.Limits.{maxBuilt, maxPoints}
+pub use Rattle.plans.specs.Limits.{maxPoints}
 pub use Rattle.tables.specs.Limits.{maxStates}
 pub use Rattle.tables.specs.Storage.{modelIn}
-pub use Rattle.tables.specs.declared.Counts.{Counts}
 pub use borrow.Author.Needs.{needs}
 pub use lib.IntN.{pos}
 pub use mathlib.Core.Logic.{⊎-elim}

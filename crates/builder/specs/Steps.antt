@@ -1,25 +1,23 @@
 -- The builder's steps: one action's vector at some weights, the best of the actions' vectors, and the parts of a level.
 use Prim.Native.Nat.{ℕ, _*_, _-_, _≤_}
+use mathlib.Core.Path.{_≡_}
 use mathlib.Core.List.{List, []}
 use lib.ListN.{length, getD}
 use lib.IntN.{ℤ, pos}
 use Rattle.integers.specs.Whole.{floorDiv, ceilDiv}
 use Rattle.integers.specs.Search.{firstLargest}
-use Rattle.integers.specs.Cells.{padded, grid}
+use Rattle.integers.specs.Cells.{padded, laid, laidRows}
 use Rattle.tables.specs.declared.Counts.{Counts}
-use Rattle.tables.specs.declared.Tables.{Tables}
-use Rattle.tables.specs.Limits.{maxStates, maxVectors, maxObservations, maxLevels, K}
+use Rattle.tables.specs.Limits.{maxStates, maxObservations, maxLevels, K}
 use Rattle.tables.specs.Model.{Model, Valid}
-use Rattle.tables.specs.Storage.{weightIn, entryIn, modelIn, modelOf}
+use Rattle.tables.specs.Storage.{weightIn, entryIn, modelIn}
 use Rattle.tables.specs.Steps.{foreseenIn, backupIn, Stored}
-use Rattle.plans.specs.Level.{Level as Ideal, product, Shaped}
+use Rattle.plans.specs.Level.{Level, product, Shaped}
 use Rattle.plans.specs.Build.{chosen, entryFor, bestAction}
-use Rattle.levels.specs.declared.Level.{Level}
-use Rattle.levels.specs.Storage.{floorIn, levelOf}
+use Rattle.levels.specs.Storage.{floorIn}
 use Rattle.checks.specs.Steps.{successorsIn}
 use Rattle.builder.specs.declared.Candidate.{Candidate}
 use Rattle.builder.specs.declared.Best.{Best}
-use Rattle.builder.specs.declared.Rows.{Rows}
 
 -- a level that is built upon has fewer than 100 below it
 abbrev pub topBuilt : ℕ
@@ -40,14 +38,14 @@ candidateIn c transition observation reward entries vectors p a =
     record { chosen = choices; entries = padded (pos 0) maxStates n (λ s. floorDiv (backupIn n (c .discount) transition reward foreseen a s) K) }
 
 -- the same, through the model and the level
-unfoldable pub candidateOf : Model → Ideal → List ℕ → ℕ → Candidate
+unfoldable pub candidateOf : Model → Level → List ℕ → ℕ → Candidate
 candidateOf M L p a = record {
   chosen = padded 0 maxObservations (M .observations) (chosen M L (weightIn p) a);
   entries = padded (pos 0) maxStates (M .states) (entryFor M L (weightIn p) a);
 }
 
 -- the first action whose vector has the largest product with p, and its vector
-unfoldable pub bestOf : Model → Ideal → List ℕ → Best
+unfoldable pub bestOf : Model → Level → List ℕ → Best
 bestOf M L p =
     let a : ℕ = bestAction M L (weightIn p) in
     record { action = record { 0 = a }; candidate = candidateOf M L p a }
@@ -59,16 +57,8 @@ leastFrom backups a = ceilDiv (getD backups a (pos 0)) K
 abbrev pub leastOf : ℕ → List ℤ → ℤ
 leastOf actions backups = leastFrom backups (firstLargest actions (leastFrom backups))
 
--- the vectors of a level in storage
-unfoldable pub rowsOf : ℕ → ℕ → Ideal → Rows
-rowsOf n k W = record {
-  actions = padded 0 maxVectors (W .vectors) (W .action);
-  choices = grid 0 (maxVectors * maxObservations) (W .vectors) k (W .choice);
-  entries = grid (pos 0) (maxVectors * maxStates) (W .vectors) n (W .entry);
-}
-
 -- the entries of a standing level, of which only the vectors are read
-abbrev pub uponIn : Counts → ℕ → List ℤ → Ideal
+abbrev pub uponIn : Counts → ℕ → List ℤ → Level
 uponIn c vectors entries = floorIn (c .states) (c .observations) vectors [] [] entries
 
 -- tables that are not refused, and standing vectors that can be built upon
@@ -78,7 +68,14 @@ pub record Upon (c : Counts) (transition observation : List ℕ) (reward entries
   pub shaped : Shaped (modelIn c transition observation reward) topBuilt (uponIn c vectors entries)
   pub entries-stored : vectors * c .states ≤ length entries
 
--- the same of tables and a level by value
-pub record Buildable (m : Tables) (l : Level) : Type 0 where
-  pub valid : Valid (modelOf m)
-  pub shaped : Shaped (modelOf m) topBuilt (levelOf (m .states) (m .observations) l)
+-- slices are long enough for so many vectors
+pub record RowsFit (n k count : ℕ) (actions choices : List ℕ) (entries : List ℤ) : Type 0 where
+  pub actions-fit : count ≤ length actions
+  pub choices-fit : count * k ≤ length choices
+  pub entries-fit : count * n ≤ length entries
+
+-- the first v vectors of a level, laid over what slices had
+pub record Filled (n k : ℕ) (W : Level) (v : ℕ) (actions choices : List ℕ) (entries : List ℤ) (actions' choices' : List ℕ) (entries' : List ℤ) : Type 0 where
+  pub actions-are : actions' ≡ laid v (W .action) actions
+  pub choices-are : choices' ≡ laidRows v k (W .choice) choices
+  pub entries-are : entries' ≡ laidRows v n (W .entry) entries

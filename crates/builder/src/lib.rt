@@ -1,33 +1,24 @@
 // The builder: from a standing level and the weights of some points, a level that is always accepted.
 ghost use mathlib.Core.Path.{_≡_};
+ghost use mathlib.Core.Bool.{true};
 ghost use mathlib.Core.List.{[]};
 ghost use Prim.Native.Nat.{ℕ, _+_, _*_, _-_, _≤_, _<_};
 ghost use lib.ListN.{length};
-ghost use lib.IntN.{pos};
-ghost use Rattle.integers.specs.Whole.{floorDiv, Below, Within};
+ghost use Rattle.integers.specs.Whole.{Below};
 ghost use Rattle.integers.specs.Search.{firstLargest};
-ghost use Rattle.integers.specs.Cells.{padded, grid};
+ghost use Rattle.integers.specs.Cells.{padded, laid};
 ghost use Rattle.tables.specs.Limits.{maxStates, maxActions, maxObservations, one, K};
-ghost use Rattle.tables.specs.Storage.{weightIn, entryIn, modelIn, modelOf};
-ghost use Rattle.tables.specs.Steps.{movedIn, seenIn, backupIn, rowsTo, TransitionsFit, ObservationsFit, RewardsFit, EntriesFit, movedLimit, foreseenLimit};
-ghost use Rattle.plans.specs.Limits.{maxBuilt, maxPoints, maxTotal, maxReached};
+ghost use Rattle.tables.specs.Storage.{weightIn, entryIn, modelIn, tablesIn};
+ghost use Rattle.tables.specs.Steps.{movedIn, seenIn, rowsTo, TransitionsFit, ObservationsFit, RewardsFit, EntriesFit, movedLimit};
+ghost use Rattle.plans.specs.Limits.{maxBuilt, maxTotal, maxReached};
 ghost use Rattle.plans.specs.Level.{product, corner-weight, IsPoint};
 ghost use Rattle.plans.specs.Build.{seed, leastValue, built};
-ghost use Rattle.levels.specs.Storage.{roofIn, levelOf, pointIn};
+ghost use Rattle.levels.specs.Storage.{cells, roofIn, levelIn, pointIn, lentFor, complete, over};
 ghost use Rattle.checks.specs.Steps.{Light, Roofed};
-ghost use Rattle.runs.specs.State.{stored};
-ghost use Rattle.builder.specs.Steps.{candidateIn, bestOf, leastOf, rowsOf, uponIn, Upon, Buildable};
+ghost use Rattle.builder.specs.Steps.{candidateIn, bestOf, leastOf, uponIn, Upon, RowsFit, Filled};
 use integers::cells;
-use levels::Actions;
-use levels::Choices;
-use levels::Corners;
-use levels::Entries;
-use levels::Level;
-use levels::PointWeights;
-use levels::Values;
 use levels::shape;
 use levels::vectors;
-use runs::Points;
 use tables::Action;
 use tables::Counts;
 use tables::Foreseen;
@@ -52,13 +43,6 @@ pub struct Candidate {
 pub struct Best {
     pub action: Action,
     pub candidate: Candidate,
-}
-
-// The vectors of a level.
-pub struct Rows {
-    pub actions: Actions,
-    pub choices: Choices,
-    pub entries: Entries,
 }
 
 // For each observation, the first previous vector with the largest product with the successor weights.
@@ -223,19 +207,21 @@ fn build_vectors<'a>(
     c: Counts,
     vectors: usize,
     points: usize,
-) -> Rows
+    actions: &mut [u8],
+    choices: &mut [u16],
+    entries: &mut [i64],
+)
     requires { ⌜ Upon c (now transition) (now observation) (now reward) (now standing) vectors ⌝ }
     requires { ⌜ (points ≤ maxBuilt) × (points * c .states ≤ length (now weights)) ⌝ }
     requires { ⌜ ((i : ℕ) → i < points → IsPoint (c .states) (pointIn (c .states) (now weights) i)) ⌝ }
-    ensures { λ r. ⌜ r ≡ rowsOf (c .states) (c .observations) (built (modelIn c (now (transition .entry)) (now (observation .entry))
-        (now (reward .entry))) (uponIn c vectors (now (standing .entry))) points (pointIn (c .states) (now (weights .entry)))) ⌝ }
+    requires { ⌜ RowsFit (c .states) (c .observations) (c .states + points) (now actions) (now choices) (now entries) ⌝ }
+    ensures { λ _. ⌜ Filled (c .states) (c .observations) (built (modelIn c (now (transition .entry)) (now (observation .entry))
+        (now (reward .entry))) (uponIn c vectors (now (standing .entry))) points (pointIn (c .states) (now (weights .entry)))) (c .states + points)
+        (now (actions .entry)) (now (choices .entry)) (now (entries .entry)) (now (actions .exit)) (now (choices .exit)) (now (entries .exit)) ⌝ }
 {
     let n = c.states;
     let k = c.observations;
     let count = n + points;
-    let mut actions = [0u8; Tables::VECTORS];
-    let mut choices = [0u16; Tables::VECTORS * Tables::OBSERVATIONS];
-    let mut entries = [0i64; Tables::VECTORS * Tables::STATES];
     for v in 0..count {
         let p = seed_weights(weights, n, Vector(v));
         let best = best_candidate(transition, observation, reward, standing, &p, c, vectors);
@@ -243,13 +229,8 @@ fn build_vectors<'a>(
         let chosen = made.chosen;
         let row = made.entries;
         actions[v] = number(best.action);
-        cells::paste_u16(&mut choices, read::start(v, k), &chosen, k);
-        cells::paste_i64(&mut entries, read::start(v, n), &row, n);
-    }
-    Rows {
-        actions: actions,
-        choices: choices,
-        entries: entries,
+        cells::paste_u16(choices, read::start(v, k), &chosen, k);
+        cells::paste_i64(entries, read::start(v, n), &row, n);
     }
 }
 
@@ -263,15 +244,16 @@ fn build_corners<'a, 'b>(
     values: &'b [i64],
     c: Counts,
     points: usize,
-) -> Corners
+    least: &mut [i64],
+)
     requires { ⌜ Roofed c (now transition) (now observation) (now reward) (now corners) points (now weights) (now values) ⌝ }
-    ensures { λ r. ⌜ r ≡ padded (pos 0) maxStates (c .states) (λ s. leastValue
+    requires { ⌜ c .states ≤ length (now least) ⌝ }
+    ensures { λ _. ⌜ now (least .exit) ≡ laid (c .states) (λ s. leastValue
         (modelIn c (now (transition .entry)) (now (observation .entry)) (now (reward .entry)))
-        (roofIn (c .states) (now (corners .entry)) points (now (weights .entry)) (now (values .entry))) (corner-weight s)) ⌝ }
+        (roofIn (c .states) (now (corners .entry)) points (now (weights .entry)) (now (values .entry))) (corner-weight s)) (now (least .entry)) ⌝ }
 {
     let n = c.states;
     let gains = sawtooth::gains(corners, weights, values, points, n);
-    let mut least = [0i64; Tables::STATES];
     for s in 0..n {
         let p = checks::corner_weights(State(s));
         let backups = checks::backups_at(
@@ -287,7 +269,6 @@ fn build_corners<'a, 'b>(
         );
         least[s] = least_of(&backups, c.actions);
     }
-    least
 }
 
 // The least point values that meet their inequalities.
@@ -302,17 +283,19 @@ fn build_values<'a, 'b>(
     c: Counts,
     points: usize,
     count: usize,
-) -> Values
+    least: &mut [i64],
+)
     requires { ⌜ Roofed c (now transition) (now observation) (now reward) (now corners) points (now weights) (now values) ⌝ }
     requires { ⌜ (count ≤ maxBuilt) × (count * c .states ≤ length (now given)) ⌝ }
     requires { ⌜ ((i : ℕ) → i < count → IsPoint (c .states) (pointIn (c .states) (now given) i)) ⌝ }
-    ensures { λ r. ⌜ r ≡ padded (pos 0) maxPoints count (λ i. leastValue
+    requires { ⌜ count ≤ length (now least) ⌝ }
+    ensures { λ _. ⌜ now (least .exit) ≡ laid count (λ i. leastValue
         (modelIn c (now (transition .entry)) (now (observation .entry)) (now (reward .entry)))
-        (roofIn (c .states) (now (corners .entry)) points (now (weights .entry)) (now (values .entry))) (pointIn (c .states) (now (given .entry)) i)) ⌝ }
+        (roofIn (c .states) (now (corners .entry)) points (now (weights .entry)) (now (values .entry))) (pointIn (c .states) (now (given .entry)) i))
+        (now (least .entry)) ⌝ }
 {
     let n = c.states;
     let gains = sawtooth::gains(corners, weights, values, points, n);
-    let mut least = [0i64; Level::POINTS];
     for i in 0..count {
         let p = shape::point_weights(given, n, i);
         let backups = checks::backups_at(
@@ -328,83 +311,76 @@ fn build_values<'a, 'b>(
         );
         least[i] = least_of(&backups, c.actions);
     }
-    least
 }
 
-// The points' weights, in their order.
-fn keep_points(given: &[u32], count: usize, n: usize) -> PointWeights
-    requires { ⌜ (n ≤ maxStates) × (count ≤ maxBuilt) ⌝ }
-    requires { ⌜ count * n ≤ length (now given) ⌝ }
-    ensures { λ r. ⌜ r ≡ grid 0 (maxPoints * maxStates) count n (pointIn n (now (given .entry))) ⌝ }
+// The built level, written over lent slices: its actions, choices, entries (`made`), corners (`least`) and values (`worths`). The weights of its points are
+// those that were given.
+pub fn build_level<'a, 'b>(
+    transition: &'a [u16],
+    observation: &'a [u16],
+    reward: &'a [i64],
+    c: Counts,
+    entries: &'b [i64],
+    corners: &'b [i64],
+    weights: &'b [u32],
+    values: &'b [i64],
+    vectors: usize,
+    points: usize,
+    given: &[u32],
+    count: usize,
+    actions: &mut [u8],
+    choices: &mut [u16],
+    made: &mut [i64],
+    least: &mut [i64],
+    worths: &mut [i64],
+)
+    requires { ⌜ Upon c (now transition) (now observation) (now reward) (now entries) vectors ⌝ }
+    requires { ⌜ Roofed c (now transition) (now observation) (now reward) (now corners) points (now weights) (now values) ⌝ }
+    requires { ⌜ (count ≤ maxBuilt) × ((i : ℕ) → i < count → IsPoint (c .states) (pointIn (c .states) (now given) i)) ⌝ }
+    requires { ⌜ complete (tablesIn c (now transition) (now observation) (now reward)) (lentFor (c .states + count) count
+        (cells (now actions) (now choices) (now made) (now least) (now given) (now worths))) ≡ true ⌝ }
+    ensures { λ _. ⌜ cells (now (actions .exit)) (now (choices .exit)) (now (made .exit)) (now (least .exit)) (now (given .entry)) (now (worths .exit))
+        ≡ over (tablesIn c (now (transition .entry)) (now (observation .entry)) (now (reward .entry)))
+        (built (modelIn c (now (transition .entry)) (now (observation .entry)) (now (reward .entry)))
+        (levelIn (c .states) (c .observations) vectors [] [] (now (entries .entry)) (now (corners .entry)) points (now (weights .entry)) (now (values .entry)))
+        count (pointIn (c .states) (now (given .entry))))
+        (cells (now (actions .entry)) (now (choices .entry)) (now (made .entry)) (now (least .entry)) (now (given .entry)) (now (worths .entry))) ⌝ }
 {
-    let used = count * n;
-    let mut weights = [0u32; Level::POINTS * Tables::STATES];
-    for i in 0..used {
-        weights[i] = given[i];
-    }
-    weights
-}
-
-// The built level.
-pub fn build_level(m: Tables, l: Level, p: Points) -> Level
-    requires { ⌜ Buildable m l ⌝ }
-    requires { ⌜ p .count ≤ maxBuilt ⌝ }
-    requires { ⌜ ((i : ℕ) → i < p .count → IsPoint (m .states) (pointIn (m .states) (p .weights) i)) ⌝ }
-    ensures { λ r. ⌜ r ≡ stored (m .states) (m .observations) (built (modelOf m) (levelOf (m .states) (m .observations) l) (p .count)
-        (pointIn (m .states) (p .weights))) ⌝ }
-{
-    let n = m.states;
-    let count = p.count;
-    let c = Counts {
-        states: n,
-        actions: m.actions,
-        observations: m.observations,
-        discount: m.discount,
-    };
-    let rows = build_vectors(
-        &m.transition,
-        &m.observation,
-        &m.reward,
-        &l.entries,
-        &p.weights,
+    build_vectors(
+        transition,
+        observation,
+        reward,
+        entries,
+        given,
         c,
-        l.vectors,
+        vectors,
         count,
+        actions,
+        choices,
+        made,
     );
-    let corners = build_corners(
-        &m.transition,
-        &m.observation,
-        &m.reward,
-        &l.corners,
-        &l.weights,
-        &l.values,
+    build_corners(
+        transition,
+        observation,
+        reward,
+        corners,
+        weights,
+        values,
         c,
-        l.points,
+        points,
+        least,
     );
-    let values = build_values(
-        &m.transition,
-        &m.observation,
-        &m.reward,
-        &l.corners,
-        &l.weights,
-        &l.values,
-        &p.weights,
+    build_values(
+        transition,
+        observation,
+        reward,
+        corners,
+        weights,
+        values,
+        given,
         c,
-        l.points,
+        points,
         count,
+        worths,
     );
-    let weights = keep_points(&p.weights, count, n);
-    let actions = rows.actions;
-    let choices = rows.choices;
-    let entries = rows.entries;
-    Level {
-        vectors: n + count,
-        actions: actions,
-        choices: choices,
-        entries: entries,
-        corners: corners,
-        points: count,
-        weights: weights,
-        values: values,
-    }
 }

@@ -1,2 +1,2 @@
--- The two stages of an offer's tests.
-pub mod Stages
+-- What the writing of a level is asked and says.
+pub mod Steps

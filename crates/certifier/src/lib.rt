@@ -1,359 +1,406 @@
-// The certifier's four calls: open, offer, totals and build. Each serves or refuses whatever it is handed, and a refusal changes nothing.
+// The calls that write what a certifier lends: open and offer; and build, which writes the slices lent for the level that it makes. Each serves or refuses
+// whatever it is handed, and a refusal writes nothing.
 ghost use mathlib.Core.Path.{_≡_};
-ghost use mathlib.Core.Bool.{true};
+ghost use mathlib.Core.Bool.{_&&_};
 ghost use mathlib.Core.List.{List};
-ghost use Prim.Native.Nat.{_≤_, _<_};
-ghost use Rattle.integers.specs.Whole.{Below};
-ghost use Rattle.tables.specs.declared.Tables.{Tables};
-ghost use Rattle.tables.specs.declared.Verdict.the-variants.{Fine};
-ghost use Rattle.tables.specs.Limits.{maxStates, maxVectors, maxWeight, maxLevels};
-ghost use Rattle.tables.specs.Storage.{weightIn, modelOf};
-ghost use Rattle.plans.specs.Limits.{maxPoints, range};
-ghost use Rattle.levels.specs.declared.Level.{Level};
-ghost use Rattle.levels.specs.Storage.{levelOf};
-ghost use Rattle.levels.specs.Judged.{rangesVerdict, shapeVerdict, backupsVerdict};
-ghost use Rattle.runs.specs.State.{modelIn, readBy, levelIn, holds, opened, verdictOn, offered, mixtureHolds, boundsBy, totalsOf, builtOf};
-ghost use Rattle.runs.specs.Demand3.{ModelAccepted, after, steps, PointsHold, TotalsHold, BuildHolds};
-ghost use Rattle.certifier.specs.Stages.{noBounds, noBuilt};
+ghost use Prim.Native.Nat.{ℕ, _+_, _*_, _≤_, _<_};
+ghost use lib.Dec.{leb, ltb};
+ghost use lib.ListN.{length};
+ghost use lib.IntN.{pos};
+ghost use Rattle.integers.specs.Cells.{laid};
+ghost use Rattle.tables.specs.Limits.{maxStates, maxObservations, maxLevels};
+ghost use Rattle.tables.specs.Storage.{tablesIn};
+ghost use Rattle.tables.specs.Verdicts.{_before_, unless};
+ghost use Rattle.tables.specs.Judged.{tablesVerdict};
+ghost use Rattle.plans.specs.Limits.{maxBuilt};
+ghost use Rattle.levels.specs.Storage.{LentLevel, Lent, stateSize, cells, lent, lentFor, standingAt, pointIn, longEnough};
+ghost use Rattle.levels.specs.Judged.{holds, weightsVerdict, offerVerdict};
+ghost use Rattle.runs.specs.State.{openVerdict, opened, offered, buildVerdict, builtOf};
+ghost use Rattle.certifier.specs.Steps.{Lays, laidBy};
+ghost use Rattle.runs.specs.Demand3.{ModelAccepted, after, steps, PointsHold, BuildHolds};
+use integers::cells;
 use levels::Level;
+use levels::Standing;
 use levels::shape;
-use levels::vectors;
-use runs::Answer;
-use runs::Bounds;
-use runs::Built;
-use runs::Certifier;
-use runs::Points;
-use tables::Action;
 use tables::Counts;
 use tables::Tables;
 use tables::Verdict;
-use tables::Weights;
 use tables::judge;
-use tables::read;
 
-// Opens a certifier on tables of any content: at level 0, or refused by 3, 5 or 6.
-pub fn open(tables: Tables) -> Answer
-    ensures { λ r. ⌜ r ≡ opened tables ⌝ }
-{
-    let judged = judge::open_tables(tables);
-    let verdict = judged.verdict;
-    match verdict {
-        Verdict::Fine => {
-            let kept = judged.tables;
-            let certifier = Certifier::fresh(kept);
-            Answer {
-                verdict: Verdict::Fine,
-                certifier: certifier,
-            }
-        }
-        Verdict::Refused(number, place) => {
-            let certifier = Certifier::none();
-            Answer {
-                verdict: Verdict::Refused(number, place),
-                certifier: certifier,
-            }
-        }
-    }
-}
+// ---- opening
 
-// The range of entries and corners at level t.
-fn range_of(t: usize) -> u64
-    requires { ⌜ t ≤ maxLevels ⌝ }
-    ensures { λ r. ⌜ r ≡ range t ⌝ }
+// 3, 5 and 6 of the tables; then 9 where slices of such lengths are too short for level 0.
+fn judge_open<'a>(
+    transition: &'a [u16],
+    observation: &'a [u16],
+    reward: &'a [i64],
+    c: Counts,
+    state: usize,
+    actions: usize,
+    choices: usize,
+    entries: usize,
+    corners: usize,
+    weights: usize,
+    values: usize,
+) -> Verdict
+    ensures { λ r. ⌜ r ≡ (tablesVerdict (tablesIn c (now (transition .entry)) (now (observation .entry)) (now (reward .entry))) before
+        unless (leb stateSize state && (leb (1 * c .observations) choices && longEnough (c .states) 1 0 actions entries corners weights values)) 9 0) ⌝ }
 {
-    Tables::REWARD * t as u64
-}
-
-// 11: entries, then corners, then point values.
-fn ranges_hold(m: Tables, t: usize, l: Level) -> Verdict
-    requires { ⌜ (m .states ≤ maxStates) × (t ≤ maxLevels) ⌝ }
-    requires { ⌜ (l .vectors ≤ maxVectors) × (l .points ≤ maxPoints) ⌝ }
-    ensures { λ r. ⌜ r ≡ rangesVerdict (modelOf m) t (levelOf (m .states) (m .observations) l) ⌝ }
-{
-    let n = m.states;
-    let limit = range_of(t);
-    let entries = shape::rows_within(&l.entries, l.vectors, n, limit, 11);
-    let Verdict::Fine = entries else {
-        return entries;
-    };
-    let corners = shape::rows_within(&l.corners, n, 1, limit, 11);
-    let Verdict::Fine = corners else {
-        return corners;
-    };
-    shape::values_within(&l.weights, &l.values, n, l.points, limit)
-}
-
-// 7: whether the tables and the standing level are within their limits.
-fn standing_holds(c: Certifier) -> bool
-    ensures { λ r. ⌜ r ≡ holds c ⌝ }
-{
-    let m = c.tables;
-    let l = c.level;
-    let number = c.number;
-    let counts = Counts {
-        states: m.states,
-        actions: m.actions,
-        observations: m.observations,
-        discount: m.discount,
-    };
-    let tables = judge::judge_tables(&m.transition, &m.observation, &m.reward, counts);
+    let tables = judge::judge_tables(transition, observation, reward, c);
     let Verdict::Fine = tables else {
-        return false;
+        return tables;
     };
-    if Level::LEVELS < number {
-        return false;
-    }
-    if !shape::counts_hold(l.vectors, l.points) {
-        return false;
-    }
-    if !shape::actions_exist(&l.actions, l.vectors, m.actions) {
-        return false;
-    }
-    let ranges = ranges_hold(m, number, l);
-    let Verdict::Fine = ranges else {
-        return false;
-    };
-    let weights = shape::weights_hold(&l.weights, m.states, l.points);
-    let Verdict::Fine = weights else {
-        return false;
-    };
-    true
-}
-
-// 7 to 12: the certifier and the offered level by themselves.
-fn judge_shape(c: Certifier, l: Level) -> Verdict
-    ensures { λ r. ⌜ r ≡ shapeVerdict (modelIn c) (c .number) (levelIn c) (readBy c l) ⌝ }
-{
-    if !standing_holds(c) {
-        return Verdict::Refused(7, 0);
-    }
-    let number = c.number;
-    if Level::LEVELS <= number {
-        return Verdict::Refused(8, 0);
-    }
-    if !shape::counts_hold(l.vectors, l.points) {
+    if state < Standing::SIZE {
         return Verdict::Refused(9, 0);
     }
-    let m = c.tables;
-    let standing = c.level;
-    let numbers = shape::numbers_exist(
-        &l.actions,
-        &l.choices,
-        l.vectors,
-        m.actions,
-        m.observations,
-        standing.vectors,
-        10,
-    );
-    let Verdict::Fine = numbers else {
-        return numbers;
-    };
-    let ranges = ranges_hold(m, number + 1, l);
-    let Verdict::Fine = ranges else {
-        return ranges;
-    };
-    shape::weights_hold(&l.weights, m.states, l.points)
+    let s = Standing::fresh();
+    if !shape::complete(
+        c.states,
+        c.observations,
+        s.vectors,
+        s.points,
+        actions,
+        choices,
+        entries,
+        corners,
+        weights,
+        values,
+    ) {
+        return Verdict::Refused(9, 0);
+    }
+    Verdict::Fine
 }
 
-// 13 to 15: the backup inequalities.
-fn judge_backups(c: Certifier, l: Level) -> Verdict
-    requires { ⌜ shapeVerdict (modelIn c) (c .number) (levelIn c) (readBy c l) ≡ Fine ⌝ }
-    ensures { λ r. ⌜ r ≡ backupsVerdict (modelIn c) (levelIn c) (readBy c l) ⌝ }
+// Level 0 over the slices: one zero vector, zero corners.
+fn lay_level_0(
+    n: usize,
+    k: usize,
+    actions: &mut [u8],
+    choices: &mut [u16],
+    entries: &mut [i64],
+    corners: &mut [i64],
+)
+    requires { ⌜ (n ≤ maxStates) × (k ≤ maxObservations) ⌝ }
+    requires { ⌜ (0 < length (now actions)) × ((k ≤ length (now choices)) × ((n ≤ length (now entries)) × (n ≤ length (now corners)))) ⌝ }
+    ensures { λ _. ⌜ now (actions .exit) ≡ laid 1 (λ v. 0) (now (actions .entry)) ⌝ }
+    ensures { λ _. ⌜ now (choices .exit) ≡ laid k (λ o. 0) (now (choices .entry)) ⌝ }
+    ensures { λ _. ⌜ now (entries .exit) ≡ laid n (λ s. pos 0) (now (entries .entry)) ⌝ }
+    ensures { λ _. ⌜ now (corners .exit) ≡ laid n (λ s. pos 0) (now (corners .entry)) ⌝ }
 {
-    let m = c.tables;
-    let standing = c.level;
-    let counts = Counts {
-        states: m.states,
-        actions: m.actions,
-        observations: m.observations,
-        discount: m.discount,
-    };
-    let floors = checks::floors_hold(
-        &m.transition,
-        &m.observation,
-        &m.reward,
-        &standing.entries,
-        &l.actions,
-        &l.choices,
-        &l.entries,
-        counts,
-        l.vectors,
-    );
-    let Verdict::Fine = floors else {
-        return floors;
-    };
-    let corners = checks::corners_hold(
-        &m.transition,
-        &m.observation,
-        &m.reward,
-        &standing.corners,
-        &standing.weights,
-        &standing.values,
-        &l.corners,
-        counts,
-        standing.points,
-    );
-    let Verdict::Fine = corners else {
-        return corners;
-    };
-    checks::points_hold(
-        &m.transition,
-        &m.observation,
-        &m.reward,
-        &standing.corners,
-        &standing.weights,
-        &standing.values,
-        &l.weights,
-        &l.values,
-        counts,
-        standing.points,
-        l.points,
-    )
+    actions[0] = 0;
+    cells::paste_u16(choices, 0, &[0u16; Tables::OBSERVATIONS], k);
+    cells::paste_i64(entries, 0, &[0i64; Tables::STATES], n);
+    cells::paste_i64(corners, 0, &[0i64; Tables::STATES], n);
 }
 
-fn judge_offer(c: Certifier, l: Level) -> Verdict
-    ensures { λ r. ⌜ r ≡ verdictOn c l ⌝ }
+// Opens a certifier on tables of any content: at level 0, or refused by 3, 5, 6 or 9.
+pub fn open<'a>(
+    transition: &'a [u16],
+    observation: &'a [u16],
+    reward: &'a [i64],
+    c: Counts,
+    state: &mut [usize],
+    actions: &mut [u8],
+    choices: &mut [u16],
+    entries: &mut [i64],
+    corners: &mut [i64],
+    weights: &[u32],
+    values: &[i64],
+) -> Verdict
+    ensures { λ r. ⌜ r ≡ openVerdict (tablesIn c (now (transition .entry)) (now (observation .entry)) (now (reward .entry)))
+        (lent (now (state .entry)) (cells (now (actions .entry)) (now (choices .entry)) (now (entries .entry)) (now (corners .entry)) (now (weights .entry)) (now (values .entry)))) ⌝ }
+    ensures { λ _. ⌜ lent (now (state .exit)) (cells (now (actions .exit)) (now (choices .exit)) (now (entries .exit)) (now (corners .exit))
+        (now (weights .entry)) (now (values .entry)))
+        ≡ opened (tablesIn c (now (transition .entry)) (now (observation .entry)) (now (reward .entry)))
+        (lent (now (state .entry)) (cells (now (actions .entry)) (now (choices .entry)) (now (entries .entry)) (now (corners .entry)) (now (weights .entry)) (now (values .entry)))) ⌝ }
 {
-    let shape = judge_shape(c, l);
-    let Verdict::Fine = shape else {
-        return shape;
+    let verdict = judge_open(
+        transition,
+        observation,
+        reward,
+        c,
+        state.len(),
+        actions.len(),
+        choices.len(),
+        entries.len(),
+        corners.len(),
+        weights.len(),
+        values.len(),
+    );
+    let Verdict::Fine = verdict else {
+        return verdict;
     };
-    judge_backups(c, l)
+    levels::put_standing(state, Standing::fresh());
+    lay_level_0(c.states, c.observations, actions, choices, entries, corners);
+    Verdict::Fine
 }
 
-// Offers a level of any content: the certifier one level higher with it, or refused by 7 to 15 and unchanged.
-pub fn offer(c: Certifier, l: Level) -> Answer
-    ensures { λ r. ⌜ r ≡ offered c l ⌝ }
+// ---- offering
+
+// A level over the slices.
+fn lay_level<'b>(
+    n: usize,
+    k: usize,
+    actions: &mut [u8],
+    choices: &mut [u16],
+    entries: &mut [i64],
+    corners: &mut [i64],
+    weights: &mut [u32],
+    values: &mut [i64],
+    vectors: usize,
+    points: usize,
+    newactions: &'b [u8],
+    newchoices: &'b [u16],
+    newentries: &'b [i64],
+    newcorners: &'b [i64],
+    newweights: &'b [u32],
+    newvalues: &'b [i64],
+)
+    requires { ⌜ Lays n k vectors points (now actions) (now choices) (now entries) (now corners) (now weights) (now values) ⌝ }
+    requires { ⌜ Lays n k vectors points (now newactions) (now newchoices) (now newentries) (now newcorners) (now newweights) (now newvalues) ⌝ }
+    ensures { λ _. ⌜ (cells (now (actions .exit)) (now (choices .exit)) (now (entries .exit)) (now (corners .exit)) (now (weights .exit)) (now (values .exit)))
+        ≡ laidBy n k vectors points (cells (now (newactions .entry)) (now (newchoices .entry)) (now (newentries .entry)) (now (newcorners .entry)) (now (newweights .entry)) (now (newvalues .entry)))
+        (cells (now (actions .entry)) (now (choices .entry)) (now (entries .entry)) (now (corners .entry)) (now (weights .entry)) (now (values .entry))) ⌝ }
 {
-    match judge_offer(c, l) {
-        Verdict::Fine => {
-            let m = c.tables;
-            let number = c.number;
-            let kept = shape::keep_level(m.states, m.observations, l);
-            Answer {
-                verdict: Verdict::Fine,
-                certifier: Certifier {
-                    tables: m,
-                    number: number + 1,
-                    level: kept,
-                },
-            }
-        }
-        Verdict::Refused(number, place) => Answer {
-            verdict: Verdict::Refused(number, place),
-            certifier: c,
+    cells::paste_u8(actions, 0, newactions, vectors);
+    cells::paste_u16(choices, 0, newchoices, vectors * k);
+    cells::paste_i64(entries, 0, newentries, vectors * n);
+    cells::paste_i64(corners, 0, newcorners, n);
+    cells::paste_u32(weights, 0, newweights, points * n);
+    cells::paste_i64(values, 0, newvalues, points);
+}
+
+// Offers a level of any content: the certifier then stands one level higher with it; or refused by 7 to 15 and unchanged.
+pub fn offer<'a, 'b>(
+    transition: &'a [u16],
+    observation: &'a [u16],
+    reward: &'a [i64],
+    c: Counts,
+    state: &mut [usize],
+    actions: &mut [u8],
+    choices: &mut [u16],
+    entries: &mut [i64],
+    corners: &mut [i64],
+    weights: &mut [u32],
+    values: &mut [i64],
+    vectors: usize,
+    points: usize,
+    newactions: &'b [u8],
+    newchoices: &'b [u16],
+    newentries: &'b [i64],
+    newcorners: &'b [i64],
+    newweights: &'b [u32],
+    newvalues: &'b [i64],
+) -> Verdict
+    ensures { λ r. ⌜ r ≡ offerVerdict (tablesIn c (now (transition .entry)) (now (observation .entry)) (now (reward .entry)))
+        (lent (now (state .entry)) (cells (now (actions .entry)) (now (choices .entry)) (now (entries .entry)) (now (corners .entry)) (now (weights .entry)) (now (values .entry))))
+        (lentFor vectors points (cells (now (newactions .entry)) (now (newchoices .entry)) (now (newentries .entry)) (now (newcorners .entry)) (now (newweights .entry)) (now (newvalues .entry)))) ⌝ }
+    ensures { λ _. ⌜ lent (now (state .exit)) (cells (now (actions .exit)) (now (choices .exit)) (now (entries .exit)) (now (corners .exit)) (now (weights .exit)) (now (values .exit)))
+        ≡ offered (tablesIn c (now (transition .entry)) (now (observation .entry)) (now (reward .entry)))
+        (lent (now (state .entry)) (cells (now (actions .entry)) (now (choices .entry)) (now (entries .entry)) (now (corners .entry)) (now (weights .entry)) (now (values .entry))))
+        (lentFor vectors points (cells (now (newactions .entry)) (now (newchoices .entry)) (now (newentries .entry)) (now (newcorners .entry)) (now (newweights .entry)) (now (newvalues .entry)))) ⌝ }
+{
+    let verdict = judging::judge_offer(
+        transition,
+        observation,
+        reward,
+        c,
+        &state[..],
+        &actions[..],
+        &choices[..],
+        &entries[..],
+        &corners[..],
+        &weights[..],
+        &values[..],
+        vectors,
+        points,
+        newactions,
+        newchoices,
+        newentries,
+        newcorners,
+        newweights,
+        newvalues,
+    );
+    let Verdict::Fine = verdict else {
+        return verdict;
+    };
+    let s = levels::standing_in(&state[..]);
+    levels::put_standing(
+        state,
+        Standing {
+            number: s.number + 1,
+            vectors: vectors,
+            points: points,
         },
-    }
+    );
+    lay_level(
+        c.states,
+        c.observations,
+        actions,
+        choices,
+        entries,
+        corners,
+        weights,
+        values,
+        vectors,
+        points,
+        newactions,
+        newchoices,
+        newentries,
+        newcorners,
+        newweights,
+        newvalues,
+    );
+    Verdict::Fine
 }
 
-// 17: whether no weight exceeds 1,000,000 and some is above 0.
-fn mixture_holds(b: [u32; Tables::STATES], n: usize) -> bool
-    requires { ⌜ n ≤ maxStates ⌝ }
-    ensures { λ r. ⌜ r ≡ mixtureHolds n (weightIn b) ⌝ }
+// ---- building
+
+// 7, 8, 9 and 12: the certifier, the points, and slices of such lengths for the level that is built of them.
+fn judge_build<'a, 'b>(
+    transition: &'a [u16],
+    observation: &'a [u16],
+    reward: &'a [i64],
+    c: Counts,
+    state: &'b [usize],
+    actions: &'b [u8],
+    entries: &'b [i64],
+    corners: &'b [i64],
+    weights: &'b [u32],
+    values: &'b [i64],
+    given: &[u32],
+    count: usize,
+    newactions: usize,
+    newchoices: usize,
+    newentries: usize,
+    newcorners: usize,
+    newvalues: usize,
+) -> Verdict
+    ensures { λ r. ⌜ ((choices : List ℕ) → r ≡ (
+        unless (holds (tablesIn c (now (transition .entry)) (now (observation .entry)) (now (reward .entry)))
+        (lent (now (state .entry)) (cells (now (actions .entry)) choices (now (entries .entry)) (now (corners .entry)) (now (weights .entry)) (now (values .entry))))) 7 0
+        before unless (ltb (standingAt (now (state .entry)) .number) maxLevels) 8 0
+        before unless (leb count maxBuilt && (leb ((c .states + count) * c .observations) newchoices
+        && longEnough (c .states) (c .states + count) count newactions newentries newcorners (length (now (given .entry))) newvalues)) 9 0
+        before weightsVerdict (c .states) count (pointIn (c .states) (now (given .entry))))) ⌝ }
 {
-    let mut total: u64 = 0;
-    for s in 0..n {
-        let w = shape::weight(b[s]);
-        if Level::WEIGHT < w {
-            return false;
-        }
-        total += w;
+    if !judging::standing_holds(
+        transition,
+        observation,
+        reward,
+        c,
+        state,
+        actions,
+        entries,
+        corners,
+        weights,
+        values,
+    ) {
+        return Verdict::Refused(7, 0);
     }
-    0 < total
+    let s = levels::standing_in(state);
+    if Level::LEVELS <= s.number {
+        return Verdict::Refused(8, 0);
+    }
+    if Level::BUILT < count {
+        return Verdict::Refused(9, 0);
+    }
+    if !shape::complete(
+        c.states,
+        c.observations,
+        c.states + count,
+        count,
+        newactions,
+        newchoices,
+        newentries,
+        newcorners,
+        given.len(),
+        newvalues,
+    ) {
+        return Verdict::Refused(9, 0);
+    }
+    shape::weights_hold(given, c.states, count)
 }
 
-// A refusal of totals, with every other part 0.
-fn no_bounds(number: u8) -> Bounds
-    ensures { λ r. ⌜ r ≡ noBounds number ⌝ }
+// Builds the next level from a count of points of any content, whose weights are the level's own: it is accepted where it is offered to the same
+// certifier; or refused by 7, 8, 9 or 12.
+pub fn build<'a, 'b>(
+    transition: &'a [u16],
+    observation: &'a [u16],
+    reward: &'a [i64],
+    c: Counts,
+    state: &'b [usize],
+    actions: &'b [u8],
+    entries: &'b [i64],
+    corners: &'b [i64],
+    weights: &'b [u32],
+    values: &'b [i64],
+    given: &[u32],
+    count: usize,
+    newactions: &mut [u8],
+    newchoices: &mut [u16],
+    newentries: &mut [i64],
+    newcorners: &mut [i64],
+    newvalues: &mut [i64],
+) -> Verdict
+    ensures { λ r. ⌜ ((choices : List ℕ) → r ≡ buildVerdict (tablesIn c (now (transition .entry)) (now (observation .entry)) (now (reward .entry)))
+        (lent (now (state .entry)) (cells (now (actions .entry)) choices (now (entries .entry)) (now (corners .entry)) (now (weights .entry)) (now (values .entry)))) count
+        (cells (now (newactions .entry)) (now (newchoices .entry)) (now (newentries .entry)) (now (newcorners .entry)) (now (given .entry)) (now (newvalues .entry)))) ⌝ }
+    ensures { λ _. ⌜ ((choices : List ℕ) → (cells (now (newactions .exit)) (now (newchoices .exit)) (now (newentries .exit)) (now (newcorners .exit)) (now (given .entry)) (now (newvalues .exit)))
+        ≡ builtOf (tablesIn c (now (transition .entry)) (now (observation .entry)) (now (reward .entry)))
+        (lent (now (state .entry)) (cells (now (actions .entry)) choices (now (entries .entry)) (now (corners .entry)) (now (weights .entry)) (now (values .entry)))) count
+        (cells (now (newactions .entry)) (now (newchoices .entry)) (now (newentries .entry)) (now (newcorners .entry)) (now (given .entry)) (now (newvalues .entry)))) ⌝ }
+    ensures { λ r. ⌜ ((choices : List ℕ) (x : Lent) (ls : List LentLevel) → ModelAccepted (tablesIn c (now (transition .entry)) (now (observation .entry)) (now (reward .entry))) x →
+        lent (now (state .entry)) (cells (now (actions .entry)) choices (now (entries .entry)) (now (corners .entry)) (now (weights .entry)) (now (values .entry)))
+        ≡ after (tablesIn c (now (transition .entry)) (now (observation .entry)) (now (reward .entry))) x ls →
+        steps (tablesIn c (now (transition .entry)) (now (observation .entry)) (now (reward .entry))) x ls < maxLevels →
+        PointsHold (tablesIn c (now (transition .entry)) (now (observation .entry)) (now (reward .entry))) x count
+        (cells (now (newactions .entry)) (now (newchoices .entry)) (now (newentries .entry)) (now (newcorners .entry)) (now (given .entry)) (now (newvalues .entry))) →
+        BuildHolds (tablesIn c (now (transition .entry)) (now (observation .entry)) (now (reward .entry))) x ls count
+        (cells (now (newactions .entry)) (now (newchoices .entry)) (now (newentries .entry)) (now (newcorners .entry)) (now (given .entry)) (now (newvalues .entry))) r
+        (cells (now (newactions .exit)) (now (newchoices .exit)) (now (newentries .exit)) (now (newcorners .exit)) (now (given .entry)) (now (newvalues .exit)))) ⌝ }
 {
-    Bounds {
-        verdict: Verdict::Refused(number, 0),
-        lower: 0,
-        upper: 0,
-        gap: 0,
-        action: Action(0),
-    }
-}
-
-// The totals at weights within the limits.
-fn bounds_at(c: Certifier, q: Weights) -> Bounds
-    requires { ⌜ holds c ≡ true ⌝ }
-    requires { ⌜ Below maxWeight (c .tables .states) q ⌝ }
-    ensures { λ r. ⌜ r ≡ boundsBy Fine c q ⌝ }
-{
-    let m = c.tables;
-    let n = m.states;
-    let l = c.level;
-    let v = vectors::best_vector(&q, &l.entries, n, l.vectors);
-    let i = v.0;
-    let lower = vectors::product(&q, &l.entries, read::start(i, n), n);
-    let gains = sawtooth::gains(&l.corners, &l.weights, &l.values, l.points, n);
-    let upper = sawtooth::ceiling(&q, &l.corners, &l.weights, &gains, l.points, n);
-    let actions = l.actions;
-    Bounds {
-        verdict: Verdict::Fine,
-        lower: lower,
-        upper: upper,
-        gap: integers::minus(upper, lower),
-        action: Action(shape::action(actions[i])),
-    }
-}
-
-// The lower and the upper total at a mixture of any content, their gap and the action to open with; or refused by 7, 16 or 17.
-pub fn totals(c: Certifier, b: [u32; Tables::STATES]) -> Bounds
-    ensures { λ r. ⌜ r ≡ totalsOf c b ⌝ }
-    ensures { λ r. ⌜ ((m : Tables) (ls : List Level) → ModelAccepted m → c ≡ after m ls → 0 < steps m ls → mixtureHolds (m .states) (weightIn b) ≡ true →
-        TotalsHold m ls b r) ⌝ }
-{
-    if !standing_holds(c) {
-        return no_bounds(7);
-    }
-    if c.number == 0 {
-        return no_bounds(16);
-    }
-    let m = c.tables;
-    let n = m.states;
-    if !mixture_holds(b, n) {
-        return no_bounds(17);
-    }
-    bounds_at(c, shape::point_weights(&b, n, 0))
-}
-
-// A refusal of the builder, with a level of which every part is 0.
-fn no_level(number: u8, place: usize) -> Built
-    ensures { λ r. ⌜ r ≡ noBuilt number place ⌝ }
-{
-    let level = Level::none();
-    Built {
-        verdict: Verdict::Refused(number, place),
-        level: level,
-    }
-}
-
-// Builds the next level from points of any content: it is accepted where it is offered to the same certifier; or refused by 7, 8, 9 or 12.
-pub fn build(c: Certifier, p: Points) -> Built
-    ensures { λ r. ⌜ r ≡ builtOf c p ⌝ }
-    ensures { λ r. ⌜ ((m : Tables) (ls : List Level) → ModelAccepted m → c ≡ after m ls → steps m ls < maxLevels → PointsHold m p → BuildHolds m ls p r) ⌝ }
-{
-    if !standing_holds(c) {
-        return no_level(7, 0);
-    }
-    if Level::LEVELS <= c.number {
-        return no_level(8, 0);
-    }
-    if Level::BUILT < p.count {
-        return no_level(9, 0);
-    }
-    let m = c.tables;
-    let standing = c.level;
-    match shape::weights_hold(&p.weights, m.states, p.count) {
-        Verdict::Fine => {
-            let level = builder::build_level(m, standing, p);
-            Built {
-                verdict: Verdict::Fine,
-                level: level,
-            }
-        }
-        Verdict::Refused(number, place) => no_level(number, place),
-    }
+    let verdict = judge_build(
+        transition,
+        observation,
+        reward,
+        c,
+        state,
+        actions,
+        entries,
+        corners,
+        weights,
+        values,
+        given,
+        count,
+        newactions.len(),
+        newchoices.len(),
+        newentries.len(),
+        newcorners.len(),
+        newvalues.len(),
+    );
+    let Verdict::Fine = verdict else {
+        return verdict;
+    };
+    let s = levels::standing_in(state);
+    builder::build_level(
+        transition,
+        observation,
+        reward,
+        c,
+        entries,
+        corners,
+        weights,
+        values,
+        s.vectors,
+        s.points,
+        given,
+        count,
+        newactions,
+        newchoices,
+        newentries,
+        newcorners,
+        newvalues,
+    );
+    Verdict::Fine
 }

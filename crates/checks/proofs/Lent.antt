@@ -1,24 +1,21 @@
--- What tables and a level by value lend to the tests: parts that are stored, and within the limits if the whole is. Assumes nothing.
+-- What tables and a level lend to the tests: parts that are stored, and within the limits if the whole is. Assumes nothing.
 use Prim.Native.Nat.{ℕ, _<_}
 use mathlib.Core.List.{[]}
 use native.Mathlib.Omega.{arith}
 use Rattle.tables.specs.declared.Tables.{Tables}
 use Rattle.tables.specs.Limits.{maxLevels}
-use Rattle.tables.specs.Model.{Model, Valid}
+use Rattle.tables.specs.Model.{Valid}
 use Rattle.tables.specs.Storage.{countsOf, modelOf}
-use Rattle.tables.specs.Steps.{EntriesFit}
-use Rattle.tables.proofs.Fitting.{stored-valid}
-use Rattle.tables.proofs.Fitting as tables
+use Rattle.tables.specs.Steps.{EntriesFit, Stored}
 use Rattle.plans.specs.Limits.{range}
 use Rattle.plans.specs.Level.{Shaped}
-use Rattle.levels.specs.declared.Level.{Level}
-use Rattle.levels.specs.Storage.{levelOf, floorIn, roofIn}
-use Rattle.levels.proofs.Laws.{Long, Sizes, sizes}
+use Rattle.levels.specs.Storage.{LentLevel, levelOf, floorIn, roofIn}
+use Rattle.levels.proofs.Over.{Readable}
 use Rattle.checks.specs.Steps.{Roofed}
 
 -- ---- a part of a level is within the limits, if the whole is; what is not lent of it is 0 throughout
-module _ (M : Model) (some : 0 < M .actions) (n k t : ℕ) (l : Level) (shaped : Shaped M t (levelOf n k l)) where
-  pub floor-shaped : Shaped M t (floorIn n k (l .vectors) [] [] (l .entries))
+module _ (m : Tables) (some : 0 < m .actions) (t : ℕ) (l : LentLevel) (shaped : Shaped (modelOf m) t (levelOf m l)) where
+  pub floor-shaped : Shaped (modelOf m) t (floorIn (m .states) (m .observations) (l .vectors) [] [] (l .cells .entries))
   floor-shaped = record {
     some-vectors = shaped .some-vectors;
     few-vectors = shaped .few-vectors;
@@ -30,7 +27,7 @@ module _ (M : Model) (some : 0 < M .actions) (n k t : ℕ) (l : Level) (shaped :
     total = λ i b. absurd (omega arith);
   }
 
-  pub roof-shaped : Shaped M t (roofIn n (l .corners) (l .points) (l .weights) (l .values))
+  pub roof-shaped : Shaped (modelOf m) t (roofIn (m .states) (l .cells .corners) (l .points) (l .cells .weights) (l .cells .values))
   roof-shaped = record {
     some-vectors = omega arith;
     few-vectors = omega arith;
@@ -42,22 +39,19 @@ module _ (M : Model) (some : 0 < M .actions) (n k t : ℕ) (l : Level) (shaped :
     total = shaped .total;
   }
 
--- ---- a level in its arrays, over tables that are not refused
-module _ (m : Tables) (l : Level) (valid : Valid (modelOf m)) (lent : tables.Long m) (long : Long l)
-    (shaped : Shaped (modelOf m) maxLevels (levelOf (m .states) (m .observations) l)) where
-  room : Sizes (m .states) (m .observations) l
-  room = sizes l (valid .few-states) (valid .few-observations) (shaped .few-vectors) (shaped .few-points)
-
-  pub entries-lent : EntriesFit (m .states) (l .vectors) (l .entries)
+-- ---- a level in slices that are long enough, over tables that are not refused
+module _ (m : Tables) (l : LentLevel) (valid : Valid (modelOf m)) (stored : Stored (countsOf m) (m .transition) (m .observation) (m .reward))
+    (long : Readable m l) (shaped : Shaped (modelOf m) maxLevels (levelOf m l)) where
+  pub entries-lent : EntriesFit (m .states) (l .vectors) (l .cells .entries)
   unfolding range
-  entries-lent = record { few = shaped .few-vectors; stored = rw (long .entries) (room .entries); entry = shaped .entry-in }
+  entries-lent = record { few = shaped .few-vectors; stored = long .entries; entry = shaped .entry-in }
 
-  pub roof-lent : Roofed (countsOf m) (m .transition) (m .observation) (m .reward) (l .corners) (l .points) (l .weights) (l .values)
+  pub roof-lent : Roofed (countsOf m) (m .transition) (m .observation) (m .reward) (l .cells .corners) (l .points) (l .cells .weights) (l .cells .values)
   roof-lent = record {
     valid = valid;
-    stored = stored-valid m lent valid;
-    shaped = roof-shaped (modelOf m) (valid .some-actions) (m .states) (m .observations) maxLevels l shaped;
-    corners-long = rw (long .corners) (valid .few-states);
-    points-stored = rw (long .weights) (room .weights);
-    values-long = rw (long .values) (shaped .few-points);
+    stored = stored;
+    shaped = roof-shaped m (valid .some-actions) maxLevels l shaped;
+    corners-long = long .corners;
+    points-stored = long .weights;
+    values-long = long .values;
   }

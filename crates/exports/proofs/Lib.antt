@@ -1,7 +1,2 @@
--- What the proofs of several functions use.
-mod Laid
-mod Naturals
-mod Decoding
-mod Encoding
-mod Fits
-mod Calls
+-- Laws of what is read.
+pub mod Room

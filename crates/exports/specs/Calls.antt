@@ -1,70 +1,35 @@
--- What each exported call answers, and what it leaves in the buffers that are lent to it.
---
---   refusalOf        a verdict as number and place, both 0 where nothing is refused
---   room ws buffer   100, with the length that is needed, where the buffer is too short for the words
---   left v ws        the buffer after the call: the words at its front, or as it was where v refuses
+-- What each exported call answers: a verdict as number and place, and demand 3 over such answers.
 use Prim.Native.Nat.{ℕ}
+use mathlib.Core.Path.{_≡_}
 use mathlib.Core.List.{List}
-use lib.Dec.{leb}
-use lib.ListN.{length}
 use lib.IntN.{ℤ}
+use Rattle.tables.specs.declared.Tables.{Tables}
 use Rattle.tables.specs.declared.Verdict.{Verdict}
 use Rattle.tables.specs.declared.Verdict.the-variants.{Fine, Refused}
-use Rattle.tables.specs.Verdicts.{_before_, unless}
-use Rattle.runs.specs.declared.Answer.{Answer}
+use Rattle.levels.specs.Storage.{Cells, LentLevel, Lent}
 use Rattle.runs.specs.declared.Bounds.{Bounds}
-use Rattle.runs.specs.declared.Built.{Built}
-use Rattle.runs.specs.State.{opened, offered, totalsOf, builtOf}
-use Rattle.modelfile.specs.declared.ModelFile.{ModelFile}
+use Rattle.runs.specs.Demand3.{TotalsHold, BuildHolds}
 use Rattle.worth.specs.declared.Valued.{Valued}
-use Rattle.worth.specs.Judged.{worthAnswer}
 use Rattle.exports.specs.declared.Refusal.{Refusal}
-use Rattle.exports.specs.declared.Worth.{Worth}
 use Rattle.exports.specs.declared.Totals.{Totals}
-use Rattle.exports.specs.Words.{naturalWords, laid, tablesIn, tablesWords, graphIn, levelIn, levelWords, certifierIn, certifierWords, pointsIn, mixtureIn}
+use Rattle.exports.specs.declared.Worth.{Worth}
 
+-- tables that are handed in: states, actions, observations, discount, T, O, R
+abbrev pub model : ℕ → ℕ → ℕ → ℕ → List ℕ → List ℕ → List ℤ → Tables
+model n m k g transition observation reward = record {
+  states = n;
+  actions = m;
+  observations = k;
+  discount = g;
+  transition = transition;
+  observation = observation;
+  reward = reward;
+}
+
+-- a verdict as number and place, both 0 where nothing is refused
 abbrev pub refusalOf : Verdict → Refusal
 refusalOf Fine = record { number = 0; place = 0 }
 refusalOf (Refused number place) = record { number = number; place = place }
-
-unfoldable pub room : List ℤ → List ℤ → Verdict
-room ws buffer = unless (leb (length ws) (length buffer)) 100 (length ws)
-
-abbrev pub left : Verdict → List ℤ → List ℤ → List ℤ
-left Fine ws buffer = laid 0 ws buffer
-left (Refused number place) ws buffer = buffer
-
--- ---- reading a model file
-
-abbrev pub startWords : ModelFile → List ℤ
-startWords x = naturalWords (x .tables .states) (x .start)
-
--- its refusals, then room for the tables, then for the start numbers
-unfoldable pub readVerdict : ModelFile → List ℤ → List ℤ → Verdict
-readVerdict x tables start = x .verdict before room (tablesWords (x .tables)) tables before room (startWords x) start
-
--- ---- a plan's worth
-
-abbrev pub worthOf : Valued → Worth
-worthOf x = record { number = refusalOf (x .verdict) .number; place = refusalOf (x .verdict) .place; ticks = x .ticks }
-
-unfoldable pub worthCall : List ℤ → List ℤ → ℕ → ℕ → ℕ → Worth
-worthCall tables graph node state steps = worthOf (worthAnswer (tablesIn tables) (graphIn (tablesIn tables .observations) graph) node state steps)
-
--- ---- opening and offering: the answer, written where it is fine
-
-unfoldable pub openAnswer : List ℤ → Answer
-openAnswer tables = opened (tablesIn tables)
-
-unfoldable pub offerAnswer : List ℤ → List ℤ → Answer
-offerAnswer certifier level =
-    let c = certifierIn certifier in
-    offered c (levelIn (c .tables .states) (c .tables .observations) level)
-
-unfoldable pub granted : Answer → List ℤ → Verdict
-granted a buffer = a .verdict before room (certifierWords (a .certifier)) buffer
-
--- ---- totals
 
 abbrev pub totalsBy : Bounds → Totals
 totalsBy b = record {
@@ -76,19 +41,19 @@ totalsBy b = record {
   action = b .action .0;
 }
 
-unfoldable pub totalsCall : List ℤ → List ℤ → Totals
-totalsCall certifier mixture = let c = certifierIn certifier in totalsBy (totalsOf c (mixtureIn (c .tables .states) mixture))
+abbrev pub worthBy : Valued → Worth
+worthBy x = record { number = refusalOf (x .verdict) .number; place = refusalOf (x .verdict) .place; ticks = x .ticks }
 
--- ---- building
+-- ---- demand 3 over exported calls, each handed the slices as the one before left them
 
-unfoldable pub buildAnswer : List ℤ → List ℤ → Built
-buildAnswer certifier points = let c = certifierIn certifier in builtOf c (pointsIn (c .tables .states) points)
+-- totals r at a mixture b after a list of offers
+pub record Brackets (m : Tables) (x : Lent) (ls : List LentLevel) (b : List ℕ) (r : Totals) : Type 0 where
+  pub bounds : Bounds
+  pub answer : r ≡ totalsBy bounds
+  pub holds : TotalsHold m x ls b bounds
 
--- the words of a built level, of the certifier's counts
-unfoldable pub builtWords : List ℤ → List ℤ → List ℤ
-builtWords certifier points =
-    let m = certifierIn certifier .tables in
-    levelWords (m .states) (m .observations) (buildAnswer certifier points .level)
-
-unfoldable pub builtVerdict : List ℤ → List ℤ → List ℤ → Verdict
-builtVerdict certifier points buffer = buildAnswer certifier points .verdict before room (builtWords certifier points) buffer
+-- a built level in slices y' of those that were lent, y, with the answer r
+pub record Builds (m : Tables) (x : Lent) (ls : List LentLevel) (count : ℕ) (y : Cells) (r : Refusal) (y' : Cells) : Type 0 where
+  pub verdict : Verdict
+  pub answer : r ≡ refusalOf verdict
+  pub holds : BuildHolds m x ls count y verdict y'

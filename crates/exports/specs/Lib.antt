@@ -1,3 +1,3 @@
--- The interface for C and Rust: objects as words, and what each call answers and leaves behind.
-pub mod Words
+-- What the exported calls answer.
 pub mod Calls
+pub mod Reading

@@ -1,33 +1,46 @@
-// The interface for C and Rust: numbers and slices of 64-bit words in, document 01's refusals and words out.
-// Whatever is handed in, a call ends without fault, and one that refuses leaves every lent buffer as it was.
-mod copies; // between words and cells
-mod given; // the objects that words stand for
-mod answers; // the words of an object
-
+// The interface for C and Rust: the calls over slices that programs lend, and document 01's refusals as number and place.
+// Whatever is handed in, a call ends without fault, and one that refuses leaves every lent slice as it was.
 ghost use mathlib.Core.Path.{_≡_};
+ghost use mathlib.Core.Bool.{true};
+ghost use mathlib.Core.List.{List};
+ghost use Prim.Native.Nat.{ℕ, _*_, _≤_, _<_};
+ghost use lib.ListN.{length};
+ghost use Rattle.tables.specs.Limits.{maxStates, maxActions, maxObservations, maxLevels};
+ghost use Rattle.levels.specs.Storage.{LentLevel, Lent, cells, lent, lentFor};
+ghost use Rattle.levels.specs.Judged.{offerVerdict};
 ghost use Rattle.modelfile.specs.ModelFile.{modelFile};
-ghost use Rattle.exports.specs.Words.{tablesWords, certifierWords};
-ghost use Rattle.exports.specs.Calls.{refusalOf, left, startWords, readVerdict, worthCall, openAnswer, offerAnswer, granted, totalsCall, builtWords, builtVerdict};
+ghost use Rattle.runs.specs.State.{left, openVerdict, opened, offered, mixtureHolds, totalsOf, buildVerdict, builtOf};
+ghost use Rattle.runs.specs.Demand3.{ModelAccepted, after, steps, PointsHold};
+ghost use Rattle.worth.specs.Storage.{lentGraph};
+ghost use Rattle.worth.specs.Judged.{worthAnswer};
+ghost use Rattle.exports.specs.Calls.{model, refusalOf, totalsBy, worthBy, Brackets, Builds};
+ghost use Rattle.exports.specs.Reading.{roomVerdict, readVerdict, readingBy, readingOf, laidTransitions, laidObservations, laidRewards, laidStart};
+use integers::cells;
+use tables::Counts;
 use tables::State;
 use tables::Verdict;
 use worth::Node;
 
-// Document 01's number and place, or 100 and the length that a buffer needs; 0 and 0 where a call is served.
+// Document 01's number and place; 0 and 0 where a call is served.
 #[repr(C)]
 pub struct Refusal {
     pub number: u64,
     pub place: usize,
 }
 
-impl Refusal {
-    pub const SHORT: u64 = 100; // the buffer lent for the answer is too short
-}
-
+// What a model file has, with its refusal: every count 0 where it is refused.
 #[repr(C)]
-pub struct Worth {
+pub struct Reading {
     pub number: u64,
     pub place: usize,
-    pub ticks: i64,
+    pub states: usize,
+    pub actions: usize,
+    pub observations: usize,
+    pub discount: u64,
+}
+
+impl Reading {
+    pub const SHORT: u8 = 100; // a slice lent for what is read is too short
 }
 
 #[repr(C)]
@@ -38,6 +51,13 @@ pub struct Totals {
     pub upper: i64,
     pub gap: i64,
     pub action: usize,
+}
+
+#[repr(C)]
+pub struct Worth {
+    pub number: u64,
+    pub place: usize,
+    pub ticks: i64,
 }
 
 fn refusal_of(v: Verdict) -> Refusal
@@ -55,105 +75,272 @@ fn refusal_of(v: Verdict) -> Refusal
     }
 }
 
-// Reads a model file into tables and start numbers, in hundredths.
-#[no_mangle]
-pub extern "C" fn biidhaqun_read(file: &[u8], tables: &mut [i64], start: &mut [i64]) -> Refusal
-    ensures { λ r. ⌜ r ≡ refusalOf (readVerdict (modelFile (now (file .entry))) (now (tables .entry)) (now (start .entry))) ⌝ }
-    ensures { λ _. ⌜ now (tables .exit) ≡ left (readVerdict (modelFile (now (file .entry))) (now (tables .entry)) (now (start .entry))) (tablesWords (modelFile (now (file .entry)) .tables)) (now (tables .entry)) ⌝ }
-    ensures { λ _. ⌜ now (start .exit) ≡ left (readVerdict (modelFile (now (file .entry))) (now (tables .entry)) (now (start .entry))) (startWords (modelFile (now (file .entry)))) (now (start .entry)) ⌝ }
+// The answer on a file whose reading is refused.
+fn no_reading(v: Verdict) -> Reading
+    ensures { λ r. ⌜ r ≡ readingBy (refusalOf v) 0 0 0 0 ⌝ }
 {
-    let model = modelfile::read(file);
-    let verdict = model.verdict;
-    let Verdict::Fine = verdict else {
-        return refusal_of(verdict);
-    };
-    let m = model.tables;
-    let n = m.states;
-    let size = given::tables_size(n, m.actions, m.observations);
-    if tables.len() < size {
-        return Refusal {
-            number: Refusal::SHORT,
-            place: size,
-        };
-    }
-    if start.len() < n {
-        return Refusal {
-            number: Refusal::SHORT,
-            place: n,
-        };
-    }
-    answers::put_tables(tables, 0, m);
-    copies::put_u16(start, 0, &model.start, n);
-    Refusal {
-        number: 0,
-        place: 0,
-    }
-}
-
-// The worth of a plan graph's node at a state with some steps left.
-#[no_mangle]
-pub extern "C" fn biidhaqun_worth(
-    tables: &[i64],
-    graph: &[i64],
-    node: usize,
-    state: usize,
-    steps: usize,
-) -> Worth
-    ensures { λ r. ⌜ r ≡ worthCall (now (tables .entry)) (now (graph .entry)) node state steps ⌝ }
-{
-    let m = given::tables_in(tables);
-    let g = given::graph_in(graph, m.observations);
-    let valued = worth::worth(m, g, Node(node), State(state), steps);
-    let verdict = valued.verdict;
-    let refusal = refusal_of(verdict);
-    Worth {
+    let refusal = refusal_of(v);
+    Reading {
         number: refusal.number,
         place: refusal.place,
-        ticks: valued.ticks,
+        states: 0,
+        actions: 0,
+        observations: 0,
+        discount: 0,
     }
 }
 
-// Opens a certifier on tables.
-#[no_mangle]
-pub extern "C" fn biidhaqun_open(tables: &[i64], certifier: &mut [i64]) -> Refusal
-    ensures { λ r. ⌜ r ≡ refusalOf (granted (openAnswer (now (tables .entry))) (now (certifier .entry))) ⌝ }
-    ensures { λ _. ⌜ now (certifier .exit) ≡ left (granted (openAnswer (now (tables .entry))) (now (certifier .entry))) (certifierWords (openAnswer (now (tables .entry)) .certifier)) (now (certifier .entry)) ⌝ }
+// Whether slices of such lengths have room for tables and start numbers: 100, with the length that the first short one needs.
+fn judge_room(
+    n: usize,
+    rows: usize,
+    k: usize,
+    transition: usize,
+    observation: usize,
+    reward: usize,
+    start: usize,
+) -> Verdict
+    requires { ⌜ (n ≤ maxStates) × ((rows ≤ maxActions * maxStates) × (k ≤ maxObservations)) ⌝ }
+    ensures { λ r. ⌜ r ≡ roomVerdict n rows k transition observation reward start ⌝ }
 {
-    let m = given::tables_in(tables);
-    let answer = certifier::open(m);
-    let verdict = answer.verdict;
+    if transition < rows * n {
+        return Verdict::Refused(Reading::SHORT, rows * n);
+    }
+    if observation < rows * k {
+        return Verdict::Refused(Reading::SHORT, rows * k);
+    }
+    if reward < rows {
+        return Verdict::Refused(Reading::SHORT, rows);
+    }
+    if start < n {
+        return Verdict::Refused(Reading::SHORT, n);
+    }
+    Verdict::Fine
+}
+
+// Reads a model file into tables and start numbers, in hundredths.
+#[no_mangle]
+pub extern "C" fn biidhaqun_read(
+    file: &[u8],
+    transition: &mut [u16],
+    observation: &mut [u16],
+    reward: &mut [i64],
+    start: &mut [u16],
+) -> Reading
+    ensures { λ r. ⌜ r ≡ readingOf (readVerdict (modelFile (now (file .entry))) (length (now (transition .entry))) (length (now (observation .entry))) (length (now (reward .entry)))
+        (length (now (start .entry)))) (modelFile (now (file .entry))) ⌝ }
+    ensures { λ _. ⌜ now (transition .exit) ≡ left (readVerdict (modelFile (now (file .entry))) (length (now (transition .entry))) (length (now (observation .entry))) (length (now (reward .entry)))
+        (length (now (start .entry))))
+        (laidTransitions (modelFile (now (file .entry))) (now (transition .entry))) (now (transition .entry)) ⌝ }
+    ensures { λ _. ⌜ now (observation .exit) ≡ left (readVerdict (modelFile (now (file .entry))) (length (now (transition .entry))) (length (now (observation .entry))) (length (now (reward .entry)))
+        (length (now (start .entry))))
+        (laidObservations (modelFile (now (file .entry))) (now (observation .entry))) (now (observation .entry)) ⌝ }
+    ensures { λ _. ⌜ now (reward .exit) ≡ left (readVerdict (modelFile (now (file .entry))) (length (now (transition .entry))) (length (now (observation .entry))) (length (now (reward .entry)))
+        (length (now (start .entry))))
+        (laidRewards (modelFile (now (file .entry))) (now (reward .entry))) (now (reward .entry)) ⌝ }
+    ensures { λ _. ⌜ now (start .exit) ≡ left (readVerdict (modelFile (now (file .entry))) (length (now (transition .entry))) (length (now (observation .entry))) (length (now (reward .entry)))
+        (length (now (start .entry))))
+        (laidStart (modelFile (now (file .entry))) (now (start .entry))) (now (start .entry)) ⌝ }
+{
+    let x = modelfile::read(file);
+    let verdict = x.verdict;
     let Verdict::Fine = verdict else {
-        return refusal_of(verdict);
+        return no_reading(verdict);
     };
-    answers::give_certifier(certifier, answer.certifier)
+    let m = x.tables;
+    let n = m.states;
+    let rows = m.actions * n;
+    let room = judge_room(
+        n,
+        rows,
+        m.observations,
+        transition.len(),
+        observation.len(),
+        reward.len(),
+        start.len(),
+    );
+    let Verdict::Fine = room else {
+        return no_reading(room);
+    };
+    cells::paste_u16(transition, 0, &m.transition, rows * n);
+    cells::paste_u16(observation, 0, &m.observation, rows * m.observations);
+    cells::paste_i64(reward, 0, &m.reward, rows);
+    cells::paste_u16(start, 0, &x.start, n);
+    Reading {
+        number: 0,
+        place: 0,
+        states: n,
+        actions: m.actions,
+        observations: m.observations,
+        discount: m.discount,
+    }
+}
+
+// Opens a certifier on tables, at level 0. Nothing is written to weights and values: level 0 has no point.
+#[no_mangle]
+pub extern "C" fn biidhaqun_open<'a>(
+    n: usize,
+    m: usize,
+    k: usize,
+    g: u64,
+    transition: &'a [u16],
+    observation: &'a [u16],
+    reward: &'a [i64],
+    state: &mut [usize],
+    actions: &mut [u8],
+    choices: &mut [u16],
+    entries: &mut [i64],
+    corners: &mut [i64],
+    weights: &[u32],
+    values: &[i64],
+) -> Refusal
+    ensures { λ r. ⌜ r ≡ refusalOf (openVerdict (model n m k g (now (transition .entry)) (now (observation .entry)) (now (reward .entry)))
+        (lent (now (state .entry)) (cells (now (actions .entry)) (now (choices .entry)) (now (entries .entry))
+        (now (corners .entry)) (now (weights .entry)) (now (values .entry))))) ⌝ }
+    ensures { λ _. ⌜ (lent (now (state .exit)) (cells (now (actions .exit)) (now (choices .exit)) (now (entries .exit))
+        (now (corners .exit)) (now (weights .entry)) (now (values .entry))))
+        ≡ opened (model n m k g (now (transition .entry)) (now (observation .entry)) (now (reward .entry)))
+        (lent (now (state .entry)) (cells (now (actions .entry)) (now (choices .entry)) (now (entries .entry))
+        (now (corners .entry)) (now (weights .entry)) (now (values .entry)))) ⌝ }
+{
+    let c = Counts {
+        states: n,
+        actions: m,
+        observations: k,
+        discount: g,
+    };
+    let verdict = certifier::open(
+        transition,
+        observation,
+        reward,
+        c,
+        state,
+        actions,
+        choices,
+        entries,
+        corners,
+        weights,
+        values,
+    );
+    refusal_of(verdict)
 }
 
 // Offers a level to a certifier, which then stands one level higher.
 #[no_mangle]
-pub extern "C" fn biidhaqun_offer(certifier: &mut [i64], level: &[i64]) -> Refusal
-    ensures { λ r. ⌜ r ≡ refusalOf (granted (offerAnswer (now (certifier .entry)) (now (level .entry))) (now (certifier .entry))) ⌝ }
-    ensures { λ _. ⌜ now (certifier .exit) ≡ left (granted (offerAnswer (now (certifier .entry)) (now (level .entry))) (now (certifier .entry))) (certifierWords (offerAnswer (now (certifier .entry)) (now (level .entry)) .certifier)) (now (certifier .entry)) ⌝ }
+pub extern "C" fn biidhaqun_offer<'a, 'b>(
+    n: usize,
+    m: usize,
+    k: usize,
+    g: u64,
+    transition: &'a [u16],
+    observation: &'a [u16],
+    reward: &'a [i64],
+    state: &mut [usize],
+    actions: &mut [u8],
+    choices: &mut [u16],
+    entries: &mut [i64],
+    corners: &mut [i64],
+    weights: &mut [u32],
+    values: &mut [i64],
+    vectors: usize,
+    points: usize,
+    newactions: &'b [u8],
+    newchoices: &'b [u16],
+    newentries: &'b [i64],
+    newcorners: &'b [i64],
+    newweights: &'b [u32],
+    newvalues: &'b [i64],
+) -> Refusal
+    ensures { λ r. ⌜ r ≡ refusalOf (offerVerdict (model n m k g (now (transition .entry)) (now (observation .entry)) (now (reward .entry)))
+        (lent (now (state .entry)) (cells (now (actions .entry)) (now (choices .entry)) (now (entries .entry))
+        (now (corners .entry)) (now (weights .entry)) (now (values .entry))))
+        (lentFor vectors points (cells (now (newactions .entry)) (now (newchoices .entry)) (now (newentries .entry))
+        (now (newcorners .entry)) (now (newweights .entry)) (now (newvalues .entry))))) ⌝ }
+    ensures { λ _. ⌜ (lent (now (state .exit)) (cells (now (actions .exit)) (now (choices .exit)) (now (entries .exit))
+        (now (corners .exit)) (now (weights .exit)) (now (values .exit))))
+        ≡ offered (model n m k g (now (transition .entry)) (now (observation .entry)) (now (reward .entry)))
+        (lent (now (state .entry)) (cells (now (actions .entry)) (now (choices .entry)) (now (entries .entry))
+        (now (corners .entry)) (now (weights .entry)) (now (values .entry))))
+        (lentFor vectors points (cells (now (newactions .entry)) (now (newchoices .entry)) (now (newentries .entry))
+        (now (newcorners .entry)) (now (newweights .entry)) (now (newvalues .entry)))) ⌝ }
 {
-    let c = given::certifier_in(certifier);
-    let m = c.tables;
-    let l = given::level_in(level, m.states, m.observations);
-    let answer = certifier::offer(c, l);
-    let verdict = answer.verdict;
-    let Verdict::Fine = verdict else {
-        return refusal_of(verdict);
+    let c = Counts {
+        states: n,
+        actions: m,
+        observations: k,
+        discount: g,
     };
-    answers::give_certifier(certifier, answer.certifier)
+    let verdict = certifier::offer(
+        transition,
+        observation,
+        reward,
+        c,
+        state,
+        actions,
+        choices,
+        entries,
+        corners,
+        weights,
+        values,
+        vectors,
+        points,
+        newactions,
+        newchoices,
+        newentries,
+        newcorners,
+        newweights,
+        newvalues,
+    );
+    refusal_of(verdict)
 }
 
-// The totals of a certifier at a mixture.
+// The totals of a certifier at a mixture. The choices of what stands are not read.
 #[no_mangle]
-pub extern "C" fn biidhaqun_totals(certifier: &[i64], mixture: &[i64]) -> Totals
-    ensures { λ r. ⌜ r ≡ totalsCall (now (certifier .entry)) (now (mixture .entry)) ⌝ }
+pub extern "C" fn biidhaqun_totals<'a, 'b>(
+    n: usize,
+    m: usize,
+    k: usize,
+    g: u64,
+    transition: &'a [u16],
+    observation: &'a [u16],
+    reward: &'a [i64],
+    state: &'b [usize],
+    actions: &'b [u8],
+    entries: &'b [i64],
+    corners: &'b [i64],
+    weights: &'b [u32],
+    values: &'b [i64],
+    mixture: &[u32],
+) -> Totals
+    ensures { λ r. ⌜ ((choices : List ℕ) → r ≡ totalsBy (totalsOf (model n m k g (now (transition .entry)) (now (observation .entry)) (now (reward .entry)))
+        (lent (now (state .entry)) (cells (now (actions .entry)) choices (now (entries .entry))
+        (now (corners .entry)) (now (weights .entry)) (now (values .entry))))
+        (now (mixture .entry)))) ⌝ }
+    ensures { λ r. ⌜ ((choices : List ℕ) (x : Lent) (ls : List LentLevel) → ModelAccepted (model n m k g (now (transition .entry)) (now (observation .entry)) (now (reward .entry))) x →
+        lent (now (state .entry)) (cells (now (actions .entry)) choices (now (entries .entry))
+        (now (corners .entry)) (now (weights .entry)) (now (values .entry))) ≡ after (model n m k g (now (transition .entry)) (now (observation .entry)) (now (reward .entry))) x ls →
+        0 < steps (model n m k g (now (transition .entry)) (now (observation .entry)) (now (reward .entry))) x ls → mixtureHolds n (now (mixture .entry)) ≡ true →
+        Brackets (model n m k g (now (transition .entry)) (now (observation .entry)) (now (reward .entry))) x ls (now (mixture .entry)) r) ⌝ }
 {
-    let c = given::certifier_in(certifier);
-    let m = c.tables;
-    let b = given::mixture_in(mixture, m.states);
-    let bounds = certifier::totals(c, b);
+    let c = Counts {
+        states: n,
+        actions: m,
+        observations: k,
+        discount: g,
+    };
+    let bounds = bounds::totals(
+        transition,
+        observation,
+        reward,
+        c,
+        state,
+        actions,
+        entries,
+        corners,
+        weights,
+        values,
+        mixture,
+    );
     let verdict = bounds.verdict;
     let refusal = refusal_of(verdict);
     let action = bounds.action;
@@ -167,21 +354,125 @@ pub extern "C" fn biidhaqun_totals(certifier: &[i64], mixture: &[i64]) -> Totals
     }
 }
 
-// Builds the next level of a certifier from the weights of some points.
+// Builds the next level of a certifier from a count of points, whose weights are the level's own.
 #[no_mangle]
-pub extern "C" fn biidhaqun_build(certifier: &[i64], points: &[i64], level: &mut [i64]) -> Refusal
-    ensures { λ r. ⌜ r ≡ refusalOf (builtVerdict (now (certifier .entry)) (now (points .entry)) (now (level .entry))) ⌝ }
-    ensures { λ _. ⌜ now (level .exit) ≡ left (builtVerdict (now (certifier .entry)) (now (points .entry)) (now (level .entry))) (builtWords (now (certifier .entry)) (now (points .entry))) (now (level .entry)) ⌝ }
+pub extern "C" fn biidhaqun_build<'a, 'b>(
+    n: usize,
+    m: usize,
+    k: usize,
+    g: u64,
+    transition: &'a [u16],
+    observation: &'a [u16],
+    reward: &'a [i64],
+    state: &'b [usize],
+    actions: &'b [u8],
+    entries: &'b [i64],
+    corners: &'b [i64],
+    weights: &'b [u32],
+    values: &'b [i64],
+    count: usize,
+    given: &[u32],
+    newactions: &mut [u8],
+    newchoices: &mut [u16],
+    newentries: &mut [i64],
+    newcorners: &mut [i64],
+    newvalues: &mut [i64],
+) -> Refusal
+    ensures { λ r. ⌜ ((choices : List ℕ) → r ≡ refusalOf (buildVerdict (model n m k g (now (transition .entry)) (now (observation .entry)) (now (reward .entry)))
+        (lent (now (state .entry)) (cells (now (actions .entry)) choices (now (entries .entry))
+        (now (corners .entry)) (now (weights .entry)) (now (values .entry)))) count
+        (cells (now (newactions .entry)) (now (newchoices .entry)) (now (newentries .entry))
+        (now (newcorners .entry)) (now (given .entry)) (now (newvalues .entry))))) ⌝ }
+    ensures { λ _. ⌜ ((choices : List ℕ) → cells (now (newactions .exit)) (now (newchoices .exit)) (now (newentries .exit))
+        (now (newcorners .exit)) (now (given .entry)) (now (newvalues .exit))
+        ≡ builtOf (model n m k g (now (transition .entry)) (now (observation .entry)) (now (reward .entry)))
+        (lent (now (state .entry)) (cells (now (actions .entry)) choices (now (entries .entry))
+        (now (corners .entry)) (now (weights .entry)) (now (values .entry)))) count
+        (cells (now (newactions .entry)) (now (newchoices .entry)) (now (newentries .entry))
+        (now (newcorners .entry)) (now (given .entry)) (now (newvalues .entry)))) ⌝ }
+    ensures { λ r. ⌜ ((choices : List ℕ) (x : Lent) (ls : List LentLevel) → ModelAccepted (model n m k g (now (transition .entry)) (now (observation .entry)) (now (reward .entry))) x →
+        lent (now (state .entry)) (cells (now (actions .entry)) choices (now (entries .entry))
+        (now (corners .entry)) (now (weights .entry)) (now (values .entry))) ≡ after (model n m k g (now (transition .entry)) (now (observation .entry)) (now (reward .entry))) x ls →
+        steps (model n m k g (now (transition .entry)) (now (observation .entry)) (now (reward .entry))) x ls < maxLevels → PointsHold (model n m k g (now (transition .entry)) (now (observation .entry)) (now (reward .entry))) x count
+        (cells (now (newactions .entry)) (now (newchoices .entry)) (now (newentries .entry))
+        (now (newcorners .entry)) (now (given .entry)) (now (newvalues .entry))) →
+        Builds (model n m k g (now (transition .entry)) (now (observation .entry)) (now (reward .entry))) x ls count
+        (cells (now (newactions .entry)) (now (newchoices .entry)) (now (newentries .entry))
+        (now (newcorners .entry)) (now (given .entry)) (now (newvalues .entry))) r
+        (cells (now (newactions .exit)) (now (newchoices .exit)) (now (newentries .exit))
+        (now (newcorners .exit)) (now (given .entry)) (now (newvalues .exit)))) ⌝ }
 {
-    let c = given::certifier_in(certifier);
-    let m = c.tables;
-    let n = m.states;
-    let p = given::points_in(points, n);
-    let built = certifier::build(c, p);
-    let verdict = built.verdict;
-    let Verdict::Fine = verdict else {
-        return refusal_of(verdict);
+    let c = Counts {
+        states: n,
+        actions: m,
+        observations: k,
+        discount: g,
     };
-    let l = built.level;
-    answers::give_level(level, l, n, m.observations)
+    let verdict = certifier::build(
+        transition,
+        observation,
+        reward,
+        c,
+        state,
+        actions,
+        entries,
+        corners,
+        weights,
+        values,
+        given,
+        count,
+        newactions,
+        newchoices,
+        newentries,
+        newcorners,
+        newvalues,
+    );
+    refusal_of(verdict)
+}
+
+// The worth of a plan graph's node at a state with some steps left.
+#[no_mangle]
+pub extern "C" fn biidhaqun_worth<'a, 'b>(
+    n: usize,
+    m: usize,
+    k: usize,
+    g: u64,
+    transition: &'a [u16],
+    observation: &'a [u16],
+    reward: &'a [i64],
+    nodes: usize,
+    actions: &'b [u8],
+    next: &'b [u16],
+    node: usize,
+    state: usize,
+    steps: usize,
+) -> Worth
+    ensures { λ r. ⌜ r ≡ worthBy (worthAnswer (model n m k g (now (transition .entry)) (now (observation .entry)) (now (reward .entry)))
+        (lentGraph nodes (now (actions .entry)) (now (next .entry))) node state steps) ⌝ }
+{
+    let c = Counts {
+        states: n,
+        actions: m,
+        observations: k,
+        discount: g,
+    };
+    let valued = worth::worth(
+        transition,
+        observation,
+        reward,
+        c,
+        nodes,
+        actions,
+        next,
+        Node(node),
+        State(state),
+        steps,
+    );
+    let verdict = valued.verdict;
+    let refusal = refusal_of(verdict);
+    Worth {
+        number: refusal.number,
+        place: refusal.place,
+        ticks: valued.ticks,
+    }
 }

@@ -2,4 +2,5 @@
 pub mod Laws
 pub mod Arms
 pub mod Gives
+pub mod Alike
 pub mod Prelude

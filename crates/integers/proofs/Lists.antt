@@ -3,16 +3,17 @@ use mathlib.Core.Path.{_≡_, refl, sym, _∙_, ap}
 use mathlib.Core.List.{List, [], _∷_, _++_, append-assoc, append-nil}
 use Prim.Native.Nat.{ℕ, zero, suc, _+_, _*_, _-_, _/_, _%_, _≤_, _<_}
 use native.Mathlib.Nat as NatL
-use native.Mathlib.Nat.{add-zero, add-suc}
+use native.Mathlib.Nat.{add-zero, zero-add, add-suc}
 use native.Mathlib.Omega.{arith}
 use native.Mathlib.Numerals.{add-one}
 use native.Mathlib.Decide.{decLt}
-use lib.ListN.{length, getD, take, drop, set, replicate, length-append, length-replicate, length-set, List·getD-append, replicate-append-replicate}
-use lib.Seq.{paste, paste-zero, paste-suc, ext-getD, take-at, drop-append-add, set-at, getD-append-seam, take-suc-set, take-all, getD-take, length-take-le}
+use lib.ListN.{length, getD, take, drop, set, replicate, length-append, length-replicate, length-set, length-drop, List·getD-append}
+use lib.ListN.{replicate-append-replicate, take-append-drop}
+use lib.Seq.{paste, paste-zero, paste-suc, ext-getD, take-at, drop-append-add, drop-drop, drop-cons, set-at, getD-append-seam, getD-take, length-take-le}
 use lib.IntN.{ℤ, pos, natAbs}
 use lib.Arith.{digits-div, digits-mod}
 use Rattle.integers.specs.Whole.{Below, Within}
-use Rattle.integers.specs.Cells.{listed, padded, grid, cut}
+use Rattle.integers.specs.Cells.{listed, padded, laid, laidRows, grid}
 
 -- an index into rows of width w
 pub cell-below : (r rows x w : ℕ) → r < rows → x < w → r * w + x < rows * w
@@ -78,37 +79,6 @@ module _ {A : Type 0} where
   unfolding padded
   padded-cong z size n f g h = rw (listed-cong n f g h)
 
-  -- a cell of a grid
-  pub grid-at : (z : A) (size rows w : ℕ) (f : ℕ → ℕ → A) (r x : ℕ) (d : A) → r < rows → x < w → getD (grid z size rows w f) (r * w + x) d ≡ f r x
-  unfolding grid
-  grid-at z size rows w f r x d h l =
-      padded-at z size (rows * w) (λ i. f (i / w) (i % w)) (r * w + x) d (cell-below r rows x w h l)
-      ∙ rw (digits-div r l, digits-mod r l)
-
-  pub grid-length : (z : A) (size rows w : ℕ) (f : ℕ → ℕ → A) → rows * w ≤ size → length (grid z size rows w f) ≡ size
-  unfolding grid
-  grid-length z size rows w f h = padded-length z size (rows * w) (λ i. f (i / w) (i % w)) h
-
-  -- what is filled in is read below the counts only
-  pub grid-cong : (z : A) (size rows w : ℕ) (f g : ℕ → ℕ → A) → ((r : ℕ) → r < rows → (x : ℕ) → x < w → f r x ≡ g r x)
-      → grid z size rows w f ≡ grid z size rows w g
-  unfolding grid
-  grid-cong z size rows zero f g h = padded-cong z size (rows * zero) _ _ (λ i l. absurd (omega arith))
-  grid-cong z size rows (suc w) f g h =
-      padded-cong z size (rows * suc w) _ _ (λ i l. h (i / suc w) (NatL.div-lt-iff-lt-mul (omega arith) .1 l) (i % suc w) (NatL.mod-lt i (omega arith)))
-
-  listed-same : (z : A) (n : ℕ) → listed n (λ i. z) ≡ replicate n z
-  unfolding listed
-  listed-same z zero = refl
-  listed-same z (suc n) = rw (listed-same z n) (replicate-append-replicate n 1 z) ∙ ap (λ (k : ℕ). replicate k z) (add-one n)
-
-  -- a grid that is filled with what lies past it
-  pub grid-zero : (z : A) (size rows w : ℕ) → rows * w ≤ size → grid z size rows w (λ r x. z) ≡ replicate size z
-  unfolding grid padded
-  grid-zero z size rows w h =
-      let e : rows * w + (size - rows * w) ≡ size = omega arith in
-      rw (listed-same z (rows * w)) (replicate-append-replicate (rows * w) (size - rows * w) z) ∙ ap (λ (k : ℕ). replicate k z) e
-
   -- as a loop pastes a row: x of its cells so far
   pub record Pasting (at x : ℕ) (row xs ys : List A) : Type 0 where
     pub same : ys ≡ paste xs at row x
@@ -137,101 +107,125 @@ module _ {A : Type 0} where
       ext-getD d (take w row) (listed w f) (length-take-le w row l ∙ sym (length-listed w f))
       (λ x b. let h : x < w = omega (arith, length-take-le w row l) in getD-take w row x d h ∙ e x h ∙ sym (getD-listed w f x d h))
 
+  -- ---- cells laid over others
+  pub laid-none : (f : ℕ → A) (xs : List A) → laid 0 f xs ≡ xs
+  unfolding laid listed
+  laid-none f xs = refl
+
+  pub laid-more : (n : ℕ) (f : ℕ → A) (xs : List A) (d : A) → n < length xs → set (laid n f xs) n (f n) ≡ laid (n + 1) f xs
+  unfolding laid listed
+  laid-more n f xs d h =
+      ap (λ (r : List A). set (listed n f ++ r) n (f n)) (drop-cons xs n d h)
+      ∙ set-at (listed n f) (getD xs n d) (drop (suc n) xs) (f n) n (length-listed n f)
+      ∙ sym (append-assoc (listed n f) (f n ∷ []) (drop (suc n) xs))
+      ∙ ap (λ (k : ℕ). listed k f ++ drop k xs) (sym (add-one n))
+
+  -- the same from equations
+  pub laid-turn : (f : ℕ → A) (i : ℕ) (xs : List A) (d : A) {ys : List A} {y : A} → ys ≡ laid i f xs → y ≡ f i → i < length xs
+      → set ys i y ≡ laid (i + 1) f xs
+  laid-turn f i xs d so-far value l = rw (so-far, value) (laid-more i f xs d l)
+
+  pub laid-at : (n : ℕ) (f : ℕ → A) (xs : List A) (i : ℕ) (d : A) → i < n → getD (laid n f xs) i d ≡ f i
+  unfolding laid
+  laid-at n f xs i d h = List·getD-append (listed n f) (drop n xs) d i (rw (length-listed n f) h) ∙ getD-listed n f i d h
+
+  pub laid-length : (n : ℕ) (f : ℕ → A) (xs : List A) → n ≤ length xs → length (laid n f xs) ≡ length xs
+  unfolding laid
+  laid-length n f xs h = length-append (listed n f) (drop n xs) ∙ omega (arith, length-listed n f, length-drop n xs)
+
+  pub laid-cong : (n : ℕ) (f g : ℕ → A) (xs : List A) → ((i : ℕ) → i < n → f i ≡ g i) → laid n f xs ≡ laid n g xs
+  unfolding laid
+  laid-cong n f g xs h = rw (listed-cong n f g h)
+
+  -- the first cells of a row, pasted over others
+  pub paste-laid : (n : ℕ) (xs row : List A) (d : A) → n ≤ length row → paste xs 0 row n ≡ laid n (λ i. getD row i d) xs
+  unfolding laid
+  paste-laid n xs row d l =
+      ap (λ (k : ℕ). take n row ++ drop k xs) (zero-add n)
+      ∙ ap (λ (r : List A). r ++ drop n xs) (take-listed n row (λ i. getD row i d) d l (λ x b. refl))
+
+  -- cells laid over themselves
+  pub laid-self : (n : ℕ) (xs : List A) (d : A) → n ≤ length xs → laid n (λ i. getD xs i d) xs ≡ xs
+  unfolding laid
+  laid-self n xs d l =
+      ap (λ (r : List A). r ++ drop n xs) (sym (take-listed n xs (λ i. getD xs i d) d l (λ x b. refl))) ∙ take-append-drop n xs
+
+  -- ---- rows laid over others
+  pub laidRows-none : (w : ℕ) (f : ℕ → ℕ → A) (xs : List A) → laidRows 0 w f xs ≡ xs
+  unfolding laidRows
+  laidRows-none w f xs = let e : 0 * w ≡ 0 = omega arith in rw e (laid-none _ xs)
+
+  pub laidRows-at : (rows w : ℕ) (f : ℕ → ℕ → A) (xs : List A) (r x : ℕ) (d : A) → r < rows → x < w → getD (laidRows rows w f xs) (r * w + x) d ≡ f r x
+  unfolding laidRows
+  laidRows-at rows w f xs r x d h l =
+      laid-at (rows * w) (λ i. f (i / w) (i % w)) xs (r * w + x) d (cell-below r rows x w h l) ∙ rw (digits-div r l, digits-mod r l)
+
+  pub laidRows-length : (rows w : ℕ) (f : ℕ → ℕ → A) (xs : List A) → rows * w ≤ length xs → length (laidRows rows w f xs) ≡ length xs
+  unfolding laidRows
+  laidRows-length rows w f xs h = laid-length (rows * w) (λ i. f (i / w) (i % w)) xs h
+
+  -- what is laid is read below the counts only
+  pub laidRows-cong : (rows w : ℕ) (f g : ℕ → ℕ → A) (xs : List A) → ((r : ℕ) → r < rows → (x : ℕ) → x < w → f r x ≡ g r x)
+      → laidRows rows w f xs ≡ laidRows rows w g xs
+  unfolding laidRows
+  laidRows-cong rows zero f g xs h = laid-cong (rows * zero) _ _ xs (λ i l. absurd (omega arith))
+  laidRows-cong rows (suc w) f g xs h =
+      laid-cong (rows * suc w) _ _ xs (λ i l. h (i / suc w) (NatL.div-lt-iff-lt-mul (omega arith) .1 l) (i % suc w) (NatL.mod-lt i (omega arith)))
+
+  -- rows that lie in a list already are its first cells
+  pub laidRows-flat : (rows w : ℕ) (row xs : List A) (d : A) → laidRows rows w (λ r x. getD row (r * w + x) d) xs ≡ laid (rows * w) (λ i. getD row i d) xs
+  unfolding laidRows
+  laidRows-flat rows zero row xs d = laid-cong (rows * zero) _ _ xs (λ i l. absurd (omega arith))
+  laidRows-flat rows (suc w) row xs d = laid-cong (rows * suc w) _ _ xs (λ i l. ap (λ (k : ℕ). getD row k d) (NatL.div-add-mod' i (suc w)))
+
+  -- one row more
+  pub laidRows-more : (r w : ℕ) (f : ℕ → ℕ → A) (xs row : List A) (d : A) → (r + 1) * w ≤ length xs → w ≤ length row
+      → ((x : ℕ) → x < w → getD row x d ≡ f r x) → paste (laidRows r w f xs) (r * w) row w ≡ laidRows (r + 1) w f xs
+  unfolding laidRows laid
+  laidRows-more r w f xs row d h l e =
+      let g : ℕ → A = λ i. f (i / w) (i % w) in
+      let rows : (r + 1) * w ≡ r * w + w = omega arith in
+      ap (λ (k : List A). k ++ take w row ++ drop (r * w + w) (listed (r * w) g ++ drop (r * w) xs))
+      (take-at (listed (r * w) g) _ (r * w) (length-listed (r * w) g))
+      ∙ ap (λ (k : List A). listed (r * w) g ++ take w row ++ k) (dropped g)
+      ∙ ap (λ (k : List A). listed (r * w) g ++ k ++ drop (r * w + w) xs)
+      (take-listed w row (λ x. g (r * w + x)) d l (λ x b. e x b ∙ rw (digits-div r b, digits-mod r b)))
+      ∙ ap (λ (k : List A). k ++ drop (r * w + w) xs) (sym (listed-add (r * w) w g))
+      ∙ ap (λ (k : ℕ). listed k g ++ drop k xs) (sym rows)
+    where
+      dropped : (g : ℕ → A) → drop (r * w + w) (listed (r * w) g ++ drop (r * w) xs) ≡ drop (r * w + w) xs
+      dropped g =
+          ap (λ (k : ℕ). drop (k + w) (listed (r * w) g ++ drop (r * w) xs)) (sym (length-listed (r * w) g))
+          ∙ drop-append-add (listed (r * w) g) (drop (r * w) xs) w
+          ∙ drop-drop w (r * w) xs
+
+  -- ---- rows in an array of one's own
+  pub grid-length : (z : A) (size rows w : ℕ) (f : ℕ → ℕ → A) → rows * w ≤ size → length (grid z size rows w f) ≡ size
+  grid-length z size rows w f h = laidRows-length rows w f (replicate size z) (rw (length-replicate size z) h) ∙ length-replicate size z
+
+  listed-same : (z : A) (n : ℕ) → listed n (λ i. z) ≡ replicate n z
+  unfolding listed
+  listed-same z zero = refl
+  listed-same z (suc n) = rw (listed-same z n) (replicate-append-replicate n 1 z) ∙ ap (λ (k : ℕ). replicate k z) (add-one n)
+
   drop-replicate : (z : A) (w k : ℕ) → drop w (replicate k z) ≡ replicate (k - w) z
   drop-replicate z zero k = ap (λ (n : ℕ). replicate n z) (let q : k ≡ k - 0 = omega arith in q)
   drop-replicate z (suc w) zero = ap (λ (n : ℕ). replicate n z) (let q : 0 ≡ 0 - suc w = omega arith in q)
   drop-replicate z (suc w) (suc k) = drop-replicate z w k ∙ ap (λ (n : ℕ). replicate n z) (let q : k - w ≡ suc k - suc w = omega arith in q)
 
-  -- a grid with one row more
-  pub grid-more : (z : A) (size r w : ℕ) (f : ℕ → ℕ → A) (row : List A) → (r + 1) * w ≤ size → w ≤ length row → ((x : ℕ) → x < w → getD row x z ≡ f r x)
-      → paste (grid z size r w f) (r * w) row w ≡ grid z size (r + 1) w f
-  unfolding grid padded
-  grid-more z size r w f row h l e =
-      let g : ℕ → A = λ i. f (i / w) (i % w) in
-      let rest : List A = replicate (size - (r * w + w)) z in
-      let rows : (r + 1) * w ≡ r * w + w = omega arith in
-      ap (λ (k : List A). k ++ take w row ++ drop (r * w + w) (listed (r * w) g ++ replicate (size - r * w) z))
-      (take-at (listed (r * w) g) _ (r * w) (length-listed (r * w) g))
-      ∙ ap (λ (k : List A). listed (r * w) g ++ take w row ++ k) (dropped g)
-      ∙ ap (λ (k : List A). listed (r * w) g ++ k ++ rest) (take-listed w row (λ x. g (r * w + x)) z l (λ x b. e x b ∙ rw (digits-div r b, digits-mod r b)))
-      ∙ ap (λ (k : List A). k ++ rest) (sym (listed-add (r * w) w g))
-      ∙ ap (λ (k : ℕ). listed k g ++ replicate (size - k) z) (sym rows)
-    where
-      dropped : (g : ℕ → A) → drop (r * w + w) (listed (r * w) g ++ replicate (size - r * w) z) ≡ replicate (size - (r * w + w)) z
-      dropped g =
-          ap (λ (k : ℕ). drop (k + w) (listed (r * w) g ++ replicate (size - r * w) z)) (sym (length-listed (r * w) g))
-          ∙ drop-append-add (listed (r * w) g) (replicate (size - r * w) z) w
-          ∙ drop-replicate z w (size - r * w)
-          ∙ ap (λ (k : ℕ). replicate k z) (let q : size - r * w - w ≡ size - (r * w + w) = omega arith in q)
+  -- rows of what lies past them
+  pub grid-zero : (z : A) (size rows w : ℕ) → rows * w ≤ size → grid z size rows w (λ r x. z) ≡ replicate size z
+  unfolding laidRows laid
+  grid-zero z size rows w h =
+      let e : rows * w + (size - rows * w) ≡ size = omega arith in
+      rw (listed-same z (rows * w), drop-replicate z (rows * w) size) (replicate-append-replicate (rows * w) (size - rows * w) z)
+      ∙ ap (λ (k : ℕ). replicate k z) e
 
-  -- as a loop cuts it: the cells from n up to i are z
-  pub record Cutting (z : A) (n i : ℕ) (xs ys : List A) : Type 0 where
-    pub from : n ≤ i
-    pub long : length ys ≡ length xs
-    pub front : take i ys ≡ take n xs ++ replicate (i - n) z
-
-  pub cutting-start : (z : A) (n : ℕ) (xs : List A) → Cutting z n n xs xs
-  cutting-start z n xs = record {
-    from = omega arith;
-    long = refl;
-    front = sym
-        (ap (λ (k : ℕ). take n xs ++ replicate k z) (let e : n - n ≡ 0 = omega arith in e) ∙ append-nil (take n xs));
-  }
-
-  replicate-more : (z : A) (k : ℕ) → replicate k z ++ (z ∷ []) ≡ replicate (suc k) z
-  replicate-more z zero = refl
-  replicate-more z (suc k) = ap (λ (l : List A). z ∷ l) (replicate-more z k)
-
-  pub cutting-more : (z : A) (n i : ℕ) (xs ys : List A) → i < length xs → Cutting z n i xs ys → Cutting z n (i + 1) xs (set ys i z)
-  cutting-more z n i xs ys h c = record {
-    from = omega (arith, c .from);
-    long = length-set ys i z ∙ c .long;
-    front =
-        ap (λ (k : ℕ). take k (set ys i z)) (add-one i)
-        ∙ take-suc-set ys i z (rw (c .long) h)
-        ∙ ap (λ (k : List A). k ++ (z ∷ [])) (c .front)
-        ∙ append-assoc (take n xs) (replicate (i - n) z) (z ∷ [])
-        ∙ ap (λ (k : List A). take n xs ++ k) (replicate-more z (i - n))
-        ∙ ap (λ (k : ℕ). take n xs ++ replicate k z) (let e : suc (i - n) ≡ i + 1 - n = omega (arith, c .from) in e);
-  }
-
-  pub cutting-end : (z : A) (n i : ℕ) (xs ys : List A) → i ≡ length xs → Cutting z n i xs ys → ys ≡ cut z n xs
-  unfolding cut
-  cutting-end z n i xs ys e c =
-      sym (take-all i ys (omega (arith, c .long))) ∙ c .front ∙ ap (λ (k : ℕ). take n xs ++ replicate (k - n) z) e
-
-  pub cut-at : (z : A) (n : ℕ) (xs : List A) (i : ℕ) (d : A) → i < n → n ≤ length xs → getD (cut z n xs) i d ≡ getD xs i d
-  unfolding cut
-  cut-at z n xs i d h l =
-      List·getD-append (take n xs) (replicate (length xs - n) z) d i (rw (length-take-le n xs l) h) ∙ getD-take n xs i d h
-
-  pub cut-length : (z : A) (n : ℕ) (xs : List A) → n ≤ length xs → length (cut z n xs) ≡ length xs
-  unfolding cut
-  cut-length z n xs l =
-      length-append (take n xs) (replicate (length xs - n) z) ∙ omega (arith, length-take-le n xs l, length-replicate (length xs - n) z)
-
--- ---- read with the default that fills them
-module _ {A : Type 0} (z : A) where
-  -- a default that fills a list is found at every place
-  pub replicate-at : (n i : ℕ) → getD (replicate n z) i z ≡ z
-  replicate-at zero i = refl
-  replicate-at (suc n) zero = refl
-  replicate-at (suc n) (suc i) = replicate-at n i
-
-  filled-at : (n : ℕ) (xs : List A) (k i : ℕ) → i < n → getD (take n xs ++ replicate k z) i z ≡ getD xs i z
-  filled-at zero xs k i l = absurd (omega arith)
-  filled-at (suc n) [] k i l = replicate-at k i
-  filled-at (suc n) (x ∷ xs) k zero l = refl
-  filled-at (suc n) (x ∷ xs) k (suc i) l = filled-at n xs k i (omega arith)
-
-  -- read with the default that it is filled with, a cut list is the list, however long: past the end both are the default
-  pub cut-at-default : (n : ℕ) (xs : List A) (i : ℕ) → i < n → getD (cut z n xs) i z ≡ getD xs i z
-  unfolding cut
-  cut-at-default n xs i l = filled-at n xs (length xs - n) i l
-
-  -- a cell of the rows that are kept
-  pub cut-cell : (rows w : ℕ) (xs : List A) (r : ℕ) → r < rows → (x : ℕ) → x < w → getD (cut z (rows * w) xs) (r * w + x) z ≡ getD xs (r * w + x) z
-  cut-cell rows w xs r h x l = cut-at-default (rows * w) xs (r * w + x) (cell-below r rows x w h l)
+-- a default that fills a list is found at every place
+pub replicate-at : {A : Type 0} (z : A) (n i : ℕ) → getD (replicate n z) i z ≡ z
+replicate-at z zero i = refl
+replicate-at z (suc n) zero = refl
+replicate-at z (suc n) (suc i) = replicate-at z n i
 
 -- ---- bounds on what an array is filled with
 pub filled-below : (size : ℕ) {n limit : ℕ} (f : ℕ → ℕ) {xs : List ℕ} → xs ≡ padded 0 size n f → n ≤ size → ((i : ℕ) → i < n → f i ≤ limit)

@@ -1,6 +1,6 @@
 -- What more than one proof of this crate names.
 pub use Prim.Native.Nat.{_-_, _≤_}
-pub use Rattle.integers.proofs.Lists.{Cutting, Pasting, cutting-end, cutting-more, cutting-start, pasting-more, pasting-start}
+pub use Rattle.integers.proofs.Lists.{Pasting, pasting-more, pasting-start}
 pub use Rattle.integers.proofs.Parts.{abs-parts, neg-parts}
 pub use Rattle.integers.proofs.Quotients.{quotient, quotient-fits, remainder}
 pub use Rattle.integers.proofs.Terms.{product, product-fits}

@@ -108,3 +108,11 @@ largest-cong (suc (suc n)) f g p h =
     let e = largest-cong (suc n) f g (omega arith) (λ i l. h i (omega arith)) in
     let l = largest-in (suc n) g (omega arith) in
     rw (e, h (firstLargest (suc n) g) (omega arith), h (suc n) (omega arith))
+
+pub and-false : (a b : Bool) → b ≡ false → (a && b) ≡ false
+and-false true b e = e
+and-false false b e = refl
+
+pub and-true-right : (a b : Bool) → b ≡ true → (a && b) ≡ a
+and-true-right true b e = e
+and-true-right false b e = refl

@@ -1,5 +1,5 @@
 -- Laws for this crate's proofs and those above it.
 pub mod Laws
-pub mod Kept
+pub mod Over
 pub mod Points
 pub mod Prelude

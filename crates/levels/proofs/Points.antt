@@ -2,31 +2,22 @@
 -- prover computes the definitions that the contracts name. Assumes nothing.
 use mathlib.Core.Path.{_≡_, refl}
 use mathlib.Core.Bool.{true, false}
-use Prim.Native.Nat.{ℕ, zero, suc, _*_}
+use mathlib.Core.List.{List, [], _∷_}
+use Prim.Native.Nat.{ℕ, zero, suc}
+use lib.ListN.{replicate}
 use lib.IntN.{ℤ, pos, negsuc}
 use Rattle.integers.specs.Whole.{totalTo}
 use Rattle.integers.specs.Search.{every}
+use Rattle.tables.specs.declared.Tables.{Tables}
 use Rattle.tables.specs.declared.Verdict.{Verdict}
 use Rattle.tables.specs.declared.Verdict.the-variants.{Fine, Refused}
 use Rattle.tables.specs.Limits.{one}
-use Rattle.tables.specs.Model.{Model}
 use Rattle.tables.specs.Verdicts.{firstOf}
-use Rattle.tables.specs.Judged.{limitsHold, rowsTotal, modelVerdict}
+use Rattle.tables.specs.Judged.{limitsHold, rowsTotal, tablesVerdict}
 use Rattle.plans.specs.Limits.{range}
-use Rattle.plans.specs.Level.{Level, level0, corner-weight}
-use Rattle.levels.specs.Judged.{rowsWithin, valuesWithin, rangesVerdict, weightsVerdict, standingHolds, numbersIn, shapeVerdict}
-
--- three crystal forms, each of which stays what it is
-forms : Model
-forms = record {
-  states = 3;
-  actions = 1;
-  observations = 1;
-  discount = one;
-  transition = λ s a s'. corner-weight s s' * one;
-  observation = λ a s' o. one;
-  reward = λ s a. pos 0;
-}
+use Rattle.plans.specs.Level.{Level}
+use Rattle.levels.specs.Storage.{Lent, lent, cells}
+use Rattle.levels.specs.Judged.{rowsWithin, valuesWithin, rangesVerdict, weightsVerdict, numbersIn, levelVerdict, holds}
 
 -- weights on the three, and what one point has and the next
 three : ℕ → ℕ → ℕ → ℕ → ℕ
@@ -50,13 +41,29 @@ level points weight value = record {
   value = value;
 }
 
--- 7 to 12 of such a level where it is offered as the first
+-- 10 to 12 of such a level where it is offered as the first, in a model of three states
 told : ℕ → (ℕ → ℕ → ℕ) → (ℕ → ℤ) → Verdict
-told points weight value = shapeVerdict forms 0 level0 (level points weight value)
+told points weight value = levelVerdict 3 1 1 1 1 (level points weight value)
 
 -- of one with a point alone
 alone : (ℕ → ℕ) → ℤ → Verdict
 alone weight value = told 1 (λ i. weight) (λ i. value)
+
+-- three crystal forms, each of which stays what it is
+forms : Tables
+forms = record {
+  states = 3;
+  actions = 1;
+  observations = 1;
+  discount = one;
+  transition = one ∷ 0 ∷ 0 ∷ 0 ∷ one ∷ 0 ∷ 0 ∷ 0 ∷ one ∷ [];
+  observation = replicate 3 one;
+  reward = replicate 3 (pos 0);
+}
+
+-- a certifier at level 1 with a point alone
+standing : List ℕ → ℤ → Lent
+standing weights value = lent (1 ∷ 1 ∷ 1 ∷ []) (cells (0 ∷ []) (0 ∷ []) (replicate 3 (pos 0)) (replicate 3 (pos 0)) weights (value ∷ []))
 
 record Table : Type 0 where
   -- thirds, and what their value lies within
@@ -78,13 +85,13 @@ record Table : Type 0 where
   eleven-first : told 2 (two (three 34 34 33) (three 1 1 1)) (two (pos 10_100_001) (pos 300_001)) ≡ Refused 11 1
   twelve-then : told 2 (two (three 1 1 1) (three 0 0 0)) (two (pos 300_000) (pos 1)) ≡ Refused 12 1
   -- 7 by the same rules
-  stands : standingHolds forms 1 (level 1 (λ i. three 1 1 1) (λ i. pos 300_000)) ≡ true
-  falls-by-11 : standingHolds forms 1 (level 1 (λ i. three 1 1 1) (λ i. pos 300_001)) ≡ false
-  falls-by-12 : standingHolds forms 1 (level 1 (λ i. three 34 34 33) (λ i. pos 0)) ≡ false
+  stands : holds forms (standing (1 ∷ 1 ∷ 1 ∷ []) (pos 300_000)) ≡ true
+  falls-by-11 : holds forms (standing (1 ∷ 1 ∷ 1 ∷ []) (pos 300_001)) ≡ false
+  falls-by-12 : holds forms (standing (34 ∷ 34 ∷ 33 ∷ []) (pos 0)) ≡ false
 
 table : Table
-unfolding forms three two level told alone shapeVerdict standingHolds modelVerdict limitsHold rowsTotal numbersIn rangesVerdict rowsWithin valuesWithin
-    weightsVerdict firstOf every totalTo range level0 corner-weight
+unfolding forms standing three two level told alone levelVerdict holds tablesVerdict limitsHold rowsTotal numbersIn rangesVerdict rowsWithin valuesWithin
+    weightsVerdict firstOf every totalTo range
 table = record {
   thirds = refl;
   thirds-low = refl;

@@ -1,19 +1,23 @@
 -- What an offer is refused for, 7 to 15, in checking order; each number is tested throughout before the next.
-use Prim.Native.Nat.{ℕ, suc, _*_}
+use Prim.Native.Nat.{ℕ, _+_, _*_}
 use mathlib.Core.Bool.{Bool, true, false, not, _&&_, _||_}
 use lib.Dec.{leb, ltb}
+use lib.ListN.{length}
 use lib.IntN.{ℤ, natAbs}
 use lib.Signed.{leZ}
 use Rattle.integers.specs.Whole.{_·_, totalTo}
 use Rattle.integers.specs.Search.{every}
+use Rattle.tables.specs.declared.Tables.{Tables}
 use Rattle.tables.specs.declared.Verdict.{Verdict}
 use Rattle.tables.specs.declared.Verdict.the-variants.{Fine, Refused}
 use Rattle.tables.specs.Limits.{maxVectors, K, maxLevels}
 use Rattle.tables.specs.Model.{Model, backup}
+use Rattle.tables.specs.Storage.{modelOf}
 use Rattle.tables.specs.Verdicts.{_before_, unless, firstOf}
-use Rattle.tables.specs.Judged.{countWithin, modelVerdict}
+use Rattle.tables.specs.Judged.{countWithin, tablesVerdict}
 use Rattle.plans.specs.Limits.{maxPoints, maxTotal, range}
 use Rattle.plans.specs.Level.{Level, backupAt, corner-weight, follows}
+use Rattle.levels.specs.Storage.{LentLevel, Lent, stateSize, levelOf, readable, complete, numberIn, standingIn, lentFor}
 
 -- ---- a level by itself
 
@@ -38,11 +42,11 @@ unfoldable pub valuesWithin : ℕ → ℕ → ℕ → (ℕ → ℕ → ℕ) → 
 valuesWithin n points limit weight value = firstOf points (λ i. unless (valueHolds (totalTo n (weight i)) limit (value i)) 11 i)
 
 -- 11: entries, then corners, then point values, each within its range at level t
-unfoldable pub rangesVerdict : Model → ℕ → Level → Verdict
-rangesVerdict M t W =
-    rowsWithin 11 (W .vectors) (M .states) (range t) (W .entry)
-    before rowsWithin 11 (M .states) 1 (range t) (λ s x. W .corner s)
-    before valuesWithin (M .states) (W .points) (range t) (W .weight) (W .value)
+unfoldable pub rangesVerdict : ℕ → ℕ → Level → Verdict
+rangesVerdict n t W =
+    rowsWithin 11 (W .vectors) n (range t) (W .entry)
+    before rowsWithin 11 n 1 (range t) (λ s x. W .corner s)
+    before valuesWithin n (W .points) (range t) (W .weight) (W .value)
 
 -- 12: the total of a point's weights is outside 1 to 100
 unfoldable pub weightsVerdict : ℕ → ℕ → (ℕ → ℕ → ℕ) → Verdict
@@ -55,16 +59,6 @@ abbrev pub isFine : Verdict → Bool
 isFine Fine = true
 isFine (Refused number place) = false
 
--- 7: the tables or the standing level break a limit of 3, 5, 6, 9, 11 or 12 or name an action that does not exist, or the level is over 100
-unfoldable pub standingHolds : Model → ℕ → Level → Bool
-standingHolds M t L =
-    isFine (modelVerdict M)
-    && (leb t maxLevels
-    && (countsHold (L .vectors) (L .points)
-    && (actionsExist (M .actions) (L .vectors) (L .action)
-    && (isFine (rangesVerdict M t L)
-    && isFine (weightsVerdict (M .states) (L .points) (L .weight))))))
-
 -- ---- a level W that is offered over the standing level L
 
 -- the first vector, or node of a plan graph, of which the action or a choice does not exist
@@ -73,8 +67,13 @@ numbersIn number vectors m k standing action choice =
     firstOf vectors (λ v. unless (ltb (action v) m) number v before firstOf k (λ o. unless (ltb (choice v o) standing) number v))
 
 -- 10: an action or a chosen vector does not exist
-abbrev pub numbersVerdict : Model → Level → Level → Verdict
-numbersVerdict M L W = numbersIn 10 (W .vectors) (M .actions) (M .observations) (L .vectors) (W .action) (W .choice)
+abbrev pub numbersVerdict : ℕ → ℕ → ℕ → Level → Verdict
+numbersVerdict m k standing W = numbersIn 10 (W .vectors) m k standing (W .action) (W .choice)
+
+-- 10 to 12: a level by itself, offered as level t of a model with n states, m actions and k observations, over so many standing vectors
+unfoldable pub levelVerdict : ℕ → ℕ → ℕ → ℕ → ℕ → Level → Verdict
+levelVerdict n m k t standing W =
+    numbersVerdict m k standing W before rangesVerdict n t W before weightsVerdict n (W .points) (W .weight)
 
 -- 13: a vector entry exceeds its backup
 unfoldable pub floorsVerdict : Model → Level → Level → Verdict
@@ -94,19 +93,38 @@ cornersVerdict M L W = firstOf (M .states) (λ s. unless (coversBackups M L (cor
 unfoldable pub pointsVerdict : Model → Level → Level → Verdict
 pointsVerdict M L W = firstOf (W .points) (λ i. unless (coversBackups M L (W .weight i) (W .value i)) 15 i)
 
--- 7 to 12: the standing and the offered level by themselves; 8 and 9 have a condition of their own and no place
-unfoldable pub shapeVerdict : Model → ℕ → Level → Level → Verdict
-shapeVerdict M t L W =
-    unless (standingHolds M t L) 7 0
-    before unless (ltb t maxLevels) 8 0
-    before unless (countsHold (W .vectors) (W .points)) 9 0
-    before numbersVerdict M L W
-    before rangesVerdict M (suc t) W
-    before weightsVerdict (M .states) (W .points) (W .weight)
-
 -- 13 to 15: the backup inequalities
 unfoldable pub backupsVerdict : Model → Level → Level → Verdict
 backupsVerdict M L W = floorsVerdict M L W before cornersVerdict M L W before pointsVerdict M L W
 
-unfoldable pub offerVerdict : Model → ℕ → Level → Level → Verdict
-offerVerdict M t L W = shapeVerdict M t L W before backupsVerdict M L W
+-- ---- an offer to a certifier
+
+-- 7: the tables or the standing level break a limit of 3, 5, 6, 9, 11 or 12 or name an action that does not exist, or the level is over 100; or a slice
+-- is too short for them
+unfoldable pub holds : Tables → Lent → Bool
+holds m x =
+    let M : Model = modelOf m in
+    let L : Level = levelOf m (standingIn x) in
+    isFine (tablesVerdict m)
+    && (leb stateSize (length (x .state))
+    && (leb (numberIn x) maxLevels
+    && (countsHold (L .vectors) (L .points)
+    && (readable m (standingIn x)
+    && (actionsExist (M .actions) (L .vectors) (L .action)
+    && (isFine (rangesVerdict (M .states) (numberIn x) L)
+    && isFine (weightsVerdict (M .states) (L .points) (L .weight))))))))
+
+-- 9: no vector, too many vectors or points, or a slice too short for them: of the level that is offered, or of the certifier that is to hold it
+abbrev pub fits : Tables → Lent → LentLevel → Bool
+fits m x l = countsHold (l .vectors) (l .points) && (complete m l && complete m (lentFor (l .vectors) (l .points) (x .cells)))
+
+-- 7 to 12: the certifier and the offered level by themselves; 7, 8 and 9 have no place
+unfoldable pub shapeVerdict : Tables → Lent → LentLevel → Verdict
+shapeVerdict m x l =
+    unless (holds m x) 7 0
+    before unless (ltb (numberIn x) maxLevels) 8 0
+    before unless (fits m x l) 9 0
+    before levelVerdict (m .states) (m .actions) (m .observations) (numberIn x + 1) (standingIn x .vectors) (levelOf m l)
+
+unfoldable pub offerVerdict : Tables → Lent → LentLevel → Verdict
+offerVerdict m x l = shapeVerdict m x l before backupsVerdict (modelOf m) (levelOf m (standingIn x)) (levelOf m l)

@@ -2,15 +2,37 @@
 --
 --   choices by v, o     entries by v, s     weights by i, s     actions, corners, values by their one index
 use Prim.Native.Nat.{ℕ, _*_}
+use mathlib.Core.Bool.{Bool, _&&_}
 use mathlib.Core.List.{List, []}
-use lib.ListN.{getD, replicate}
+use lib.Dec.{leb}
+use lib.ListN.{length, getD}
 use lib.IntN.{ℤ, pos}
-use Rattle.integers.specs.Cells.{cut}
-use Rattle.tables.specs.Limits.{maxStates, maxObservations, maxVectors}
+use Rattle.integers.specs.Cells.{laid, laidRows}
+use Rattle.tables.specs.declared.Tables.{Tables}
 use Rattle.tables.specs.Storage.{rowPlace, entryIn, choiceIn}
-use Rattle.plans.specs.Limits.{maxPoints}
-use Rattle.plans.specs.Level.{Level as Ideal}
-use Rattle.levels.specs.declared.Level.{Level}
+use Rattle.plans.specs.Level.{Level}
+use Rattle.levels.specs.declared.Standing.{Standing}
+
+-- ---- a level in slices
+
+-- the slices of a level, one for each kind of number
+pub record Cells : Type 0 where
+  pub actions : List ℕ
+  pub choices : List ℕ
+  pub entries : List ℤ
+  pub corners : List ℤ
+  pub weights : List ℕ
+  pub values : List ℤ
+
+abbrev pub cells : List ℕ → List ℕ → List ℤ → List ℤ → List ℕ → List ℤ → Cells
+cells actions choices entries corners weights values =
+    record { actions = actions; choices = choices; entries = entries; corners = corners; weights = weights; values = values }
+
+-- a level as it is handed in
+pub record LentLevel : Type 0 where
+  pub vectors : ℕ
+  pub points : ℕ
+  pub cells : Cells
 
 abbrev pub cornerIn : List ℤ → ℕ → ℤ
 cornerIn cells s = getD cells s (pos 0)
@@ -20,7 +42,7 @@ abbrev pub pointIn : ℕ → List ℕ → ℕ → ℕ → ℕ
 pointIn n cells i s = getD cells (rowPlace n i s) 0
 
 -- the level that is read by the counts from its parts, of a model with n states and k observations
-abbrev pub levelIn : ℕ → ℕ → ℕ → List ℕ → List ℕ → List ℤ → List ℤ → ℕ → List ℕ → List ℤ → Ideal
+abbrev pub levelIn : ℕ → ℕ → ℕ → List ℕ → List ℕ → List ℤ → List ℤ → ℕ → List ℕ → List ℤ → Level
 levelIn n k vectors actions choices entries corners points weights values = record {
   vectors = vectors;
   action = λ v. getD actions v 0;
@@ -32,47 +54,72 @@ levelIn n k vectors actions choices entries corners points weights values = reco
   value = λ i. getD values i (pos 0);
 }
 
--- the level that is stored
-abbrev pub levelOf : ℕ → ℕ → Level → Ideal
-levelOf n k l = levelIn n k (l .vectors) (l .actions) (l .choices) (l .entries) (l .corners) (l .points) (l .weights) (l .values)
+-- the level that is handed in with tables
+abbrev pub levelOf : Tables → LentLevel → Level
+levelOf m l =
+    levelIn (m .states) (m .observations) (l .vectors) (l .cells .actions) (l .cells .choices) (l .cells .entries) (l .cells .corners)
+    (l .points) (l .cells .weights) (l .cells .values)
 
 -- a level of which only the vectors are read, and one of which only the corners and points are
-abbrev pub floorIn : ℕ → ℕ → ℕ → List ℕ → List ℕ → List ℤ → Ideal
+abbrev pub floorIn : ℕ → ℕ → ℕ → List ℕ → List ℕ → List ℤ → Level
 floorIn n k vectors actions choices entries = levelIn n k vectors actions choices entries [] 0 [] []
 
-abbrev pub roofIn : ℕ → List ℤ → ℕ → List ℕ → List ℤ → Ideal
+abbrev pub roofIn : ℕ → List ℤ → ℕ → List ℕ → List ℤ → Level
 roofIn n corners points weights values = levelIn n 0 1 [] [] [] corners points weights values
 
--- the same level with 0 past the counts
-unfoldable pub keptLevel : ℕ → ℕ → Level → Level
-keptLevel n k l = record {
-  vectors = l .vectors;
-  actions = cut 0 (l .vectors) (l .actions);
-  choices = cut 0 (l .vectors * k) (l .choices);
-  entries = cut (pos 0) (l .vectors * n) (l .entries);
-  corners = cut (pos 0) n (l .corners);
-  points = l .points;
-  weights = cut 0 (l .points * n) (l .weights);
-  values = cut (pos 0) (l .points) (l .values);
+-- slices of such lengths are long enough for what is read of a level once it stands; its choices are not
+abbrev pub longEnough : ℕ → ℕ → ℕ → ℕ → ℕ → ℕ → ℕ → ℕ → Bool
+longEnough n vectors points actions entries corners weights values =
+    leb vectors actions && (leb (vectors * n) entries && (leb n corners && (leb (points * n) weights && leb points values)))
+
+abbrev pub readable : Tables → LentLevel → Bool
+readable m l =
+    let x : Cells = l .cells in
+    longEnough (m .states) (l .vectors) (l .points) (length (x .actions)) (length (x .entries)) (length (x .corners)) (length (x .weights))
+    (length (x .values))
+
+-- the slices are long enough for all of a level
+abbrev pub complete : Tables → LentLevel → Bool
+complete m l = leb (l .vectors * m .observations) (length (l .cells .choices)) && readable m l
+
+-- the slices with a level laid over them; what lies past it stays
+unfoldable pub over : Tables → Level → Cells → Cells
+over m W x = record {
+  actions = laid (W .vectors) (W .action) (x .actions);
+  choices = laidRows (W .vectors) (m .observations) (W .choice) (x .choices);
+  entries = laidRows (W .vectors) (m .states) (W .entry) (x .entries);
+  corners = laid (m .states) (W .corner) (x .corners);
+  weights = laidRows (W .points) (m .states) (W .weight) (x .weights);
+  values = laid (W .points) (W .value) (x .values);
 }
 
--- a level with a count of vectors, every other part 0
-abbrev pub zeroLevel : ℕ → Level
-zeroLevel vectors = record {
-  vectors = vectors;
-  actions = replicate maxVectors 0;
-  choices = replicate (maxVectors * maxObservations) 0;
-  entries = replicate (maxVectors * maxStates) (pos 0);
-  corners = replicate maxStates (pos 0);
-  points = 0;
-  weights = replicate (maxPoints * maxStates) 0;
-  values = replicate maxPoints (pos 0);
-}
+-- ---- a certifier in slices
 
--- level 0 of document 01: one zero vector, zero corners, no points
-abbrev pub freshLevel : Level
-freshLevel = zeroLevel 1
+-- what a certifier has lent: the number of levels that were accepted with the vectors and points of the last of them, and that level's slices
+pub record Lent : Type 0 where
+  pub state : List ℕ
+  pub cells : Cells
 
--- a level of which every part is 0, the count of vectors too
-abbrev pub noLevel : Level
-noLevel = zeroLevel 0
+abbrev pub lent : List ℕ → Cells → Lent
+lent state x = record { state = state; cells = x }
+
+-- the numbers of a certifier's state
+abbrev pub stateSize : ℕ
+stateSize = 3
+
+abbrev pub standingAt : List ℕ → Standing
+standingAt state = record { number = getD state 0 0; vectors = getD state 1 0; points = getD state 2 0 }
+
+abbrev pub numberIn : Lent → ℕ
+numberIn x = standingAt (x .state) .number
+
+abbrev pub standingIn : Lent → LentLevel
+standingIn x = record { vectors = standingAt (x .state) .vectors; points = standingAt (x .state) .points; cells = x .cells }
+
+-- level 0: one vector, no points
+abbrev pub freshStanding : Standing
+freshStanding = record { number = 0; vectors = 1; points = 0 }
+
+-- slices of a level of so many vectors and points: handed in with it, or lent for it
+abbrev pub lentFor : ℕ → ℕ → Cells → LentLevel
+lentFor vectors points x = record { vectors = vectors; points = points; cells = x }

@@ -1,32 +1,15 @@
-// A level: alpha vectors, corner values and point values, and the tests of a level by itself (7 to 12).
-pub mod shape; // 9 to 12, and what is kept of a level
+// A level: alpha vectors, corner values and point values, in slices packed by the counts: actions by vector, choices by vector and observation, entries by
+// vector and state, corners by state, weights by point and state, values by point.
+pub mod shape; // 9 to 12
 pub mod vectors; // products with vectors, and the first largest
 
-use tables::Tables;
+ghost use mathlib.Core.Path.{_≡_};
+ghost use mathlib.Core.List.{_∷_};
+ghost use Prim.Native.Nat.{_≤_};
+ghost use lib.ListN.{length, drop};
+ghost use Rattle.levels.specs.Storage.{stateSize, standingAt, freshStanding};
 
-pub type Actions = [u8; Tables::VECTORS];
-
-pub type Choices = [u16; Tables::VECTORS * Tables::OBSERVATIONS];
-
-pub type Entries = [i64; Tables::VECTORS * Tables::STATES];
-
-pub type Corners = [i64; Tables::STATES];
-
-pub type PointWeights = [u32; Level::POINTS * Tables::STATES];
-
-pub type Values = [i64; Level::POINTS];
-
-// A level by value: choices by vector and observation, entries by vector and state, weights by point and state, packed by the counts.
-pub struct Level {
-    pub vectors: usize,
-    pub actions: Actions,
-    pub choices: Choices,
-    pub entries: Entries,
-    pub corners: Corners,
-    pub points: usize,
-    pub weights: PointWeights,
-    pub values: Values,
-}
+pub struct Level {}
 
 impl Level {
     pub const LEVELS: usize = 100; // that are accepted
@@ -38,4 +21,48 @@ impl Level {
     pub const TOTAL: u64 = 100; // at most, of a point's weights
 
     pub const WEIGHT: u64 = 1_000_000; // of a mixture
+}
+
+// What stands: how many levels were accepted, and the vectors and points of the last of them.
+pub struct Standing {
+    pub number: usize,
+    pub vectors: usize,
+    pub points: usize,
+}
+
+impl Standing {
+    pub const SIZE: usize = 3; // its numbers, in the slice that a certifier lends for them
+
+    // A fresh certifier stands at level 0: one vector, no points.
+    pub fn fresh() -> Standing
+        ensures { λ r. ⌜ r ≡ freshStanding ⌝ }
+    {
+        Standing {
+            number: 0,
+            vectors: 1,
+            points: 0,
+        }
+    }
+}
+
+// What a certifier's slice says.
+pub fn standing_in(state: &[usize]) -> Standing
+    requires { ⌜ stateSize ≤ length (now state) ⌝ }
+    ensures { λ r. ⌜ r ≡ standingAt (now (state .entry)) ⌝ }
+{
+    Standing {
+        number: state[0],
+        vectors: state[1],
+        points: state[2],
+    }
+}
+
+// Writes what stands over it.
+pub fn put_standing(state: &mut [usize], s: Standing)
+    requires { ⌜ stateSize ≤ length (now state) ⌝ }
+    ensures { λ _. ⌜ now (state .exit) ≡ s .number ∷ s .vectors ∷ s .points ∷ drop stateSize (now (state .entry)) ⌝ }
+{
+    state[0] = s.number;
+    state[1] = s.vectors;
+    state[2] = s.points;
 }

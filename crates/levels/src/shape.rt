@@ -1,6 +1,8 @@
-// Refusals 9 to 12 of a level by itself, and what is kept of it.
+// Refusals 9 to 12 of a level by itself.
 ghost use mathlib.Core.Path.{_≡_};
+ghost use mathlib.Core.Bool.{_&&_};
 ghost use Prim.Native.Nat.{_+_, _*_, _≤_, _<_, _^_};
+ghost use lib.Dec.{leb};
 ghost use lib.ListN.{length, getD};
 ghost use lib.IntN.{pos};
 ghost use Rattle.integers.specs.Whole.{totalTo};
@@ -9,10 +11,9 @@ ghost use Rattle.tables.specs.Limits.{maxStates, maxObservations, maxVectors, m
 ghost use Rattle.plans.specs.Limits.{maxPoints};
 ghost use Rattle.tables.specs.Steps.{rowsTo};
 ghost use Rattle.tables.specs.Storage.{rowPlace, choiceIn};
-ghost use Rattle.levels.specs.Storage.{pointIn, keptLevel, freshLevel, noLevel};
+ghost use Rattle.levels.specs.Storage.{pointIn, longEnough};
 ghost use Rattle.levels.specs.Judged.{countsHold, rowsWithin, totalHolds, valueHolds, valuesWithin, weightsVerdict, actionsExist, numbersIn};
 use super::Level;
-use integers::cells;
 use tables::Observation;
 use tables::Tables;
 use tables::Vector;
@@ -188,60 +189,62 @@ pub fn numbers_exist<'a>(
     found
 }
 
-// The level with 0 past its counts.
-pub fn keep_level(n: usize, k: usize, l: Level) -> Level
-    requires { ⌜ (n ≤ maxStates) × ((k ≤ maxObservations) × ((l .vectors ≤ maxVectors) × (l .points ≤ maxPoints))) ⌝ }
-    ensures { λ r. ⌜ r ≡ keptLevel n k l ⌝ }
+// Whether slices are long enough for what is read of a level: its choices are not read once it stands.
+pub fn readable(
+    n: usize,
+    vectors: usize,
+    points: usize,
+    actions: usize,
+    entries: usize,
+    corners: usize,
+    weights: usize,
+    values: usize,
+) -> bool
+    requires { ⌜ (n ≤ maxStates) × ((vectors ≤ maxVectors) × (points ≤ maxPoints)) ⌝ }
+    ensures { λ r. ⌜ r ≡ longEnough n vectors points actions entries corners weights values ⌝ }
 {
-    let vectors = l.vectors;
-    let points = l.points;
-    let mut actions = l.actions;
-    let mut choices = l.choices;
-    let mut entries = l.entries;
-    let mut corners = l.corners;
-    let mut weights = l.weights;
-    let mut values = l.values;
-    cells::clear_u8(&mut actions, vectors);
-    cells::clear_u16(&mut choices, vectors * k);
-    cells::clear_i64(&mut entries, vectors * n);
-    cells::clear_i64(&mut corners, n);
-    cells::clear_u32(&mut weights, points * n);
-    cells::clear_i64(&mut values, points);
-    Level {
-        vectors: vectors,
-        actions: actions,
-        choices: choices,
-        entries: entries,
-        corners: corners,
-        points: points,
-        weights: weights,
-        values: values,
+    if actions < vectors {
+        return false;
     }
+    if entries < vectors * n {
+        return false;
+    }
+    if corners < n {
+        return false;
+    }
+    if weights < points * n {
+        return false;
+    }
+    points <= values
 }
 
-impl Level {
-    // Level 0: one zero vector, zero corners, no points.
-    pub fn fresh() -> Level
-        ensures { λ r. ⌜ r ≡ freshLevel ⌝ }
-    {
-        Level {
-            vectors: 1,
-            actions: [0u8; Tables::VECTORS],
-            choices: [0u16; Tables::VECTORS * Tables::OBSERVATIONS],
-            entries: [0i64; Tables::VECTORS * Tables::STATES],
-            corners: [0i64; Tables::STATES],
-            points: 0,
-            weights: [0u32; Level::POINTS * Tables::STATES],
-            values: [0i64; Level::POINTS],
-        }
+// Whether slices are long enough for all of a level.
+pub fn complete(
+    n: usize,
+    k: usize,
+    vectors: usize,
+    points: usize,
+    actions: usize,
+    choices: usize,
+    entries: usize,
+    corners: usize,
+    weights: usize,
+    values: usize,
+) -> bool
+    requires { ⌜ (n ≤ maxStates) × ((k ≤ maxObservations) × ((vectors ≤ maxVectors) × (points ≤ maxPoints))) ⌝ }
+    ensures { λ r. ⌜ r ≡ leb (vectors * k) choices && longEnough n vectors points actions entries corners weights values ⌝ }
+{
+    if choices < vectors * k {
+        return false;
     }
-
-    // A level of which every part is 0.
-    pub fn none() -> Level
-        ensures { λ r. ⌜ r ≡ noLevel ⌝ }
-    {
-        let mut l = Level::fresh();
-        l.vectors = 0;
-        l
-    }
+    readable(
+        n,
+        vectors,
+        points,
+        actions,
+        entries,
+        corners,
+        weights,
+        values,
+    )
 }

@@ -1,5 +1,6 @@
 -- Laws about the definitions of this crate.
 pub mod Laws
 pub mod Opens
+pub mod Alike
 pub mod Prelude
 pub mod Refused

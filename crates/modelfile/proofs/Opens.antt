@@ -29,6 +29,7 @@ use Rattle.statements.proofs.Small.{Small, fills-gives, statements-small}
 use Rattle.modelfile.specs.declared.ModelFile.{ModelFile}
 use Rattle.modelfile.specs.ModelFile.{maxBytes, discountName, valuesName, rewardWord, statesName, actionsName, observationsName, startName, Text, textOf}
 use Rattle.modelfile.specs.ModelFile.{noCells, body, counted, headed, placed, sumsVerdict, refusedFile, judgedFile, ended, modelFile}
+use Rattle.modelfile.specs.ModelFile.{bodyBy, countedBy, headedBy, modelFileBy}
 
 abbrev Within : ℕ → ℕ → Type 0
 Within limit v = (1 ≤ v) × (v ≤ limit)
@@ -71,7 +72,7 @@ none-small = record {
 
 body-limited : (fuel d n m k : ℕ) (ws : Words) → d ≤ one → Within maxStates n → Within maxActions m → Within maxObservations k
     → Gives Limited (body fuel d n m k ws)
-unfolding body
+unfolding bodyBy
 body-limited fuel d n m k ws hd hn hm hk =
     gives-after Limited (named startName ws)
     (λ _ ws. wholly (row startNumber (stated 1 1 n 0 0) 0 n (replicate maxStates 0) ws) then λ start ws. wholly (statements fuel m n k noCells ws) then
@@ -83,7 +84,7 @@ body-limited fuel d n m k ws hd hn hm hk =
     (λ cells ws small. small-limited d n m k start cells hd hn hm hk small)))
 
 counted-limited : (fuel d : ℕ) (ws : Words) → d ≤ one → Gives Limited (counted fuel d ws)
-unfolding counted
+unfolding countedBy
 counted-limited fuel d ws hd =
     gives-then (Within maxStates) Limited (field statesName countForm 1 maxStates ws)
     (λ n ws. field actionsName countForm 1 maxActions ws then λ m ws. field observationsName countForm 1 maxObservations ws then λ k ws. body fuel d n m k ws)
@@ -96,7 +97,7 @@ counted-limited fuel d ws hd =
     (λ k ws hk. body-limited fuel d n m k ws hd hn hm hk)))
 
 headed-limited : (fuel : ℕ) (ws : Words) → Gives Limited (headed fuel ws)
-unfolding headed
+unfolding headedBy
 headed-limited fuel ws =
     gives-then (λ v. (0 ≤ v) × (v ≤ one)) Limited (field discountName probabilityForm 0 one ws)
     (λ d ws. named valuesName ws then λ _ ws. key rewardWord ws then λ _ ws. counted fuel d ws)
@@ -147,7 +148,7 @@ short-opens file false e = never e
 
 -- Each word kept its own limit when it was read, later statements only put such words into cells, and the totals were tested last. Qed.
 pub read-opens : (file : List ℕ) → modelFile file .verdict ≡ Fine → FileOpens (modelFile file)
-unfolding modelFile
+unfolding modelFileBy
 read-opens file e = short-opens file (leb (length file) maxBytes) e
 
 pub read-valid : {x : ModelFile} (file : List ℕ) → x ≡ modelFile file → x .verdict ≡ Fine → Valid (modelOf (x .tables))

@@ -12,4 +12,5 @@ pub use lib.ListN.{length, replicate}
 pub use mathlib.Core.List.{List}
 pub use mathlib.Core.Path.{_∙_, _≡_, ap, sym}
 pub use native.Mathlib.Omega.{arith}
-unfoldable pub use Rattle.modelfile.specs.ModelFile.{body, counted, headed}
+pub use Rattle.modelfile.specs.ModelFile.{body, counted, headed}
+unfoldable pub use Rattle.modelfile.specs.ModelFile.{bodyBy, countedBy, headedBy}

@@ -27,6 +27,8 @@ use Rattle.statements.specs.Statements.{starred, row, entry, table, reward, rew
 use Rattle.statements.specs.Statements.{unlessEnd, statements}
 use Rattle.modelfile.specs.ModelFile.{maxBytes, startName, Text, noCells, body, counted, headed, placed, sumsVerdict, refusedFile, judgedFile, ended}
 use Rattle.modelfile.specs.ModelFile.{modelFile}
+use Rattle.statements.specs.Statements.{entryBy, observationOrRewardBy, oneStatementBy, rewardBy, rewardStatementBy, rewardsBy, statementsBy, tableBy}
+use Rattle.modelfile.specs.ModelFile.{bodyBy, countedBy, headedBy, modelFileBy}
 
 -- ---- words: at most c of them, none past the end of a file of so many bytes
 
@@ -168,20 +170,20 @@ module _ (size : ℕ) where
         (λ p ws. row-left one-number put g (x + 1) k (put x p cells) ws)
 
     entry-left : (m n w a s : ℕ) (cells : List ℕ) (ws : Words) → UpTo size c ws → Stops c (entry m n w a s cells ws)
-    unfolding entry
+    unfolding entryBy
     entry-left m n w a s cells ws h =
         upon-left c c cells (index w ws) _ (index-named w ws h)
         (λ x ws k. upon-left c c cells (probability ws) _ (number-named c probabilityForm 0 _ ws k) (λ p ws l. l))
 
     table-left : (m n w : ℕ) (cells : List ℕ) (ws : Words) → UpTo size c ws → Stops c (table m n w cells ws)
-    unfolding table
+    unfolding tableBy
     table-left m n w cells ws h =
         upon-left c c cells (indexed m ws) _ (indexed-named m ws h) (λ a ws k. upon-left c c cells (indexed n ws) _ (indexed-named n ws k) (λ s ws l.
         choose-left c c (key colon ws) _ _ (keyed colon ws l) (λ ws. entry-left m n w a s cells ws)
         (row-left probability _ (λ ws. number-named c probabilityForm 0 _ ws) 0 w cells ws l)))
 
     rewards-left : (m n : ℕ) (cells : List ℤ) (ws : Words) → UpTo size c ws → Stops c (rewards m n cells ws)
-    unfolding rewards reward
+    unfolding rewardsBy rewardBy
     rewards-left m n cells ws h =
         upon-left c c cells (indexed m ws) _ (indexed-named m ws h) (λ a ws h. upon-left c c cells (indexed n ws) _ (indexed-named n ws h) (λ s ws h.
         upon-left c c cells (starred ws) _ (keys-named colon star ws h) (λ _ ws h. upon-left c c cells (starred ws) _ (keys-named colon star ws h) (λ _ ws h.
@@ -189,7 +191,7 @@ module _ (size : ℕ) where
 
     -- it takes a word or more
     one-left : (m n k : ℕ) (d : Draft) (ws : Words) → UpTo size (suc c) ws → Stops c (oneStatement m n k d ws)
-    unfolding oneStatement observationOrReward rewardStatement
+    unfolding oneStatementBy observationOrRewardBy rewardStatementBy
     one-left m n k d ws h =
         choose-left c c (key _ ws) _ _ (key-named c _ ws h) (λ ws l. within-left c _ (table m n n (d .transition) ws) (table-left m n n (d .transition) ws l))
         (choose-left c c (key _ ws) _ _ (key-named c _ ws h) (λ ws l. within-left c _ (table m n k (d .observation) ws)
@@ -198,7 +200,7 @@ module _ (size : ℕ) where
 
   -- as many statements as there are words are enough
   statements-left : (f m n k : ℕ) (d : Draft) (ws : Words) → UpTo size f ws → Stops f (statements f m n k d ws)
-  unfolding statements
+  unfolding statementsBy
   statements-left zero m n k d (end at) h = h
   statements-left zero m n k d (word at w rest) h = absurd h
   statements-left (suc f) m n k d (end at) h = h
@@ -214,7 +216,7 @@ module _ (size : ℕ) where
 
   module _ (c : ℕ) where
     body-named : (d n m k : ℕ) (ws : Words) → UpTo size c ws → Named c (body c d n m k ws)
-    unfolding body
+    unfolding bodyBy
     body-named d n m k ws h =
         then-named c c (named startName ws) _ (keys-named c startName colon ws h) (λ _ ws h.
         let start = row startNumber (stated 1 1 n 0 0) 0 n (replicate maxStates 0) ws in
@@ -225,14 +227,14 @@ module _ (size : ℕ) where
         (λ cells ws h. h)))
 
     counted-named : (d : ℕ) (ws : Words) → UpTo size c ws → Named c (counted c d ws)
-    unfolding counted
+    unfolding countedBy
     counted-named d ws h =
         then-named c c (field _ countForm 1 _ ws) _ (field-named c _ countForm 1 _ ws h) (λ n ws h.
         then-named c c (field _ countForm 1 _ ws) _ (field-named c _ countForm 1 _ ws h) (λ m ws h.
         then-named c c (field _ countForm 1 _ ws) _ (field-named c _ countForm 1 _ ws h) (λ k ws. body-named d n m k ws)))
 
     headed-named : (ws : Words) → UpTo size c ws → Named c (headed c ws)
-    unfolding headed
+    unfolding headedBy
     headed-named ws h =
         then-named c c (field _ probabilityForm 0 _ ws) _ (field-named c _ probabilityForm 0 _ ws h) (λ d ws h.
         then-named c c (named _ ws) _ (keys-named c _ colon ws h) (λ _ ws h. then-named c c (key _ ws) _ (keyed c _ ws h) (λ _ ws. counted-named d ws)))
@@ -321,5 +323,5 @@ says-file file false = record { low = omega arith; high = omega arith; long = λ
 -- the
 -- statements, of which one more than the file has bytes are allowed, never run out. What is left is 1 for the length, and 4, 5 and 6 at the end. Qed.
 pub read-refused : (file : List ℕ) (n p : ℕ) → modelFile file .verdict ≡ Refused n p → RefusedAt (length file) n p
-unfolding modelFile
+unfolding modelFileBy
 read-refused file n p e = subst (Says (RefusedAt (length file))) e (says-file file (leb (length file) maxBytes))

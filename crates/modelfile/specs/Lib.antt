@@ -1,3 +1,4 @@
 -- The whole file.
 pub mod ModelFile
+pub mod Before
 pub mod Steps

@@ -15,9 +15,9 @@ use Rattle.tables.specs.Verdicts.{_before_, unless}
 use Rattle.tables.specs.Judged.{rowsTotal, noTables}
 use Rattle.words.specs.Words.{Words, wordsIn, between}
 use Rattle.drafts.specs.Drafts.{stated}
-use Rattle.numerals.specs.Numeral.{countForm, probabilityForm}
+use Rattle.numerals.specs.Numeral.{countForm}
 use Rattle.grammar.specs.Grammar.{Answer, got, refused, _then_, key, named, field}
-use Rattle.statements.specs.Statements.{wholly, startTotal, startNumber, row, Draft, draft, statements}
+use Rattle.statements.specs.Statements.{wholly, Forms, forms, startTotal, startNumberBy, row, Draft, draft, statementsBy}
 use Rattle.modelfile.specs.declared.ModelFile.{ModelFile}
 
 abbrev pub maxBytes : ℕ
@@ -53,7 +53,7 @@ observationsName = 111 ∷ 98 ∷ 115 ∷ 101 ∷ 114 ∷ 118 ∷ 97 ∷ 116 ∷
 abbrev pub startName : List ℕ
 startName = 115 ∷ 116 ∷ 97 ∷ 114 ∷ 116 ∷ []
 
--- ---- the words of a file, in order
+-- ---- the words of a file, in order, with numbers of the forms f
 
 -- the tables and the start numbers, in hundredths
 pub record Text : Type 0 where
@@ -81,21 +81,21 @@ noCells =
     (replicate (maxActions * maxStates) (pos 0))
 
 -- `start:` with n numbers, then the statements
-unfoldable pub body : ℕ → ℕ → ℕ → ℕ → ℕ → Words → Answer Text
-body fuel d n m k ws =
-    named startName ws then λ _ ws. wholly (row startNumber (stated 1 1 n 0 0) 0 n (replicate maxStates 0) ws) then λ start ws.
-    wholly (statements fuel m n k noCells ws) then λ cells ws. got (textOf d n m k start cells) ws
+unfoldable pub bodyBy : Forms → ℕ → ℕ → ℕ → ℕ → ℕ → Words → Answer Text
+bodyBy f fuel d n m k ws =
+    named startName ws then λ _ ws. wholly (row (startNumberBy f) (stated 1 1 n 0 0) 0 n (replicate maxStates 0) ws) then λ start ws.
+    wholly (statementsBy f fuel m n k noCells ws) then λ cells ws. got (textOf d n m k start cells) ws
 
 -- `states:`, `actions:` and `observations:`
-unfoldable pub counted : ℕ → ℕ → Words → Answer Text
-counted fuel d ws =
+unfoldable pub countedBy : Forms → ℕ → ℕ → Words → Answer Text
+countedBy f fuel d ws =
     field statesName countForm 1 maxStates ws then λ n ws. field actionsName countForm 1 maxActions ws then λ m ws.
-    field observationsName countForm 1 maxObservations ws then λ k ws. body fuel d n m k ws
+    field observationsName countForm 1 maxObservations ws then λ k ws. bodyBy f fuel d n m k ws
 
 -- `discount:` in thousandths, `values: reward`, and all that follows
-unfoldable pub headed : ℕ → Words → Answer Text
-headed fuel ws =
-    field discountName probabilityForm 0 one ws then λ d ws. named valuesName ws then λ _ ws. key rewardWord ws then λ _ ws. counted fuel d ws
+unfoldable pub headedBy : Forms → ℕ → Words → Answer Text
+headedBy f fuel ws =
+    field discountName (f .probability) 0 one ws then λ d ws. named valuesName ws then λ _ ws. key rewardWord ws then λ _ ws. countedBy f fuel d ws
 
 -- ---- the totals, after the last statement
 
@@ -127,6 +127,20 @@ ended size (got t ws) = judgedFile (sumsVerdict size t) t
 ended size (refused number place) = refusedFile number place
 
 -- 1 for a file that is too long
-unfoldable pub modelFile : List ℕ → ModelFile
-modelFile file =
-    cond (leb (length file) maxBytes) (ended (length file) (headed (length file + 1) (wordsIn between file 0))) (refusedFile 1 0)
+unfoldable pub modelFileBy : Forms → List ℕ → ModelFile
+modelFileBy f file =
+    cond (leb (length file) maxBytes) (ended (length file) (headedBy f (length file + 1) (wordsIn between file 0))) (refusedFile 1 0)
+
+-- ---- the same with the forms that numbers have
+
+abbrev pub body : ℕ → ℕ → ℕ → ℕ → ℕ → Words → Answer Text
+body = bodyBy forms
+
+abbrev pub counted : ℕ → ℕ → Words → Answer Text
+counted = countedBy forms
+
+abbrev pub headed : ℕ → Words → Answer Text
+headed = headedBy forms
+
+abbrev pub modelFile : List ℕ → ModelFile
+modelFile = modelFileBy forms

@@ -1,15 +1,16 @@
 -- Laws of numbers in words: one digit more or less, and which words are numbers. Assumes nothing.
-use Prim.Native.Nat.{ℕ, suc, _+_, _-_, _*_, _^_, _≤_, _<_}
-use mathlib.Core.Path.{_≡_, refl, sym, ap, _∙_}
-use mathlib.Core.Bool.{Bool, true, false, false≢true, _&&_, cond, and-eq-true-iff}
+use Prim.Native.Nat.{ℕ, suc, _+_, _-_, _*_, _^_, _/_, _%_, _≤_, _<_}
+use mathlib.Core.Path.{_≡_, refl, sym, ap, subst, _∙_}
+use mathlib.Core.Bool.{Bool, true, false, false≢true, _&&_, _||_, cond, and-eq-true-iff}
 use mathlib.Core.List.{List, [], _∷_}
 use native.Mathlib.Omega.{arith}
 use native.Mathlib.Decide.{decLt}
 use native.Mathlib.Nat.{mul-le-mul, pow-le-pow-right}
 use borrow.Author.Tests.{eqb-true, leb-true, eq-eqb, le-leb}
-use lib.Dec.{eqb, leb}
+use lib.Dec.{eqb, leb, ltb}
 use lib.ListN.{length, getD, drop, drop-of-length-le}
 use lib.Seq.{drop-length}
+use mir.Val.{boolByte}
 use Rattle.words.specs.Class.{classOf}
 use Rattle.words.specs.declared.Class.{Class}
 use Rattle.words.specs.declared.Class.the-variants.{Space, Colon, Hash, Digit, Point, Minus, Star, Rest}
@@ -17,16 +18,23 @@ use Rattle.words.proofs.Laws.{by-class, from-here}
 use Rattle.numerals.specs.declared.Amount.{Amount}
 use Rattle.numerals.specs.declared.Amount.the-variants.{Is, Not}
 use Rattle.numerals.specs.declared.Form.{Form}
-use Rattle.numerals.specs.Numeral.{probabilityForm, rewardForm, isDigit, isPoint, digits, value, fitting, fraction, amountOf, isMinus, negative}
+use Rattle.numerals.specs.Numeral.{countForm, probabilityForm, startForm, rewardForm, isDigit, isPoint, digits, value, isMinus, negative, fitting}
+use Rattle.numerals.specs.Numeral.{unsigned, scaled, mostPower, exponentMark, powered, exponent, pointed, enough, decimal, fraction, amountOf}
 use Rattle.numerals.specs.Steps.{mostPlaces, Written}
 
 -- ---- bytes
 never : {A : Type 0} → false ≡ true → A
 never e = absurd (false≢true e)
 
-digit-byte : (b : ℕ) → isDigit (classOf b) ≡ true → (48 ≤ b) × (b ≤ 57)
+pub digit-byte : (b : ℕ) → isDigit (classOf b) ≡ true → (48 ≤ b) × (b ≤ 57)
 digit-byte b = by-class (λ k. isDigit k ≡ true → (48 ≤ b) × (b ≤ 57)) b never (λ h. never) (λ h. never) (λ l h e. (l, h)) (λ h. never) (λ h. never)
     (λ h. never) never
+
+pub low-byte : (b : ℕ) → b < 48 → isDigit (classOf b) ≡ false
+low-byte b h = by-class (λ k. isDigit k ≡ false) b refl (λ _. refl) (λ _. refl) (λ l _. absurd (omega arith)) (λ _. refl) (λ _. refl) (λ _. refl) refl
+
+pub point-byte : (b : ℕ) → isPoint (classOf b) ≡ true → b ≡ 46
+point-byte b = by-class (λ k. isPoint k ≡ true → b ≡ 46) b never (λ h. never) (λ h. never) (λ l h. never) (λ h e. h) (λ h. never) (λ h. never) never
 
 pub negative-none : (w : List ℕ) → length w ≡ 0 → negative w ≡ false
 negative-none [] e = refl
@@ -35,6 +43,18 @@ negative-none (b ∷ w) e = absurd (omega arith)
 pub negative-first : (w : List ℕ) → 0 < length w → isMinus (classOf (getD w 0 0)) ≡ negative w
 negative-first [] h = absurd (omega arith)
 negative-first (b ∷ w) h = refl
+
+pub past-minus : (t : Bool) (w : List ℕ) → drop (boolByte t) w ≡ cond t (drop 1 w) w
+past-minus true w = refl
+past-minus false w = refl
+
+pub minus-within : (w : List ℕ) → boolByte (negative w) ≤ length w
+minus-within [] = omega arith
+minus-within (b ∷ w) = either (isMinus (classOf b))
+  where
+    either : (t : Bool) → boolByte t ≤ suc (length w)
+    either true = omega arith
+    either false = omega arith
 
 -- ---- digits
 digit-first : (t : Bool) (n : ℕ) → 0 < cond t (suc n) 0 → t ≡ true
@@ -100,102 +120,235 @@ module _ (w : List ℕ) {from most end v : ℕ} (d : Written w from most end v) 
 pub product : {v u : ℕ} (n m : ℕ) → v < 10 ^ n → n ≤ m → u ≤ 10 ^ mostPlaces → v * u ≤ 10 ^ m * 10 ^ mostPlaces
 product {v} n m h k l = mul-le-mul (let s : v ≤ 10 ^ m = omega (arith, pow-le-pow-right {n = 10} (omega arith) {i = n} {j = m} k) in s) l
 
--- ---- which words are numbers
 refused : (t : Bool) (a : Amount) → (t ≡ true → ⊥) → fitting t a ≡ Not
 refused true a n = absurd (n refl)
 refused false a n = refl
 
-pub fraction-end : (places whole : ℕ) (w : List ℕ) (at : ℕ) → at ≡ length w → fraction places whole (drop at w) ≡ Is whole
-unfolding fraction
-fraction-end places whole w at e = rw (e, drop-length)
+and-is : {s t : Bool} → s ≡ true → t ≡ true → (s && t) ≡ true
+and-is {s} {t} e f = and-eq-true-iff s t .1 (e, f)
 
--- a point, and one to `places` digits after it up to the end
-pub record Decimals (places : ℕ) (w : List ℕ) (at : ℕ) : Type 0 where
-  pub point : isPoint (classOf (getD w at 0)) ≡ true
-  pub all : digits (drop (at + 1) w) ≡ length (drop (at + 1) w)
-  pub some : 1 ≤ digits (drop (at + 1) w)
-  pub few : digits (drop (at + 1) w) ≤ places
+accepted : (t : Bool) (a : Amount) → t ≡ true → fitting t a ≡ a
+accepted t a e = ap (λ (t : Bool). fitting t a) e
 
-module _ (places whole : ℕ) (w : List ℕ) (at : ℕ) (h : at < length w) where
-  abbrev rest : List ℕ
-  rest = drop (at + 1) w
+-- ---- an exponent
 
-  abbrev fits : Bool
-  fits = isPoint (classOf (getD w at 0)) && (eqb (digits rest) (length rest) && (leb 1 (digits rest) && leb (digits rest) places))
+module _ {minus : Bool} {u : ℕ} (p v : ℕ) (e : u ≡ 10 ^ p) where
+  pub scaled-times : minus ≡ false → Is (v * u) ≡ scaled minus p v
+  scaled-times t = ap (λ (u : ℕ). Is (v * u)) e ∙ sym (ap (λ (t : Bool). scaled t p v) t)
 
-  abbrev value-in : Amount
-  value-in = Is (whole + value 0 rest * 10 ^ (places - digits rest))
+  pub scaled-over : minus ≡ true → v % u ≡ 0 → Is (v / u) ≡ scaled minus p v
+  scaled-over t z =
+      ap (λ (u : ℕ). Is (v / u)) e ∙ sym (ap (λ (t : Bool). scaled t p v) t ∙ accepted _ _ (eq-eqb _ _ (subst (λ (u : ℕ). v % u ≡ 0) e z)))
 
-  fraction-in : fraction places whole (drop at w) ≡ fitting fits value-in
-  unfolding fraction
-  fraction-in = ap (fraction places whole) (from-here w at h)
+  pub scaled-not : minus ≡ true → (v % u ≡ 0 → ⊥) → Not ≡ scaled minus p v
+  scaled-not t n =
+      sym (ap (λ (t : Bool). scaled t p v) t ∙ refused _ _ (λ z. n (subst (λ (u : ℕ). v % u ≡ 0) (sym e) (eqb-true _ _ z))))
 
-  pub fraction-is : Decimals places w at → fraction places whole (drop at w) ≡ value-in
-  fraction-is d = fraction-in ∙ simp (d .point, eq-eqb _ _ (d .all), le-leb _ _ (d .some), le-leb _ _ (d .few))
+-- one digit, up to the most
+pub record Power (w : List ℕ) : Type 0 where
+  pub alone : length w ≡ 1
+  pub digit : digits w ≡ 1
+  pub small : value 0 w ≤ mostPower
 
-  decimals : fits ≡ true → Decimals places w at
-  decimals e =
-      let p = and-eq-true-iff (isPoint (classOf (getD w at 0))) (eqb (digits rest) (length rest) && (leb 1 (digits rest) && leb (digits rest) places)) .0 e in
-      let q = and-eq-true-iff (eqb (digits rest) (length rest)) (leb 1 (digits rest) && leb (digits rest) places) .0 (p .1) in
-      let r = and-eq-true-iff (leb 1 (digits rest)) (leb (digits rest) places) .0 (q .1) in
-      record { point = p .0; all = eqb-true _ _ (q .0); some = leb-true _ _ (r .0); few = leb-true _ _ (r .1) }
+module _ (v : ℕ) (w u : List ℕ) (e : u ≡ unsigned w) where
+  pub powered-is : Power u → powered v w ≡ scaled (negative w) (value 0 u) v
+  unfolding powered
+  powered-is h =
+      let q = subst Power e h in
+      accepted _ _ (and-is (eq-eqb _ _ (q .alone)) (and-is (eq-eqb _ _ (q .digit)) (le-leb _ _ (q .small))))
+      ∙ ap (λ (u : List ℕ). scaled (negative w) (value 0 u) v) (sym e)
 
-  pub fraction-not : (Decimals places w at → ⊥) → fraction places whole (drop at w) ≡ Not
-  fraction-not n = fraction-in ∙ refused fits value-in (λ e. n (decimals e))
+  pub powered-not : (Power u → ⊥) → powered v w ≡ Not
+  unfolding powered
+  powered-not n =
+      refused _ _ (λ t.
+      let p = and-eq-true-iff (eqb (length (unsigned w)) 1) (eqb (digits (unsigned w)) 1 && leb (value 0 (unsigned w)) mostPower) .0 t in
+      let q = and-eq-true-iff (eqb (digits (unsigned w)) 1) (leb (value 0 (unsigned w)) mostPower) .0 (p .1) in
+      n (subst Power (sym e) (record { alone = eqb-true _ _ (p .0); digit = eqb-true _ _ (q .0); small = leb-true _ _ (q .1) })))
 
--- a byte that is a digit is no point
-pub digit-fraction : (places whole : ℕ) (w : List ℕ) (at : ℕ) → 0 < digits (drop at w) → fraction places whole (drop at w) ≡ Not
-digit-fraction places whole w at l =
+pub exponent-end : (loose : Bool) (v : ℕ) (w : List ℕ) (at : ℕ) → at ≡ length w → exponent loose v (drop at w) ≡ Is v
+unfolding exponent
+exponent-end loose v w at e = rw (e, drop-length)
+
+module _ (loose : Bool) (v : ℕ) (w : List ℕ) (at : ℕ) (h : at < length w) where
+  exponent-in : exponent loose v (drop at w) ≡ fitting (loose && eqb (getD w at 0) exponentMark) (powered v (drop (at + 1) w))
+  unfolding exponent
+  exponent-in = ap (exponent loose v) (from-here w at h)
+
+  pub exponent-is : loose ≡ true → getD w at 0 ≡ exponentMark → exponent loose v (drop at w) ≡ powered v (drop (at + 1) w)
+  exponent-is l e = exponent-in ∙ accepted _ _ (and-is l (eq-eqb _ _ e))
+
+  pub exponent-not : (loose ≡ true → getD w at 0 ≡ exponentMark → ⊥) → exponent loose v (drop at w) ≡ Not
+  exponent-not n =
+      exponent-in ∙ refused _ _ (λ e. let p = and-eq-true-iff loose (eqb (getD w at 0) exponentMark) .0 e in n (p .0) (eqb-true _ _ (p .1)))
+
+-- a digit is no `e`
+pub digit-exponent : (loose : Bool) (v : ℕ) (w : List ℕ) (at : ℕ) → 0 < digits (drop at w) → exponent loose v (drop at w) ≡ Not
+digit-exponent loose v w at l =
     elim (decLt at (length w)) [
-      | yes h ↦ fraction-not places whole w at h (λ d. no-point (classOf (getD w at 0)) (digit-here w at h l) (d .point))
+      | yes h ↦ exponent-not loose v w at h (λ _ e. omega (arith, digit-byte (getD w at 0) (digit-here w at h l)))
       | no n ↦ absurd (omega (arith, digits-past w at n))
     ]
+
+-- ---- a point
+
+pub pointed-end : (w : List ℕ) (at : ℕ) → at ≡ length w → pointed (drop at w) ≡ false
+pointed-end w at e = rw (e, drop-length)
+
+pub pointed-in : (w : List ℕ) (at : ℕ) → at < length w → pointed (drop at w) ≡ isPoint (classOf (getD w at 0))
+pointed-in w at h = ap pointed (from-here w at h)
+
+pub pointed-low : (w : List ℕ) (at : ℕ) → pointed (drop at w) ≡ true → at < length w
+pointed-low w at e =
+    elim (decLt at (length w)) [
+      | yes h ↦ h
+      | no n ↦ never (sym (ap pointed (drop-of-length-le w {i = at} (omega arith))) ∙ e)
+    ]
+
+-- a digit is no point
+digit-pointed : (w : List ℕ) (at : ℕ) → at < length w → 0 < digits (drop at w) → pointed (drop at w) ≡ false
+digit-pointed w at h l = pointed-in w at h ∙ no-point (classOf (getD w at 0)) (digit-here w at h l)
   where
-    no-point : (k : Class) → isDigit k ≡ true → isPoint k ≡ true → ⊥
-    no-point Digit e f = false≢true f
-    no-point Space e f = false≢true e
-    no-point Colon e f = false≢true e
-    no-point Hash e f = false≢true e
-    no-point Point e f = false≢true e
-    no-point Minus e f = false≢true e
-    no-point Star e f = false≢true e
-    no-point Rest e f = false≢true e
+    no-point : (k : Class) → isDigit k ≡ true → isPoint k ≡ false
+    no-point Digit e = refl
+    no-point Space e = never e
+    no-point Colon e = never e
+    no-point Hash e = never e
+    no-point Point e = never e
+    no-point Minus e = never e
+    no-point Star e = never e
+    no-point Rest e = never e
+
+-- ---- which words are numbers
+
+pub enough-none : (loose : Bool) (n k : ℕ) → n ≡ 0 → (loose && ltb 0 k) ≡ enough loose n k
+enough-none true n k e = rw e
+enough-none false n k e = rw e
+
+pub enough-whole : (loose : Bool) (n k : ℕ) → (n ≡ 0 → ⊥) → k ≡ 0 → loose ≡ enough loose n k
+enough-whole true n k h e = sym (ap (λ (t : Bool). t || leb 1 k) (le-leb 1 n (omega arith)))
+enough-whole false n k h e = sym (ap (λ (t : Bool). t && leb 1 k) (le-leb 1 n (omega arith)) ∙ ap (leb 1) e)
+
+pub enough-both : (loose : Bool) (n k : ℕ) → (n ≡ 0 → ⊥) → (k ≡ 0 → ⊥) → true ≡ enough loose n k
+enough-both true n k h l = sym (ap (λ (t : Bool). t || leb 1 k) (le-leb 1 n (omega arith)))
+enough-both false n k h l = sym (and-is (le-leb 1 n (omega arith)) (le-leb 1 k (omega arith)))
+
+module _ (form : Form) (n whole : ℕ) (w : List ℕ) where
+  pub decimal-is : digits w ≤ form .places → enough (form .loose) n (digits w) ≡ true
+      → decimal form n whole w ≡ exponent (form .loose) (whole + value 0 w * 10 ^ (form .places - digits w)) (drop (digits w) w)
+  unfolding decimal
+  decimal-is few some = accepted _ _ (and-is (le-leb _ _ few) some)
+
+  pub decimal-not : (digits w ≤ form .places → enough (form .loose) n (digits w) ≡ true → ⊥) → decimal form n whole w ≡ Not
+  unfolding decimal
+  decimal-not bad =
+      refused _ _ (λ e. let p = and-eq-true-iff (leb (digits w) (form .places)) (enough (form .loose) n (digits w)) .0 e in bad (leb-true _ _ (p .0)) (p .1))
+
+  pub fraction-pointed : pointed w ≡ true → fraction form n whole w ≡ decimal form n whole (drop 1 w)
+  unfolding fraction
+  fraction-pointed e = rw e
+
+  pub fraction-plain : pointed w ≡ false → 1 ≤ n → fraction form n whole w ≡ exponent (form .loose) whole w
+  unfolding fraction
+  fraction-plain e h = rw (e, le-leb 1 n h)
+
+  pub fraction-none : pointed w ≡ false → n ≡ 0 → fraction form n whole w ≡ Not
+  unfolding fraction
+  fraction-none e h = rw (e, h)
+
+pub digit-fraction : (form : Form) (n whole : ℕ) (w : List ℕ) (at : ℕ) → 0 < digits (drop at w) → fraction form n whole (drop at w) ≡ Not
+digit-fraction form n whole w at l =
+    elim (decLt at (length w)) [
+      | yes h ↦ either (digit-pointed w at h l)
+      | no past ↦ absurd (omega (arith, digits-past w at past))
+    ]
+  where
+    either : pointed (drop at w) ≡ false → fraction form n whole (drop at w) ≡ Not
+    either e =
+        elim (decLt 0 n) [
+          | yes k ↦ fraction-plain form n whole (drop at w) e (omega arith) ∙ digit-exponent (form .loose) whole w at l
+          | no k ↦ fraction-none form n whole (drop at w) e (omega arith)
+        ]
 
 module _ (form : Form) (w : List ℕ) where
-  pub amount-is : 1 ≤ digits w → digits w ≤ form .digits → amountOf form w ≡ fraction (form .places) (value 0 w * 10 ^ form .places) (drop (digits w) w)
+  pub amount-is : digits w ≤ form .digits
+      → amountOf form w ≡ fraction form (digits w) (value 0 w * 10 ^ form .places) (drop (digits w) w)
   unfolding amountOf
-  amount-is a b = simp (le-leb 1 (digits w) a, le-leb (digits w) (form .digits) b)
+  amount-is h = accepted _ _ (le-leb (digits w) (form .digits) h)
 
-  pub amount-not : (1 ≤ digits w → digits w ≤ form .digits → ⊥) → amountOf form w ≡ Not
+  pub amount-not : (digits w ≤ form .digits → ⊥) → amountOf form w ≡ Not
   unfolding amountOf
-  amount-not n =
-      refused (leb 1 (digits w) && leb (digits w) (form .digits)) _
-      (λ e. let p = and-eq-true-iff (leb 1 (digits w)) (leb (digits w) (form .digits)) .0 e in n (leb-true 1 (digits w) (p .0))
-      (leb-true (digits w) (form .digits) (p .1)))
+  amount-not n = refused _ _ (λ e. n (leb-true (digits w) (form .digits) e))
 
 -- ---- worked examples
--- "0.5" is 500 thousandths, and "1000.00" is 100000 hundredths
+-- "0.5", ".5", "5e-1" and "5.e-1" are 500 thousandths, "1." is 1000, and "1000.00" and "1e3" are 100000 hundredths
 pub half : amountOf probabilityForm (48 ∷ 46 ∷ 53 ∷ []) ≡ Is 500
-unfolding amountOf fraction digits value
+unfolding amountOf fraction decimal exponent digits value
 half = refl
 
+pub no-whole-part : amountOf probabilityForm (46 ∷ 53 ∷ []) ≡ Is 500
+unfolding amountOf fraction decimal exponent digits value
+no-whole-part = refl
+
+pub half-by-exponent : amountOf probabilityForm (53 ∷ 101 ∷ 45 ∷ 49 ∷ []) ≡ Is 500
+unfolding amountOf fraction decimal exponent powered digits value
+half-by-exponent = refl
+
+pub point-and-exponent : amountOf probabilityForm (53 ∷ 46 ∷ 101 ∷ 45 ∷ 49 ∷ []) ≡ Is 500
+unfolding amountOf fraction decimal exponent powered digits value
+point-and-exponent = refl
+
+pub no-fraction : amountOf probabilityForm (49 ∷ 46 ∷ []) ≡ Is 1000
+unfolding amountOf fraction decimal exponent digits value
+no-fraction = refl
+
 pub thousand : amountOf rewardForm (49 ∷ 48 ∷ 48 ∷ 48 ∷ 46 ∷ 48 ∷ 48 ∷ []) ≡ Is 100000
-unfolding amountOf fraction digits value
+unfolding amountOf fraction decimal exponent digits value
 thousand = refl
 
--- ".5", "1.", "1.0000" and "10" are no number of one digit and at most three decimals
-pub bare-point : amountOf probabilityForm (46 ∷ 53 ∷ []) ≡ Not
-unfolding amountOf fraction digits value
+pub thousand-by-exponent : amountOf rewardForm (49 ∷ 101 ∷ 51 ∷ []) ≡ Is 100000
+unfolding amountOf fraction decimal exponent powered digits value
+thousand-by-exponent = refl
+
+-- "1e-3" is no whole hundredth, but "0e-3" is 0 of them
+pub too-fine : amountOf startForm (49 ∷ 101 ∷ 45 ∷ 51 ∷ []) ≡ Not
+unfolding amountOf fraction decimal exponent powered digits value
+too-fine = refl
+
+pub fine-zero : amountOf startForm (48 ∷ 101 ∷ 45 ∷ 51 ∷ []) ≡ Is 0
+unfolding amountOf fraction decimal exponent powered digits value
+fine-zero = refl
+
+-- ".", "e1", "1e4", "1e", "1.0000" and "10" are no number of one digit and at most three decimals
+pub bare-point : amountOf probabilityForm (46 ∷ []) ≡ Not
+unfolding amountOf fraction decimal exponent digits value
 bare-point = refl
 
-pub open-point : amountOf probabilityForm (49 ∷ 46 ∷ []) ≡ Not
-unfolding amountOf fraction digits value
-open-point = refl
+pub bare-exponent : amountOf probabilityForm (101 ∷ 49 ∷ []) ≡ Not
+unfolding amountOf fraction decimal exponent digits value
+bare-exponent = refl
+
+pub exponent-four : amountOf probabilityForm (49 ∷ 101 ∷ 52 ∷ []) ≡ Not
+unfolding amountOf fraction decimal exponent powered digits value
+exponent-four = refl
+
+pub open-exponent : amountOf probabilityForm (49 ∷ 101 ∷ []) ≡ Not
+unfolding amountOf fraction decimal exponent powered digits value
+open-exponent = refl
 
 pub four-decimals : amountOf probabilityForm (49 ∷ 46 ∷ 48 ∷ 48 ∷ 48 ∷ 48 ∷ []) ≡ Not
-unfolding amountOf fraction digits value
+unfolding amountOf fraction decimal exponent digits value
 four-decimals = refl
 
 pub two-digits : amountOf probabilityForm (49 ∷ 48 ∷ []) ≡ Not
-unfolding amountOf fraction digits value
+unfolding amountOf fraction decimal exponent digits value
 two-digits = refl
+
+-- "1." and "1e0" are no count
+pub pointed-count : amountOf countForm (49 ∷ 46 ∷ []) ≡ Not
+unfolding amountOf fraction decimal exponent digits value
+pointed-count = refl
+
+pub count-by-exponent : amountOf countForm (49 ∷ 101 ∷ 48 ∷ []) ≡ Not
+unfolding amountOf fraction decimal exponent digits value
+count-by-exponent = refl

@@ -16,6 +16,10 @@ mostPlaces = 3
 abbrev pub mostWhole : ℕ
 mostWhole = 10 ^ mostDigits * 10 ^ mostPlaces
 
+-- the units of a number before its exponent
+abbrev pub mostUnits : ℕ
+mostUnits = mostWhole + 10 ^ mostPlaces * 10 ^ mostPlaces
+
 pub record Short (form : Form) : Type 0 where
   pub few-digits : form .digits ≤ mostDigits
   pub few-places : form .places ≤ mostPlaces

@@ -1,7 +1,7 @@
 -- The dough model of document 01: its table D1 to D12, on the levels that the builder makes and the certifier accepts. The prover computes the
 -- definitions that the contracts name. Assumes nothing.
 use mathlib.Core.Path.{_≡_, refl}
-use mathlib.Core.List.{List, _∷_}
+use mathlib.Core.List.{List, [], _∷_}
 use Prim.Native.Nat.{ℕ, zero, suc, _+_, _*_, _^_, _<_}
 use native.Mathlib.Omega.{arith}
 use lib.ListN.{replicate}
@@ -9,7 +9,7 @@ use lib.IntN.{ℤ, pos, negsuc, _+ℤ_, +ℤ-idr}
 use lib.Signed.{_≤ℤ_, leZ-yes}
 use Rattle.integers.specs.Whole.{_·_, sumTo, totalTo, largestTo, floorDiv, ceilDiv}
 use Rattle.integers.specs.Search.{every, firstLargest}
-use Rattle.integers.specs.Cells.{listed, padded, grid, cut}
+use Rattle.integers.specs.Cells.{listed, laid, laidRows}
 use Rattle.integers.proofs.Order.{·-zero}
 use Rattle.integers.proofs.Sums.{sum-zero}
 use Rattle.tables.specs.declared.Tables.{Tables}
@@ -17,22 +17,19 @@ use Rattle.tables.specs.declared.Verdict.{Verdict}
 use Rattle.tables.specs.declared.Verdict.the-variants.{Fine, Refused}
 use Rattle.tables.specs.Limits.{K}
 use Rattle.tables.specs.Model.{Model, successor, expectedReward, backup, backedUp}
-use Rattle.tables.specs.Storage.{weightIn, modelOf, kept}
+use Rattle.tables.specs.Storage.{weightIn, modelOf}
 use Rattle.tables.specs.Verdicts.{firstOf}
-use Rattle.tables.specs.Judged.{limitsHold, rowsTotal, modelVerdict}
+use Rattle.tables.specs.Judged.{limitsHold, rowsTotal, tablesVerdict}
 use Rattle.plans.specs.Limits.{range}
 use Rattle.plans.specs.Plan.{Plan, stop, step, Fits, earns, earnsAt}
-use Rattle.plans.specs.Level.{product, joined, smallest, orNone, drop, gain, ceiling, backupAt, corner-weight, follows}
+use Rattle.plans.specs.Level.{level0, product, joined, smallest, orNone, drop, gain, ceiling, backupAt, corner-weight, follows}
 use Rattle.plans.specs.Totals.{best, lower, upper, advice}
 use Rattle.plans.specs.Build.{chosen, entryFor, bestAction, leastFor, leastValue, seed, built}
-use Rattle.levels.specs.declared.Level.{Level}
-use Rattle.levels.specs.Storage.{levelOf, cornerIn, keptLevel}
-use Rattle.levels.specs.Judged.{rowsWithin, valuesWithin, rangesVerdict, weightsVerdict, standingHolds, numbersIn, floorsVerdict, cornersVerdict, pointsVerdict}
-use Rattle.levels.specs.Judged.{shapeVerdict, backupsVerdict, offerVerdict}
-use Rattle.runs.specs.declared.Certifier.{Certifier}
+use Rattle.levels.specs.Storage.{Cells, LentLevel, Lent, levelOf, cornerIn, over}
+use Rattle.levels.specs.Judged.{rowsWithin, valuesWithin, rangesVerdict, weightsVerdict, holds, numbersIn, floorsVerdict, cornersVerdict, pointsVerdict}
+use Rattle.levels.specs.Judged.{levelVerdict, shapeVerdict, backupsVerdict, offerVerdict}
 use Rattle.runs.specs.declared.Bounds.{Bounds}
-use Rattle.runs.specs.declared.Points.{Points}
-use Rattle.runs.specs.State.{fresh, opened, verdictOn, offered, totalsVerdict, totalsOf, buildVerdict, stored, builtOf}
+use Rattle.runs.specs.State.{openVerdict, opened, offered, totalsVerdict, totalsOf, buildVerdict, builtOf}
 
 -- T by a, s, s'; O by a, s', o; R by a, s
 dough : Tables
@@ -41,83 +38,97 @@ dough = record {
   actions = 2;
   observations = 2;
   discount = 900;
-  transition = 500 ∷ 500 ∷ 0 ∷ 1_000 ∷ 1_000 ∷ 0 ∷ 1_000 ∷ 0 ∷ replicate 2_040 0;
-  observation = 800 ∷ 200 ∷ 300 ∷ 700 ∷ 500 ∷ 500 ∷ 500 ∷ 500 ∷ replicate 1_016 0;
-  reward = negsuc 99 ∷ negsuc 99 ∷ negsuc 999 ∷ pos 600 ∷ replicate 124 (pos 0);
+  transition = 500 ∷ 500 ∷ 0 ∷ 1_000 ∷ 1_000 ∷ 0 ∷ 1_000 ∷ 0 ∷ [];
+  observation = 800 ∷ 200 ∷ 300 ∷ 700 ∷ 500 ∷ 500 ∷ 500 ∷ 500 ∷ [];
+  reward = negsuc 99 ∷ negsuc 99 ∷ negsuc 999 ∷ pos 600 ∷ [];
 }
-
--- the start numbers as one point, and as a mixture
-half : Points
-half = record { count = 1; weights = 50 ∷ 50 ∷ replicate 254 0 }
 
 mixture : ℕ → ℕ → List ℕ
-mixture x y = x ∷ y ∷ replicate 14 0
+mixture x y = x ∷ y ∷ []
+
+-- slices with room for three vectors and one point
+slices : List ℕ → Cells
+slices weights = record {
+  actions = replicate 3 0;
+  choices = replicate 6 0;
+  entries = replicate 6 (pos 0);
+  corners = replicate 2 (pos 0);
+  weights = weights;
+  values = replicate 1 (pos 0);
+}
+
+blank : Lent
+blank = record { state = replicate 3 0; cells = slices (replicate 2 0) }
+
+-- level 0, and the slices lent for a level that is built at the start numbers
+fresh : Lent
+fresh = record { state = 0 ∷ 1 ∷ 0 ∷ []; cells = slices (replicate 2 0) }
+
+half : Cells
+half = slices (50 ∷ 50 ∷ [])
 
 -- ---- the levels that are built, written out
-one : Level
+one : Cells
 one = record {
-  vectors = 3;
-  actions = 0 ∷ 1 ∷ 0 ∷ replicate 29 0;
-  choices = replicate 256 0;
-  entries = negsuc 99 ∷ negsuc 99 ∷ negsuc 999 ∷ pos 600 ∷ negsuc 99 ∷ negsuc 99 ∷ replicate 506 (pos 0);
-  corners = negsuc 99 ∷ pos 600 ∷ replicate 14 (pos 0);
-  points = 1;
-  weights = 50 ∷ 50 ∷ replicate 510 0;
-  values = negsuc 9_999 ∷ replicate 31 (pos 0);
+  actions = 0 ∷ 1 ∷ 0 ∷ [];
+  choices = replicate 6 0;
+  entries = negsuc 99 ∷ negsuc 99 ∷ negsuc 999 ∷ pos 600 ∷ negsuc 99 ∷ negsuc 99 ∷ [];
+  corners = negsuc 99 ∷ pos 600 ∷ [];
+  weights = 50 ∷ 50 ∷ [];
+  values = negsuc 9_999 ∷ [];
 }
 
-two : Level
+two : Cells
 two = record {
-  vectors = 3;
-  actions = 0 ∷ 1 ∷ 0 ∷ replicate 29 0;
-  choices = 0 ∷ 1 ∷ 0 ∷ 0 ∷ 0 ∷ 1 ∷ replicate 250 0;
-  entries = negsuc 50 ∷ pos 251 ∷ negsuc 1_089 ∷ pos 510 ∷ negsuc 50 ∷ pos 251 ∷ replicate 506 (pos 0);
-  corners = negsuc 31 ∷ pos 510 ∷ replicate 14 (pos 0);
-  points = 1;
-  weights = 50 ∷ 50 ∷ replicate 510 0;
-  values = pos 12_500 ∷ replicate 31 (pos 0);
+  actions = 0 ∷ 1 ∷ 0 ∷ [];
+  choices = 0 ∷ 1 ∷ 0 ∷ 0 ∷ 0 ∷ 1 ∷ [];
+  entries = negsuc 50 ∷ pos 251 ∷ negsuc 1_089 ∷ pos 510 ∷ negsuc 50 ∷ pos 251 ∷ [];
+  corners = negsuc 31 ∷ pos 510 ∷ [];
+  weights = 50 ∷ 50 ∷ [];
+  values = pos 12_500 ∷ [];
 }
 
-three : Level
+three : Cells
 three = record {
-  vectors = 3;
-  actions = 0 ∷ 1 ∷ 0 ∷ replicate 29 0;
-  choices = 0 ∷ 0 ∷ 0 ∷ 0 ∷ 0 ∷ 1 ∷ replicate 250 0;
-  entries = negsuc 9 ∷ pos 125 ∷ negsuc 1_045 ∷ pos 554 ∷ negsuc 21 ∷ pos 289 ∷ replicate 506 (pos 0);
-  corners = pos 64 ∷ pos 572 ∷ replicate 14 (pos 0);
-  points = 1;
-  weights = 50 ∷ 50 ∷ replicate 510 0;
-  values = pos 18_575 ∷ replicate 31 (pos 0);
+  actions = 0 ∷ 1 ∷ 0 ∷ [];
+  choices = 0 ∷ 0 ∷ 0 ∷ 0 ∷ 0 ∷ 1 ∷ [];
+  entries = negsuc 9 ∷ pos 125 ∷ negsuc 1_045 ∷ pos 554 ∷ negsuc 21 ∷ pos 289 ∷ [];
+  corners = pos 64 ∷ pos 572 ∷ [];
+  weights = 50 ∷ 50 ∷ [];
+  values = pos 18_575 ∷ [];
 }
 
--- the certifier at a level
-standing : ℕ → Level → Certifier
-standing t l = record { tables = dough; number = t; level = l }
+-- three vectors and one point, as a level that is offered and as the certifier that then stands
+level : Cells → LentLevel
+level x = record { vectors = 3; points = 1; cells = x }
+
+standing : ℕ → Cells → Lent
+standing t x = record { state = t ∷ 3 ∷ 1 ∷ []; cells = x }
 
 -- the built level 2 with one vector alone, of action 0 and choices 0 and 1
-alone : ℤ → ℤ → Level
+alone : ℤ → ℤ → LentLevel
 alone x y = record {
   vectors = 1;
-  actions = replicate 32 0;
-  choices = 0 ∷ 1 ∷ replicate 254 0;
-  entries = x ∷ y ∷ replicate 510 (pos 0);
-  corners = two .corners;
-  points = two .points;
-  weights = two .weights;
-  values = two .values;
+  points = 1;
+  cells = record {
+    actions = 0 ∷ [];
+    choices = 0 ∷ 1 ∷ [];
+    entries = x ∷ y ∷ [];
+    corners = two .corners;
+    weights = two .weights;
+    values = two .values;
+  };
 }
 
 -- the built level 2 with another corner 0 and another point value
-changed : ℤ → ℤ → Level
+changed : ℤ → ℤ → Cells
 changed corner value = record {
-  vectors = two .vectors;
   actions = two .actions;
   choices = two .choices;
   entries = two .entries;
-  corners = corner ∷ pos 510 ∷ replicate 14 (pos 0);
-  points = two .points;
+  corners = corner ∷ pos 510 ∷ [];
   weights = two .weights;
-  values = value ∷ replicate 31 (pos 0);
+  values = value ∷ [];
 }
 
 -- the best of all t-step plans at a mixture: one earns n, times K^t, and none earns more
@@ -210,45 +221,46 @@ given low high apart a = record { verdict = Fine; lower = low; upper = high; gap
 
 -- ---- the table
 record Table : Type 0 where
-  open-fine : opened dough ≡ record { verdict = Fine; certifier = standing 0 (fresh dough .level) }
-  one-built : builtOf (standing 0 (fresh dough .level)) half ≡ record { verdict = Fine; level = one }
-  one-stands : offered (standing 0 (fresh dough .level)) one ≡ record { verdict = Fine; certifier = standing 1 one }
-  two-built : builtOf (standing 1 one) half ≡ record { verdict = Fine; level = two }
-  two-stands : offered (standing 1 one) two ≡ record { verdict = Fine; certifier = standing 2 two }
-  three-built : builtOf (standing 2 two) half ≡ record { verdict = Fine; level = three }
-  three-stands : offered (standing 2 two) three ≡ record { verdict = Fine; certifier = standing 3 three }
+  opens : (openVerdict dough blank ≡ Fine) × (opened dough blank ≡ fresh)
+  one-built : (buildVerdict dough fresh 1 half ≡ Fine) × (builtOf dough fresh 1 half ≡ one)
+  one-stands : (offerVerdict dough fresh (level one) ≡ Fine) × (offered dough fresh (level one) ≡ standing 1 one)
+  two-built : (buildVerdict dough (standing 1 one) 1 half ≡ Fine) × (builtOf dough (standing 1 one) 1 half ≡ two)
+  two-stands : (offerVerdict dough (standing 1 one) (level two) ≡ Fine) × (offered dough (standing 1 one) (level two) ≡ standing 2 two)
+  three-built : (buildVerdict dough (standing 2 two) 1 half ≡ Fine) × (builtOf dough (standing 2 two) 1 half ≡ three)
+  three-stands : (offerVerdict dough (standing 2 two) (level three) ≡ Fine) × (offered dough (standing 2 two) (level three) ≡ standing 3 three)
   -- what `ladder` prints
-  line-1 : totalsOf (standing 1 one) (mixture 50 50) ≡ given (negsuc 9_999) (negsuc 9_999) (pos 0) 0
-  line-2 : totalsOf (standing 2 two) (mixture 50 50) ≡ given (pos 10_000) (pos 12_500) (pos 2_500) 0
-  line-3 : totalsOf (standing 3 three) (mixture 50 50) ≡ given (pos 13_350) (pos 18_575) (pos 5_225) 0
+  line-1 : totalsOf dough (standing 1 one) (mixture 50 50) ≡ given (negsuc 9_999) (negsuc 9_999) (pos 0) 0
+  line-2 : totalsOf dough (standing 2 two) (mixture 50 50) ≡ given (pos 10_000) (pos 12_500) (pos 2_500) 0
+  line-3 : totalsOf dough (standing 3 three) (mixture 50 50) ≡ given (pos 13_350) (pos 18_575) (pos 5_225) 0
   d1 : (cornerIn (one .corners) 0 ≡ negsuc 99) × (cornerIn (one .corners) 1 ≡ pos 600)
-  d2 : ceiling 2 (levelOf 2 2 one) (λ s. corner-weight 0 s * 20_000_000 + corner-weight 1 s * 22_500_000) ≡ negsuc 2_499_999_999
-  d3 : verdictOn (standing 1 one) (alone (negsuc 50) (pos 251)) ≡ Fine
-  d4 : (backup (modelOf dough) 0 (follows (levelOf 2 2 one) (pair 0 1)) 0 ≡ negsuc 50_499_999_999)
-      × (verdictOn (standing 1 one) (alone (negsuc 49) (pos 251)) ≡ Refused 13 0)
-  d5 : (cornerIn (two .corners) 0 ≡ negsuc 31) × (verdictOn (standing 1 one) two ≡ Fine)
-  d6 : verdictOn (standing 1 one) (changed (negsuc 32) (pos 12_500)) ≡ Refused 14 0
-  d7 : (two ≡ changed (negsuc 31) (pos 12_500)) × (verdictOn (standing 1 one) two ≡ Fine)
-  d8 : verdictOn (standing 1 one) (changed (negsuc 31) (pos 12_499)) ≡ Refused 15 0
+  d2 : ceiling 2 (levelOf dough (level one)) (λ s. corner-weight 0 s * 20_000_000 + corner-weight 1 s * 22_500_000) ≡ negsuc 2_499_999_999
+  d3 : offerVerdict dough (standing 1 one) (alone (negsuc 50) (pos 251)) ≡ Fine
+  d4 : (backup (modelOf dough) 0 (follows (levelOf dough (level one)) (pair 0 1)) 0 ≡ negsuc 50_499_999_999)
+      × (offerVerdict dough (standing 1 one) (alone (negsuc 49) (pos 251)) ≡ Refused 13 0)
+  d5 : (cornerIn (two .corners) 0 ≡ negsuc 31) × (offerVerdict dough (standing 1 one) (level two) ≡ Fine)
+  d6 : offerVerdict dough (standing 1 one) (level (changed (negsuc 32) (pos 12_500))) ≡ Refused 14 0
+  d7 : (two ≡ changed (negsuc 31) (pos 12_500)) × (offerVerdict dough (standing 1 one) (level two) ≡ Fine)
+  d8 : offerVerdict dough (standing 1 one) (level (changed (negsuc 31) (pos 12_499))) ≡ Refused 15 0
   d9 : BestIs (modelOf dough) 2 (weightIn (mixture 50 50)) (pos 10_025)
-  d10 : totalsOf (standing 2 two) (mixture 1 0) ≡ given (negsuc 50) (negsuc 31) (pos 19) 0
-  d11 : totalsOf (standing 2 two) (mixture 0 1) ≡ given (pos 510) (pos 510) (pos 0) 1
-  d12 : totalsOf (standing 2 two) (mixture 0 0) .verdict ≡ Refused 17 0
+  d10 : totalsOf dough (standing 2 two) (mixture 1 0) ≡ given (negsuc 50) (negsuc 31) (pos 19) 0
+  d11 : totalsOf dough (standing 2 two) (mixture 0 1) ≡ given (pos 510) (pos 510) (pos 0) 1
+  d12 : totalsOf dough (standing 2 two) (mixture 0 0) .verdict ≡ Refused 17 0
 
 table : Table
-unfolding dough half one two three offered verdictOn offerVerdict shapeVerdict backupsVerdict floorsVerdict cornersVerdict pointsVerdict numbersIn
-    keptLevel cut totalsOf totalsVerdict best lower upper advice opened kept builtOf buildVerdict standingHolds modelVerdict limitsHold rowsTotal
-    firstOf every totalTo rangesVerdict rowsWithin valuesWithin weightsVerdict range stored built seed bestAction chosen entryFor leastValue leastFor
-    firstLargest product successor sumTo backedUp backup follows floorDiv ceilDiv backupAt expectedReward ceiling largestTo drop gain smallest joined orNone
-    corner-weight padded grid listed _·_ K mixture standing alone changed pair
+unfolding dough slices blank fresh half one two three level standing alone changed mixture pair
+    openVerdict opened offered offerVerdict shapeVerdict levelVerdict backupsVerdict floorsVerdict cornersVerdict pointsVerdict numbersIn holds over level0
+    totalsOf totalsVerdict best lower upper advice builtOf buildVerdict tablesVerdict limitsHold rowsTotal
+    firstOf every totalTo rangesVerdict rowsWithin valuesWithin weightsVerdict range built seed bestAction chosen entryFor leastValue leastFor firstLargest
+    product successor sumTo backedUp backup follows floorDiv ceilDiv backupAt expectedReward ceiling largestTo drop gain smallest joined orNone
+    corner-weight laid laidRows listed _·_ K
 table = record {
-  open-fine = refl;
-  one-built = refl;
-  one-stands = refl;
-  two-built = refl;
-  two-stands = refl;
-  three-built = refl;
-  three-stands = refl;
+  opens = (refl, refl);
+  one-built = (refl, refl);
+  one-stands = (refl, refl);
+  two-built = (refl, refl);
+  two-stands = (refl, refl);
+  three-built = (refl, refl);
+  three-stands = (refl, refl);
   line-1 = refl;
   line-2 = refl;
   line-3 = refl;

@@ -1,27 +1,34 @@
 -- From verdicts to facts, and back: what a standing level that holds, and an offer that is fine, are known to have. Assumes nothing.
 use mathlib.Core.Path.{_≡_, refl}
 use mathlib.Core.Bool.{Bool, true, false, not, _||_}
-use Prim.Native.Nat.{ℕ, suc, _*_, _≤_, _<_}
+use Prim.Native.Nat.{ℕ, _+_, _*_, _≤_, _<_}
 use native.Mathlib.Omega.{arith}
 use lib.Dec.{leb}
+use lib.ListN.{length}
 use lib.IntN.{ℤ, natAbs}
 use lib.Signed.{_≤ℤ_}
 use borrow.Author.Tests.{leb-true, le-leb, ltb-true, lt-ltb}
 use Rattle.integers.specs.Whole.{_·_, totalTo}
 use Rattle.integers.proofs.Parts.{is-T, leZ-is, le-true}
 use Rattle.integers.proofs.Searches.{and-true, and-is, every-at, at-every}
+use Rattle.tables.specs.declared.Tables.{Tables}
 use Rattle.tables.specs.declared.Verdict.{Verdict}
 use Rattle.tables.specs.declared.Verdict.the-variants.{Fine, Refused}
 use Rattle.tables.specs.Limits.{K, maxLevels}
 use Rattle.tables.specs.Model.{Model, Valid, backup}
+use Rattle.tables.specs.Storage.{countsOf, modelOf}
+use Rattle.tables.specs.Steps.{Stored}
+use Rattle.tables.specs.Judged.{tablesVerdict}
 use Rattle.tables.proofs.Refusals.{before-fine, unless-fine, fine-at, at-fine}
-use Rattle.tables.proofs.Accepted.{valid, is-valid}
+use Rattle.tables.proofs.Accepted.{tables-valid, tables-stored, tables-fine}
 use Rattle.plans.specs.Limits.{maxTotal, range}
 use Rattle.plans.specs.Level.{Level, backupAt, corner-weight, follows, Meets, Shaped, IsPoint}
-use Rattle.levels.specs.Judged.{countsHold, rowsWithin, totalHolds, valuesWithin, rangesVerdict, weightsVerdict, actionsExist, isFine, standingHolds}
-use Rattle.levels.specs.Judged.{numbersIn, numbersVerdict, floorsVerdict, coversBackups, cornersVerdict, pointsVerdict, shapeVerdict}
+use Rattle.levels.specs.Judged.{countsHold, rowsWithin, totalHolds, valuesWithin, rangesVerdict, weightsVerdict, actionsExist, isFine, holds, fits}
+use Rattle.levels.specs.Judged.{numbersIn, numbersVerdict, floorsVerdict, coversBackups, cornersVerdict, pointsVerdict, levelVerdict, shapeVerdict}
 use Rattle.levels.specs.Judged.{backupsVerdict, offerVerdict}
+use Rattle.levels.specs.Storage.{LentLevel, Lent, stateSize, levelOf, readable, complete, numberIn, standingIn, lentFor}
 use Rattle.levels.proofs.Laws.{passed, fine-before, numbers-in}
+use Rattle.levels.proofs.Over.{Readable, Complete, readable-true, readable-is, complete-true, complete-is}
 
 -- ---- one test
 fine-true : (v : Verdict) → isFine v ≡ true → v ≡ Fine
@@ -89,7 +96,7 @@ module _ (n points limit : ℕ) (weight : ℕ → ℕ → ℕ) (value : ℕ → 
 record Tests (M : Model) (t : ℕ) (W : Level) : Type 0 where
   counts : countsHold (W .vectors) (W .points) ≡ true
   actions : actionsExist (M .actions) (W .vectors) (W .action) ≡ true
-  ranges : rangesVerdict M t W ≡ Fine
+  ranges : rangesVerdict (M .states) t W ≡ Fine
   weights : weightsVerdict (M .states) (W .points) (W .weight) ≡ Fine
 
 module _ (M : Model) (t : ℕ) (W : Level) where
@@ -123,44 +130,78 @@ module _ (M : Model) (t : ℕ) (W : Level) where
     weights = weights-is _ _ _ (S .total);
   }
 
--- ---- a standing level, and an offer over it
+-- ---- a certifier, and an offer to it
 -- what 7 tests
-pub record Standing (M : Model) (t : ℕ) (L : Level) : Type 0 where
-  pub valid-tables : Valid M
-  pub few-levels : t ≤ maxLevels
-  pub shaped : Shaped M t L
+pub record Standing (m : Tables) (x : Lent) : Type 0 where
+  pub valid-tables : Valid (modelOf m)
+  pub stored-tables : Stored (countsOf m) (m .transition) (m .observation) (m .reward)
+  pub state-long : stateSize ≤ length (x .state)
+  pub few-levels : numberIn x ≤ maxLevels
+  pub read : Readable m (standingIn x)
+  pub shaped : Shaped (modelOf m) (numberIn x) (levelOf m (standingIn x))
 
 -- what 7 to 15 test
-pub record Accepted (M : Model) (t : ℕ) (L W : Level) : Type 0 where
-  pub standing : Standing M t L
-  pub room : t < maxLevels
-  pub shaped : Shaped M (suc t) W
-  pub meets : Meets M L W
+pub record Accepted (m : Tables) (x : Lent) (l : LentLevel) : Type 0 where
+  pub standing : Standing m x
+  pub room : numberIn x < maxLevels
+  pub given : Complete m l
+  pub held : Complete m (lentFor (l .vectors) (l .points) (x .cells))
+  pub shaped : Shaped (modelOf m) (numberIn x + 1) (levelOf m l)
+  pub meets : Meets (modelOf m) (levelOf m (standingIn x)) (levelOf m l)
 
-module _ (M : Model) (t : ℕ) (L : Level) where
-  pub standing-true : standingHolds M t L ≡ true → Standing M t L
-  unfolding standingHolds
+-- what 7 to 12 test
+pub record Fitting (m : Tables) (x : Lent) (l : LentLevel) : Type 0 where
+  pub standing : Standing m x
+  pub room : numberIn x < maxLevels
+  pub given : Complete m l
+  pub held : Complete m (lentFor (l .vectors) (l .points) (x .cells))
+  pub shaped : Shaped (modelOf m) (numberIn x + 1) (levelOf m l)
+  pub chosen : (v : ℕ) → v < l .vectors → (o : ℕ) → o < m .observations → levelOf m l .choice v o < standingIn x .vectors
+
+module _ (m : Tables) (x : Lent) where
+  pub standing-true : holds m x ≡ true → Standing m x
+  unfolding holds
   standing-true e =
-      let m = and-true _ _ e in
-      let n = and-true _ _ (m .1) in
-      let c = and-true _ _ (n .1) in
-      let a = and-true _ _ (c .1) in
-      let r = and-true _ _ (a .1) in
+      let tables = and-true _ _ e in
+      let state = and-true _ _ (tables .1) in
+      let number = and-true _ _ (state .1) in
+      let counts = and-true _ _ (number .1) in
+      let read = and-true _ _ (counts .1) in
+      let actions = and-true _ _ (read .1) in
+      let ranges = and-true _ _ (actions .1) in
+      let fine = fine-true (tablesVerdict m) (tables .0) in
       record {
-        valid-tables = valid M (fine-true _ (m .0));
-        few-levels = leb-true t maxLevels (n .0);
-        shaped = tests-shaped M t L record { counts = c .0; actions = a .0; ranges = fine-true _ (r .0); weights = fine-true _ (r .1) };
+        valid-tables = tables-valid m fine;
+        stored-tables = tables-stored m fine;
+        state-long = leb-true _ _ (state .0);
+        few-levels = leb-true _ _ (number .0);
+        read = readable-true m (standingIn x) (read .0);
+        shaped = tests-shaped (modelOf m) (numberIn x) (levelOf m (standingIn x)) record {
+          counts = counts .0;
+          actions = actions .0;
+          ranges = fine-true _ (ranges .0);
+          weights = fine-true _ (ranges .1);
+        };
       }
 
-  pub standing-is : Standing M t L → standingHolds M t L ≡ true
-  unfolding standingHolds
+  pub standing-is : Standing m x → holds m x ≡ true
+  unfolding holds
   standing-is s =
-      let e = shaped-tests M t L (s .shaped) in
-      and-is (fine-is (is-valid M (s .valid-tables))) (and-is (le-leb t maxLevels (s .few-levels))
-      (and-is (e .counts) (and-is (e .actions) (and-is (fine-is (e .ranges)) (fine-is (e .weights))))))
+      let e = shaped-tests (modelOf m) (numberIn x) (levelOf m (standingIn x)) (s .shaped) in
+      and-is (fine-is (tables-fine m (s .valid-tables) (s .stored-tables))) (and-is (le-leb _ _ (s .state-long)) (and-is (le-leb _ _ (s .few-levels))
+      (and-is (e .counts) (and-is (readable-is m (standingIn x) (s .read)) (and-is (e .actions) (and-is (fine-is (e .ranges)) (fine-is (e .weights))))))))
 
-  module _ (W : Level) where
-    pub numbers-fine : numbersVerdict M L W ≡ Fine
+  module _ (l : LentLevel) where
+    abbrev M : Model
+    M = modelOf m
+
+    abbrev L : Level
+    L = levelOf m (standingIn x)
+
+    abbrev W : Level
+    W = levelOf m l
+
+    pub numbers-fine : numbersVerdict (M .actions) (M .observations) (L .vectors) W ≡ Fine
         → (v : ℕ) → v < W .vectors → (W .action v < M .actions) × ((o : ℕ) → o < M .observations → W .choice v o < L .vectors)
     numbers-fine e = numbers-in 10 (W .vectors) (M .actions) (M .observations) (L .vectors) (W .action) (W .choice) e
 
@@ -179,54 +220,68 @@ module _ (M : Model) (t : ℕ) (L : Level) where
     unfolding pointsVerdict
     points-fine e i l = covers-true M L (W .weight i) (W .value i) (unless-fine _ _ _ (fine-at _ (W .points) e i l))
 
-    -- An accepted offer has the shape of the next level and meets its inequalities over the standing one.
-    -- Each stage of a fine verdict is fine, so each of its tests passed: the tests of 9 to 12 are the limits of `Shaped`, with the actions of 10, and
-    -- those of 10 and 13 to 15 are the conditions of `Meets`. Qed.
-    pub accepted : offerVerdict M t L W ≡ Fine → Accepted M t L W
-    unfolding offerVerdict shapeVerdict backupsVerdict
-    accepted e =
-        let stages = before-fine _ _ e in
-        let e8 = before-fine _ _ (stages .0) in
+    -- Each stage of a fine verdict is fine, so each of its tests passed: the tests of 9 to 12 are the limits of `Shaped`, with the actions of 10. Qed.
+    pub fitting : shapeVerdict m x l ≡ Fine → Fitting m x l
+    unfolding shapeVerdict levelVerdict
+    fitting e =
+        let e8 = before-fine _ _ e in
         let e9 = before-fine _ _ (e8 .1) in
         let e10 = before-fine _ _ (e9 .1) in
         let e11 = before-fine _ _ (e10 .1) in
         let e12 = before-fine _ _ (e11 .1) in
-        let e14 = before-fine _ _ (stages .1) in
-        let e15 = before-fine _ _ (e14 .1) in
         let numbers = numbers-fine (e11 .0) in
+        let sizes = and-true _ _ (unless-fine (fits m x l) 9 0 (e10 .0)) in
+        let slices = and-true _ _ (sizes .1) in
         record {
           standing = standing-true (unless-fine _ _ _ (e8 .0));
-          room = ltb-true t maxLevels (unless-fine _ _ _ (e9 .0));
-          shaped = tests-shaped M (suc t) W record {
-            counts = unless-fine _ _ _ (e10 .0);
+          room = ltb-true _ _ (unless-fine _ _ _ (e9 .0));
+          given = complete-true m l (slices .0);
+          held = complete-true m (lentFor (l .vectors) (l .points) (x .cells)) (slices .1);
+          shaped = tests-shaped M (numberIn x + 1) W record {
+            counts = sizes .0;
             actions = at-every _ _ (λ v l. lt-ltb _ _ (numbers v l .0));
             ranges = e12 .0;
             weights = e12 .1;
           };
+          chosen = λ v b. numbers v b .1;
+        }
+
+    -- An accepted offer has the shape of the next level and meets its inequalities over the standing one: the tests of 10 and 13 to 15 are the conditions
+    -- of `Meets`. Qed.
+    pub accepted : offerVerdict m x l ≡ Fine → Accepted m x l
+    unfolding offerVerdict backupsVerdict
+    accepted e =
+        let stages = before-fine _ _ e in
+        let f = fitting (stages .0) in
+        let e14 = before-fine _ _ (stages .1) in
+        let e15 = before-fine _ _ (e14 .1) in
+        record {
+          standing = f .standing;
+          room = f .room;
+          given = f .given;
+          held = f .held;
+          shaped = f .shaped;
           meets = record {
-            vector = λ v l. record {
-              action-exists = numbers v l .0;
-              choice-exists = numbers v l .1;
-              entry-holds = floors-fine (e14 .0) v l;
-            };
+            vector = λ v b. record { action-exists = f .shaped .action-in v b; choice-exists = f .chosen v b; entry-holds = floors-fine (e14 .0) v b };
             corner = corners-fine (e15 .0);
             point = points-fine (e15 .1);
           };
         }
 
     -- The other way round: every test of every stage passes. Qed.
-    pub accepts : Accepted M t L W → offerVerdict M t L W ≡ Fine
-    unfolding offerVerdict shapeVerdict backupsVerdict numbersIn floorsVerdict cornersVerdict pointsVerdict
+    pub accepts : Accepted m x l → offerVerdict m x l ≡ Fine
+    unfolding offerVerdict shapeVerdict levelVerdict backupsVerdict numbersIn floorsVerdict cornersVerdict pointsVerdict
     accepts a =
-        let e = shaped-tests M (suc t) W (a .shaped) in
-        let m = a .meets in
+        let e = shaped-tests M (numberIn x + 1) W (a .shaped) in
+        let h = a .meets in
         fine-before (fine-before (passed 7 0 (standing-is (a .standing)))
-        (fine-before (passed 8 0 (lt-ltb t maxLevels (a .room)))
-        (fine-before (passed 9 0 (e .counts))
-        (fine-before (at-fine _ (W .vectors) (λ v l. fine-before (passed 10 v (lt-ltb _ _ (m .vector v l .action-exists)))
-        (at-fine _ (M .observations) (λ o b. passed 10 v (lt-ltb _ _ (m .vector v l .choice-exists o b))))))
+        (fine-before (passed 8 0 (lt-ltb _ _ (a .room)))
+        (fine-before (passed 9 0 (and-is (e .counts) (and-is (complete-is m l (a .given))
+        (complete-is m (lentFor (l .vectors) (l .points) (x .cells)) (a .held)))))
+        (fine-before (at-fine _ (W .vectors) (λ v l. fine-before (passed 10 v (lt-ltb _ _ (h .vector v l .action-exists)))
+        (at-fine _ (M .observations) (λ o b. passed 10 v (lt-ltb _ _ (h .vector v l .choice-exists o b))))))
         (fine-before (e .ranges)
         (e .weights))))))
-        (fine-before (at-fine _ (W .vectors) (λ v l. at-fine _ (M .states) (λ s b. passed 13 v (leZ-is _ _ (m .vector v l .entry-holds s b)))))
-        (fine-before (at-fine _ (M .states) (λ s l. passed 14 s (covers-is M L (corner-weight s) (W .corner s) (m .corner s l))))
-        (at-fine _ (W .points) (λ i l. passed 15 i (covers-is M L (W .weight i) (W .value i) (m .point i l))))))
+        (fine-before (at-fine _ (W .vectors) (λ v l. at-fine _ (M .states) (λ s b. passed 13 v (leZ-is _ _ (h .vector v l .entry-holds s b)))))
+        (fine-before (at-fine _ (M .states) (λ s l. passed 14 s (covers-is M L (corner-weight s) (W .corner s) (h .corner s l))))
+        (at-fine _ (W .points) (λ i l. passed 15 i (covers-is M L (W .weight i) (W .value i) (h .point i l))))))

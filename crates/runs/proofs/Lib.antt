@@ -1,6 +1,5 @@
 -- Laws of what the calls answer, and demand 3.
 pub mod Judged
-pub mod Stored
 pub mod Dough
 pub mod Demand3
 pub mod Ticks

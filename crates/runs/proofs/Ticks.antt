@@ -14,28 +14,26 @@ use Rattle.tables.specs.declared.Verdict.the-variants.{Fine, Refused}
 use Rattle.tables.specs.Limits.{K}
 use Rattle.tables.specs.Model.{Model, Valid, backedUp}
 use Rattle.tables.specs.Storage.{modelOf}
-use Rattle.tables.proofs.Accepted.{valid}
+use Rattle.tables.proofs.Accepted.{tables-valid}
 use Rattle.plans.specs.Plan.{earns}
-use Rattle.plans.specs.Level.{Level as Ideal, level0, follows, Agree}
+use Rattle.plans.specs.Level.{Level, level0, follows, Agree}
 use Rattle.plans.specs.Build.{entryFor, built}
 use Rattle.plans.specs.Named.{named}
 use Rattle.plans.proofs.Agreement.{backup-cong}
 use Rattle.plans.proofs.Built.{action-exists, chosen-exists}
 use Rattle.plans.proofs.Ticks.{BackedUp, low-next, high-next}
-use Rattle.levels.specs.declared.Level.{Level}
-use Rattle.levels.specs.Storage.{pointIn, noLevel}
-use Rattle.runs.specs.declared.Certifier.{Certifier}
-use Rattle.runs.specs.declared.Points.{Points}
-use Rattle.runs.specs.State.{opened, verdictOn, settled, offered, buildVerdict, builtBy, builtOf, stored}
+use Rattle.levels.specs.Storage.{Cells, LentLevel, Lent, levelOf, pointIn, over, numberIn, standingIn}
+use Rattle.levels.specs.Judged.{offerVerdict}
+use Rattle.levels.proofs.Over.{over-agree}
+use Rattle.runs.specs.State.{left, at, opened, offered, answerFor, buildVerdict, builtFrom, builtOf}
 use Rattle.runs.specs.Demand3.{ModelAccepted, run, newer, lastOf, after, steps, last}
-use Rattle.runs.specs.Ticks.{offers, stacked, levelsOf, levels, made, Ticks}
-use Rattle.runs.proofs.Judged.{Accepted}
-use Rattle.runs.proofs.Stored.{stored-agree}
-use Rattle.runs.proofs.Demand3.{Reached, read, fine-tables, reached-open, accepted-over, reached-next, some-vectors, level-built, demand3}
+use Rattle.runs.specs.Ticks.{Points, builtLevel, unlessRefused, offers, stacked, levelsOf, levels, made, Ticks}
+use Rattle.runs.proofs.Judged.{accepted}
+use Rattle.runs.proofs.Demand3.{Reached, fine-tables, reached-open, reached-next, some-vectors, level-built, demand3}
 
 -- ---- a level that agrees with a built one
 -- The entries that agree are backups, rounded down, of the entries chosen; action and choices agree where a backup reads them. Qed.
-backed-up : (M : Model) (L W : Ideal) (points : ℕ) (weight : ℕ → ℕ → ℕ) → 0 < M .actions → 0 < L .vectors → Agree M (built M L points weight) W
+backed-up : (M : Model) (L W : Level) (points : ℕ) (weight : ℕ → ℕ → ℕ) → 0 < M .actions → 0 < L .vectors → Agree M (built M L points weight) W
     → (v : ℕ) → v < W .vectors → BackedUp M L W v
 unfolding built entryFor backedUp follows
 backed-up M L W points weight some-actions some-vectors g v l = record {
@@ -51,39 +49,30 @@ backed-up M L W points weight some-actions some-vectors g v l = record {
     inside = omega (arith, g .vectors-same)
 
 -- ---- the levels so far, the last of them L
-record Stacked (m : Tables) (below : List Ideal) (L : Ideal) (c : Certifier) : Type 0 where
-  reached : Reached m (length below) L c
+record Stacked (m : Tables) (x₀ : Cells) (below : List Level) (L : Level) (x : Lent) : Type 0 where
+  reached : Reached m x₀ (length below) L x
   low : (v : ℕ) → v < L .vectors → (s : ℕ) → s < m .states → (K ^ length below) · L .entry v s ≤ℤ earns (modelOf m) (named below v) s
   high : (v : ℕ) → v < L .vectors → (s : ℕ) → s < m .states
       → earns (modelOf m) (named below v) s ≤ℤ (K ^ length below) · (L .entry v s +ℤ pos (length below))
   strict : 0 < length below → (v : ℕ) → v < L .vectors → (s : ℕ) → s < m .states
       → earns (modelOf m) (named below v) s <ℤ (K ^ length below) · (L .entry v s +ℤ pos (length below))
 
-module _ (m : Tables) (o : ModelAccepted m) where
-  valid-tables : Valid (modelOf m)
-  valid-tables = valid (modelOf m) (fine-tables m o)
+stacked-open : (m : Tables) (x : Lent) → ModelAccepted m x → Stacked m (x .cells) [] level0 (opened m x)
+unfolding named earns level0
+stacked-open m x o = record {
+  reached = reached-open m x o;
+  low = λ v l s b. ≤-of (·-zero _);
+  high = λ v l s b. ≤-of (sym (·-zero (K ^ 0)));
+  strict = λ h v l s b. absurd (omega (arith, h));
+}
 
-  stacked-open : Stacked m [] level0 (opened m .certifier)
-  unfolding named earns level0
-  stacked-open = record {
-    reached = reached-open m o;
-    low = λ v l s b. ≤-of (·-zero _);
-    high = λ v l s b. ≤-of (sym (·-zero (K ^ 0)));
-    strict = λ h v l s b. absurd (omega (arith, h));
-  }
-
-  module _ {below : List Ideal} {L : Ideal} {c : Certifier} (k : Stacked m below L c) (p : Points) where
-    -- an accepted level was built: one that the builder refused has no vector
-    level-made : (v : Verdict) → verdictOn c (builtBy v c p .level) ≡ Fine
-        → builtBy v c p .level ≡ stored (m .states) (m .observations) (built (modelOf m) L (p .count) (pointIn (m .states) (p .weights)))
-    level-made Fine e = level-built (k .reached) p
-    level-made (Refused number place) e = absurd (omega (arith, accepted-over (k .reached) noLevel e .shaped .some-vectors))
-
-    stacked-next : (l : Level) → verdictOn c l ≡ Fine
-        → l ≡ stored (m .states) (m .observations) (built (modelOf m) L (p .count) (pointIn (m .states) (p .weights)))
-        → Stacked m (read m l ∷ below) (read m l) (settled Fine c l)
-    stacked-next l fine e = record {
-      reached = reached-next (k .reached) l (accepted-over (k .reached) l fine);
+module _ (m : Tables) (valid-tables : Valid (modelOf m)) (x₀ : Cells) where
+  module _ {below : List Level} {L : Level} {x : Lent} (k : Stacked m x₀ below L x) (p : Points) where
+    -- a level that was built, and accepted
+    stacked-next : (l : LentLevel) → offerVerdict m x l ≡ Fine → Agree (modelOf m) (builtFrom m L (p .count) (p .cells)) (levelOf m l)
+        → Stacked m x₀ (levelOf m l ∷ below) (levelOf m l) (at m (numberIn x + 1) (levelOf m l) x)
+    stacked-next l fine agree = record {
+      reached = reached-next (k .reached) l (accepted m x l fine);
       low = low;
       high = λ v b s d. <-≤ (high v b s d);
       strict = λ h. high;
@@ -92,14 +81,12 @@ module _ (m : Tables) (o : ModelAccepted m) where
         M : Model
         M = modelOf m
 
-        W : Ideal
-        W = read m l
+        W : Level
+        W = levelOf m l
 
         backed : (v : ℕ) → v < W .vectors → BackedUp M L W v
         backed v b =
-            let weight = pointIn (m .states) (p .weights) in
-            backed-up M L W (p .count) weight (valid-tables .some-actions) (some-vectors (k .reached))
-            (rw e (stored-agree M (built M L (p .count) weight))) v b
+            backed-up M L W (p .count) (pointIn (m .states) (p .cells .weights)) (valid-tables .some-actions) (some-vectors (k .reached)) agree v b
 
         low : (v : ℕ) → v < W .vectors → (s : ℕ) → s < m .states → (K ^ suc (length below)) · W .entry v s ≤ℤ earns M (named (W ∷ below) v) s
         low v b s d = low-next M valid-tables below L (k .low) (k .high) W v (backed v b) s d
@@ -108,31 +95,48 @@ module _ (m : Tables) (o : ModelAccepted m) where
             → earns M (named (W ∷ below) v) s <ℤ (K ^ suc (length below)) · (W .entry v s +ℤ pos (suc (length below)))
         high v b s d = high-next M valid-tables below L (k .low) (k .high) W v (backed v b) s d
 
-    stacked-step : (l : Level) → l ≡ builtOf c p .level
-        → Stacked m (stacked (offered c l .verdict) (read m l) below) (newer (offered c l .verdict) (read m l) L) (offered c l .certifier)
-    unfolding offered builtOf
-    stacked-step l e = by (verdictOn c l) (λ fine. stacked-next l fine (e ∙ level-made (buildVerdict c p) (rw e at fine)))
+    -- what is read of the built level agrees with what the builder makes over the last accepted one
+    built-agrees : buildVerdict m x (p .count) (p .cells) ≡ Fine → Agree (modelOf m) (builtFrom m L (p .count) (p .cells)) (levelOf m (builtLevel m x p))
+    unfolding builtOf built
+    built-agrees e = rw (e, level-built (k .reached) (p .count) (p .cells)) (over-agree m (builtFrom m L (p .count) (p .cells)) (p .cells))
+
+    stacked-step : (l : LentLevel) → Agree (modelOf m) (builtFrom m L (p .count) (p .cells)) (levelOf m l)
+        → Stacked m x₀ (stacked (offerVerdict m x l) (levelOf m l) below) (newer (offerVerdict m x l) (levelOf m l) L) (offered m x l)
+    unfolding offered
+    stacked-step l agree = by (offerVerdict m x l) (λ fine. stacked-next l fine agree)
       where
-        by : (v : Verdict) → (v ≡ Fine → Stacked m (read m l ∷ below) (read m l) (settled Fine c l))
-            → Stacked m (stacked v (read m l) below) (newer v (read m l) L) (settled v c l)
+        by : (v : Verdict) → (v ≡ Fine → Stacked m x₀ (levelOf m l ∷ below) (levelOf m l) (at m (numberIn x + 1) (levelOf m l) x))
+            → Stacked m x₀ (stacked v (levelOf m l) below) (newer v (levelOf m l) L) (left v (at m (numberIn x + 1) (levelOf m l) x) x)
         by Fine next = next refl
         by (Refused number place) next = k
 
-  stacked-run : (ps : List Points) (below : List Ideal) (L : Ideal) (c : Certifier) → Stacked m below L c
-      → Stacked m (levelsOf below (read m) c (offers c ps)) (lastOf L (read m) c (offers c ps)) (run c (offers c ps))
+  abbrev After : List Level → Level → Lent → List LentLevel → Type 0
+  After below L x ls = Stacked m x₀ (levelsOf m below x ls) (lastOf m L x ls) (run m x ls)
+
+  stacked-run : (ps : List Points) (below : List Level) (L : Level) (x : Lent) → Stacked m x₀ below L x → After below L x (offers m x ps)
   unfolding offers levelsOf lastOf run
-  stacked-run [] below L c k = k
-  stacked-run (p ∷ ps) below L c k = stacked-run ps _ _ _ (stacked-step k p (builtOf c p .level) refl)
+  stacked-run [] below L x k = k
+  stacked-run (p ∷ ps) below L x k =
+      by (buildVerdict m x (p .count) (p .cells)) (λ e. stacked-run ps _ _ (offered m x l) (stacked-step k p l (built-agrees k p e)))
+      (stacked-run ps below L x k)
+    where
+      l : LentLevel
+      l = builtLevel m x p
+
+      by : (v : Verdict) → (v ≡ Fine → After below L x (l ∷ offers m (offered m x l) ps)) → After below L x (offers m x ps)
+          → After below L x (unlessRefused v l (offers m (offered m x l) ps) (offers m x ps))
+      by Fine accepted refused = accepted refl
+      by (Refused number place) accepted refused = refused
 
 -- After any list of point lists, built and offered in turn: each entry is at most what the plan named by its vector earns, and less than t ticks below it.
--- By induction over the list, `Stacked` holds after it. At level 0 a plan of no steps earns 0, which is the zero vector's entry. A list that is refused
--- makes a level without a vector, which the offer refuses, and changes nothing. An accepted level was built: its entries are the backups of those that
--- its vectors chose, rounded down, so they lie less than one tick further below what their plans earn (`high-next`), and not above it (`low-next`). Qed.
-pub ticks : (m : Tables) → ModelAccepted m → (ps : List Points) → Ticks m ps
-ticks m o ps = record { number = number; entry = λ h v l s b. (all .low v l s b, all .strict (rw number h) v l s b) }
+-- By induction over the list, `Stacked` holds after it. At level 0 a plan of no steps earns 0, which is the zero vector's entry. Of a list that is refused
+-- no level is offered. An accepted level was built: its entries are the backups of those that its vectors chose, rounded down, so they lie less than one
+-- tick further below what their plans earn (`high-next`), and not above it (`low-next`). Qed.
+pub ticks : (m : Tables) (x : Lent) → ModelAccepted m x → (ps : List Points) → Ticks m x ps
+ticks m x o ps = record { number = number; entry = λ h v l s b. (all .low v l s b, all .strict (rw number h) v l s b) }
   where
-    all : Stacked m (levels m (made m ps)) (last m (made m ps)) (after m (made m ps))
-    all = stacked-run m o ps [] level0 (opened m .certifier) (stacked-open m o)
+    all : Stacked m (x .cells) (levels m x (made m x ps)) (last m x (made m x ps)) (after m x (made m x ps))
+    all = stacked-run m (tables-valid m (fine-tables m x o)) (x .cells) ps [] level0 (opened m x) (stacked-open m x o)
 
-    number : length (levels m (made m ps)) ≡ steps m (made m ps)
-    number = sym (all .reached .number) ∙ demand3 m o (made m ps) .state .number
+    number : length (levels m x (made m x ps)) ≡ steps m x (made m x ps)
+    number = sym (all .reached .number) ∙ demand3 m x o (made m x ps) .state .number

@@ -1,9 +1,10 @@
--- Demand 3: one claim about a whole list of offers, of any content, to the certifier that opening returned on accepted tables.
+-- Demand 3: one claim about a whole list of offers, of any content, to the certifier that opening left in lent slices on accepted tables. Every call is
+-- handed the same tables, and the slices as the call before left them.
 --
---   after m ls     the certifier that the list left
---   steps m ls     t, the number of offers that were accepted
---   last m ls      the last accepted level, or level 0 if there is none
---   Demand3 m ls   what holds of them
+--   after m x ls     the slices that the list left, opened as x
+--   steps m x ls     t, the number of offers that were accepted
+--   last m x ls      the last accepted level, or level 0 if there is none
+--   Demand3 m x ls   what holds of them
 use Prim.Native.Nat.{ℕ, _+_, _≤_, _<_}
 use mathlib.Core.Path.{_≡_}
 use mathlib.Core.Bool.{true}
@@ -12,84 +13,83 @@ use lib.IntN.{_-ℤ_}
 use Rattle.tables.specs.declared.Tables.{Tables}
 use Rattle.tables.specs.declared.Verdict.{Verdict}
 use Rattle.tables.specs.declared.Verdict.the-variants.{Fine, Refused}
-use Rattle.tables.specs.Storage.{weightIn, modelOf, kept}
+use Rattle.tables.specs.Storage.{weightIn, modelOf}
 use Rattle.tables.specs.Limits.{maxLevels}
 use Rattle.plans.specs.Limits.{maxBuilt}
-use Rattle.plans.specs.Level.{Level as Ideal, Agree, level0, IsPoint}
+use Rattle.plans.specs.Level.{Level, Agree, level0, IsPoint}
 use Rattle.plans.specs.Totals.{lower, upper, advice, Bracket}
-use Rattle.plans.specs.Build.{built}
-use Rattle.levels.specs.declared.Level.{Level}
-use Rattle.levels.specs.Storage.{levelOf, pointIn}
-use Rattle.runs.specs.declared.Certifier.{Certifier}
+use Rattle.levels.specs.Storage.{Cells, LentLevel, Lent, levelOf, pointIn, complete, over, numberIn, standingIn}
+use Rattle.levels.specs.Judged.{offerVerdict}
 use Rattle.runs.specs.declared.Bounds.{Bounds}
-use Rattle.runs.specs.declared.Points.{Points}
-use Rattle.runs.specs.declared.Built.{Built}
-use Rattle.runs.specs.State.{levelIn, opened, offered, mixtureHolds, totalsOf, stored, builtOf}
+use Rattle.runs.specs.State.{openVerdict, opened, offered, mixtureHolds, totalsOf, answerFor, buildVerdict, builtFrom, builtOf}
 
--- a model is accepted if opening does not refuse its tables
-abbrev pub ModelAccepted : Tables → Type 0
-ModelAccepted m = opened m .verdict ≡ Fine
+-- a model is accepted if opening does not refuse its tables, nor the slices lent
+abbrev pub ModelAccepted : Tables → Lent → Type 0
+ModelAccepted m x = openVerdict m x ≡ Fine
 
--- each offer is handed the certifier that the one before it returned
-unfoldable pub run : Certifier → List Level → Certifier
-run c [] = c
-run c (l ∷ ls) = run (offered c l .certifier) ls
+-- each offer is handed the slices that the one before it left
+unfoldable pub run : Tables → Lent → List LentLevel → Lent
+run m x [] = x
+run m x (l ∷ ls) = run m (offered m x l) ls
 
 abbrev pub counted : Verdict → ℕ
 counted Fine = 1
 counted (Refused number place) = 0
 
-unfoldable pub acceptances : Certifier → List Level → ℕ
-acceptances c [] = 0
-acceptances c (l ∷ ls) = counted (offered c l .verdict) + acceptances (offered c l .certifier) ls
+unfoldable pub acceptances : Tables → Lent → List LentLevel → ℕ
+acceptances m x [] = 0
+acceptances m x (l ∷ ls) = counted (offerVerdict m x l) + acceptances m (offered m x l) ls
 
 -- the later of two levels, if its offer was accepted
-abbrev pub newer : Verdict → Ideal → Ideal → Ideal
+abbrev pub newer : Verdict → Level → Level → Level
 newer Fine new old = new
 newer (Refused number place) new old = old
 
-unfoldable pub lastOf : Ideal → (Level → Ideal) → Certifier → List Level → Ideal
-lastOf old read c [] = old
-lastOf old read c (l ∷ ls) = lastOf (newer (offered c l .verdict) (read l) old) read (offered c l .certifier) ls
+unfoldable pub lastOf : Tables → Level → Lent → List LentLevel → Level
+lastOf m old x [] = old
+lastOf m old x (l ∷ ls) = lastOf m (newer (offerVerdict m x l) (levelOf m l) old) (offered m x l) ls
 
-abbrev pub after : Tables → List Level → Certifier
-after m ls = run (opened m .certifier) ls
+abbrev pub after : Tables → Lent → List LentLevel → Lent
+after m x ls = run m (opened m x) ls
 
-abbrev pub steps : Tables → List Level → ℕ
-steps m ls = acceptances (opened m .certifier) ls
+abbrev pub steps : Tables → Lent → List LentLevel → ℕ
+steps m x ls = acceptances m (opened m x) ls
 
-abbrev pub last : Tables → List Level → Ideal
-last m ls = lastOf level0 (levelOf (m .states) (m .observations)) (opened m .certifier) ls
+abbrev pub last : Tables → Lent → List LentLevel → Level
+last m x ls = lastOf m level0 (opened m x) ls
 
--- the certifier after the list: its number is t, its tables are the opened ones, and its level is the last accepted one in every part that is read
-pub record StateHolds (m : Tables) (ls : List Level) : Type 0 where
-  pub number : after m ls .number ≡ steps m ls
-  pub tables : after m ls .tables ≡ kept m
-  pub standing : Agree (modelOf m) (last m ls) (levelIn (after m ls))
+-- the certifier after the list: its number is t, and its level is the last accepted one in every part that is read
+pub record StateHolds (m : Tables) (x : Lent) (ls : List LentLevel) : Type 0 where
+  pub number : numberIn (after m x ls) ≡ steps m x ls
+  pub standing : Agree (modelOf m) (last m x ls) (levelOf m (standingIn (after m x ls)))
 
 -- totals r at a mixture b: given, document 01's at the last accepted level, and a bracket of what the best of all t-step plans of the model earns there,
 -- with an action that opens a plan earning the lower one
-pub record TotalsHold (m : Tables) (ls : List Level) (b : List ℕ) (r : Bounds) : Type 0 where
+pub record TotalsHold (m : Tables) (x : Lent) (ls : List LentLevel) (b : List ℕ) (r : Bounds) : Type 0 where
   pub given : r .verdict ≡ Fine
-  pub lower-is : r .lower ≡ lower (modelOf m) (last m ls) (weightIn b)
-  pub upper-is : r .upper ≡ upper (modelOf m) (last m ls) (weightIn b)
+  pub lower-is : r .lower ≡ lower (modelOf m) (last m x ls) (weightIn b)
+  pub upper-is : r .upper ≡ upper (modelOf m) (last m x ls) (weightIn b)
   pub gap-is : r .gap ≡ r .upper -ℤ r .lower
-  pub action-is : r .action .0 ≡ advice (modelOf m) (last m ls) (weightIn b)
-  pub bracket : Bracket (modelOf m) (steps m ls) (last m ls) (weightIn b)
+  pub action-is : r .action .0 ≡ advice (modelOf m) (last m x ls) (weightIn b)
+  pub bracket : Bracket (modelOf m) (steps m x ls) (last m x ls) (weightIn b)
 
--- a built level r: given, document 01's over the last accepted level, and accepted by the same certifier
-pub record BuildHolds (m : Tables) (ls : List Level) (p : Points) (r : Built) : Type 0 where
-  pub given : r .verdict ≡ Fine
-  pub level-is : r .level ≡ stored (m .states) (m .observations) (built (modelOf m) (last m ls) (p .count) (pointIn (m .states) (p .weights)))
-  pub accepted : offered (after m ls) (r .level) .verdict ≡ Fine
+-- a verdict v on a building of a count of points, and the slices y' that it left of those that were lent, y: given, document 01's over the last accepted
+-- level, and accepted by the same certifier
+pub record BuildHolds (m : Tables) (x : Lent) (ls : List LentLevel) (count : ℕ) (y : Cells) (v : Verdict) (y' : Cells) : Type 0 where
+  pub given : v ≡ Fine
+  pub level-is : y' ≡ over m (builtFrom m (last m x ls) count y) y
+  pub accepted : offerVerdict m (after m x ls) (answerFor m count y') ≡ Fine
 
--- points within the builder's limits
-pub record PointsHold (m : Tables) (p : Points) : Type 0 where
-  pub few : p .count ≤ maxBuilt
-  pub total : (i : ℕ) → i < p .count → IsPoint (m .states) (pointIn (m .states) (p .weights) i)
+-- points within the builder's limits, and slices long enough: those that are lent for the answer and those that the certifier was opened with
+pub record PointsHold (m : Tables) (x : Lent) (count : ℕ) (y : Cells) : Type 0 where
+  pub few : count ≤ maxBuilt
+  pub total : (i : ℕ) → i < count → IsPoint (m .states) (pointIn (m .states) (y .weights) i)
+  pub answer-room : complete m (answerFor m count y) ≡ true
+  pub certifier-room : complete m (answerFor m count (x .cells)) ≡ true
 
 -- the whole claim
-pub record Demand3 (m : Tables) (ls : List Level) : Type 0 where
-  pub state : StateHolds m ls
-  pub totals : 0 < steps m ls → (b : List ℕ) → mixtureHolds (m .states) (weightIn b) ≡ true → TotalsHold m ls b (totalsOf (after m ls) b)
-  pub build : steps m ls < maxLevels → (p : Points) → PointsHold m p → BuildHolds m ls p (builtOf (after m ls) p)
+pub record Demand3 (m : Tables) (x : Lent) (ls : List LentLevel) : Type 0 where
+  pub state : StateHolds m x ls
+  pub totals : 0 < steps m x ls → (b : List ℕ) → mixtureHolds (m .states) b ≡ true → TotalsHold m x ls b (totalsOf m (after m x ls) b)
+  pub build : steps m x ls < maxLevels → (count : ℕ) (y : Cells) → PointsHold m x count y
+      → BuildHolds m x ls count y (buildVerdict m (after m x ls) count y) (builtOf m (after m x ls) count y)

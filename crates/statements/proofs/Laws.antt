@@ -23,6 +23,7 @@ use Rattle.grammar.proofs.Laws.{value-is, value-next, onward, onward-earlier, o
 use Rattle.grammar.proofs.Arms.{no-word, back-onward}
 use Rattle.statements.specs.Statements.{Outcome, filled, stopped, upon, further, within, row, reward, Draft, oneStatement, unlessEnd, statements}
 use Rattle.statements.specs.Steps.{CellsFit, outcomeOf, Leaves, begin}
+use Rattle.statements.specs.Statements.{rewardBy, statementsBy}
 
 -- ---- a part of a statement, with the cells that it leaves
 
@@ -158,20 +159,20 @@ signed-upon cells t (refused n p) k = refl
 
 pub reward-by : (m n a s : ℕ) (cells : List ℤ) (ws : Words)
     → upon cells (magnitude rewardForm maxReward ws) (λ v rest. filled (rewarded m n a s (signed (minus ws) v) cells) rest) ≡ reward m n a s cells ws
-unfolding reward signedNumber
+unfolding rewardBy signedNumber
 reward-by m n a s cells ws = signed-upon cells (signed (minus ws)) (magnitude rewardForm maxReward ws) (λ r rest. filled (rewarded m n a s r cells) rest)
 
 -- ---- statements
 
 statements-end : (f m n k : ℕ) (d : Draft) (ws : Words) (p : ℕ) → ws ≡ end p → filled d ws ≡ statements f m n k d ws
-unfolding statements
+unfolding statementsBy
 statements-end zero m n k d ws p e = sym (ap (λ (x : Words). unlessEnd x (filled d ws) (stopped 0 0 d)) e)
 statements-end (suc f) m n k d ws p e = sym (ap (λ (x : Words). unlessEnd x (filled d ws)
     (further (oneStatement m n k d ws) (λ d ws. statements f m n k d ws))) e)
 
 statements-more : (f m n k : ℕ) (d : Draft) (ws : Words) (p : ℕ) (w : List ℕ) (rest : Words) → 0 < f → ws ≡ word p w rest
     → further (oneStatement m n k d ws) (λ d ws. statements (f - 1) m n k d ws) ≡ statements f m n k d ws
-unfolding statements
+unfolding statementsBy
 statements-more zero m n k d ws p w rest h e = absurd (omega arith)
 statements-more (suc f) m n k d ws p w rest h e =
     let z : suc f - 1 ≡ f = omega arith in

@@ -12,4 +12,5 @@ pub use lib.IntN.{ℤ}
 pub use mathlib.Core.List.{List}
 pub use mathlib.Core.Path.{_∙_}
 pub use native.Mathlib.Omega.{arith}
-unfoldable pub use Rattle.statements.specs.Statements.{entry, indexed, observationOrReward, rewardStatement, rewards, table}
+pub use Rattle.statements.specs.Statements.{entry, observationOrReward, rewardStatement, rewards, table}
+unfoldable pub use Rattle.statements.specs.Statements.{entryBy, indexed, observationOrRewardBy, rewardStatementBy, rewardsBy, tableBy}

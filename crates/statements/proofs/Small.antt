@@ -15,6 +15,7 @@ use Rattle.grammar.proofs.Gives.{Gives, gives-then, number-gives, magnitude-giv
 use Rattle.statements.specs.Statements.{Outcome, filled, stopped, upon, further, within, wholly, probability, rewardNumber, indexed, starred, row, entry}
 use Rattle.statements.specs.Statements.{table, reward, rewards, Draft, draft, transitionKey, observationKey, rewardKey, rewardStatement}
 use Rattle.statements.specs.Statements.{observationOrReward, oneStatement, unlessEnd, statements}
+use Rattle.statements.specs.Statements.{entryBy, observationOrRewardBy, oneStatementBy, rewardBy, rewardStatementBy, rewardsBy, statementsBy, tableBy}
 
 -- ---- what holds of the cells that are read whole
 
@@ -74,7 +75,7 @@ unfolding stated
 stated-small limit m n w a s x p cells l h = marked-all (λ v. v ≤ limit) 0 _ p cells l h
 
 entry-small : (m n w a s : ℕ) (cells : List ℕ) (ws : Words) → AtMost one cells → Fills (AtMost one) (entry m n w a s cells ws)
-unfolding entry
+unfolding entryBy
 entry-small m n w a s cells ws h =
     fills-after (AtMost one) cells (index w ws) (λ x ws. upon cells (probability ws) (λ p ws. filled (stated m n w a s x p cells) ws)) (λ x ws.
     fills-upon (λ v. (0 ≤ v) × (v ≤ one)) (AtMost one) cells (probability ws) (λ p ws. filled (stated m n w a s x p cells) ws)
@@ -86,7 +87,7 @@ abbrev cells-after : ℕ → ℕ → ℕ → List ℕ → ℕ → ℕ → Words 
 cells-after m n w cells a s ws = choose (key colon ws) (λ ws. entry m n w a s cells ws) (row probability (stated m n w a s) 0 w cells ws)
 
 pub table-small : (m n w : ℕ) (cells : List ℕ) (ws : Words) → AtMost one cells → Fills (AtMost one) (table m n w cells ws)
-unfolding table
+unfolding tableBy
 table-small m n w cells ws h =
     fills-after (AtMost one) cells (indexed m ws) (λ a ws. upon cells (indexed n ws) (cells-after m n w cells a)) (λ a ws.
     fills-after (AtMost one) cells (indexed n ws) (cells-after m n w cells a) (λ s ws.
@@ -109,7 +110,7 @@ reward-gives ws =
     (λ v rest l. signed-small (minus ws) v maxReward l)
 
 pub rewards-small : (m n : ℕ) (cells : List ℤ) (ws : Words) → WithinMost maxReward cells → Fills (WithinMost maxReward) (rewards m n cells ws)
-unfolding rewards reward rewarded
+unfolding rewardsBy rewardBy rewarded
 rewards-small m n cells ws h =
     fills-after (WithinMost maxReward) cells (indexed m ws) _ (λ a ws.
     fills-after (WithinMost maxReward) cells (indexed n ws) _ (λ s ws.
@@ -126,7 +127,7 @@ pub record Small (d : Draft) : Type 0 where
   pub rewards : WithinMost maxReward (d .reward)
 
 one-small : (m n k : ℕ) (d : Draft) (ws : Words) → Small d → Fills Small (oneStatement m n k d ws)
-unfolding oneStatement observationOrReward rewardStatement
+unfolding oneStatementBy observationOrRewardBy rewardStatementBy
 one-small m n k d ws h =
     fills-choose Small (key transitionKey ws) (λ ws. within (λ cells. draft cells (d .observation) (d .reward)) (table m n n (d .transition) ws))
     (observationOrReward m n k d ws)
@@ -148,7 +149,7 @@ unless-small (end at) a b g h = g
 unless-small (word at w rest) a b g h = h
 
 pub statements-small : (f m n k : ℕ) (d : Draft) (ws : Words) → Small d → Fills Small (statements f m n k d ws)
-unfolding statements
+unfolding statementsBy
 statements-small zero m n k d ws h = unless-small ws (filled d ws) (stopped 0 0 d) h tt
 statements-small (suc f) m n k d ws h =
     unless-small ws (filled d ws) (further (oneStatement m n k d ws) (λ d ws. statements f m n k d ws)) h

@@ -1,10 +1,12 @@
--- The statements of a model file over its words, with m actions, n states and k observations. Each changes the cells that the ones before it left.
+-- The statements of a model file over its words, with numbers of the forms f, m actions, n states and k observations. Each changes the cells that the ones
+-- before it left.
 use Prim.Native.Nat.{ℕ, zero, suc, _+_}
 use mathlib.Core.List.{List, [], _∷_}
 use lib.IntN.{ℤ}
 use Rattle.words.specs.Words.{Words, word, end}
 use Rattle.tables.specs.Limits.{one, maxReward}
 use Rattle.drafts.specs.Drafts.{stated, rewarded}
+use Rattle.numerals.specs.declared.Form.{Form}
 use Rattle.numerals.specs.Numeral.{probabilityForm, startForm, rewardForm}
 use Rattle.grammar.specs.Grammar.{Answer, got, refused, _then_, choose, key, keys, colon, star, index, number, signedNumber}
 
@@ -35,22 +37,28 @@ abbrev pub wholly : {C : Type 0} → Outcome C → Answer C
 wholly (filled cells ws) = got cells ws
 wholly (stopped n p cells) = refused n p
 
--- ---- numbers: a whole part and decimals, up to 1; a reward has up to four digits and two decimals, up to 1000.00
+-- ---- numbers, up to 1; rewards up to 1000.00
 
--- in thousandths
-abbrev pub probability : Words → Answer ℕ
-probability = number probabilityForm 0 one
+-- what forms a file's numbers have: probabilities and the discount in thousandths, start numbers in hundredths, rewards in ticks
+pub record Forms : Type 0 where
+  pub probability : Form
+  pub start : Form
+  pub reward : Form
 
--- in hundredths
+abbrev pub forms : Forms
+forms = record { probability = probabilityForm; start = startForm; reward = rewardForm }
+
+abbrev pub probabilityBy : Forms → Words → Answer ℕ
+probabilityBy f = number (f .probability) 0 one
+
 abbrev pub startTotal : ℕ
 startTotal = 100
 
-abbrev pub startNumber : Words → Answer ℕ
-startNumber = number startForm 0 startTotal
+abbrev pub startNumberBy : Forms → Words → Answer ℕ
+startNumberBy f = number (f .start) 0 startTotal
 
--- in ticks
-abbrev pub rewardNumber : Words → Answer ℤ
-rewardNumber = signedNumber rewardForm maxReward
+abbrev pub rewardNumberBy : Forms → Words → Answer ℤ
+rewardNumberBy f = signedNumber (f .reward) maxReward
 
 -- ---- parts of a statement
 
@@ -68,24 +76,24 @@ row one-number put x zero cells ws = filled cells ws
 row one-number put x (suc k) cells ws = upon cells (one-number ws) (λ p ws. row one-number put (x + 1) k (put x p cells) ws)
 
 -- `x p`
-unfoldable pub entry : ℕ → ℕ → ℕ → ℕ → ℕ → List ℕ → Words → Outcome (List ℕ)
-entry m n w a s cells ws = upon cells (index w ws) (λ x ws. upon cells (probability ws) (λ p ws. filled (stated m n w a s x p cells) ws))
+unfoldable pub entryBy : Forms → ℕ → ℕ → ℕ → ℕ → ℕ → List ℕ → Words → Outcome (List ℕ)
+entryBy f m n w a s cells ws = upon cells (index w ws) (λ x ws. upon cells (probabilityBy f ws) (λ p ws. filled (stated m n w a s x p cells) ws))
 
 -- after `T` or `O`: `: a : s : x p`, or `: a : s` and w numbers
-unfoldable pub table : ℕ → ℕ → ℕ → List ℕ → Words → Outcome (List ℕ)
-table m n w cells ws =
+unfoldable pub tableBy : Forms → ℕ → ℕ → ℕ → List ℕ → Words → Outcome (List ℕ)
+tableBy f m n w cells ws =
     upon cells (indexed m ws) (λ a ws. upon cells (indexed n ws) (λ s ws.
-    choose (key colon ws) (λ ws. entry m n w a s cells ws) (row probability (stated m n w a s) 0 w cells ws)))
+    choose (key colon ws) (λ ws. entryBy f m n w a s cells ws) (row (probabilityBy f) (stated m n w a s) 0 w cells ws)))
 
 -- `r`
-unfoldable pub reward : ℕ → ℕ → ℕ → ℕ → List ℤ → Words → Outcome (List ℤ)
-reward m n a s cells ws = upon cells (rewardNumber ws) (λ r ws. filled (rewarded m n a s r cells) ws)
+unfoldable pub rewardBy : Forms → ℕ → ℕ → ℕ → ℕ → List ℤ → Words → Outcome (List ℤ)
+rewardBy f m n a s cells ws = upon cells (rewardNumberBy f ws) (λ r ws. filled (rewarded m n a s r cells) ws)
 
 -- after `R`: `: a : s : * : * r`
-unfoldable pub rewards : ℕ → ℕ → List ℤ → Words → Outcome (List ℤ)
-rewards m n cells ws =
+unfoldable pub rewardsBy : Forms → ℕ → ℕ → List ℤ → Words → Outcome (List ℤ)
+rewardsBy f m n cells ws =
     upon cells (indexed m ws) (λ a ws. upon cells (indexed n ws) (λ s ws. upon cells (starred ws) (λ _ ws. upon cells (starred ws) (λ _ ws.
-    reward m n a s cells ws))))
+    rewardBy f m n a s cells ws))))
 
 -- ---- statements
 
@@ -108,24 +116,60 @@ observationKey = 79 ∷ []
 abbrev pub rewardKey : List ℕ
 rewardKey = 82 ∷ []
 
-unfoldable pub rewardStatement : ℕ → ℕ → Draft → Words → Outcome Draft
-rewardStatement m n d ws = upon d (key rewardKey ws) (λ _ ws. within (λ cells. draft (d .transition) (d .observation) cells) (rewards m n (d .reward) ws))
+unfoldable pub rewardStatementBy : Forms → ℕ → ℕ → Draft → Words → Outcome Draft
+rewardStatementBy f m n d ws =
+    upon d (key rewardKey ws) (λ _ ws. within (λ cells. draft (d .transition) (d .observation) cells) (rewardsBy f m n (d .reward) ws))
 
-unfoldable pub observationOrReward : ℕ → ℕ → ℕ → Draft → Words → Outcome Draft
-observationOrReward m n k d ws =
-    choose (key observationKey ws) (λ ws. within (λ cells. draft (d .transition) cells (d .reward)) (table m n k (d .observation) ws))
-    (rewardStatement m n d ws)
+unfoldable pub observationOrRewardBy : Forms → ℕ → ℕ → ℕ → Draft → Words → Outcome Draft
+observationOrRewardBy f m n k d ws =
+    choose (key observationKey ws) (λ ws. within (λ cells. draft (d .transition) cells (d .reward)) (tableBy f m n k (d .observation) ws))
+    (rewardStatementBy f m n d ws)
 
-unfoldable pub oneStatement : ℕ → ℕ → ℕ → Draft → Words → Outcome Draft
-oneStatement m n k d ws =
-    choose (key transitionKey ws) (λ ws. within (λ cells. draft cells (d .observation) (d .reward)) (table m n n (d .transition) ws))
-    (observationOrReward m n k d ws)
+unfoldable pub oneStatementBy : Forms → ℕ → ℕ → ℕ → Draft → Words → Outcome Draft
+oneStatementBy f m n k d ws =
+    choose (key transitionKey ws) (λ ws. within (λ cells. draft cells (d .observation) (d .reward)) (tableBy f m n n (d .transition) ws))
+    (observationOrRewardBy f m n k d ws)
 
 abbrev pub unlessEnd : {B : Type 0} → Words → B → B → B
 unlessEnd (end at) a b = a
 unlessEnd (word at w rest) a b = b
 
 -- any number of them, up to the end of the file; each has a word, so that one more than the file has bytes are enough
-unfoldable pub statements : ℕ → ℕ → ℕ → ℕ → Draft → Words → Outcome Draft
-statements zero m n k d ws = unlessEnd ws (filled d ws) (stopped 0 0 d)
-statements (suc f) m n k d ws = unlessEnd ws (filled d ws) (further (oneStatement m n k d ws) (λ d ws. statements f m n k d ws))
+unfoldable pub statementsBy : Forms → ℕ → ℕ → ℕ → ℕ → Draft → Words → Outcome Draft
+statementsBy f zero m n k d ws = unlessEnd ws (filled d ws) (stopped 0 0 d)
+statementsBy f (suc fuel) m n k d ws = unlessEnd ws (filled d ws) (further (oneStatementBy f m n k d ws) (λ d ws. statementsBy f fuel m n k d ws))
+
+-- ---- the same with the forms that numbers have
+
+abbrev pub probability : Words → Answer ℕ
+probability = probabilityBy forms
+
+abbrev pub startNumber : Words → Answer ℕ
+startNumber = startNumberBy forms
+
+abbrev pub rewardNumber : Words → Answer ℤ
+rewardNumber = rewardNumberBy forms
+
+abbrev pub entry : ℕ → ℕ → ℕ → ℕ → ℕ → List ℕ → Words → Outcome (List ℕ)
+entry = entryBy forms
+
+abbrev pub table : ℕ → ℕ → ℕ → List ℕ → Words → Outcome (List ℕ)
+table = tableBy forms
+
+abbrev pub reward : ℕ → ℕ → ℕ → ℕ → List ℤ → Words → Outcome (List ℤ)
+reward = rewardBy forms
+
+abbrev pub rewards : ℕ → ℕ → List ℤ → Words → Outcome (List ℤ)
+rewards = rewardsBy forms
+
+abbrev pub rewardStatement : ℕ → ℕ → Draft → Words → Outcome Draft
+rewardStatement = rewardStatementBy forms
+
+abbrev pub observationOrReward : ℕ → ℕ → ℕ → Draft → Words → Outcome Draft
+observationOrReward = observationOrRewardBy forms
+
+abbrev pub oneStatement : ℕ → ℕ → ℕ → Draft → Words → Outcome Draft
+oneStatement = oneStatementBy forms
+
+abbrev pub statements : ℕ → ℕ → ℕ → ℕ → Draft → Words → Outcome Draft
+statements = statementsBy forms

@@ -1,4 +1,4 @@
--- Tables that are not refused are valid, and the other way round; what is kept of them stands for the same model. Assumes nothing.
+-- Tables that are not refused are valid and long enough, and the other way round. Assumes nothing.
 use mathlib.Core.Path.{_≡_}
 use mathlib.Core.Bool.{true}
 use Prim.Native.Nat.{ℕ, _≤_, _<_}
@@ -8,10 +8,14 @@ use borrow.Author.Tests.{leb-true, le-leb, eqb-true, eq-eqb}
 use Rattle.integers.specs.Whole.{totalTo}
 use Rattle.integers.proofs.Searches.{and-true, and-is, every-at, at-every}
 use Rattle.tables.specs.declared.Verdict.the-variants.{Fine}
+use Rattle.tables.specs.declared.Tables.{Tables}
 use Rattle.tables.specs.Limits.{one}
 use Rattle.tables.specs.Model.{Model, Valid}
-use Rattle.tables.specs.Judged.{countWithin, cellsWithin, limitsHold, rowsTotal, modelVerdict}
+use Rattle.tables.specs.Storage.{countsOf, modelOf}
+use Rattle.tables.specs.Steps.{Stored}
+use Rattle.tables.specs.Judged.{countWithin, cellsWithin, limitsHold, rowsTotal, modelVerdict, tablesVerdict}
 use Rattle.tables.proofs.Refusals.{before-fine, unless-fine, fine-at, at-fine}
+use Rattle.tables.proofs.Fitting.{stored-true, stored-is}
 
 pub count-true : (limit n : ℕ) → countWithin limit n ≡ true → (0 < n) × (n ≤ limit)
 count-true limit n e =
@@ -77,3 +81,21 @@ module _ (M : Model) where
       (and-is (cells-is _ _ _ (λ a s' o. M .observation a s' o) (v .observation-limit))
       (at-every _ _ (λ a la. at-every _ _ (λ s ls. le-leb _ _ (v .reward-limit a la s ls))))))) in
       rw (limits, rows-is _ _ _ (λ a s s'. M .transition s a s') 5 (v .transition-row)) (rows-is _ _ _ (λ a s' o. M .observation a s' o) 6 (v .observation-row))
+
+module _ (m : Tables) where
+  -- handed-in tables that are fine are so as a model, and are long enough for their counts
+  pub tables-valid : tablesVerdict m ≡ Fine → Valid (modelOf m)
+  unfolding tablesVerdict modelVerdict
+  tables-valid e =
+      let h = before-fine _ _ e in
+      valid (modelOf m) (rw (and-true (limitsHold (modelOf m)) _ (unless-fine _ 3 0 (h .0)) .0) (h .1))
+
+  pub tables-stored : tablesVerdict m ≡ Fine → Stored (countsOf m) (m .transition) (m .observation) (m .reward)
+  unfolding tablesVerdict
+  tables-stored e = stored-true m (and-true (limitsHold (modelOf m)) _ (unless-fine _ 3 0 (before-fine _ _ e .0)) .1)
+
+  pub tables-fine : Valid (modelOf m) → Stored (countsOf m) (m .transition) (m .observation) (m .reward) → tablesVerdict m ≡ Fine
+  unfolding tablesVerdict modelVerdict
+  tables-fine v s =
+      let h = before-fine _ _ (is-valid (modelOf m) v) in
+      rw (unless-fine (limitsHold (modelOf m)) 3 0 (h .0), stored-is m s) (h .1)

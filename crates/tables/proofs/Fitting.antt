@@ -6,14 +6,14 @@ use native.Mathlib.Nat.{mul-le-mul, mul-le-mul-right}
 use native.Mathlib.Omega.{arith}
 use lib.Dec.{leb}
 use lib.ListN.{length}
-use borrow.Author.Tests.{leb-true}
+use borrow.Author.Tests.{leb-true, le-leb}
 use Rattle.integers.proofs.Lists.{cell-below}
-use Rattle.integers.proofs.Searches.{and-true}
+use Rattle.integers.proofs.Searches.{and-true, and-is}
 use Rattle.tables.specs.declared.Tables.{Tables}
 use Rattle.tables.specs.Model.{Model, Valid}
 use Rattle.tables.specs.Storage.{rowPlace, cellPlace, countsOf, modelOf}
 use Rattle.tables.specs.Steps.{rowsTo, cellsTo, Stored}
-use Rattle.tables.specs.Judged.{countWithin, countsWithin, limitsHold}
+use Rattle.tables.specs.Judged.{countWithin, countsWithin, limitsHold, tablesStored}
 
 -- ---- places that are stored
 pub row-stored : (w r x : ℕ) {size : ℕ} → x < w → rowsTo w r ≤ size → rowPlace w r x < size
@@ -70,6 +70,16 @@ limits-counts M e = and-true (countsWithin (M .states) (M .actions) (M .observat
 
 pub limits-few : (M : Model) → limitsHold M ≡ true → Few (M .actions) (M .states) (M .observations)
 limits-few M e = few (M .states) (M .actions) (M .observations) (limits-counts M e)
+
+-- ---- slices long enough for their counts
+pub stored-true : (m : Tables) → tablesStored m ≡ true → Stored (countsOf m) (m .transition) (m .observation) (m .reward)
+stored-true m e =
+    let h = and-true _ _ e in
+    let l = and-true _ _ (h .1) in
+    record { transitions = leb-true _ _ (h .0); observed = leb-true _ _ (l .0); rewards = leb-true _ _ (l .1) }
+
+pub stored-is : (m : Tables) → Stored (countsOf m) (m .transition) (m .observation) (m .reward) → tablesStored m ≡ true
+stored-is m s = and-is (le-leb _ _ (s .transitions)) (and-is (le-leb _ _ (s .observed)) (le-leb _ _ (s .rewards)))
 
 -- tables by value are long enough for counts within the limits
 pub stored-few : (m : Tables) → Long m → Few (m .actions) (m .states) (m .observations) → Stored (countsOf m) (m .transition) (m .observation) (m .reward)

@@ -1,7 +1,7 @@
 -- Laws for this crate's proofs and those above it.
 pub mod Refusals
-pub mod Accepted
 pub mod Fitting
+pub mod Accepted
 pub mod Regroup
 pub mod Same
 pub mod Prelude

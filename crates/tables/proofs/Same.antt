@@ -1,15 +1,14 @@
--- Two models that agree in every part that is read: tables keep their model, and its sums are the same. Assumes nothing.
+-- Two models that agree in every part that is read: their sums are the same. Assumes nothing.
 use mathlib.Core.Path.{_≡_, refl, _∙_, ap}
 use Prim.Native.Nat.{ℕ, _+_, _*_, _<_}
 use native.Mathlib.Omega.{arith}
 use lib.IntN.{ℤ, pos, _+ℤ_}
 use Rattle.integers.specs.Whole.{_·_}
-use Rattle.integers.proofs.Lists.{cell-below, cut-cell}
 use Rattle.integers.proofs.Sums.{sum-cong, total-cong}
 use Rattle.tables.specs.declared.Tables.{Tables}
 use Rattle.tables.specs.Limits.{K}
 use Rattle.tables.specs.Model.{Model, Valid, successor, expectedReward, backup}
-use Rattle.tables.specs.Storage.{modelOf, kept}
+use Rattle.tables.specs.Storage.{modelOf}
 
 pub record Same (M M' : Model) : Type 0 where
   pub states-same : M' .states ≡ M .states
@@ -75,18 +74,13 @@ module _ (M M' : Model) (e : Same M M') where
         (sum-cong (M .states) _ _ (λ s' l. sum-cong (M .observations) _ _
         (λ o l'. rw (e .transition-same a la s ls s' l, e .observation-same a la s' l o l', h o l' s' l)))))
 
--- Tables keep what stands for their model: the places of its cells lie below the cells that are kept. Qed.
-pub kept-same : (m : Tables) → Same (modelOf m) (modelOf (kept m))
-unfolding kept
-kept-same m =
-    let n = m .states in
-    let k = m .observations in
-    record {
-      states-same = refl;
-      actions-same = refl;
-      observations-same = refl;
-      discount-same = refl;
-      transition-same = λ a la s ls. cut-cell 0 (m .actions * n) n (m .transition) (a * n + s) (cell-below a (m .actions) s n la ls);
-      observation-same = λ a la s ls. cut-cell 0 (m .actions * n) k (m .observation) (a * n + s) (cell-below a (m .actions) s n la ls);
-      reward-same = cut-cell (pos 0) (m .actions) n (m .reward);
-    }
+pub same-self : (M : Model) → Same M M
+same-self M = record {
+  states-same = refl;
+  actions-same = refl;
+  observations-same = refl;
+  discount-same = refl;
+  transition-same = λ a la s ls s' ls'. refl;
+  observation-same = λ a la s' ls' o lo. refl;
+  reward-same = λ a la s ls. refl;
+}

@@ -2,17 +2,15 @@
 use Prim.Native.Nat.{ℕ, _+_, _*_}
 use mathlib.Core.Bool.{Bool, _&&_}
 use lib.Dec.{leb, eqb}
-use lib.ListN.{replicate}
+use lib.ListN.{length, replicate}
 use lib.IntN.{ℤ, pos, natAbs}
 use Rattle.integers.specs.Whole.{totalTo}
 use Rattle.integers.specs.Search.{every}
 use Rattle.tables.specs.declared.Tables.{Tables}
-use Rattle.tables.specs.declared.Opened.{Opened}
 use Rattle.tables.specs.declared.Verdict.{Verdict}
-use Rattle.tables.specs.declared.Verdict.the-variants.{Fine, Refused}
 use Rattle.tables.specs.Limits.{maxStates, maxActions, maxObservations, one, maxReward}
 use Rattle.tables.specs.Model.{Model}
-use Rattle.tables.specs.Storage.{rowPlace, modelOf, kept}
+use Rattle.tables.specs.Storage.{rowPlace, modelOf}
 use Rattle.tables.specs.Verdicts.{_before_, unless, firstOf}
 
 -- 1 to a limit
@@ -42,11 +40,25 @@ limitsHold M =
 unfoldable pub rowsTotal : ℕ → ℕ → ℕ → ℕ → (ℕ → ℕ → ℕ → ℕ) → Verdict
 rowsTotal number m n w cell = firstOf m (λ a. firstOf n (λ s. unless (eqb (totalTo w (λ x. cell a s x)) one) number (rowPlace n a s)))
 
-unfoldable pub modelVerdict : Model → Verdict
-modelVerdict M =
-    unless (limitsHold M) 3 0
-    before rowsTotal 5 (M .actions) (M .states) (M .states) (λ a s s'. M .transition s a s')
+-- 5, then 6
+abbrev pub rowsVerdict : Model → Verdict
+rowsVerdict M =
+    rowsTotal 5 (M .actions) (M .states) (M .states) (λ a s s'. M .transition s a s')
     before rowsTotal 6 (M .actions) (M .states) (M .observations) (λ a s' o. M .observation a s' o)
+
+unfoldable pub modelVerdict : Model → Verdict
+modelVerdict M = unless (limitsHold M) 3 0 before rowsVerdict M
+
+-- slices long enough for their counts
+abbrev pub tablesStored : Tables → Bool
+tablesStored m =
+    leb (m .actions * m .states * m .states) (length (m .transition))
+    && (leb (m .actions * m .states * m .observations) (length (m .observation))
+    && leb (m .actions * m .states) (length (m .reward)))
+
+-- 3, then 5, then 6, of tables of any content: a slice shorter than its counts need gets 3
+unfoldable pub tablesVerdict : Tables → Verdict
+tablesVerdict m = unless (limitsHold (modelOf m) && tablesStored m) 3 0 before rowsVerdict (modelOf m)
 
 -- tables of which every part is 0
 abbrev pub noTables : Tables
@@ -59,11 +71,3 @@ noTables = record {
   observation = replicate (maxActions * maxStates * maxObservations) 0;
   reward = replicate (maxActions * maxStates) (pos 0);
 }
-
-abbrev pub openedBy : Verdict → Tables → Opened
-openedBy Fine m = record { verdict = Fine; tables = kept m }
-openedBy (Refused number place) m = record { verdict = Refused number place; tables = noTables }
-
--- what is kept of tables of any content
-unfoldable pub openedFrom : Tables → Opened
-openedFrom m = openedBy (modelVerdict (modelOf m)) m

@@ -5,7 +5,6 @@ use Prim.Native.Nat.{ℕ, _+_, _*_}
 use mathlib.Core.List.{List}
 use lib.ListN.{getD}
 use lib.IntN.{ℤ, pos}
-use Rattle.integers.specs.Cells.{cut}
 use Rattle.tables.specs.declared.Counts.{Counts}
 use Rattle.tables.specs.declared.Tables.{Tables}
 use Rattle.tables.specs.Model.{Model}
@@ -64,14 +63,14 @@ countsOf m = record { states = m .states; actions = m .actions; observations = m
 abbrev pub modelOf : Tables → Model
 modelOf m = modelIn (countsOf m) (m .transition) (m .observation) (m .reward)
 
--- the same tables with 0 past the counts
-unfoldable pub kept : Tables → Tables
-kept m = record {
-  states = m .states;
-  actions = m .actions;
-  observations = m .observations;
-  discount = m .discount;
-  transition = cut 0 (m .actions * m .states * m .states) (m .transition);
-  observation = cut 0 (m .actions * m .states * m .observations) (m .observation);
-  reward = cut (pos 0) (m .actions * m .states) (m .reward);
+-- tables that are handed in as counts and slices
+abbrev pub tablesIn : Counts → List ℕ → List ℕ → List ℤ → Tables
+tablesIn c transition observation reward = record {
+  states = c .states;
+  actions = c .actions;
+  observations = c .observations;
+  discount = c .discount;
+  transition = transition;
+  observation = observation;
+  reward = reward;
 }

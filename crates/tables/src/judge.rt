@@ -1,23 +1,20 @@
-// Refusals 3, 5 and 6, and what is kept of tables of any content.
+// Refusals 3, 5 and 6 of tables of any content.
 ghost use mathlib.Core.Path.{_≡_};
-ghost use mathlib.Core.Bool.{true};
+ghost use mathlib.Core.Bool.{_&&_};
 ghost use Prim.Native.Nat.{_+_, _*_, _≤_};
 ghost use lib.Dec.{leb};
 ghost use lib.ListN.{length, getD};
 ghost use Rattle.integers.specs.Whole.{totalTo};
 ghost use Rattle.integers.specs.Search.{every};
 ghost use Rattle.tables.specs.Limits.{maxStates, maxActions, maxObservations, one};
-ghost use Rattle.tables.specs.Storage.{cellIn, rewardIn, modelIn, modelOf, kept};
-ghost use Rattle.tables.specs.Steps.{Stored};
-ghost use Rattle.tables.specs.Judged.{countWithin, countsWithin, cellsWithin, rewardsWithin, limitsHold, rowsTotal, modelVerdict, noTables, openedFrom};
+ghost use Rattle.tables.specs.Storage.{cellIn, rewardIn, modelOf, tablesIn};
+ghost use Rattle.tables.specs.Judged.{countWithin, countsWithin, cellsWithin, rewardsWithin, limitsHold, tablesStored, rowsTotal, tablesVerdict, noTables};
 use super::Action;
 use super::Counts;
-use super::Opened;
 use super::State;
 use super::Tables;
 use super::Verdict;
 use super::read;
-use integers::cells;
 
 pub fn count_within(limit: usize, n: usize) -> bool
     ensures { λ r. ⌜ r ≡ countWithin limit n ⌝ }
@@ -88,17 +85,40 @@ fn rewards_within(cells: &[i64], m: usize, n: usize) -> bool
     true
 }
 
-// 3
+// Whether the slices are long enough for their counts.
+fn tables_stored<'a>(
+    transition: &'a [u16],
+    observation: &'a [u16],
+    reward: &'a [i64],
+    c: Counts,
+) -> bool
+    requires { ⌜ (c .states ≤ maxStates) × ((c .actions ≤ maxActions) × (c .observations ≤ maxObservations)) ⌝ }
+    ensures { λ r. ⌜ r ≡ tablesStored (tablesIn c (now (transition .entry)) (now (observation .entry)) (now (reward .entry))) ⌝ }
+{
+    let rows = c.actions * c.states;
+    if transition.len() < rows * c.states {
+        return false;
+    }
+    if observation.len() < rows * c.observations {
+        return false;
+    }
+    rows <= reward.len()
+}
+
+// 3: the counts come first, since the cells lie by them.
 fn limits_hold<'a>(
     transition: &'a [u16],
     observation: &'a [u16],
     reward: &'a [i64],
     c: Counts,
 ) -> bool
-    requires { ⌜ (countsWithin (c .states) (c .actions) (c .observations) ≡ true → Stored c (now transition) (now observation) (now reward)) ⌝ }
-    ensures { λ r. ⌜ r ≡ limitsHold (modelIn c (now (transition .entry)) (now (observation .entry)) (now (reward .entry))) ⌝ }
+    ensures { λ r. ⌜ (let m = tablesIn c (now (transition .entry)) (now (observation .entry)) (now (reward .entry)) in
+        r ≡ limitsHold (modelOf m) && tablesStored m) ⌝ }
 {
     if !counts_within(c.states, c.actions, c.observations) {
+        return false;
+    }
+    if !tables_stored(transition, observation, reward, c) {
         return false;
     }
     if Tables::ONE < c.discount {
@@ -144,15 +164,14 @@ pub fn rows_total(cells: &[u16], m: usize, n: usize, w: usize, number: u8) -> Ve
     found
 }
 
-// 3, then 5, then 6.
+// 3, then 5, then 6, of tables of any content.
 pub fn judge_tables<'a>(
     transition: &'a [u16],
     observation: &'a [u16],
     reward: &'a [i64],
     c: Counts,
 ) -> Verdict
-    requires { ⌜ (countsWithin (c .states) (c .actions) (c .observations) ≡ true → Stored c (now transition) (now observation) (now reward)) ⌝ }
-    ensures { λ r. ⌜ r ≡ modelVerdict (modelIn c (now (transition .entry)) (now (observation .entry)) (now (reward .entry))) ⌝ }
+    ensures { λ r. ⌜ r ≡ tablesVerdict (tablesIn c (now (transition .entry)) (now (observation .entry)) (now (reward .entry))) ⌝ }
 {
     if !limits_hold(transition, observation, reward, c) {
         return Verdict::Refused(3, 0);
@@ -162,32 +181,6 @@ pub fn judge_tables<'a>(
         return transitions;
     };
     rows_total(observation, c.actions, c.states, c.observations, 6)
-}
-
-// The tables with 0 past their counts.
-fn keep(m: Tables) -> Tables
-    requires { ⌜ (m .actions ≤ maxActions) × ((m .states ≤ maxStates) × (m .observations ≤ maxObservations)) ⌝ }
-    ensures { λ r. ⌜ r ≡ kept m ⌝ }
-{
-    let n = m.states;
-    let actions = m.actions;
-    let k = m.observations;
-    let mut transition = m.transition;
-    let mut observation = m.observation;
-    let mut reward = m.reward;
-    let rows = actions * n;
-    cells::clear_u16(&mut transition, rows * n);
-    cells::clear_u16(&mut observation, rows * k);
-    cells::clear_i64(&mut reward, rows);
-    Tables {
-        states: n,
-        actions: actions,
-        observations: k,
-        discount: m.discount,
-        transition: transition,
-        observation: observation,
-        reward: reward,
-    }
 }
 
 impl Tables {
@@ -203,35 +196,6 @@ impl Tables {
             transition: [0u16; Tables::ACTIONS * Tables::STATES * Tables::STATES],
             observation: [0u16; Tables::ACTIONS * Tables::STATES * Tables::OBSERVATIONS],
             reward: [0i64; Tables::ACTIONS * Tables::STATES],
-        }
-    }
-}
-
-// What is kept of tables of any content, or the refusal with every other part 0.
-pub fn open_tables(m: Tables) -> Opened
-    ensures { λ r. ⌜ r ≡ openedFrom m ⌝ }
-{
-    let c = Counts {
-        states: m.states,
-        actions: m.actions,
-        observations: m.observations,
-        discount: m.discount,
-    };
-    let verdict = judge_tables(&m.transition, &m.observation, &m.reward, c);
-    match verdict {
-        Verdict::Fine => {
-            let tables = keep(m);
-            Opened {
-                verdict: Verdict::Fine,
-                tables: tables,
-            }
-        }
-        Verdict::Refused(number, place) => {
-            let tables = Tables::none();
-            Opened {
-                verdict: Verdict::Refused(number, place),
-                tables: tables,
-            }
         }
     }
 }

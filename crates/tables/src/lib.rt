@@ -1,5 +1,5 @@
 // The model: its tables, what they are refused for, and the sums that backups are made of.
-pub mod judge; // refusals 3, 5 and 6, and what is kept of tables
+pub mod judge; // refusals 3, 5 and 6
 pub mod read; // one cell of a table
 pub mod sums; // successor weights, expected rewards and vector backups
 
@@ -40,12 +40,6 @@ pub struct Tables {
 pub enum Verdict {
     Fine,
     Refused(u8, usize),
-}
-
-// The verdict on tables, with what is kept of them.
-pub struct Opened {
-    pub verdict: Verdict,
-    pub tables: Tables,
 }
 
 impl Tables {

@@ -1,26 +1,30 @@
 -- How large worths are, how one step makes them of those with a step less, and what a graph that is not refused has. Assumes nothing.
 use mathlib.Core.Path.{_≡_, refl, sym, _∙_, ap}
+use mathlib.Core.Bool.{true}
 use mathlib.Core.List.{List}
 use Prim.Native.Nat.{ℕ, zero, suc, _+_, _*_, _≤_, _<_}
 use native.Mathlib.Nat.{mul-le-mul}
 use native.Mathlib.Omega.{arith}
 use native.Mathlib.Numerals.{add-one}
-use lib.ListN.{length, getD, replicate}
+use lib.ListN.{length, getD, replicate, length-replicate}
 use lib.Seq.{paste}
 use lib.IntN.{ℤ, pos, natAbs}
 use borrow.Author.Tests.{ltb-true, leb-true}
 use Rattle.integers.specs.Whole.{floorDiv, Within}
-use Rattle.integers.specs.Cells.{padded, grid}
-use Rattle.integers.proofs.Lists.{padded-at, padded-cong, padded-none, padded-length, grid-at, grid-cong, grid-zero, grid-length, grid-more, filled-within}
+use Rattle.integers.specs.Cells.{padded}
+use Rattle.integers.proofs.Lists.{padded-at, padded-cong, padded-length, laidRows-none, laidRows-at, laidRows-cong, laidRows-more}
+use Rattle.integers.proofs.Lists.{grid-zero, grid-length, filled-within}
 use Rattle.integers.proofs.Rounding.{floor-range}
 use Rattle.integers.proofs.Searches.{and-true}
 use Rattle.tables.specs.declared.Counts.{Counts}
+use Rattle.tables.specs.declared.Tables.{Tables}
 use Rattle.tables.specs.declared.Verdict.the-variants.{Fine}
-use Rattle.tables.specs.Limits.{maxStates, maxActions, maxVectors, maxEntry, K}
+use Rattle.tables.specs.Limits.{maxStates, maxActions, K}
 use Rattle.tables.specs.Model.{Model, backedUp}
-use Rattle.tables.specs.Storage.{entryIn, modelIn}
+use Rattle.tables.specs.Storage.{entryIn, countsOf, modelIn, modelOf}
 use Rattle.tables.specs.Steps.{foreseenIn, backupIn, TransitionsFit, ObservationsFit, RewardsFit, EntriesFit, ChosenFit, foreseenLimit}
-use Rattle.tables.proofs.Accepted.{valid, count-true}
+use Rattle.tables.specs.Judged.{countWithin}
+use Rattle.tables.proofs.Accepted.{tables-valid, tables-stored, count-true}
 use Rattle.tables.proofs.Fitting.{rows-stored}
 use Rattle.tables.proofs.Refusals.{before-fine, unless-fine}
 use Rattle.tables.proofs.Regroup.{backup-regrouped, foreseen-limit, transitions-fit, observations-fit, rewards-fit}
@@ -30,8 +34,8 @@ use Rattle.plans.proofs.Built.{K-positive, backup-within, range-limit}
 use Rattle.levels.proofs.Laws.{numbers-in}
 use Rattle.worth.specs.Limits.{maxNodes, maxSteps}
 use Rattle.worth.specs.Graph.{PlanGraph, worthOf, Sound, Accepted}
-use Rattle.worth.specs.Storage.{graphIn}
-use Rattle.worth.specs.Steps.{Lent, backedUpOf, worthsBy}
+use Rattle.worth.specs.Storage.{LentGraph, graphIn, graphOf, graphStored}
+use Rattle.worth.specs.Steps.{GraphStored, Lent, backedUpOf, worthsBy}
 use Rattle.worth.specs.Judged.{worthVerdict}
 
 -- A worth with d steps left lies within the range of level d.
@@ -46,8 +50,11 @@ worth-range M G h (suc d) v s lv ls =
 
 -- no row is filled yet
 pub worths-none-yet : (n : ℕ) (worth : ℕ → ℕ → ℤ) → replicate (maxNodes * maxStates) (pos 0) ≡ worthsBy n 0 worth
-unfolding grid
-worths-none-yet n worth = let e : 0 * n ≡ 0 = omega arith in rw e (sym (padded-none (pos 0) (maxNodes * maxStates) _))
+worths-none-yet n worth = sym (laidRows-none n worth (replicate (maxNodes * maxStates) (pos 0)))
+
+-- what `graphStored` tests
+pub graph-stored : (k : ℕ) (g : LentGraph) → graphStored k g ≡ true → GraphStored k (g .nodes) (g .actions) (g .next)
+graph-stored k g e = let h = and-true _ _ e in record { actions-long = leb-true _ _ (h .0); next-stored = leb-true _ _ (h .1) }
 
 -- the nodes' rows lie in the array
 pub worths-room : {n nodes : ℕ} → n ≤ maxStates → nodes ≤ maxNodes → nodes * n ≤ maxNodes * maxStates
@@ -115,8 +122,8 @@ module _ {c : Counts} {nodes : ℕ} {T O : List ℕ} {R : List ℤ} {actions nex
     pub worths-more : {i : ℕ} {ws row ws' : List ℤ} → i < nodes → ws ≡ worthsBy (c .states) i worth → row ≡ padded (pos 0) maxStates (c .states) (worth i)
         → ws' ≡ paste ws (i * c .states) row (c .states) → ws' ≡ worthsBy (c .states) (i + 1) worth
     worths-more {i} {ws} {row} l e r p =
-        p ∙ rw e (grid-more (pos 0) (maxNodes * maxStates) i (c .states) worth row
-        (worths-room few-states (omega (arith, l, h .sound .few-nodes)))
+        p ∙ rw e (laidRows-more i (c .states) worth (replicate (maxNodes * maxStates) (pos 0)) row (pos 0)
+        (rw (length-replicate (maxNodes * maxStates) (pos 0)) (worths-room few-states (omega (arith, l, h .sound .few-nodes))))
         (rw r (omega (arith, few-states, padded-length (pos 0) maxStates (c .states) (worth i) few-states)))
         (λ x b. rw r (padded-at (pos 0) maxStates (c .states) (worth i) x (pos 0) b)))
 
@@ -129,7 +136,7 @@ module _ {c : Counts} {nodes : ℕ} {T O : List ℕ} {R : List ℤ} {actions nex
   -- a worth is read where it is stored
   pub worth-at : (d : ℕ) {ws : List ℤ} → ws ≡ worthsBy (c .states) nodes (worthOf model graph d)
       → (v : ℕ) → v < nodes → (s : ℕ) → s < c .states → entryIn (c .states) ws v s ≡ worthOf model graph d v s
-  worth-at d e v l s b = rw e (grid-at (pos 0) (maxNodes * maxStates) nodes (c .states) (worthOf model graph d) v s (pos 0) l b)
+  worth-at d e v l s b = rw e (laidRows-at nodes (c .states) (worthOf model graph d) (replicate (maxNodes * maxStates) (pos 0)) v s (pos 0) l b)
 
   -- worths with d steps left are within the limits, wherever they are stored
   pub worths-fit : (d : ℕ) {ws : List ℤ} → d ≤ maxSteps → ws ≡ worthsBy (c .states) nodes (worthOf model graph d) → EntriesFit (c .states) nodes ws
@@ -145,29 +152,41 @@ module _ {c : Counts} {nodes : ℕ} {T O : List ℕ} {R : List ℤ} {actions nex
       → ws' ≡ worthsBy (c .states) nodes (backedUpOf c nodes T O R actions next ws) → ws' ≡ worthsBy (c .states) nodes (worthOf model graph (d + 1))
   unfolding backedUp worthOf
   worths-step d e e' =
-      e' ∙ grid-cong (pos 0) (maxNodes * maxStates) nodes (c .states) _ _ (λ v l s b. ap (λ (z : ℤ). floorDiv z K)
+      e' ∙ laidRows-cong nodes (c .states) _ _ (replicate (maxNodes * maxStates) (pos 0)) (λ v l s b. ap (λ (z : ℤ). floorDiv z K)
       (backup-cong model (graph .action v) _ _ s (λ o k s' k'. worth-at d e (graph .next v o) (h .sound .next-in v l o k) s' k')))
       ∙ rw (add-one d) refl
 
 -- ---- what is not refused
 -- Each stage of a fine verdict is fine, so each of its tests passed. Qed.
-pub accepted : (M : Model) (G : PlanGraph) (v s d : ℕ) → worthVerdict M G v s d ≡ Fine → Accepted M G v s d
-unfolding worthVerdict
-accepted M G v s d e =
-    let tested = before-fine _ _ e in
-    let count = before-fine _ _ (tested .1) in
-    let numbers = before-fine _ _ (count .1) in
-    let exist = numbers-in 18 (G .nodes) (M .actions) (M .observations) (G .nodes) (G .action) (G .next) (numbers .0) in
-    let asked = and-true _ _ (unless-fine _ _ _ (numbers .1)) in
-    let left = and-true _ _ (asked .1) in
-    record {
-      sound = record {
-        valid = valid M (tested .0);
-        few-nodes = count-true _ _ (unless-fine _ _ _ (count .0)) .1;
-        action-in = λ u l. exist u l .0;
-        next-in = λ u l. exist u l .1;
-      };
-      node = ltb-true _ _ (asked .0);
-      state = ltb-true _ _ (left .0);
-      steps = leb-true _ _ (left .1);
-    }
+module _ (m : Tables) (g : LentGraph) (v s d : ℕ) (e : worthVerdict m g v s d ≡ Fine) where
+  pub accepted : Accepted (modelOf m) (graphOf (m .observations) g) v s d
+  unfolding worthVerdict
+  accepted =
+      let tested = before-fine _ _ e in
+      let count = before-fine _ _ (tested .1) in
+      let numbers = before-fine _ _ (count .1) in
+      let exist = numbers-in 18 (g .nodes) (m .actions) (m .observations) (g .nodes) _ _ (numbers .0) in
+      let asked = and-true _ _ (unless-fine _ _ _ (numbers .1)) in
+      let left = and-true _ _ (asked .1) in
+      record {
+        sound = record {
+          valid = tables-valid m (tested .0);
+          few-nodes = count-true _ _ (and-true (countWithin maxNodes (g .nodes)) _ (unless-fine _ _ _ (count .0)) .0) .1;
+          action-in = λ u l. exist u l .0;
+          next-in = λ u l. exist u l .1;
+        };
+        node = ltb-true _ _ (asked .0);
+        state = ltb-true _ _ (left .0);
+        steps = leb-true _ _ (left .1);
+      }
+
+  pub lent : Lent (countsOf m) (g .nodes) (m .transition) (m .observation) (m .reward) (g .actions) (g .next)
+  unfolding worthVerdict
+  lent =
+      let tested = before-fine _ _ e in
+      let count = before-fine _ _ (tested .1) in
+      record {
+        sound = accepted .sound;
+        tables = tables-stored m (tested .0);
+        graph = graph-stored (m .observations) g (and-true (countWithin maxNodes (g .nodes)) _ (unless-fine _ _ _ (count .0)) .1);
+      }

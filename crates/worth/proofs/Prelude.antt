@@ -1,6 +1,5 @@
 -- What more than one proof of this crate names.
-pub use Prim.Native.Nat.{_*_, _+_, _<_, _≤_}
-pub use Rattle.integers.proofs.Words.{answer}
+pub use Prim.Native.Nat.{_≤_}
 pub use Rattle.tables.specs.Storage.{modelOf}
 pub use Rattle.worth.specs.Limits.{maxNodes}
 pub use borrow.Author.Needs.{needs}

@@ -1,18 +1,18 @@
 // A plan graph's worth: the worths of all nodes at all states with one step left, then with two, up to the steps asked for.
 ghost use mathlib.Core.Path.{_≡_};
-ghost use mathlib.Core.Bool.{true};
+ghost use mathlib.Core.Bool.{_&&_};
 ghost use Prim.Native.Nat.{_≤_, _<_};
 ghost use lib.ListN.{length, getD};
 ghost use lib.IntN.{pos};
 ghost use Rattle.integers.specs.Cells.{padded};
 ghost use Rattle.tables.specs.Limits.{maxStates, maxObservations};
-ghost use Rattle.tables.specs.Storage.{modelIn};
-ghost use Rattle.tables.specs.Steps.{EntriesFit, Stored};
-ghost use Rattle.tables.specs.Judged.{countsWithin};
+ghost use Rattle.tables.specs.Storage.{modelIn, tablesIn};
+ghost use Rattle.tables.specs.Steps.{EntriesFit};
+ghost use Rattle.tables.specs.Judged.{countWithin};
 ghost use Rattle.worth.specs.Limits.{maxNodes, maxSteps};
 ghost use Rattle.worth.specs.Graph.{worthOf};
-ghost use Rattle.worth.specs.Storage.{graphIn};
-ghost use Rattle.worth.specs.Steps.{GraphStored, Lent, backedUpOf, worthsBy};
+ghost use Rattle.worth.specs.Storage.{lentGraph, graphIn, graphStored};
+ghost use Rattle.worth.specs.Steps.{Lent, backedUpOf, worthsBy};
 ghost use Rattle.worth.specs.Judged.{askedWithin, worthVerdict, worthAnswer};
 use integers::cells;
 use levels::shape;
@@ -29,19 +29,11 @@ use tables::sums;
 
 pub struct Node(pub usize);
 
-pub type Actions = [u8; Graph::NODES];
-
-pub type NextNodes = [u16; Graph::NODES * Tables::OBSERVATIONS];
-
 // By node and state, packed by the number of states.
 type Worths = [i64; Graph::NODES * Tables::STATES];
 
-// A plan graph by value: next nodes by node and observation, packed by the counts.
-pub struct Graph {
-    pub nodes: usize,
-    pub actions: Actions,
-    pub next: NextNodes,
-}
+// A plan graph, in slices packed by the counts: actions by node, next nodes by node and observation.
+pub struct Graph {}
 
 // The verdict on what is asked, with the worth.
 pub struct Valued {
@@ -170,30 +162,42 @@ fn asked_within(nodes: usize, n: usize, v: Node, s: State, d: usize) -> bool
     d <= Graph::STEPS
 }
 
+// The node count, and slices long enough for it.
+fn nodes_within<'b>(actions: &'b [u8], next: &'b [u16], nodes: usize, k: usize) -> bool
+    requires { ⌜ k ≤ maxObservations ⌝ }
+    ensures { λ r. ⌜ r ≡ countWithin maxNodes nodes && graphStored k (lentGraph nodes (now (actions .entry)) (now (next .entry))) ⌝ }
+{
+    if !judge::count_within(Graph::NODES, nodes) {
+        return false;
+    }
+    if actions.len() < nodes {
+        return false;
+    }
+    nodes * k <= next.len()
+}
+
 // 3, 5 and 6 of the tables, then 18.
 fn judge_worth<'a, 'b>(
     transition: &'a [u16],
     observation: &'a [u16],
     reward: &'a [i64],
-    actions: &'b [u8],
-    next: &'b [u16],
     c: Counts,
     nodes: usize,
+    actions: &'b [u8],
+    next: &'b [u16],
     v: Node,
     s: State,
     d: usize,
 ) -> Verdict
-    requires { ⌜ (countsWithin (c .states) (c .actions) (c .observations) ≡ true → Stored c (now transition) (now observation) (now reward)) ⌝ }
-    requires { ⌜ (nodes ≤ maxNodes → c .observations ≤ maxObservations → GraphStored (c .observations) nodes (now actions) (now next)) ⌝ }
     ensures { λ r. ⌜ r
-        ≡ worthVerdict (modelIn c (now (transition .entry)) (now (observation .entry)) (now (reward .entry)))
-        (graphIn (c .observations) nodes (now (actions .entry)) (now (next .entry))) (v .0) (s .0) d ⌝ }
+        ≡ worthVerdict (tablesIn c (now (transition .entry)) (now (observation .entry)) (now (reward .entry)))
+        (lentGraph nodes (now (actions .entry)) (now (next .entry))) (v .0) (s .0) d ⌝ }
 {
     let tables = judge::judge_tables(transition, observation, reward, c);
     let Verdict::Fine = tables else {
         return tables;
     };
-    if !judge::count_within(Graph::NODES, nodes) {
+    if !nodes_within(actions, next, nodes, c.observations) {
         return Verdict::Refused(18, 0);
     }
     let numbers = shape::numbers_exist(actions, next, nodes, c.actions, c.observations, nodes, 18);
@@ -207,40 +211,37 @@ fn judge_worth<'a, 'b>(
 }
 
 // The worth of a node at a state with d steps left, of tables and a graph of any content, or refused by 3, 5, 6 or 18.
-pub fn worth(m: Tables, g: Graph, v: Node, s: State, d: usize) -> Valued
-    ensures { λ r. ⌜ r ≡ worthAnswer m g (v .0) (s .0) d ⌝ }
+pub fn worth<'a, 'b>(
+    transition: &'a [u16],
+    observation: &'a [u16],
+    reward: &'a [i64],
+    c: Counts,
+    nodes: usize,
+    actions: &'b [u8],
+    next: &'b [u16],
+    v: Node,
+    s: State,
+    d: usize,
+) -> Valued
+    ensures { λ r. ⌜ r
+        ≡ worthAnswer (tablesIn c (now (transition .entry)) (now (observation .entry)) (now (reward .entry)))
+        (lentGraph nodes (now (actions .entry)) (now (next .entry))) (v .0) (s .0) d ⌝ }
 {
-    let c = Counts {
-        states: m.states,
-        actions: m.actions,
-        observations: m.observations,
-        discount: m.discount,
-    };
-    let nodes = g.nodes;
     let verdict = judge_worth(
-        &m.transition,
-        &m.observation,
-        &m.reward,
-        &g.actions,
-        &g.next,
+        transition,
+        observation,
+        reward,
         c,
         nodes,
+        actions,
+        next,
         v,
         s,
         d,
     );
     match verdict {
         Verdict::Fine => {
-            let all = worths(
-                &m.transition,
-                &m.observation,
-                &m.reward,
-                &g.actions,
-                &g.next,
-                c,
-                nodes,
-                d,
-            );
+            let all = worths(transition, observation, reward, actions, next, c, nodes, d);
             let ticks = read::entry_at(&all, c.states, Vector(v.0), s);
             Valued {
                 verdict: Verdict::Fine,

@@ -32,22 +32,52 @@ fn words(file: &[u8]) -> Vec<(usize, &[u8])> {
     words
 }
 
-/// The value of digits, optionally a point and decimals, in units of the last possible decimal.
+/// Whether all of a text is digits.
+fn digits(text: &str) -> bool {
+    text.bytes().all(|byte| byte.is_ascii_digit())
+}
+
+/// A count or an index.
+fn index(word: &[u8]) -> Option<i64> {
+    let text = std::str::from_utf8(word).ok()?;
+    if text.len() > 2 || !digits(text) {
+        return None;
+    }
+    text.parse().ok()
+}
+
+/// The value of a whole part, a point and decimals, and an exponent, in units of the last possible decimal.
 fn amount(word: &[u8], most_digits: usize, most_decimals: usize) -> Option<i64> {
     let text = std::str::from_utf8(word).ok()?;
-    let (whole, decimals) = match text.split_once('.') {
-        Some((whole, decimals)) if !decimals.is_empty() => (whole, decimals),
-        Some(_) => return None,
-        None => (text, ""),
+    let (number, exponent) = match text.split_once('e') {
+        Some((number, exponent)) => (number, power(exponent)?),
+        None => (text, 0),
     };
-    let digits = |text: &str| text.bytes().all(|byte| byte.is_ascii_digit());
-    if whole.is_empty() || whole.len() > most_digits || decimals.len() > most_decimals {
+    let (whole, decimals) = number.split_once('.').unwrap_or((number, ""));
+    if whole.is_empty() && decimals.is_empty() || whole.len() > most_digits || decimals.len() > most_decimals {
         return None;
     }
     if !digits(whole) || !digits(decimals) {
         return None;
     }
-    format!("{}{:0<width$}", whole, decimals, width = most_decimals).parse().ok()
+    let units: i64 = format!("{}{:0<width$}", whole, decimals, width = most_decimals).parse().ok()?;
+    let scale = 10_i64.pow(exponent.unsigned_abs());
+    if exponent >= 0 {
+        return Some(units * scale);
+    }
+    (units % scale == 0).then_some(units / scale)
+}
+
+/// What follows an `e`.
+fn power(text: &str) -> Option<i32> {
+    let (sign, digit) = match text.strip_prefix('-') {
+        Some(digit) => (-1, digit),
+        None => (1, text),
+    };
+    match digit {
+        "0" | "1" | "2" | "3" => digit.parse::<i32>().ok().map(|power| sign * power),
+        _ => None,
+    }
 }
 
 struct Reader<'a> {
@@ -78,7 +108,7 @@ impl<'a> Reader<'a> {
 
     fn count(&mut self, most: usize) -> Answer<usize> {
         let (place, word) = self.word()?;
-        match amount(word, 2, 0) {
+        match index(word) {
             None => refused(2, place),
             Some(count) if (1..=most as i64).contains(&count) => Ok(count as usize),
             Some(_) => refused(3, place),
@@ -91,7 +121,7 @@ impl<'a> Reader<'a> {
         if word == b"*" {
             return Ok(0..count);
         }
-        match amount(word, 2, 0) {
+        match index(word) {
             None => refused(2, place),
             Some(index) if index < count as i64 => Ok(index as usize..index as usize + 1),
             Some(_) => refused(3, place),

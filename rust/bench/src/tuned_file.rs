@@ -31,30 +31,66 @@ impl Word<'_> {
     }
 }
 
-/// The value of digits, optionally a point and decimals, in units of the last possible decimal.
+/// A count or an index.
+fn index(bytes: &[u8]) -> Option<i64> {
+    let digit = |byte: &u8| byte.is_ascii_digit().then(|| i64::from(byte - b'0'));
+    match bytes {
+        [one] => digit(one),
+        [ten, one] => Some(10 * digit(ten)? + digit(one)?),
+        _ => None,
+    }
+}
+
+/// The value of a whole part, a point and decimals, and an exponent, in units of the last possible decimal.
 fn amount(bytes: &[u8], most_digits: usize, most_decimals: usize) -> Option<i64> {
     let mut value = 0;
     let mut digits = 0;
     let mut decimals = None;
-    for &byte in bytes {
+    let mut exponent = None;
+    for (at, &byte) in bytes.iter().enumerate() {
         match (byte, &mut decimals) {
             (b'0'..=b'9', None) if digits < most_digits => digits += 1,
             (b'0'..=b'9', Some(decimals)) if *decimals < most_decimals => *decimals += 1,
-            (b'.', None) if digits > 0 => {
+            (b'.', None) => {
                 decimals = Some(0);
                 continue;
+            }
+            (b'e', _) => {
+                exponent = Some(&bytes[at + 1..]);
+                break;
             }
             _ => return None,
         }
         value = value * 10 + i64::from(byte - b'0');
     }
-    if digits == 0 || decimals == Some(0) {
+    let decimals = decimals.unwrap_or(0);
+    if digits + decimals == 0 {
         return None;
     }
-    for _ in decimals.unwrap_or(0)..most_decimals {
+    for _ in decimals..most_decimals {
         value *= 10;
     }
-    Some(value)
+    match exponent {
+        Some(exponent) => scaled(value, exponent),
+        None => Some(value),
+    }
+}
+
+/// The value by what follows its `e`.
+fn scaled(value: i64, exponent: &[u8]) -> Option<i64> {
+    let (down, digit) = match exponent {
+        [digit] => (false, digit),
+        [b'-', digit] => (true, digit),
+        _ => return None,
+    };
+    let scale = match digit {
+        b'0'..=b'3' => 10_i64.pow(u32::from(digit - b'0')),
+        _ => return None,
+    };
+    if !down {
+        return Some(value * scale);
+    }
+    (value % scale == 0).then_some(value / scale)
 }
 
 impl<'a> Reader<'a> {
@@ -95,7 +131,7 @@ impl<'a> Reader<'a> {
 
     fn count(&mut self, most: usize) -> Answer<usize> {
         let word = self.word()?;
-        word.within(amount(word.bytes, 2, 0), 1, most as i64).map(|count| count as usize)
+        word.within(index(word.bytes), 1, most as i64).map(|count| count as usize)
     }
 
     /// The first of the indices that a word stands for, and the one after the last.
@@ -105,7 +141,7 @@ impl<'a> Reader<'a> {
         if word.bytes == b"*" {
             return Ok((0, count));
         }
-        let index = word.within(amount(word.bytes, 2, 0), 0, count as i64 - 1)? as usize;
+        let index = word.within(index(word.bytes), 0, count as i64 - 1)? as usize;
         Ok((index, index + 1))
     }
 

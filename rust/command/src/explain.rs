@@ -31,7 +31,7 @@ const EXPLANATIONS: &[Explanation] = &[
         causes: &[
             "Names for states, actions or observations, matrices, `identity`, `uniform`, costs: `biidhaqun import` reads them.",
             "Too many decimals: probabilities and the discount have at most three, start numbers and rewards two.",
-            "`.5`, `1.` and `5e-1`: write 0.5 and 1.",
+            "An exponent beyond e-3 to e3, with a plus or a capital E, or one that leaves no whole number of the smallest unit: 5e-1 is read, 5E-1 and 5e-4 are not.",
             "A row with a number too few: then the next statement's key stands where a number was wanted.",
             "A header out of order: discount, values, states, actions, observations, start.",
         ],

@@ -98,8 +98,11 @@ fn check_tells_the_place_as_compilers_do() {
     assert!(start.starts_with("error[4]: the start numbers total 0.99\n"), "{}", start);
     let limit = told("limit.pomdp", ["T: 1 : *", "T: 2 : *"]);
     assert!(limit.contains("FILE:9:4\n") && limit.contains("wanted: one of the actions 0 to 1"), "{}", limit);
-    let form = told("form.pomdp", ["0.8 0.2", ".8 0.2"]);
+    let form = told("form.pomdp", ["0.8 0.2", "8e-4 0.2"]);
     assert!(form.contains("FILE:10:10\n") && form.contains("wanted: a probability"), "{}", form);
+    assert!(form.contains("behind the e stands an optional minus and one digit from 0 to 3"), "{}", form);
+    let unit = told("unit.pomdp", ["start: 0.5", "start: 5e-3"]);
+    assert!(unit.contains("FILE:6:8\n") && unit.contains("it is no whole number of hundredths"), "{}", unit);
     let names = told("names.pomdp", ["states: 2", "states: wet dry"]);
     assert!(names.contains("FILE:3:9\n") && names.contains("`biidhaqun import`"), "{}", names);
 }

@@ -38,6 +38,25 @@ O: 0 : 1 : 0 0 O:0:1:1 0.5\r\n\
 R: * : * : * : * -0001.50 R: 0 : 1 : * : * 1000.00\r\n\
 #";
 
+/// Numbers as people type them: parts are missing, and exponents follow.
+const TYPED: &str = "\
+discount: .9
+values: reward
+states: 2
+actions: 2
+observations: 2
+start: 5e-1 .05e1
+T: 0 : 0 .5 5.e-1
+T: 0 : 1 0. 1.
+T: 1 : * 1e0 0e-3
+O: 0 : 0 8e-1 .2e0
+O: 0 : 1 0.3e-0 .007e2
+O: 1 : * .50 .500
+R: 0 : * : * : * -1.
+R: 1 : 0 : * : * -1e1
+R: 1 : 1 : * : * 6000e-3
+";
+
 /// A model with the statements that the dough model lacks.
 const SINGLES: &str = "\
 discount: 0.95
@@ -58,6 +77,8 @@ R: * : 0 : * : * -0.5
 const WORDS: &str = "
     0 1 2 3 7 8 9 10 15 16 17 99 100 256 65536 4294967296 18446744073709551616 00 01 02 08 000 001 016 -0 -1 -2 +0 +1
     0.0 0.5 0.55 0.555 0.5555 0.50000 1. 1.0 1.00 1.000 1.0000 1.001 1.01 .5 . .. 1..0 1.0.0 9.999 10.0 0100 0,5 1e0 0x1
+    5e-1 5.e-1 .5e0 .05e1 1.e0 1.e-3 1e-0 1e-3 1e3 0e-3 .0e3 .001e3 .11e1 9e-1 1.25e-1 .125e1 1.5e-3 10e-1 0.5000
+    e1 .e1 -. e 1e 1e- 1e4 1e-4 1e00 1e-00 1e+0 1E0 1e0e0 1e.5 .5. 5e-1. -5e-1 -.5e1 -e1 12.5e1 -1e3 1001e0 2e3 1000e-3
     - --1 1- -.5 -0.5 -0.00 1000 1000.00 1000.01 -1000 -1000.00 -1000.01 1001 9999.99 10000 00001 0001 -0000
     * ** *0 0* : :: = ; / \\ \"0\" 0:0 T: T O R TT T0 T1 t o r Discount discount values reward Reward rewards cost
     states actions observations start uniform identity x";
@@ -138,6 +159,7 @@ pub fn fixed() -> Vec<Case> {
     let mut cases = vec![
         Case::new("the dough model", DOUGH),
         Case::new("a dressed model", DRESSED),
+        Case::new("the dough model as people type it", TYPED),
         Case::new("the dough model with a wrong row", DOUGH.replace("T: 0 : 1 0 1", "T: 0 : 1 0 0")),
         Case::new("the dough model with CR LF", DOUGH.replace('\n', "\r\n")),
         Case::new("the dough model with CR", DOUGH.replace('\n', "\r")),
@@ -147,7 +169,7 @@ pub fn fixed() -> Vec<Case> {
         Case::new("the dough model twice", format!("{}{}", DOUGH, DOUGH)),
         Case::new("the dough model with a mark in front", [b"\xef\xbb\xbf", DOUGH.as_bytes()].concat()),
     ];
-    for (name, text) in [("dough", DOUGH), ("dressed", DRESSED)] {
+    for (name, text) in [("dough", DOUGH), ("dressed", DRESSED), ("typed", TYPED)] {
         for length in 0..=text.len() {
             let file = &text.as_bytes()[..length];
             cases.push(Case::new(format!("the {} model cut at {}", name, length), file));
@@ -378,9 +400,10 @@ fn nudge(rng: &mut Rng, lines: &mut Lines) {
         let (line, at) = some_word(rng, lines);
         let word = &mut lines[line][at];
         if word.contains(&b'.') {
-            let last = word.len() - 1;
-            word[last] = b'0' + (word[last] - b'0' + 1) % 10;
-            return;
+            if let Some(last) = word.iter().rposition(u8::is_ascii_digit) {
+                word[last] = b'0' + (word[last] - b'0' + 1) % 10;
+                return;
+            }
         }
     }
 }
@@ -517,10 +540,10 @@ fn valid(rng: &mut Rng, shape: Shape) -> Lines {
 fn header(rng: &mut Rng, model: &Tables, start: &[u64]) -> Lines {
     let mut first = words(&["start", ":"]);
     for &number in start {
-        first.push(decimal(rng, number, 2).into_bytes());
+        first.push(typed(rng, number, 1, 2).into_bytes());
     }
     vec![
-        words(&["discount", ":", &decimal(rng, model.discount, 3)]),
+        words(&["discount", ":", &typed(rng, model.discount, 1, 3)]),
         words(&["values", ":", "reward"]),
         words(&["states", ":", &index(rng, model.states as usize)]),
         words(&["actions", ":", &index(rng, model.actions as usize)]),
@@ -545,12 +568,12 @@ fn statement(rng: &mut Rng, shape: Shape, stated: &mut Tables) -> Vec<Vec<u8>> {
     if kind % 2 == 0 {
         let (indices, last) = some_index(rng, count);
         let probability = rng.below(THOUSAND + 1);
-        line.extend(words(&[":", &last, &decimal(rng, probability, 3)]));
+        line.extend(words(&[":", &last, &typed(rng, probability, 1, 3)]));
         row.extend(indices.into_iter().map(|index| (index, probability)));
     } else {
         for index in 0..count {
             let probability = rng.below(THOUSAND + 1);
-            line.push(decimal(rng, probability, 3).into_bytes());
+            line.push(typed(rng, probability, 1, 3).into_bytes());
             row.push((index, probability));
         }
     }
@@ -581,7 +604,7 @@ fn state_row(rng: &mut Rng, lines: &mut Lines, name: &str, a: usize, s: usize, o
         for (at, &probability) in row.iter().enumerate() {
             if probability != old[at] || rng.once_in(4) {
                 let (action, state, last) = (index(rng, a), index(rng, s), index(rng, at));
-                lines.push(words(&[name, ":", &action, ":", &state, ":", &last, &decimal(rng, probability, 3)]));
+                lines.push(words(&[name, ":", &action, ":", &state, ":", &last, &typed(rng, probability, 1, 3)]));
             }
         }
     }
@@ -591,7 +614,7 @@ fn state_row(rng: &mut Rng, lines: &mut Lines, name: &str, a: usize, s: usize, o
 fn row_line(rng: &mut Rng, name: &str, action: &str, state: &str, row: &[u64]) -> Vec<Vec<u8>> {
     let mut line = words(&[name, ":", action, ":", state]);
     for &probability in row {
-        line.push(decimal(rng, probability, 3).into_bytes());
+        line.push(typed(rng, probability, 1, 3).into_bytes());
     }
     line
 }
@@ -631,13 +654,36 @@ fn decimal(rng: &mut Rng, value: u64, decimals: usize) -> String {
     text.trim_end_matches('.').to_string()
 }
 
+/// The same in any form, with so many digits before the point: a part may be missing, and an exponent follow.
+fn typed(rng: &mut Rng, value: u64, digits: usize, decimals: usize) -> String {
+    if !rng.once_in(4) {
+        return decimal(rng, value, decimals);
+    }
+    let (power, minus) = (rng.index(4) as u32, rng.once_in(2));
+    let scale = 10_u64.pow(power);
+    let scaled = if minus { value * scale } else { value / scale };
+    let fits = scaled < 10_u64.pow((digits + decimals) as u32) && (minus || value % scale == 0);
+    let (number, exponent) = match (fits && rng.once_in(2), minus) {
+        (true, true) => (scaled, format!("e-{}", power)),
+        (true, false) => (scaled, format!("e{}", power)),
+        _ => (value, String::new()),
+    };
+    let mut text = decimal(rng, number, decimals);
+    if !text.contains('.') && rng.once_in(2) {
+        text.push('.');
+    } else if text.starts_with("0.") && rng.once_in(2) {
+        text.remove(0);
+    }
+    text + &exponent
+}
+
 /// A reward in ticks, with a minus also for 0, and up to four digits.
 fn reward_text(rng: &mut Rng, ticks: i64) -> String {
     let minus = if ticks < 0 || (ticks == 0 && rng.once_in(2)) { "-" } else { "" };
-    let plain = decimal(rng, ticks.unsigned_abs(), 2);
-    let digits = plain.find('.').unwrap_or(plain.len());
+    let text = typed(rng, ticks.unsigned_abs(), 4, 2);
+    let digits = text.find(['.', 'e']).unwrap_or(text.len());
     let zeros = if digits < 4 && rng.once_in(5) { 4 - digits } else { 0 };
-    format!("{}{}{}", minus, "0".repeat(zeros), plain)
+    format!("{}{}{}", minus, "0".repeat(zeros), text)
 }
 
 /// Bytes in a form that source text can hold; a long run of one byte is written as a product, as in `b"a" + b" " * 100`.

@@ -138,15 +138,17 @@ impl<'a> Reader<'a> {
 
     /// The form of a word (2), then its limits (3).
     fn within(&self, word: &Word, value: Option<BigInt>, unit: i64, least: i64, most: i64) -> Result<i64, Refusal> {
-        if self.rules.has(Trap::LimitBeforeForm) {
-            if let Some(whole) = whole_part(word.bytes) {
-                if whole * unit > BigInt::from(most) {
-                    return Err(self.at(3, word));
-                }
-            }
+        let whole_part_large = whole_part(word.bytes).is_some_and(|whole| whole * unit > BigInt::from(most));
+        if self.rules.has(Trap::LimitBeforeForm) && whole_part_large {
+            return Err(self.at(3, word));
         }
         let value = value.ok_or_else(|| self.at(2, word))?;
-        if value < BigInt::from(least) || value > BigInt::from(most) {
+        let large = if self.rules.has(Trap::LimitBeforeExponent) && word.bytes.contains(&b'e') {
+            whole_part_large
+        } else {
+            value > BigInt::from(most)
+        };
+        if value < BigInt::from(least) || large {
             return Err(self.at(3, word));
         }
         i64::try_from(&value).map_err(|_| self.at(3, word))

@@ -29,7 +29,7 @@ fn in_header(part: &str, by: &str) -> Option<(u8, i64)> {
 fn it_reads() {
     assert_eq!(after_header(ROWS), None);
     assert_eq!(after_header("T:0:*:0 1 O:*:*:0 1.000#"), None);
-    assert_eq!(after_header("T : * : * : * 0.5\r\nO\t:0:00 1#0\r\n# \u{ff} : * \nO:0:01 1."), Some((2, 49)));
+    assert_eq!(after_header("T : * : * : * 0.5\r\nO\t:0:00 1#0\r\n# \u{ff} : * \nO:0:01 1,"), Some((2, 49)));
 }
 
 #[test]
@@ -101,28 +101,39 @@ fn counts_and_indices_have_one_or_two_digits() {
     for count in ["0", "00", "17", "99"] {
         assert_eq!(in_header("2 actions", &format!("{} actions", count)), Some((3, 0)));
     }
-    for count in ["002", "100", "-1", "+2", "2.0", "*", "two"] {
+    for count in ["002", "100", "-1", "+2", "2.0", "2.", "2e0", "*", "two"] {
         assert_eq!(in_header("2 actions", &format!("{} actions", count)), Some((2, 0)));
     }
     assert_eq!(after_header("T: 01"), Some((3, 3)));
     assert_eq!(after_header("T: 001"), Some((2, 3)));
     assert_eq!(after_header("T: -0"), Some((2, 3)));
+    assert_eq!(after_header("T: 0."), Some((2, 3)));
+    assert_eq!(after_header("T: 0e0"), Some((2, 3)));
     assert_eq!(after_header("T: **"), Some((2, 3)));
 }
 
 #[test]
 fn probabilities() {
-    for good in ["1", "0", "1.0", "0.125", "1.000"] {
+    let plain = ["1", "0", "1.0", "0.125", "1.000"];
+    let typed =
+        [".5", "1.", "5e-1", "1e0", "1e-0", "1.e-3", ".5e0", ".001e3", "0e-3", "0.e3", ".0", "1.25e-1", "9.99e-1"];
+    for good in plain.iter().chain(&typed) {
         assert_eq!(after_header(&format!("T: 0 : 0 : 0 {} ?", good)), Some((2, 14 + good.len() as i64)));
     }
-    for bad in ["10", "00", "01", "1.", ".5", "1.0000", "-0", "-0.5", "+1", "1e0", "*", "0,5"] {
+    let plain = ["10", "00", "01", "1.0000", "0.5000", "-0", "-0.5", "+1", "*", "0,5"];
+    let parts = [".", "e1", ".e1", "-.", "-.5", "1e", "1e-", "e", "1e.", "1..", ".5.", "1e1.", "1e0e0"];
+    let powers = ["1e4", "1e00", "1e-4", "1e+0", "1E0", "1e--0", "1e-00", "10e-1", ".5000e1", "1.5e-3", ".001e-1"];
+    for bad in plain.iter().chain(&parts).chain(&powers) {
         assert_eq!(after_header(&format!("T: 0 : 0 : 0 {}", bad)), Some((2, 13)), "{}", bad);
     }
-    for large in ["2", "1.001", "9.999"] {
+    for large in ["2", "1.001", "9.999", "2.", "1e3", "1.e1", ".11e1", "2e0"] {
         assert_eq!(after_header(&format!("T: 0 : 0 : 0 {}", large)), Some((3, 13)), "{}", large);
     }
-    for start in ["0.500", "0.125"] {
+    for start in ["0.500", "0.125", ".125e1", "1e-3", ".05e-1"] {
         assert_eq!(in_header("0.5 0.5 ", &format!("{} 0.5 ", start)), Some((2, 0)));
+    }
+    for start in [".5", ".50", "5e-1", ".05e1", "5.e-1"] {
+        assert_eq!(in_header("0.5 0.5 ", &format!("{} 0.5 ", start)), None);
     }
 }
 
@@ -139,10 +150,13 @@ fn rewards() {
     for (word, ticks) in [("-0", 0), ("0001", 100), ("-0000", 0), ("-1000.00", -100_000), ("999.9", 99_990)] {
         assert_eq!(reward(word), Ok(ticks));
     }
-    for word in ["00001", "10000", "5.", "-.5", "--1", "-", "+1", "1.000"] {
+    for (word, ticks) in [("5.", 500), ("-.5", -50), ("-1e3", -100_000), ("1000e-3", 100), ("-12.5e1", -12_500)] {
+        assert_eq!(reward(word), Ok(ticks));
+    }
+    for word in ["00001", "10000", "--1", "-", "+1", "1.000", "-.", "-e1", "e", "1e-3", "10000e-1", "0.01e-1", "-1e4"] {
         assert_eq!(reward(word), Err(2), "{}", word);
     }
-    for word in ["1001", "1000.01", "-1000.01", "9999.99"] {
+    for word in ["1001", "1000.01", "-1000.01", "9999.99", "1001e0", "-2e3", "9999e3"] {
         assert_eq!(reward(word), Err(3), "{}", word);
     }
     assert_eq!(after_header("R: 0 : 0 : 0 : * 1"), Some((2, 11)));

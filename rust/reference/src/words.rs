@@ -95,6 +95,9 @@ fn digits(bytes: &[u8]) -> Option<BigInt> {
 
 /// An index or a count: one or two digits.
 pub fn index_form(bytes: &[u8], rules: &Rules) -> Option<BigInt> {
+    if rules.has(Trap::CountsAsNumbers) {
+        return number_form(bytes, Form { whole: 2, decimals: 0 }, rules);
+    }
     let leading_zero = bytes.len() == 2 && bytes[0] == b'0';
     if bytes.len() > 2 || (leading_zero && rules.has(Trap::LeadingZeroRefused)) {
         return None;
@@ -118,32 +121,78 @@ pub const START: Form = Form { whole: 1, decimals: 2 };
 /// Rewards without their minus, in hundredths.
 pub const REWARD: Form = Form { whole: 4, decimals: 2 };
 
-/// A number without a sign: digits, then optionally a point and at least one digit, no more of either than the form has.
-/// Its value is counted in units of the form's last decimal.
+/// A number without a sign: a whole part, a point and decimals, and an exponent. The whole part or the decimals may be
+/// missing, not both, and the exponent may be. Its value is counted in units of the form's last decimal, and must be a
+/// whole number of them.
 pub fn number_form(bytes: &[u8], form: Form, rules: &Rules) -> Option<BigInt> {
-    let (whole, decimals) = match bytes.iter().position(|&byte| byte == b'.') {
-        Some(point) => (&bytes[..point], Some(&bytes[point + 1..])),
-        None => (bytes, None),
+    let opens_exponent = |&byte: &u8| byte == b'e' || (byte == b'E' && rules.has(Trap::CapitalExponent));
+    let (number, power) = match bytes.iter().position(opens_exponent) {
+        Some(mark) => (&bytes[..mark], exponent_form(&bytes[mark + 1..], rules)?),
+        None => (bytes, 0),
     };
-    let value = digits(whole)?;
-    if whole.len() > form.whole {
+    let (whole, decimals) = match number.iter().position(|&byte| byte == b'.') {
+        Some(point) => (&number[..point], Some(&number[point + 1..])),
+        None => (number, None),
+    };
+    let (unpointed, decimals) = (decimals.is_none(), decimals.unwrap_or(&[]));
+    if bytes.is_empty()
+        || !parts_fit(whole, decimals, unpointed, rules)
+        || !counts_fit(bytes, whole, decimals, form, rules)
+    {
         return None;
     }
-    let unit = BigInt::from(10).pow(form.decimals as u32);
-    match decimals {
-        None => Some(value * unit),
-        Some(decimals) => {
-            let one_more = rules.has(Trap::FourthDecimal) || (rules.has(Trap::StartThreeDecimals) && form == START);
-            digits(decimals)?;
-            if decimals.len() > form.decimals + usize::from(one_more) {
-                return None;
-            }
-            // Missing decimals are zeros.
-            let mut filled = decimals.to_vec();
-            filled.resize(form.decimals, b'0');
-            Some(value * unit + digits(&filled)?)
-        }
+    let mut all = [whole, decimals].concat();
+    if whole.is_empty() && rules.has(Trap::MissingWholeIsOne) {
+        all.insert(0, b'1');
     }
+    if all.is_empty() {
+        all.push(b'0');
+    }
+    let (up, down) = (power.max(0) as u32, power.min(0).unsigned_abs());
+    let ten = BigInt::from(10);
+    let numerator = digits(&all)? * ten.pow(up + form.decimals as u32);
+    let denominator = ten.pow(down + decimals.len() as u32);
+    let whole_units = (&numerator % &denominator) == BigInt::from(0);
+    let small_zero = numerator == BigInt::from(0) && down as usize + decimals.len() > form.decimals;
+    if (small_zero && rules.has(Trap::SmallZeroRefused)) || !(whole_units || rules.has(Trap::NumbersRounded)) {
+        return None;
+    }
+    Some(numerator / denominator)
+}
+
+/// Whether a number has the parts that it must have: a whole part or decimals.
+fn parts_fit(whole: &[u8], decimals: &[u8], unpointed: bool, rules: &Rules) -> bool {
+    let decimals_missing = decimals.is_empty() && !unpointed;
+    if (whole.is_empty() && rules.has(Trap::WholePartWanted)) || (decimals_missing && rules.has(Trap::DecimalsWanted)) {
+        return false;
+    }
+    let none = whole.is_empty() && decimals.is_empty();
+    let read_as_zero = if unpointed { Trap::BareExponentIsZero } else { Trap::BarePointIsZero };
+    !none || rules.has(read_as_zero)
+}
+
+/// Whether a number has no more digits than its form.
+fn counts_fit(bytes: &[u8], whole: &[u8], decimals: &[u8], form: Form, rules: &Rules) -> bool {
+    let one_more = rules.has(Trap::FourthDecimal) || (rules.has(Trap::StartThreeDecimals) && form == START);
+    let uncounted = rules.has(Trap::ExponentUncounted) && bytes.contains(&b'e');
+    uncounted || (whole.len() <= form.whole && decimals.len() <= form.decimals + usize::from(one_more))
+}
+
+/// What follows an `e`: an optional minus and one digit from 0 to 3.
+fn exponent_form(bytes: &[u8], rules: &Rules) -> Option<i32> {
+    let (minus, rest) = match bytes {
+        [b'-', rest @ ..] => (true, rest),
+        [b'+', rest @ ..] if rules.has(Trap::ExponentPlus) => (false, rest),
+        _ => (false, bytes),
+    };
+    if rest.is_empty() && rules.has(Trap::EmptyExponent) {
+        return Some(0);
+    }
+    let most_digits = if rules.has(Trap::ExponentTwoDigits) { 2 } else { 1 };
+    let most = if rules.has(Trap::ExponentFour) { 4 } else { 3 };
+    let power = digits(rest).filter(|power| rest.len() <= most_digits && *power <= BigInt::from(most))?;
+    let power = i32::try_from(&power).ok()?;
+    Some(if minus && !rules.has(Trap::ExponentSignDropped) { -power } else { power })
 }
 
 /// A reward: an optional minus and a number.
@@ -162,5 +211,6 @@ pub fn reward_form(bytes: &[u8], rules: &Rules) -> Option<BigInt> {
 
 /// The part before the point of what looks like a number, however long: what a reader that tests limits first looks at.
 pub fn whole_part(bytes: &[u8]) -> Option<BigInt> {
-    digits(bytes.split(|&byte| byte == b'.').next()?)
+    let unsigned = bytes.strip_prefix(b"-").unwrap_or(bytes);
+    digits(unsigned.split(|&byte| byte == b'.' || byte == b'e').next()?)
 }

@@ -1,4 +1,5 @@
-use Rattle.builder.proofs.Prelude.{_-_, _≤_, sym, ap, ⊎-elim, arith, needs, w64, toZ, answer}
+use Rattle.builder.proofs.Prelude.{_-_, _≤_, sym, ap, ⊎-elim, arith, w64, toZ}
+use Rattle.integers.proofs.Words.{answer}
 use Rattle.builder.proofs.Actions.{Asked, vector-fits, vector-long, vector-product, Best-of, best-first, best-larger, best-not-larger, best-found}
 use Rattle.builder.proofs.best_candidate.Statement.{statement}
 use Rattle.builder.proofs.best_candidate.Tie as tie

@@ -1,20 +1,22 @@
-use Rattle.builder.proofs.Prelude.{_-_, _≤_, _<_, _≡_, sym, arith, pos, padded, padded-none, padded-turn, modelIn, maxPoints, maxBuilt}
+use Rattle.builder.proofs.Prelude.{_-_, _≤_, _<_, _≡_, sym, arith, pos, laid, laid-none, laid-turn, laid-long, modelIn, maxPoints}
 use Rattle.builder.proofs.Prelude.{leastValue, roofIn, pointIn, point-at, value-at}
 use mathlib.Core.Path.{_∙_}
+use lib.ListN.{length}
 use Rattle.integers.proofs.Lists.{padded-length}
 use Rattle.tables.proofs.Fitting.{rows-stored}
+use Rattle.plans.specs.Limits.{maxBuilt}
 use Rattle.checks.proofs.Roofs.{point-long, point-light, corners-fit, points-fit, values-fit, roof-holds, backups-at, backups-long}
 use Rattle.builder.proofs.Levels.{least-is}
 use Rattle.builder.proofs.build_values.Statement.{statement}
 use Rattle.builder.proofs.build_values.Tie as tie
 
 abbrev Inv-loop : tie.InvT-loop
-Inv-loop T O R corners weights values given c points count n gains least₀ i₀ least i =
+Inv-loop T O R corners weights values given c points count least₀ n gains i₀ least i =
     (i ≤ count)
-    × (least ≡ padded (pos 0) maxPoints i (λ j. leastValue (modelIn c T O R) (roofIn (c .states) corners points weights values) (pointIn (c .states) given j)))
+    × (least ≡ laid i (λ j. leastValue (modelIn c T O R) (roofIn (c .states) corners points weights values) (pointIn (c .states) given j)) least₀)
 
 abbrev μ-loop : tie.MeasureT-loop
-μ-loop T O R corners weights values given c points count n gains least₀ i₀ least i = count - i
+μ-loop T O R corners weights values given c points count least₀ n gains i₀ least i = count - i
 
 -- places of the code, each from those after it
 abbrev start-of-least-of : tie.After-least-of Inv-loop μ-loop → tie.Start Inv-loop μ-loop
@@ -24,10 +26,14 @@ gains-requires : tie.Need-gains-requires Inv-loop μ-loop
 gains-requires c κs = let h = c .before .before .before .before .pre .0 in (h .valid .few-states, (corners-fit h, (points-fit h, values-fit h)))
 
 loop-holds : tie.Need-loop-holds Inv-loop μ-loop
-loop-holds c = (omega arith, sym (padded-none _ _ _))
+loop-holds c = (omega arith, sym (laid-none _ _))
 
 below : (c : tie.In-loop Inv-loop μ-loop) → c .before .loop .i < maxBuilt
 below c = omega (arith, c .loop-test .taken, c .before .before .before .before .before .before .before .pre .1 .0 .0)
+
+-- there is room for the turn's value
+room : (c : tie.In-loop Inv-loop μ-loop) → c .before .loop .i < length (c .before .before .before .before .before .before .before .args .least .now)
+room c = omega (arith, c .loop-test .taken, c .before .before .before .before .before .before .before .pre .1 .1 .1)
 
 point-weights-requires : tie.Need-point-weights-requires Inv-loop μ-loop
 point-weights-requires c κs =
@@ -52,7 +58,7 @@ backups-at-requires c κs =
     let i = c .before .before .before .before .loop .i in (
       roof-holds (s .pre .0) (c .before .before .before .before .before .gains .ensures),
       point-light (s .args .c .states) (s .args .given .now) i (c .before .before .point-weights .ensures) (s .pre .0 .valid .few-states)
-          (s .pre .1 .1 i (c .before .before .before .loop-test .taken)),
+          (s .pre .1 .1 .0 i (c .before .before .before .loop-test .taken)),
     )
 
 long : tie.Need-slice-aggregate-least-of Inv-loop μ-loop
@@ -77,14 +83,23 @@ loop-again c =
     let h = s .pre .0 in
     let b = c .before .before .backups-at in (
       omega (arith, c .before .before .before .before .before .before .loop-test .taken),
-      padded-turn _ _ _ _ (c .before .before .before .before .before .before .before .loop .inv .1)
+      laid-turn _ _ _ (pos 0) (c .before .before .before .before .before .before .before .loop .inv .1)
           (value-at _ _ _ _ (point-at (s .args .c .states) (s .args .given .now) (c .before .before .before .before .before .before .before .loop .i)
           (c .before .before .before .before .before .point-weights .ensures)) (h .valid .some-actions)
           (c .least-of .ok)
           (c .least-of .ensures ∙ least-is _ _ _ (b .result) (backups-at h
           (c .before .before .before .before .before .before .before .before .gains .ensures) _ (b .ensures)) (h .valid .some-actions)))
-          (omega (arith, below (c .before .before .before .before .before .before))),
+          (room (c .before .before .before .before .before .before)),
     )
+
+slice-set : tie.Need-slice-set-from-least Inv-loop μ-loop
+slice-set c =
+    let l = c .before .before .before .before .before .before in
+    omega (arith, laid-long _ _ _ (l .before .loop .inv .1) (omega (arith, room l)), room l)
+
+same-length : tie.Need-same-length Inv-loop μ-loop
+same-length c = laid-long _ _ _ (c .before .loop .inv .1)
+    (omega (arith, c .before .loop .inv .0, c .before .before .before .before .before .before .before .pre .1 .1 .1))
 
 returns : tie.Need-returns Inv-loop μ-loop
 returns c =
@@ -95,7 +110,6 @@ returns c =
 pub build-values-spec : {M : Type 1} → statement M
 build-values-spec =
     tie.close (tie.spec Inv-loop μ-loop gains-requires loop-holds point-weights-requires gains-long weights-long backups-at-requires long
-    least-of-requires (λ c. omega (arith, below (c .before .before .before .before .before .before)))
+    least-of-requires (λ c. omega (arith, below (c .before .before .before .before .before .before))) slice-set
     (λ c. omega (arith, below (c .before .before .before .before .before .before)))
-    (λ c. omega (arith, below (c .before .before .before .before .before .before)))
-    (λ c. omega (arith, c .before .before .before .before .before .before .loop-test .taken)) loop-again returns)
+    (λ c. omega (arith, c .before .before .before .before .before .before .loop-test .taken)) loop-again same-length returns)

@@ -1,40 +1,42 @@
-use Rattle.builder.proofs.Prelude.{_+_, _-_, _≤_, _<_, _≡_, sym, arith, Counts, modelIn, pointIn}
-use Prim.Native.Nat.{ℕ}
+use Rattle.builder.proofs.Prelude.{_-_, _≤_, _<_, _≡_, sym, arith, modelIn, pointIn}
+use Prim.Native.Nat.{ℕ, _+_}
 use mathlib.Core.List.{List}
 use lib.IntN.{ℤ}
 use Rattle.integers.proofs.Sums.{total-cong}
+use Rattle.tables.specs.declared.Counts.{Counts}
 use Rattle.tables.specs.Limits.{maxVectors}
 use Rattle.tables.proofs.Fitting.{rows-stored}
-use Rattle.plans.specs.Level.{Level as Ideal}
+use Rattle.plans.specs.Level.{Level}
 use Rattle.plans.specs.Build.{built}
-use Rattle.builder.specs.Steps.{uponIn}
-use Rattle.builder.proofs.Levels.{seed-light, Made, vector-made, Filled, filled-none, Room, rows-room, filled-more, filled-all}
+use Rattle.builder.specs.Steps.{uponIn, Filled}
+use Rattle.builder.proofs.Levels.{seed-light, Made, vector-made, filled-none, SameLengths, filled-long, Room, rows-room, filled-more}
 use Rattle.builder.proofs.build_vectors.Statement.{statement}
 use Rattle.builder.proofs.build_vectors.Tie as tie
 
 -- the built level
-abbrev W : Counts → List ℕ → List ℕ → List ℤ → List ℤ → List ℕ → ℕ → ℕ → Ideal
+abbrev W : Counts → List ℕ → List ℕ → List ℤ → List ℤ → List ℕ → ℕ → ℕ → Level
 W c T O R standing weights vectors points = built (modelIn c T O R) (uponIn c vectors standing) points (pointIn (c .states) weights)
 
 abbrev Inv-loop : tie.InvT-loop
-Inv-loop T O R standing weights c vectors points n k count actions₀ choices₀ entries₀ v₀ actions choices entries v =
-    (v ≤ c .states + points) × Filled (c .states) (c .observations) (W c T O R standing weights vectors points) v actions choices entries
+Inv-loop T O R standing weights c vectors points actions₀ choices₀ entries₀ n k count v₀ actions choices entries v =
+    (v ≤ c .states + points)
+    × Filled (c .states) (c .observations) (W c T O R standing weights vectors points) v actions₀ choices₀ entries₀ actions choices entries
 
 abbrev μ-loop : tie.MeasureT-loop
-μ-loop T O R standing weights c vectors points n k count actions₀ choices₀ entries₀ v₀ actions choices entries v = c .states + points - v
+μ-loop T O R standing weights c vectors points actions₀ choices₀ entries₀ n k count v₀ actions choices entries v = c .states + points - v
 
 add-count : tie.Need-add-count Inv-loop μ-loop
-add-count c = let p = c .before .before .before .pre in omega (arith, p .0 .valid .few-states, p .1 .0 .0)
+add-count c = let p = c .before .before .before .before .before .pre in omega (arith, p .0 .valid .few-states, p .1 .0 .0)
 
 loop-holds : tie.Need-loop-holds Inv-loop μ-loop
 loop-holds c = (omega arith, filled-none _ _ _)
 
 below : (c : tie.In-loop Inv-loop μ-loop) → c .before .loop .v < maxVectors
-below c = let p = c .before .before .before .before .before .pre in omega (arith, c .loop-test .taken, p .0 .valid .few-states, p .1 .0 .0)
+below c = let p = c .before .before .before .before .before .before .before .pre in omega (arith, c .loop-test .taken, p .0 .valid .few-states, p .1 .0 .0)
 
 seed-weights-requires : tie.Need-seed-weights-requires Inv-loop μ-loop
 seed-weights-requires c κs =
-    let s = c .before .before .before .before .before in
+    let s = c .before .before .before .before .before .before .before in
     let a = s .args in (
       (s .pre .0 .valid .few-states, omega (arith, c .loop-test .taken, s .pre .1 .0 .0)),
       λ h. rows-stored (a .c .states) (c .before .loop .v - a .c .states) (a .points) (omega (arith, c .loop-test .taken)) (s .pre .1 .0 .1),
@@ -45,14 +47,14 @@ weights-long c = sym (c .before .seed-weights .ensures .1)
 
 best-candidate-requires : tie.Need-best-candidate-requires Inv-loop μ-loop
 best-candidate-requires c κs =
-    let s = c .before .before .before .before .before .before .before in
+    let s = c .before .before .before .before .before .before .before .before .before in
     let a = s .args in
     let made = c .before .seed-weights .ensures in (
       s .pre .0,
       record {
         long = omega (arith, made .1, s .pre .0 .valid .few-states);
         light = rw (total-cong (a .c .states) _ _ (made .0))
-            (seed-light (a .c .states) (a .points) (pointIn (a .c .states) (a .weights .now)) (s .pre .1 .1) (c .before .before .before .loop .v)
+            (seed-light (a .c .states) (a .points) (pointIn (a .c .states) (a .weights .now)) (s .pre .1 .1 .0) (c .before .before .before .loop .v)
             (c .before .before .loop-test .taken));
       },
     )
@@ -61,21 +63,21 @@ best-candidate-requires c κs =
 abbrev of-row : tie.After-row Inv-loop μ-loop → tie.After-best-candidate Inv-loop μ-loop
 of-row c = c .before .before .before
 
-abbrev of-choices : tie.After-choices Inv-loop μ-loop → tie.After-best-candidate Inv-loop μ-loop
+abbrev of-choices : tie.After-paste-u16-arg Inv-loop μ-loop → tie.After-best-candidate Inv-loop μ-loop
 of-choices c = of-row (c .before .before)
 
-abbrev of-entries : tie.After-entries Inv-loop μ-loop → tie.After-best-candidate Inv-loop μ-loop
-of-entries c = of-choices (c .before .before .before .before .before)
+abbrev of-entries : tie.After-paste-i64-arg Inv-loop μ-loop → tie.After-best-candidate Inv-loop μ-loop
+of-entries c = of-choices (c .before .before .before .before .before .before)
 
 -- it is the turn's vector of the built level
 made : (c : tie.After-best-candidate Inv-loop μ-loop)
-    → let a = c .before .before .before .before .before .before .before .before .args in
+    → let a = c .before .before .before .before .before .before .before .before .before .before .args in
     Made (a .c .states) (a .c .observations)
     (W (a .c) (a .transition .now) (a .observation .now) (a .reward .now) (a .standing .now) (a .weights .now) (a .vectors) (a .points))
     (c .before .before .before .before .loop .v)
     (c .best-candidate .result)
 made c =
-    let s = c .before .before .before .before .before .before .before .before in
+    let s = c .before .before .before .before .before .before .before .before .before .before in
     vector-made (s .args .points) (pointIn (s .args .c .states) (s .args .weights .now)) (c .before .before .before .before .loop .v)
     (c .before .before .seed-weights .result) (s .pre .0)
     (c .before .before .seed-weights .ensures .0) (c .best-candidate .ensures)
@@ -83,58 +85,49 @@ made c =
 -- there is room for its rows
 room : (c : tie.After-best-candidate Inv-loop μ-loop)
     → let l = c .before .before .before .before in
-    let m = c .before .before .before .before .before .before .before .before .args .c in
-    Room (m .states) (m .observations) (l .loop .v) (l .loop .choices) (l .loop .entries)
+    let m = c .before .before .before .before .before .before .before .before .before .before .args .c in
+    Room (m .states) (m .observations) (l .loop .v) (l .loop .actions) (l .loop .choices) (l .loop .entries)
 room c =
     let l = c .before .before .before .before in
-    let v = c .before .before .before .before .before .before .before .before .pre .0 .valid in
-    rows-room _ _ _ (v .few-states) (v .few-observations) (l .loop .inv .1) (below (c .before .before .before))
+    rows-room _ _ _ (c .before .before .before .before .before .before .before .before .before .before .pre .1 .1 .1) (l .loop .inv .1)
+    (c .before .before .before .loop-test .taken)
 
 number-requires : tie.Need-number-requires Inv-loop μ-loop
 number-requires c κs = made (of-row c) .action-in
 
-array-write-actions : tie.Need-array-write-actions Inv-loop μ-loop
-array-write-actions c = below (of-row (c .before) .before .before .before)
-
-choices-long : tie.Need-slice-aggregate-paste-u16 Inv-loop μ-loop
-choices-long c = sym (room (of-choices c) .choices-long)
+slice-write-actions : tie.Need-slice-write-actions Inv-loop μ-loop
+slice-write-actions c = room (of-row (c .before)) .actions-fit
 
 start-requires : tie.Need-start-requires Inv-loop μ-loop
 start-requires c κs = let b = of-choices c in (
   omega (arith, below (b .before .before .before)),
-  omega
-      (arith, b .before .before .before .before .before .before .before .before .pre .0 .valid .few-observations),
+  omega (arith, b .before .before .before .before .before .before .before .before .before .before .pre .0 .valid .few-observations),
 )
 
-chosen-long : tie.Need-slice-aggregate-paste-u16-2 Inv-loop μ-loop
+chosen-long : tie.Need-slice-aggregate-paste-u16 Inv-loop μ-loop
 chosen-long c = sym (made (of-choices (c .before .before)) .chosen-long)
 
 paste-u16-requires : tie.Need-paste-u16-requires Inv-loop μ-loop
 paste-u16-requires c κs =
     let b = of-choices (c .before .before) in (
-      rw (c .before .start .ensures) (omega (arith, room b)),
-      omega
-          (arith, made b .chosen-long, b .before .before .before .before .before .before .before .before .pre .0 .valid .few-observations),
+      rw (c .before .start .ensures) (room b .choices-fit),
+      omega (arith, made b .chosen-long, b .before .before .before .before .before .before .before .before .before .before .pre .0 .valid .few-observations),
     )
-
-entries-long : tie.Need-slice-aggregate-paste-i64 Inv-loop μ-loop
-entries-long c = sym (room (of-entries c) .entries-long)
 
 start-requires-2 : tie.Need-start-requires-2 Inv-loop μ-loop
 start-requires-2 c κs = let b = of-entries c in (
   omega (arith, below (b .before .before .before)),
-  b .before .before .before .before .before .before .before .before .pre .0 .valid .few-states,
+  b .before .before .before .before .before .before .before .before .before .before .pre .0 .valid .few-states,
 )
 
-row-long : tie.Need-slice-aggregate-paste-i64-2 Inv-loop μ-loop
+row-long : tie.Need-slice-aggregate-paste-i64 Inv-loop μ-loop
 row-long c = sym (made (of-entries (c .before .before)) .entries-long)
 
 paste-i64-requires : tie.Need-paste-i64-requires Inv-loop μ-loop
 paste-i64-requires c κs =
     let b = of-entries (c .before .before) in (
-      rw (c .before .start2 .ensures) (omega (arith, room b)),
-      omega
-          (arith, made b .entries-long, b .before .before .before .before .before .before .before .before .pre .0 .valid .few-states),
+      rw (c .before .start2 .ensures) (room b .entries-fit),
+      omega (arith, made b .entries-long, b .before .before .before .before .before .before .before .before .before .before .pre .0 .valid .few-states),
     )
 
 add-v : tie.Need-add-v Inv-loop μ-loop
@@ -147,25 +140,31 @@ loop-again : tie.Need-loop-again Inv-loop μ-loop
 loop-again c =
     let b = of-entries (c .before .before .before .before) in
     let l = b .before .before .before .before in
-    let v = b .before .before .before .before .before .before .before .before .pre .0 .valid in (
+    let s = b .before .before .before .before .before .before .before .before .before .before in (
       omega (arith, b .before .before .before .loop-test .taken),
-      filled-more _ _ _ (v .few-states) (v .few-observations) (l .loop .inv .1) (below (b .before .before .before)) (made b)
-          (c .before .before .before .before .before .before .before .before .before .before .number .ensures)
-          (rw (c .before .before .before .before .before .before .before .before .start .ensures) at
-          (c .before .before .before .before .before .before .paste-u16 .ensures))
+      filled-more _ _ _ (s .pre .1 .1 .1) (l .loop .inv .1) (b .before .before .before .loop-test .taken) (made b) (s .pre .0 .valid .few-observations)
+          (s .pre .0 .valid .few-states) (c .before .before .before .before .before .before .before .before .before .before .before .number .ensures)
+          (rw (c .before .before .before .before .before .before .before .before .before .start .ensures) at
+          (c .before .before .before .before .before .before .before .paste-u16 .ensures))
           (rw (c .before .before .before .start2 .ensures) at (c .before .paste-i64 .ensures)),
     )
 
+-- the slices are as long as they were
+long : (c : tie.After-loop Inv-loop μ-loop)
+    → let a = c .before .before .before .before .before .before .before .args in
+    let l = c .before .loop in
+    SameLengths (a .actions .now) (a .choices .now) (a .entries .now) (l .actions) (l .choices) (l .entries)
+long c = filled-long _ _ _ (c .before .before .before .before .before .before .before .pre .1 .1 .1) (c .before .loop .inv .1) (c .before .loop .inv .0)
+
 returns : tie.Need-returns Inv-loop μ-loop
-unfolding built
 returns c =
     let l = c .before in
-    let a = c .before .before .before .before .before .args in
+    let a = c .before .before .before .before .before .before .before .args in
     let e : l .loop .v ≡ a .c .states + a .points = omega (arith, c .loop-test .left, l .loop .inv .0) in
-    filled-all _ _ _ (l .loop .inv .1) e
+    rw e at (l .loop .inv .1)
 
 pub build-vectors-spec : {M : Type 1} → statement M
 build-vectors-spec =
     tie.close (tie.spec Inv-loop μ-loop add-count loop-holds seed-weights-requires weights-long best-candidate-requires number-requires
-    array-write-actions choices-long start-requires chosen-long paste-u16-requires entries-long start-requires-2 row-long paste-i64-requires add-v
-    loop-less loop-again returns)
+    slice-write-actions start-requires chosen-long paste-u16-requires start-requires-2 row-long paste-i64-requires add-v
+    loop-less loop-again (λ c. long c .actions-long) (λ c. long c .choices-long) (λ c. long c .entries-long) returns)

@@ -1,8 +1,9 @@
-use Rattle.builder.proofs.Prelude.{_-_, _≤_, _≡_, sym, ap, arith, needs, padded, padded-none, padded-turn, maxStates}
+use Rattle.builder.proofs.Prelude.{_-_, _≤_, _≡_, sym, ap, arith, needs, maxStates}
 use Prim.Native.Nat.{ℕ}
 use mathlib.Core.Path.{_∙_}
 use lib.ListN.{length, set}
-use Rattle.integers.proofs.Lists.{filled-below, padded-length}
+use Rattle.integers.specs.Cells.{padded}
+use Rattle.integers.proofs.Lists.{filled-below, padded-none, padded-turn, padded-length}
 use Rattle.tables.specs.Limits.{maxObservations}
 use Rattle.tables.specs.Steps.{seenIn}
 use Rattle.tables.proofs.Fitting.{row-alone}

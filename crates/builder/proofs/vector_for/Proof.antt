@@ -1,4 +1,4 @@
-use Rattle.builder.proofs.Prelude.{sym, arith, maxStates}
+use Rattle.builder.proofs.Prelude.{sym, maxStates}
 use Rattle.integers.proofs.Lists.{filled-within, padded-length}
 use Rattle.tables.specs.Limits.{maxObservations}
 use Rattle.tables.specs.Steps.{foreseenIn, ChosenFit}

@@ -1,82 +1,127 @@
-use Rattle.certifier.proofs.Prelude.{_≡_, sym, _∙_, true, not-true, not-false, arith, _*_, maxStates, holds, few-states, needs}
-use lib.ListN.{length}
-use Rattle.plans.specs.Limits.{maxBuilt}
-use Rattle.runs.proofs.Judged.{weights-fine}
+use Prim.Native.Nat.{ℕ}
+use mathlib.Core.Path.{_≡_, sym, _∙_, ap}
+use mathlib.Core.List.{List, []}
+use native.Mathlib.Omega.{arith}
+use borrow.Author.Needs.{needs}
+use Rattle.tables.specs.declared.Tables.{Tables}
+use Rattle.tables.specs.declared.Verdict.the-variants.{Fine}
+use Rattle.tables.specs.Storage.{modelOf, tablesIn}
+use Rattle.plans.specs.Level.{Level}
+use Rattle.plans.specs.Build.{built}
+use Rattle.plans.proofs.Built.{shaped-mono}
+use Rattle.levels.specs.declared.Standing.{Standing}
+use Rattle.levels.specs.Storage.{Cells, Lent, cells, lent, levelIn, levelOf, pointIn, over, standingAt, standingIn, numberIn}
+use Rattle.runs.specs.State.{buildVerdict, builtFrom, builtOf}
+use Rattle.runs.proofs.Judged.{Standing as Stands}
 use Rattle.runs.proofs.Demand3.{build-demand}
-use Rattle.certifier.proofs.Building.{refused-7, refused-8, refused-9, refused-12, level-built, points-room, buildable}
+use Rattle.builder.specs.Steps.{topBuilt}
+use Rattle.builder.proofs.Levels.{upon-lent, roofed-lent, built-read}
+use Rattle.certifier.proofs.Writing.{Buildable, buildable, built-refused, built-fine}
 use Rattle.certifier.proofs.build.Statement.{statement}
 use Rattle.certifier.proofs.build.Tie as tie
 
--- places of the code, each from those after it
-abbrev else1-of-no-level4 : tie.After-no-level4 → tie.Else1
-else1-of-no-level4 c = c .before .before .before .before .before .before .before .before .before .before .before .before .before
+-- from each place to the one before it
+abbrev start : tie.After-judge-build → tie.Start
+start c = c .before .before .before .before .before .before .before .before .before
 
-abbrev start-of-enum-told : tie.After-enum-told → tie.Start
-start-of-enum-told c = c .before .before .before .before .before .before .before .before .before .before .before .before .before
+abbrev of-verdict : tie.After-enum-told → tie.After-judge-build
+of-verdict c = c .before .before
 
-abbrev start-of-build-level : tie.After-build-level → tie.Start
-start-of-build-level c = start-of-enum-told (c .before)
+abbrev of-standing : tie.After-build-level → tie.After-standing-in
+of-standing c = c .before .before .before .before .before .before
 
-abbrev start-of-no-level4 : tie.After-no-level4 → tie.Start
-start-of-no-level4 c = c .before .before .before .before .before .before .before .before .before .before .before .before .before .before .before
+-- what is lent
+abbrev tables : tie.Start → Tables
+tables c = tablesIn (c .args .c) (c .args .transition .now) (c .args .observation .now) (c .args .reward .now)
 
-held : (c : tie.Else1) → holds (c .before .before .args .c) ≡ true
-held c = sym (c .before .standing-holds .ensures) ∙ not-false _ (c .if1 .left)
+abbrev certifier : tie.Start → List ℕ → Lent
+certifier c choices =
+    let a = c .args in
+    lent (a .state .now) (cells (a .actions .now) choices (a .entries .now) (a .corners .now) (a .weights .now) (a .values .now))
+
+abbrev answer : tie.Start → Cells
+answer c =
+    let a = c .args in
+    cells (a .newactions .now) (a .newchoices .now) (a .newentries .now) (a .newcorners .now) (a .given .now) (a .newvalues .now)
+
+said : (c : tie.After-judge-build) (choices : List ℕ)
+    → let s = start c in c .judge-build .result ≡ buildVerdict (tables s) (certifier s choices) (s .args .count) (answer s)
+unfolding buildVerdict
+said c choices = c .judge-build .ensures choices
+
+fine : (c : tie.After-enum-told) (choices : List ℕ)
+    → let s = start (of-verdict c) in buildVerdict (tables s) (certifier s choices) (s .args .count) (answer s) ≡ Fine
+fine c choices = sym (said (of-verdict c) choices) ∙ c .enum-told .given .1
+
+known : (c : tie.After-enum-told) → let s = start (of-verdict c) in Buildable (tables s) (certifier s []) (s .args .count) (answer s)
+known c = let s = start (of-verdict c) in buildable (tables s) (certifier s []) (s .args .count) (answer s) (fine c [])
+
+stands : (c : tie.After-standing-in) → c .standing-in .result ≡ standingAt (start (of-verdict (c .before)) .args .state .now)
+stands c = c .standing-in .ensures
+
+abbrev level : tie.Start → List ℕ → Level
+level s choices = levelOf (tables s) (standingIn (certifier s choices))
+
+-- what is left in the slices
+abbrev left : (s : tie.Start) → tie.After-build-level → Cells
+left s c =
+    let l = c .build-level .last .1 .1 .1 .1 .1 .1 .1 .1 .1 .1 .1 .1 in
+    cells (l .0) (l .1 .0) (l .1 .1 .0) (l .1 .1 .1 .0) (s .args .given .now) (l .1 .1 .1 .1 .0)
+
+laid : (c : tie.After-build-level) (choices : List ℕ) → let s = start (of-verdict (of-standing c .before)) in
+    left s c ≡ over (tables s) (builtFrom (tables s) (level s choices) (s .args .count) (answer s)) (answer s)
+laid c choices =
+    let s = start (of-verdict (of-standing c .before)) in
+    let a = s .args in
+    let m = tables s in
+    c .build-level .ensures
+    ∙ ap (λ (t : Standing). over m (built (modelOf m) (levelIn (a .c .states) (a .c .observations) (t .vectors) [] [] (a .entries .now) (a .corners .now)
+    (t .points) (a .weights .now) (a .values .now)) (a .count) (pointIn (a .c .states) (a .given .now))) (answer s)) (stands (of-standing c))
+    ∙ ap (λ (W : Level). over m W (answer s))
+    (built-read m (standingIn (certifier s choices)) (a .count) (pointIn (a .c .states) (a .given .now)))
 
 returns : tie.Need-returns
-returns c = let a = c .before .before .before .args in let e = refused-7 (a .c) (a .t2)
-    (sym (c .before .before .standing-holds .ensures) ∙ not-true _ (c .before .if1 .taken)) (c .no-level .ensures) in (e, build-demand (a .c) (a .t2) _ e)
+returns c =
+    let j = c .before .before in
+    let s = start j in
+    let same : (choices : List ℕ) → answer s ≡ builtOf (tables s) (certifier s choices) (s .args .count) (answer s) =
+    λ choices. built-refused (tables s) (certifier s choices) (s .args .count) (answer s) (said j choices) (c .enum-told2 .given .1) in (
+      said j,
+      (same, λ choices. build-demand (tables s) (certifier s choices) (s .args .count) (answer s) _ (answer s) (said j choices) (same choices)),
+    )
 
-returns-2 : tie.Need-returns-2
-returns-2 c = let a = c .before .before .before .before .before .args in let e = refused-8 (a .c) (a .t2) (held (c .before .before .before))
-    (c .before .if2 .taken) (c .no-level2 .ensures) in (e, build-demand (a .c) (a .t2) _ e)
-
-returns-3 : tie.Need-returns-3
-returns-3 c = let a = c .before .before .before .before .before .before .args in let e = refused-9 (a .c) (a .t2) (held (c .before .before .before .before))
-    (c .before .before .if2 .left) (c .before .if3 .taken) (c .no-level3 .ensures) in (e, build-demand (a .c) (a .t2) _ e)
-
-weights-hold-requires : tie.Need-weights-hold-requires
-weights-hold-requires c κs =
-    let a = c .before .before .before .before .before .before .before .before .before .before .args in
-    let h = held (c .before .before .before .before .before .before .before .before) in
-    let room = points-room (a .c) (a .t2) h (c .before .before .before .before .before .before .if2 .left)
-    (c .before .before .before .before .before .if3 .left) in
-    let long : length (a .t2 .weights) ≡ maxBuilt * maxStates = search
-    (needs, c .before .before .before .before .before .before .before .before .before .before .good .1) in
-    ((few-states (a .c) h, omega (arith, c .before .before .before .before .before .if3 .left)), omega (arith, room, long))
+standing-in-requires : tie.Need-standing-in-requires
+standing-in-requires c κs = known c .standing .state-long
 
 build-level-requires : tie.Need-build-level-requires
 build-level-requires c κs =
-    let a = (start-of-enum-told c) .args in
-    let fine = sym (c .before .before .weights-hold .ensures) ∙ c .enum-told .given .1 in (
-      buildable (a .c) (a .t2) (held (c .before .before .before .before .before .before .before .before .before .before .before))
-          (c .before .before .before .before .before .before .before .before .before .if2 .left),
-      (c .before .before .before .before .before .before .before .before .if3 .left, weights-fine _ _ _ fine),
+    let n = c .before .before .before .before .before in
+    let b = known (n .before) in
+    let s = start (of-verdict (n .before)) in
+    let shaped = shaped-mono (modelOf (tables s)) (level s []) (numberIn (certifier s [])) topBuilt (omega (arith, b .room)) (b .standing .shaped) in
+    let st = b .standing in
+    rw (stands n) (
+      upon-lent {m = tables s} {l = standingIn (certifier s [])} (st .valid-tables) (st .stored-tables) (st .read) shaped,
+      (
+        roofed-lent {m = tables s} {l = standingIn (certifier s [])} (st .valid-tables) (st .stored-tables) (st .read) shaped,
+        ((b .few, b .total), b .whole),
+      ),
     )
 
-returns-4 : tie.Need-returns-4
-returns-4 c =
-    let a = (start-of-build-level c) .args in
-    let e =
-    level-built (a .c) (a .t2) (held (c .before .before .before .before .before .before .before .before .before .before .before .before))
-    (c .before .before .before .before .before .before .before .before .before .before .if2 .left)
-    (c .before .before .before .before .before .before .before .before .before .if3 .left) (c .before .before .before .weights-hold .ensures)
-    (c .before .enum-told .given .1)
-    (c .build-level .ensures) in
-    (e, build-demand (a .c) (a .t2) _ e)
-
-returns-5 : tie.Need-returns-5
-returns-5 c =
-    let a = (start-of-no-level4 c) .args in
-    let e =
-    refused-12 (a .c) (a .t2) (held ((else1-of-no-level4 c)))
-    (c .before .before .before .before .before .before .before .before .before .before .before .if2 .left)
-    (c .before .before .before .before .before .before .before .before .before .before .if3 .left)
-    (c .before .before .before .before .weights-hold .ensures) (c .before .before .number .given .1)
-    (c .no-level4 .ensures) in
-    (e, build-demand (a .c) (a .t2) _ e)
+returns-2 : tie.Need-returns-2
+returns-2 c =
+    let l = c .before .before .before .before .before .before .before in
+    let n = of-standing l in
+    let f = n .before in
+    let j = of-verdict f in
+    let s = start j in
+    let made : (choices : List ℕ) → left s l ≡ builtOf (tables s) (certifier s choices) (s .args .count) (answer s) =
+    λ choices. built-fine (tables s) (certifier s choices) (s .args .count) (answer s) (said j choices) (f .enum-told .given .1) (laid l choices) in (
+      λ choices. sym (fine f choices),
+      (made, λ choices. build-demand (tables s) (certifier s choices) (s .args .count) (answer s) Fine (left s l) (sym (fine f choices)) (made choices)),
+    )
 
 pub build-spec : {M : Type 1} → statement M
 build-spec =
-    tie.close (tie.spec (λ c κs. search needs) (λ c κs. search needs) returns (λ c κs. search needs) returns-2 (λ c κs. search needs) returns-3
-    weights-hold-requires (λ c. search needs) build-level-requires (λ c. search needs) (λ c κs. search needs) returns-4 returns-5)
+    tie.close (tie.spec (λ c κs. search needs) (λ c. search needs) (λ c. search needs) returns standing-in-requires build-level-requires (λ c. search needs)
+    (λ c. search needs) (λ c. search needs) (λ c. search needs) (λ c. search needs) returns-2)

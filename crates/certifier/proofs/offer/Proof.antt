@@ -1,33 +1,130 @@
-use Rattle.certifier.proofs.Prelude.{_≡_, sym, _∙_, arith, Fine, modelIn, levelIn, readBy, needs}
-use Rattle.runs.specs.State.{verdictOn, offered}
-use Rattle.runs.proofs.Judged.{Accepted}
-use Rattle.certifier.proofs.Offers.{offer-accepted}
+use Prim.Native.Nat.{ℕ, _+_}
+use mathlib.Core.Path.{_≡_, sym, _∙_, ap}
+use mathlib.Core.List.{_∷_}
+use native.Mathlib.Omega.{arith}
+use lib.ListN.{drop}
+use borrow.Author.Needs.{needs}
+use Rattle.tables.specs.declared.Tables.{Tables}
+use Rattle.tables.specs.declared.Verdict.the-variants.{Fine}
+use Rattle.tables.specs.Storage.{tablesIn}
+use Rattle.levels.specs.declared.Standing.{Standing}
+use Rattle.levels.specs.Storage.{LentLevel, Lent, stateSize, cells, lent, lentFor, standingAt}
+use Rattle.levels.specs.Judged.{offerVerdict}
+use Rattle.runs.proofs.Judged.{Accepted, accepted}
+use Rattle.certifier.specs.Steps.{Lays}
+use Rattle.certifier.proofs.Writing.{offered-refused, offered-fine}
 use Rattle.certifier.proofs.offer.Statement.{statement}
 use Rattle.certifier.proofs.offer.Tie as tie
 
-fine-here : (c : tie.After-enum-told) → verdictOn (c .before .before .before .args .c) (c .before .before .before .args .l) ≡ Fine
-fine-here c = sym (c .before .before .judge-offer .ensures) ∙ c .enum-told .given .1
+-- from each place to the one before it
+abbrev start : tie.After-judge-offer → tie.Start
+start c = c .before .before .before .before .before .before .before .before .before .before .before .before .before .before .before .before .before
 
-taken : (c : tie.After-enum-told)
-    → let a = c .before .before .before .args in Accepted (modelIn (a .c)) (a .c .number) (levelIn (a .c)) (readBy (a .c) (a .l))
-taken c = offer-accepted (c .before .before .before .args .c) (c .before .before .before .args .l) (fine-here c)
+abbrev of-verdict : tie.After-standing-in-arg → tie.After-judge-offer
+of-verdict c = c .before .before .before
 
-keep-level-requires : tie.Need-keep-level-requires
-keep-level-requires c κs =
-    let a = taken (c .before) in
-    let v = a .standing .valid-tables in (v .few-states, (v .few-observations, (a .shaped .few-vectors, a .shaped .few-points)))
+abbrev of-standing : tie.After-put-standing → tie.After-standing-in
+of-standing c = c .before .before .before
 
-add-t11 : tie.Need-add-t11
-add-t11 c = omega (arith, taken (c .before .before) .room)
+abbrev of-state : tie.After-lay-level → tie.After-put-standing
+of-state c = c .before .before .before .before .before .before .before .before .before
+
+-- what is lent
+abbrev tables : tie.Start → Tables
+tables c = tablesIn (c .args .c) (c .args .transition .now) (c .args .observation .now) (c .args .reward .now)
+
+abbrev certifier : tie.Start → Lent
+certifier c =
+    let a = c .args in
+    lent (a .state .now) (cells (a .actions .now) (a .choices .now) (a .entries .now) (a .corners .now) (a .weights .now) (a .values .now))
+
+abbrev offered : tie.Start → LentLevel
+offered c =
+    let a = c .args in
+    lentFor (a .vectors) (a .points)
+    (cells (a .newactions .now) (a .newchoices .now) (a .newentries .now) (a .newcorners .now) (a .newweights .now) (a .newvalues .now))
+
+said : (c : tie.After-judge-offer) → let s = start c in c .judge-offer .result ≡ offerVerdict (tables s) (certifier s) (offered s)
+said c = c .judge-offer .ensures
+
+fine : (c : tie.After-standing-in-arg) → let s = start (of-verdict c) in offerVerdict (tables s) (certifier s) (offered s) ≡ Fine
+fine c = sym (said (of-verdict c)) ∙ c .before .enum-told .given .1
+
+passed : (c : tie.After-standing-in-arg) → let s = start (of-verdict c) in Accepted (tables s) (certifier s) (offered s)
+passed c = let s = start (of-verdict c) in accepted (tables s) (certifier s) (offered s) (fine c)
 
 returns : tie.Need-returns
-unfolding offered
-returns c = rw (fine-here (c .before .before), c .keep-level .ensures)
+returns c =
+    let j = c .before .before in
+    let s = start j in
+    (said j, offered-refused (tables s) (certifier s) (offered s) (said j) (c .enum-told2 .given .1))
+
+standing-in-requires : tie.Need-standing-in-requires
+standing-in-requires c κs = passed c .standing .state-long
+
+number-is : (c : tie.After-standing-in) → c .standing-in .result .number ≡ standingAt (start (of-verdict (c .before)) .args .state .now) .number
+number-is c = ap (λ (s : Standing). s .number) (c .standing-in .ensures)
+
+written : (c : tie.After-put-standing) → let s = start (of-verdict (of-standing c .before)) in
+    c .put-standing .last .0 ≡ (standingAt (s .args .state .now) .number + 1) ∷ s .args .vectors ∷ s .args .points ∷ drop stateSize (s .args .state .now)
+written c =
+    let s = start (of-verdict (of-standing c .before)) in
+    c .put-standing .ensures
+    ∙ ap (λ (n : ℕ). (n + 1) ∷ s .args .vectors ∷ s .args .points ∷ drop stateSize (s .args .state .now)) (number-is (of-standing c))
+
+add-t41 : tie.Need-add-t41
+add-t41 c = let n = c .before .before in omega (arith, number-is n, passed (n .before) .room)
+
+put-standing-requires : tie.Need-put-standing-requires
+put-standing-requires c κs = passed (c .before .before .before) .standing .state-long
+
+lay-level-requires : tie.Need-lay-level-requires
+lay-level-requires c κs =
+    let p = passed (c .before .before .before .before .before .before .before .before .before .before .before .before) in
+    let v = p .standing .valid-tables in
+    let few = p .shaped in (
+      record {
+        few-states = v .few-states;
+        few-observations = v .few-observations;
+        few-vectors = few .few-vectors;
+        few-points = few .few-points;
+        actions-long = p .held .read .actions;
+        choices-long = p .held .choices;
+        entries-long = p .held .read .entries;
+        corners-long = p .held .read .corners;
+        weights-long = p .held .read .weights;
+        values-long = p .held .read .values;
+      },
+      record {
+        few-states = v .few-states;
+        few-observations = v .few-observations;
+        few-vectors = few .few-vectors;
+        few-points = few .few-points;
+        actions-long = p .given .read .actions;
+        choices-long = p .given .choices;
+        entries-long = p .given .read .entries;
+        corners-long = p .given .read .corners;
+        weights-long = p .given .read .weights;
+        values-long = p .given .read .values;
+      },
+    )
 
 returns-2 : tie.Need-returns-2
-unfolding offered
-returns-2 c = rw (sym (c .before .before .before .judge-offer .ensures) ∙ c .before .number .given .1)
+returns-2 c =
+    let l = c .before .before .before .before .before .before .before .before .before in
+    let p = of-state l in
+    let n = of-standing p in
+    let g = n .before in
+    let j = of-verdict g in
+    let s = start j in (
+      sym (fine g),
+      offered-fine (tables s) (certifier s) (offered s) (said j) (g .before .enum-told .given .1)
+          (written p) (l .lay-level .ensures),
+    )
 
 pub offer-spec : {M : Type 1} → statement M
 offer-spec =
-    tie.close (tie.spec (λ c κs. search needs) (λ c. search needs) keep-level-requires add-t11 (λ c. search needs) returns returns-2)
+    tie.close (tie.spec (λ c κs. search needs) (λ c. search needs) (λ c. search needs) (λ c. search needs) (λ c. search needs) (λ c. search needs)
+    (λ c. search needs) (λ c. search needs) (λ c. search needs) (λ c. search needs) returns standing-in-requires add-t41 put-standing-requires
+    lay-level-requires (λ c. search needs) (λ c. search needs) (λ c. search needs) (λ c. search needs) (λ c. search needs) (λ c. search needs)
+    (λ c. search needs) returns-2)

@@ -1,38 +1,28 @@
 use Prim.Native.Nat.{_<_, _^_}
+use mathlib.Core.Path.{_≡_, refl, sym, _∙_, ap}
 use lib.Signed.{mag}
-use Rattle.integers.proofs.Words.{back}
-use Rattle.exports.specs.Calls.{totalsCall}
-use Rattle.exports.proofs.Decoding.{certifier-limits}
 use borrow.Author.Needs.{needs}
+use Rattle.integers.proofs.Words.{back}
+use Rattle.exports.specs.Calls.{totalsBy}
+use Rattle.exports.specs.declared.Totals.{Totals}
 use Rattle.exports.proofs.biidhaqun_totals.Statement.{statement}
 use Rattle.exports.proofs.biidhaqun_totals.Tie as tie
 
-certifier-in-requires : tie.Need-certifier-in-requires
-certifier-in-requires c κs = search needs
-
-mixture-in-requires : tie.Need-mixture-in-requires
-mixture-in-requires c κs = rw (c .before .certifier-in .ensures) (certifier-limits (c .before .before .args .certifier .now) .states)
-
-totals-requires : tie.Need-totals-requires
-totals-requires c κs = search needs
-
-refusal-of-requires : tie.Need-refusal-of-requires
-refusal-of-requires c κs = search needs
-
 returns : tie.Need-returns
-unfolding totalsCall
 returns c =
-    let l : mag (c .before .before .before .totals .result .lower) < 2 ^ 63 = search (needs, c .before .before .before .totals .ok) in
-    let u : mag (c .before .before .before .totals .result .upper) < 2 ^ 63 = search (needs, c .before .before .before .totals .ok) in
-    let g : mag (c .before .before .before .totals .result .gap) < 2 ^ 63 = search (needs, c .before .before .before .totals .ok) in
-    rw (back _ l, back _ u, back _ g, c .before .before .refusal-of .ensures, c .before .before .before .totals .ensures .0, c .before .before .before .before .mixture-in .ensures, c .before .before .before .before .before .before .certifier-in .ensures)
+    let t = c .before .before .before .totals in
+    let l : mag (t .result .lower) < 2 ^ 63 = search (needs, t .ok) in
+    let u : mag (t .result .upper) < 2 ^ 63 = search (needs, t .ok) in
+    let g : mag (t .result .gap) < 2 ^ 63 = search (needs, t .ok) in
+    let same = c .before .before .refusal-of .ensures in (
+      λ choices. rw (back _ l, back _ u, back _ g, same) (ap totalsBy (t .ensures .0 choices)),
+      λ choices x ls o e h b. record {
+        bounds = t .result;
+        answer = rw (back _ l, back _ u, back _ g, same) refl;
+        holds = t .ensures .1 choices x ls o e h b;
+      },
+    )
 
 pub biidhaqun-totals-spec : {M : Type 1} → statement M
 biidhaqun-totals-spec =
-    tie.close
-    (tie.spec
-    certifier-in-requires
-    mixture-in-requires
-    totals-requires
-    refusal-of-requires
-    returns)
+    tie.close (tie.spec (λ c κs. search needs) (λ c κs. search needs) returns)

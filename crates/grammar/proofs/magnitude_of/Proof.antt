@@ -1,7 +1,8 @@
-use Rattle.grammar.proofs.Prelude.{ℕ, _≤_, _≡_, refl, ap, _∙_, Bool, true, false, cond, List, arith, drop, amountOf, limited, found, bytesOf}
+use Rattle.grammar.proofs.Prelude.{ℕ, _≤_, _≡_, ap, _∙_, Bool, true, false, List, arith, drop, amountOf, limited, found, bytesOf}
 use Rattle.grammar.proofs.Prelude.{takes-end, takes-word, lies-in, limited-below, needs}
 use mir.Val.{boolByte}
 use Rattle.numerals.specs.Numeral.{negative, unsigned}
+use Rattle.numerals.proofs.Laws.{past-minus}
 use Rattle.grammar.specs.Grammar.{magnitude}
 use Rattle.grammar.proofs.magnitude_of.Statement.{statement}
 use Rattle.grammar.proofs.magnitude_of.Tie as tie
@@ -9,10 +10,6 @@ use Rattle.grammar.proofs.magnitude_of.Tie as tie
 byte-small : (t : Bool) → boolByte t ≤ 1
 byte-small true = omega arith
 byte-small false = omega arith
-
-past-minus : (t : Bool) (w : List ℕ) → drop (boolByte t) w ≡ cond t (drop 1 w) w
-past-minus true w = refl
-past-minus false w = refl
 
 returns : tie.Need-returns
 unfolding magnitude

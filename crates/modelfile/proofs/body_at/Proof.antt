@@ -1,4 +1,4 @@
-use Rattle.modelfile.proofs.Prelude.{ℕ, _+_, _≤_, _∙_, List, arith, needs, length, replicate, maxStates, maxActions, _then_, value-next, body}
+use Rattle.modelfile.proofs.Prelude.{ℕ, _+_, _≤_, _∙_, List, arith, needs, length, replicate, maxStates, maxActions, _then_, value-next, bodyBy}
 use Rattle.modelfile.proofs.Prelude.{goes-back, goes-on, sizes}
 use Prim.Native.Nat.{_*_}
 use lib.ListN.{length-replicate}
@@ -46,7 +46,7 @@ abbrev after-name : ℕ → ℕ → ℕ → ℕ → ℕ → ℕ → Words → An
 after-name fuel d n m k _ ws = wholly (row startNumber (stated 1 1 n 0 0) 0 n (replicate maxStates 0) ws) then λ start ws. after-start fuel d n m k start ws
 
 returns : tie.Need-returns
-unfolding body
+unfolding bodyBy
 returns c =
     let a = before-keys-at (c .before .before .before) .args in
     let size = length (a .file .now) in
@@ -72,7 +72,7 @@ row-at-requires c κs =
     )
 
 returns-2 : tie.Need-returns-2
-unfolding body
+unfolding bodyBy
 returns-2 c =
     let a = before-keys-at (before-row-at (c .before .before .before .before)) .args in
     let size = length (a .file .now) in
@@ -99,7 +99,7 @@ statements-at-requires c κs =
     )
 
 returns-3 : tie.Need-returns-3
-unfolding body
+unfolding bodyBy
 returns-3 c =
     let a = before-keys-at (before-row-at (before-statements-at (c .before .before .before .before .before .before))) .args in
     let size = length (a .file .now) in
@@ -121,7 +121,7 @@ finished-requires c κs =
     (p .1 .0 .1, (p .0 .1, p .1 .1 .1))
 
 returns-4 : tie.Need-returns-4
-unfolding body
+unfolding bodyBy
 returns-4 c =
     let a = before-keys-at (before-row-at (before-statements-at (c .before .before .before .before .before .before))) .args in
     let size = length (a .file .now) in

@@ -1,5 +1,5 @@
 use Rattle.modelfile.proofs.Prelude.{ℕ, _+_, _≤_, _≡_, _∙_, List, arith, needs, length, maxStates, maxActions, wordsIn, between, _then_}
-use Rattle.modelfile.proofs.Prelude.{value-next, body, counted, goes-back, goes-on}
+use Rattle.modelfile.proofs.Prelude.{value-next, body, countedBy, goes-back, goes-on}
 use Rattle.tables.specs.Limits.{maxObservations}
 use Rattle.grammar.specs.declared.Read.{Read}
 use Rattle.grammar.specs.declared.Read.the-variants.{Value}
@@ -30,7 +30,7 @@ count-within name most {file} {at} v next t e = given-value (λ v. (1 ≤ v) × 
     (value-is v next t e)
 
 returns : tie.Need-returns
-unfolding counted
+unfolding countedBy
 returns c =
     let size = length (before-field-at (c .before .before .before) .args .file .now) in
     let d = before-field-at (c .before .before .before) .args .discount in
@@ -45,7 +45,7 @@ field-at-requires-2 c κs = (
 )
 
 returns-2 : tie.Need-returns-2
-unfolding counted
+unfolding countedBy
 returns-2 c =
     let size = length (before-field-at (before-field-at2 (c .before .before .before)) .args .file .now) in
     let d = before-field-at (before-field-at2 (c .before .before .before)) .args .discount in
@@ -63,7 +63,7 @@ field-at-requires-3 c κs = (
 )
 
 returns-3 : tie.Need-returns-3
-unfolding counted
+unfolding countedBy
 returns-3 c =
     let size = length (before-field-at (before-field-at2 (before-field-at3 (c .before .before .before))) .args .file .now) in
     let d = before-field-at (before-field-at2 (before-field-at3 (c .before .before .before))) .args .discount in
@@ -93,7 +93,7 @@ body-at-requires c κs =
     )
 
 returns-4 : tie.Need-returns-4
-unfolding counted
+unfolding countedBy
 returns-4 c =
     let size = length (before-field-at (before-field-at2 (before-field-at3 (c .before .before .before .before))) .args .file .now) in
     let d = before-field-at (before-field-at2 (before-field-at3 (c .before .before .before .before))) .args .discount in

@@ -1,4 +1,4 @@
-use Rattle.modelfile.proofs.Prelude.{_+_, _∙_, needs, length, _then_, value-next, counted, headed, goes-back, goes-on}
+use Rattle.modelfile.proofs.Prelude.{_+_, _∙_, needs, length, _then_, value-next, counted, headedBy, goes-back, goes-on}
 use Rattle.grammar.specs.Grammar.{key, named}
 use Rattle.modelfile.specs.ModelFile.{valuesName, rewardWord}
 use Rattle.modelfile.proofs.headed_at.Statement.{statement}
@@ -15,7 +15,7 @@ abbrev before-key-at : tie.After-key-at → tie.After-keys-at
 before-key-at c = c .before .before .before .before .before
 
 returns : tie.Need-returns
-unfolding headed
+unfolding headedBy
 returns c =
     let size = length (before-field-at (c .before .before .before) .args .file .now) in
     c .back .ensures ∙ goes-back size (λ d ws. named valuesName ws then λ _ ws. key rewardWord ws then λ _ ws. counted (size + 1) d ws)
@@ -25,7 +25,7 @@ keys-at-requires : tie.Need-keys-at-requires
 keys-at-requires c κs = value-next _ _ (c .before .before .before .before .before .field-at .ensures) (c .before .before .before .x .given .1) .1 .1
 
 returns-2 : tie.Need-returns-2
-unfolding headed
+unfolding headedBy
 returns-2 c =
     let size = length (before-field-at (before-keys-at (c .before .before .before)) .args .file .now) in
     let g = c .before .before .before .before .before .before .before .x .given in
@@ -38,7 +38,7 @@ key-at-requires : tie.Need-key-at-requires
 key-at-requires c κs = value-next _ _ (c .before .before .before .before .keys-at .ensures) (c .before .before .y .given .1) .1 .1
 
 returns-3 : tie.Need-returns-3
-unfolding headed
+unfolding headedBy
 returns-3 c =
     let size = length (before-field-at (before-keys-at (before-key-at (c .before .before .before))) .args .file .now) in
     let g = before-key-at (c .before .before .before) .before .before .before .before .x .given in
@@ -52,7 +52,7 @@ counted-at-requires : tie.Need-counted-at-requires
 counted-at-requires c κs = value-next _ _ (c .before .before .before .key-at .ensures) (c .before .z .given .1) .1 .1
 
 returns-4 : tie.Need-returns-4
-unfolding headed
+unfolding headedBy
 returns-4 c =
     let size = length (before-field-at (before-keys-at (before-key-at (c .before .before .before .before))) .args .file .now) in
     let g = before-key-at (c .before .before .before .before) .before .before .before .before .x .given in

@@ -2,7 +2,7 @@ use Rattle.modelfile.proofs.Prelude.{ℕ, _+_, sym, ap, _∙_, List, ne
 use mathlib.Core.Bool.{Bool, cond}
 use borrow.Author.Tests.{le-leb, lt-leb}
 use Rattle.modelfile.specs.declared.ModelFile.{ModelFile}
-use Rattle.modelfile.specs.ModelFile.{maxBytes, refusedFile, ended, modelFile}
+use Rattle.modelfile.specs.ModelFile.{maxBytes, refusedFile, ended, modelFileBy}
 use Rattle.modelfile.proofs.read.Statement.{statement}
 use Rattle.modelfile.proofs.read.Tie as tie
 
@@ -11,11 +11,11 @@ abbrev chosen : List ℕ → Bool → ModelFile
 chosen file short = cond short (ended (length file) (headed (length file + 1) (wordsIn between file 0))) (refusedFile 1 0)
 
 returns : tie.Need-returns
-unfolding modelFile
+unfolding modelFileBy
 returns c = c .headed-at .ensures ∙ sym (ap (chosen (c .before .before .before .args .file .now)) (le-leb _ maxBytes (c .before .if1 .taken)))
 
 returns-2 : tie.Need-returns-2
-unfolding modelFile
+unfolding modelFileBy
 returns-2 c = c .refusal .ensures ∙ sym (ap (chosen (c .before .before .before .args .file .now)) (lt-leb _ maxBytes (c .before .if1 .left)))
 
 pub read-spec : {M : Type 1} → statement M

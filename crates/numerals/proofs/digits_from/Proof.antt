@@ -8,7 +8,7 @@ use Rattle.words.specs.declared.Class.{Class}
 use Rattle.words.proofs.Keys.{by-keys}
 use Rattle.numerals.specs.Numeral.{isDigit}
 use Rattle.numerals.specs.Steps.{mostDigits, Written}
-use Rattle.numerals.proofs.Laws.{digits-end, digits-stop, turn}
+use Rattle.numerals.proofs.Laws.{low-byte, digits-end, digits-stop, turn}
 use Rattle.numerals.proofs.digits_from.Statement.{statement}
 use Rattle.numerals.proofs.digits_from.Tie as tie
 
@@ -73,40 +73,41 @@ loop-holds c =
       few = rw (e, pow-zero) (omega arith);
     }
 
+-- a byte below the digits is none
 returns : tie.Need-returns Inv-loop μ-loop
 returns c =
-    let w = c .before .before .before .before .before .before .before .args .w .now in
-    let l = c .before .before .before .before .loop in
+    let w = c .before .before .before .before .before .before .args .w .now in
+    let l = c .before .before .before .loop in
+    let e = digits-stop w (l .at) (omega arith) (low-byte (getD w (l .at) 0) (c .if1 .taken)) in
+    done (l .inv) (λ h. absurd (omega arith))
+
+returns-2 : tie.Need-returns-2 Inv-loop μ-loop
+returns-2 c =
+    let w = c .before .before .before .before .before .before .before .before .args .w .now in
+    let l = c .before .before .before .before .before .loop in
     let d = by-keys (λ (k : Class). isDigit k ≡ false) (0 ∷ 1 ∷ 2 ∷ 4 ∷ 5 ∷ 6 ∷ 7 ∷ []) (c .before .class-of .ensures) (search needs) (c .match .keys2) in
     let e = digits-stop w (l .at) (omega arith) d in
     done (l .inv) (λ h. absurd (omega arith))
 
 mul-v : tie.Need-mul-v Inv-loop μ-loop
-mul-v c = omega (arith, under (c .before .before .before .before .before .loop .inv))
-
--- the byte is a digit
-sub-v : tie.Need-sub-v Inv-loop μ-loop
-sub-v c =
-    let d = by-keys (λ (k : Class). isDigit k ≡ true) (3 ∷ []) (c .before .before .class-of .ensures) (refl, tt) (c .before .match .keys1) in
-    turn (c .before .before .before .before .before .before .before .before .args .w .now) (c .before .before .before .before .before .loop .at)
-    (omega (arith, c .before .before .before .before .before .loop .inv .bound)) d .byte .0
+mul-v c = omega (arith, under (c .before .before .before .before .before .before .loop .inv))
 
 cast-v : tie.Need-cast-v Inv-loop μ-loop
-cast-v c = omega (arith, c .before .before .before .shared-slice-known2 .given (c .before .before .before .before .before .loop .at))
+cast-v c = omega (arith, c .before .before .before .before .shared-slice-known2 .given (c .before .before .before .before .before .before .loop .at))
 
 add-v : tie.Need-add-v Inv-loop μ-loop
 add-v c = omega (
   arith,
-  under (c .before .before .before .before .before .loop .inv),
-  c .before .before .before .shared-slice-known2 .given
-      (c .before .before .before .before .before .loop .at),
+  under (c .before .before .before .before .before .before .loop .inv),
+  c .before .before .before .before .shared-slice-known2 .given
+      (c .before .before .before .before .before .before .loop .at),
 )
 
 loop-again : tie.Need-loop-again Inv-loop μ-loop
 loop-again c =
-    let w = c .before .before .before .before .before .before .before .before .args .w .now in
-    let from = c .before .before .before .before .before .before .before .before .args .from in
-    let l = c .before .before .before .before .before .loop in
+    let w = c .before .before .before .before .before .before .before .before .before .args .w .now in
+    let from = c .before .before .before .before .before .before .before .before .before .args .from in
+    let l = c .before .before .before .before .before .before .loop in
     let i = l .inv in
     let d = by-keys (λ (k : Class). isDigit k ≡ true) (3 ∷ []) (c .before .before .class-of .ensures) (refl, tt) (c .before .match .keys1) in
     let t = turn w (l .at) (omega (arith, i .bound)) d in
@@ -121,12 +122,12 @@ loop-again c =
       few = rw e (grown (l .at - from) (l .v) (getD w (l .at) 0 - 48) (i .few) (omega (arith, t .byte)));
     }
 
-returns-2 : tie.Need-returns-2 Inv-loop μ-loop
-returns-2 c =
+returns-3 : tie.Need-returns-3 Inv-loop μ-loop
+returns-3 c =
     let l = c .before .loop in
     done (l .inv) (at-stop (l .inv) (omega arith))
 
 pub digits-from-spec : {M : Type 1} → statement M
 digits-from-spec =
-    tie.close (tie.spec Inv-loop μ-loop (λ c κs. search needs) loop-holds (λ c. omega arith) (λ c κs. search needs) (λ c. c .match .keys1) returns
-    mul-v sub-v cast-v add-v (λ c. omega arith) (λ c. omega arith) loop-again returns-2)
+    tie.close (tie.spec Inv-loop μ-loop (λ c κs. search needs) loop-holds (λ c. omega arith) returns (λ c κs. search needs)
+    (λ c. c .match .keys1) returns-2 mul-v cast-v add-v (λ c. omega arith) (λ c. omega arith) loop-again returns-3)

@@ -1,4 +1,4 @@
-use Rattle.statements.proofs.Prelude.{ℕ, List, arith, needs, stated, index, inside, takes-reads, second-word, value-next, probability, entry}
+use Rattle.statements.proofs.Prelude.{ℕ, List, arith, needs, stated, index, inside, takes-reads, second-word, value-next, probability, entryBy}
 use Rattle.statements.proofs.Prelude.{upon, filled, leaves-back, leaves-on, leaves-done}
 use Rattle.statements.proofs.entry_at.Statement.{statement}
 use Rattle.statements.proofs.entry_at.Tie as tie
@@ -19,7 +19,7 @@ index-of-requires c κs =
     (inside (c .pair-from .ensures .first .within (c .before .before .before .pre .0 .0)), (r .some-places, omega (arith, r .few-places)))
 
 returns : tie.Need-returns
-unfolding entry
+unfolding entryBy
 returns c =
     let a = before-pair-from (before-index-of (c .before .before)) .args in
     leaves-back (a .cells .now) (λ x ws. upon (a .cells .now) (probability ws)
@@ -35,7 +35,7 @@ number-of-requires c κs = (
 )
 
 returns-2 : tie.Need-returns-2
-unfolding entry
+unfolding entryBy
 returns-2 c =
     let a = before-pair-from (before-index-of (before-number-of (c .before .before))) .args in
     let g = c .before .before .before .before .i .given in
@@ -79,7 +79,7 @@ state-requires c κs =
     )
 
 returns-3 : tie.Need-returns-3
-unfolding entry
+unfolding entryBy
 returns-3 c =
     let a = before-pair-from (before-index-of (before-number-of (c .before .before .before .before .before .before .before))) .args in
     let g = c .before .before .before .before .before .before .before .before .before .i .given in

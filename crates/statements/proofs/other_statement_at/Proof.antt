@@ -1,10 +1,10 @@
-use Rattle.statements.proofs.Prelude.{needs, told, value-next, table, draft, rewardStatement, observationOrReward, within}
+use Rattle.statements.proofs.Prelude.{needs, told, value-next, table, draft, rewardStatement, observationOrRewardBy, within}
 use Rattle.statements.proofs.Prelude.{chooses-back, chooses-on, leaves-within, takes-begin}
 use Rattle.statements.proofs.other_statement_at.Statement.{statement}
 use Rattle.statements.proofs.other_statement_at.Tie as tie
 
 returns : tie.Need-returns
-unfolding observationOrReward
+unfolding observationOrRewardBy
 returns c =
     λ t.
     let a = c .before .before .before .before .before .before .before .before .before .args in
@@ -21,7 +21,7 @@ table-at-requires c κs = (
 )
 
 returns-2 : tie.Need-returns-2
-unfolding observationOrReward
+unfolding observationOrRewardBy
 returns-2 c =
     λ t.
     let a = c .before .before .before .before .before .before .before .before .before .before .before .args in

@@ -1,9 +1,9 @@
-use Rattle.statements.proofs.Prelude.{needs, value-next, rewards, draft, rewardStatement, within, leaves-back, leaves-on, leaves-within, takes-begin}
+use Rattle.statements.proofs.Prelude.{needs, value-next, rewards, draft, rewardStatementBy, within, leaves-back, leaves-on, leaves-within, takes-begin}
 use Rattle.statements.proofs.reward_statement_at.Statement.{statement}
 use Rattle.statements.proofs.reward_statement_at.Tie as tie
 
 returns : tie.Need-returns
-unfolding rewardStatement
+unfolding rewardStatementBy
 returns c =
     λ t o.
     let a = c .before .before .before .before .before .args in
@@ -18,7 +18,7 @@ rewards-at-requires c κs = (
 )
 
 returns-2 : tie.Need-returns-2
-unfolding rewardStatement
+unfolding rewardStatementBy
 returns-2 c =
     λ t o.
     let a = c .before .before .before .before .before .before .before .before .before .args in

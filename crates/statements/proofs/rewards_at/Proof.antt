@@ -1,4 +1,4 @@
-use Rattle.statements.proofs.Prelude.{ℕ, ℤ, List, needs, Words, value-next, indexed, reward, rewards, Outcome, upon, leaves-back, leaves-on}
+use Rattle.statements.proofs.Prelude.{ℕ, ℤ, List, needs, Words, value-next, indexed, reward, rewardsBy, Outcome, upon, leaves-back, leaves-on}
 use Rattle.statements.specs.Statements.{starred}
 use Rattle.statements.proofs.rewards_at.Statement.{statement}
 use Rattle.statements.proofs.rewards_at.Tie as tie
@@ -27,7 +27,7 @@ abbrev after : ℕ → ℕ → List ℤ → ℕ → Words → Outcome (List ℤ)
 after m n cells a ws = upon cells (indexed n ws) (stars-after m n cells a)
 
 returns : tie.Need-returns
-unfolding rewards
+unfolding rewardsBy
 returns c =
     let a = before-indexed-at (c .before .before) .args in
     leaves-back (a .cells .now) (after (a .m) (a .n) (a .cells .now)) (c .before .before .indexed-at .ensures) (c .before .match .keys2)
@@ -39,7 +39,7 @@ indexed-at-requires-2 c κs = (
 )
 
 returns-2 : tie.Need-returns-2
-unfolding rewards
+unfolding rewardsBy
 returns-2 c =
     let a = before-indexed-at (before-indexed-at2 (c .before .before)) .args in
     let g = c .before .before .before .before .i .given in
@@ -50,7 +50,7 @@ keys-at-requires : tie.Need-keys-at-requires
 keys-at-requires c κs = value-next _ _ (c .before .before .before .before .before .indexed-at2 .ensures) (c .before .before .before .j .given .1) .1 .1
 
 returns-3 : tie.Need-returns-3
-unfolding rewards
+unfolding rewardsBy
 returns-3 c =
     let a = before-indexed-at (before-indexed-at2 (before-keys-at (c .before .before))) .args in
     let g = before-keys-at (c .before .before) .before .before .i .given in
@@ -66,7 +66,7 @@ keys-at-requires-2 : tie.Need-keys-at-requires-2
 keys-at-requires-2 c κs = value-next _ _ (c .before .before .before .before .before .keys-at .ensures) (c .before .before .before .first .given .1) .1 .1
 
 returns-4 : tie.Need-returns-4
-unfolding rewards
+unfolding rewardsBy
 returns-4 c =
     let a = before-indexed-at (before-indexed-at2 (before-keys-at (before-keys-at2 (c .before .before)))) .args in
     let g = before-keys-at (before-keys-at2 (c .before .before)) .before .before .i .given in
@@ -96,7 +96,7 @@ reward-at-requires c κs =
     )
 
 returns-5 : tie.Need-returns-5
-unfolding rewards
+unfolding rewardsBy
 returns-5 c =
     let a = before-indexed-at (before-indexed-at2 (before-keys-at (before-keys-at2 (c .before .before .before .before .before .before)))) .args in
     let g = before-keys-at (before-keys-at2 (c .before .before .before .before .before .before)) .before .before .i .given in

@@ -1,11 +1,11 @@
 use Rattle.statements.proofs.Prelude.{needs, told, value-next, table, draft, observationOrReward, within}
 use Rattle.statements.proofs.Prelude.{chooses-back, chooses-on, leaves-within, takes-begin}
-use Rattle.statements.specs.Statements.{oneStatement}
+use Rattle.statements.specs.Statements.{oneStatementBy}
 use Rattle.statements.proofs.statement_at.Statement.{statement}
 use Rattle.statements.proofs.statement_at.Tie as tie
 
 returns : tie.Need-returns
-unfolding oneStatement
+unfolding oneStatementBy
 returns c =
     let a = c .before .before .before .before .before .before .before .before .before .before .before .before .before .args in
     chooses-back (λ ws. within (λ cells. draft cells (a .observation .now) (a .reward .now)) (table (a .m) (a .n) (a .n) (a .transition .now) ws)) _
@@ -22,7 +22,7 @@ table-at-requires c κs = (
 )
 
 returns-2 : tie.Need-returns-2
-unfolding oneStatement
+unfolding oneStatementBy
 returns-2 c =
     let a = c .before .before .before .before .before .before .before .before .before .before .before .before .args in
     let g = c .before .before .before .before .before .x .given in

@@ -1,4 +1,5 @@
-use Rattle.statements.proofs.Prelude.{ℕ, List, arith, needs, Words, wordsIn, between, stated, key, colon, value-next, probability, indexed, entry, table}
+use Rattle.statements.proofs.Prelude.{ℕ, List, arith, needs, Words, wordsIn, between, stated, key, colon, value-next}
+use Rattle.statements.proofs.Prelude.{probability, indexed, entry, tableBy}
 use Rattle.statements.proofs.Prelude.{Outcome, upon, leaves-back, leaves-on, chooses-back, chooses-on}
 use Rattle.grammar.specs.Grammar.{choose}
 use Rattle.statements.specs.Statements.{row}
@@ -23,7 +24,7 @@ abbrev after : ℕ → ℕ → ℕ → List ℕ → ℕ → Words → Outcome (L
 after m n w cells a ws = upon cells (indexed n ws) (λ s ws. cells-after m n w cells a s ws)
 
 returns : tie.Need-returns
-unfolding table
+unfolding tableBy
 returns c =
     let a = before-indexed-at (c .before .before) .args in
     leaves-back (a .cells .now) (after (a .m) (a .n) (a .w) (a .cells .now)) (c .before .before .indexed-at .ensures) (c .before .match .keys2)
@@ -35,7 +36,7 @@ indexed-at-requires-2 c κs = (
 )
 
 returns-2 : tie.Need-returns-2
-unfolding table
+unfolding tableBy
 returns-2 c =
     let a = before-indexed-at (before-indexed-at2 (c .before .before)) .args in
     let g = c .before .before .before .before .i .given in
@@ -58,7 +59,7 @@ row-at-requires c κs =
     )
 
 returns-3 : tie.Need-returns-3
-unfolding table
+unfolding tableBy
 returns-3 c =
     let a = before-indexed-at (before-indexed-at2 (before-key-at (c .before .before .before .before .before .before))) .args in
     let g = before-key-at (c .before .before .before .before .before .before) .before .before .i .given in
@@ -86,7 +87,7 @@ entry-at-requires c κs =
     )
 
 returns-4 : tie.Need-returns-4
-unfolding table
+unfolding tableBy
 returns-4 c =
     let a = before-indexed-at (before-indexed-at2 (before-key-at (c .before .before .before .before .before .before .before))) .args in
     let g = before-key-at (c .before .before .before .before .before .before .before) .before .before .i .given in

@@ -1,14 +1,15 @@
-use Rattle.worth.proofs.Prelude.{_≤_, _≡_, sym, _∙_, needs, maxNodes, worthVerdict}
-use mathlib.Core.Bool.{true}
+use Rattle.worth.proofs.Prelude.{_≡_, sym, _∙_, needs, maxNodes, modelOf, worthVerdict}
+use mathlib.Core.Bool.{Bool, true, _&&_}
 use borrow.Author.Tests.{not-true, not-false}
-use Rattle.tables.specs.declared.Verdict.{Verdict}
-use Rattle.tables.specs.Model.{Model, Valid}
-use Rattle.tables.specs.Storage.{modelIn}
-use Rattle.tables.specs.Verdicts.{_before_, unless}
-use Rattle.tables.specs.Judged.{countWithin, modelVerdict}
-use Rattle.tables.proofs.Accepted.{valid, count-true}
-use Rattle.tables.proofs.Refusals.{stops, goes, breaks, passes}
-use Rattle.levels.proofs.Laws.{passed, failed}
+use Rattle.integers.proofs.Searches.{and-true}
+use Rattle.tables.specs.declared.Verdict.the-variants.{Fine}
+use Rattle.tables.specs.declared.Tables.{Tables}
+use Rattle.tables.specs.Model.{Valid}
+use Rattle.tables.specs.Storage.{tablesIn}
+use Rattle.tables.specs.Judged.{countWithin, tablesVerdict}
+use Rattle.tables.proofs.Accepted.{tables-valid, count-true}
+use Rattle.worth.specs.Storage.{LentGraph, lentGraph, graphStored}
+use Rattle.worth.proofs.Laws.{graph-stored}
 use Rattle.worth.proofs.judge_worth.Statement.{statement}
 use Rattle.worth.proofs.judge_worth.Tie as tie
 
@@ -22,57 +23,74 @@ of-count c = of-tables (c .before .before)
 abbrev of-numbers : tie.After-numbers-exist → tie.Else1
 of-numbers c = c .before
 
-abbrev model : tie.Start → Model
-model c = modelIn (c .args .c) (c .args .transition .now) (c .args .observation .now) (c .args .reward .now)
+abbrev tables : tie.Start → Tables
+tables c = tablesIn (c .args .c) (c .args .transition .now) (c .args .observation .now) (c .args .reward .now)
 
-valid-tables : (c : tie.After-enum-told) → Valid (model (of-tables c))
-valid-tables c = valid _ (sym (c .before .before .judge-tables .ensures) ∙ c .enum-told .given .1)
+abbrev graph : tie.Start → LentGraph
+graph c = lentGraph (c .args .nodes) (c .args .actions .now) (c .args .next .now)
 
-count : (c : tie.Else1) → countWithin maxNodes (of-count c .args .nodes) ≡ true
-count c = sym (c .before .count-within .ensures) ∙ not-false _ (c .if1 .left)
+-- the test of the node count
+abbrev nodesHold : tie.Start → Bool
+nodesHold c = countWithin maxNodes (c .args .nodes) && graphStored (c .args .c .observations) (graph c)
 
--- what is left past the node count
-on : (c : tie.Else1) {u w : Verdict} → u ≡ w
-    → u ≡ (modelVerdict (model (of-count c)) before unless (countWithin maxNodes (of-count c .args .nodes)) 18 0 before w)
-on c e = let t = c .before .before in goes (t .before .before .judge-tables .ensures) (t .enum-told .given .1) (passes 18 0 (count c) e)
+fine-tables : (c : tie.After-enum-told) → tablesVerdict (tables (of-tables c)) ≡ Fine
+fine-tables c = sym (c .before .before .judge-tables .ensures) ∙ c .enum-told .given .1
+
+valid-tables : (c : tie.After-enum-told) → Valid (modelOf (tables (of-tables c)))
+valid-tables c = tables-valid _ (fine-tables c)
+
+count : (c : tie.Else1) → nodesHold (of-count c) ≡ true
+count c = sym (c .before .nodes-within .ensures) ∙ not-false _ (c .if1 .left)
 
 returns : tie.Need-returns
 unfolding worthVerdict
-returns c = stops _ (c .before .before .judge-tables .ensures) (c .enum-told2 .given .1)
+returns c = rw (sym (c .before .before .judge-tables .ensures) ∙ c .enum-told2 .given .1, c .enum-told2 .given .1)
+
+nodes-within-requires : tie.Need-nodes-within-requires
+nodes-within-requires c κs = valid-tables c .few-observations
 
 returns-2 : tie.Need-returns-2
 unfolding worthVerdict
-returns-2 c =
-    let t = c .before .before in
-    goes (t .before .before .judge-tables .ensures) (t .enum-told .given .1) (breaks _ (sym (c .before .count-within .ensures) ∙ not-true _ (c .if1 .taken)))
+returns-2 c = rw (fine-tables (c .before .before), sym (c .before .nodes-within .ensures) ∙ not-true _ (c .if1 .taken))
 
 numbers-exist-requires : tie.Need-numbers-exist-requires
 numbers-exist-requires c κs =
-    let few : of-count c .args .nodes ≤ maxNodes = count-true _ _ (count c) .1 in
-    let k = valid-tables (c .before .before) .few-observations in
-    let g = of-count c .pre .1 few k in
-    ((few, k), (g .actions-long, g .next-stored))
+    let h = and-true (countWithin maxNodes (of-count c .args .nodes)) _ (count c) in
+    let g = graph-stored (of-count c .args .c .observations) (graph (of-count c)) (h .1) in
+    ((count-true _ _ (h .0) .1, valid-tables (c .before .before) .few-observations), (g .actions-long, g .next-stored))
 
 returns-3 : tie.Need-returns-3
 unfolding worthVerdict
-returns-3 c = let n = c .before .before in on (of-numbers n) (stops _ (n .numbers-exist .ensures) (c .enum-told4 .given .1))
+returns-3 c =
+    let n = c .before .before in
+    let l = of-numbers n in
+    rw (fine-tables (l .before .before), count l, sym (n .numbers-exist .ensures) ∙ c .enum-told4 .given .1, c .enum-told4 .given .1)
 
 returns-4 : tie.Need-returns-4
 unfolding worthVerdict
 returns-4 c =
     let n = c .before .before .before .before in
-    on (of-numbers n) (goes (n .numbers-exist .ensures) (c .before .before .enum-told3 .given .1)
-    (sym (failed 18 0 (sym (c .before .asked-within .ensures) ∙ not-true _ (c .if2 .taken)))))
+    let l = of-numbers n in
+    rw (
+      fine-tables (l .before .before),
+      count l,
+      sym (n .numbers-exist .ensures) ∙ c .before .before .enum-told3 .given .1,
+      sym (c .before .asked-within .ensures) ∙ not-true _ (c .if2 .taken),
+    )
 
 returns-5 : tie.Need-returns-5
 unfolding worthVerdict
 returns-5 c =
     let n = c .before .before .before .before in
-    on (of-numbers n) (goes (n .numbers-exist .ensures) (c .before .before .enum-told3 .given .1)
-    (sym (passed 18 0 (sym (c .before .asked-within .ensures) ∙ not-false _ (c .if2 .left)))))
+    let l = of-numbers n in
+    rw (
+      fine-tables (l .before .before),
+      count l,
+      sym (n .numbers-exist .ensures) ∙ c .before .before .enum-told3 .given .1,
+      sym (c .before .asked-within .ensures) ∙ not-false _ (c .if2 .left),
+    )
 
 pub judge-worth-spec : {M : Type 1} → statement M
 judge-worth-spec =
-    tie.close (tie.spec (λ c κs. c .before .before .before .before .pre .0) (λ c. search needs) (λ c. search needs) returns (λ c κs. search needs) returns-2
-    numbers-exist-requires
+    tie.close (tie.spec (λ c κs. search needs) (λ c. search needs) (λ c. search needs) returns nodes-within-requires returns-2 numbers-exist-requires
     (λ c. search needs) (λ c. search needs) returns-3 (λ c κs. search needs) returns-4 returns-5)

@@ -1,10 +1,8 @@
-use Rattle.worth.proofs.Prelude.{_*_, _<_, _≤_, _≡_, sym, _∙_, arith, needs, answer, maxNodes}
-use Prim.Native.Nat.{ℕ, _-_}
-use mathlib.Core.List.{List}
+use Rattle.worth.proofs.Prelude.{_≤_, _≡_, sym, arith, needs}
+use Prim.Native.Nat.{_-_}
 use lib.ListN.{length}
-use lib.IntN.{ℤ, pos}
-use Rattle.integers.specs.Cells.{padded}
-use Rattle.integers.proofs.Lists.{padded-length, padded-none, row-below}
+use lib.IntN.{pos}
+use Rattle.integers.proofs.Lists.{padded-length, row-below}
 use Rattle.tables.specs.Limits.{maxStates}
 use Rattle.worth.specs.Steps.{backedUpOf, worthsBy}
 use Rattle.worth.proofs.Laws.{few-states, room, worths-none-yet, worths-long, worths-more}

@@ -1,6 +1,4 @@
-use Rattle.worth.proofs.Prelude.{_<_, _≡_, arith, needs, answer}
-use lib.ListN.{getD}
-use Rattle.worth.specs.Steps.{Lent}
+use Rattle.worth.proofs.Prelude.{arith}
 use Rattle.worth.proofs.Laws.{few-states, action-below, chosen, observed, transitions, rewards, foreseen-long, foreseen-within, row-is}
 use Rattle.worth.proofs.worths_of.Statement.{statement}
 use Rattle.worth.proofs.worths_of.Tie as tie

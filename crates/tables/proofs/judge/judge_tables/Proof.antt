@@ -1,32 +1,35 @@
-use Rattle.tables.proofs.Prelude.{_≡_, sym, _∙_, true, arith, not-true, not-false, modelIn, limitsHold, Few, needs}
+use Rattle.tables.proofs.Prelude.{_≡_, sym, _∙_, true, arith, not-true, not-false, limitsHold, modelOf, Few, needs}
+use mathlib.Core.Bool.{_&&_}
+use Rattle.integers.proofs.Searches.{and-true}
+use Rattle.tables.specs.declared.Tables.{Tables}
 use Rattle.tables.specs.Steps.{Stored}
-use Rattle.tables.specs.Judged.{modelVerdict}
-use Rattle.tables.proofs.Fitting.{limits-counts, limits-few}
+use Rattle.tables.specs.Storage.{tablesIn}
+use Rattle.tables.specs.Judged.{tablesStored, tablesVerdict}
+use Rattle.tables.proofs.Fitting.{limits-few, stored-true}
 use Rattle.tables.proofs.judge.judge_tables.Statement.{statement}
 use Rattle.tables.proofs.judge.judge_tables.Tie as tie
 
-limits : (c : tie.Else1) → let a = c .before .before .before .before .args in limitsHold
-    (modelIn (a .c) (a .transition .now) (a .observation .now) (a .reward .now)) ≡ true
+abbrev tables : tie.Start → Tables
+tables c = tablesIn (c .args .c) (c .args .transition .now) (c .args .observation .now) (c .args .reward .now)
+
+limits : (c : tie.Else1) → let m = tables (c .before .before .before .before) in (limitsHold (modelOf m) && tablesStored m) ≡ true
 limits c = sym (c .before .limits-hold .ensures) ∙ not-false _ (c .if1 .left)
 
-few-here : (c : tie.Else1) → let m = c .before .before .before .before .args .c in Few (m .actions) (m .states) (m .observations)
-few-here c = let a = c .before .before .before .before .args in limits-few (modelIn (a .c) (a .transition .now) (a .observation .now) (a .reward .now))
-    (limits c)
+few-here : (c : tie.Else1) → let m = tables (c .before .before .before .before) in Few (m .actions) (m .states) (m .observations)
+few-here c = limits-few _ (and-true (limitsHold (modelOf (tables (c .before .before .before .before)))) _ (limits c) .0)
 
 stored : (c : tie.Else1) → let a = c .before .before .before .before .args in Stored (a .c) (a .transition .now) (a .observation .now) (a .reward .now)
-stored c =
-    let a = c .before .before .before .before .args in
-    c .before .before .before .before .pre (limits-counts (modelIn (a .c) (a .transition .now) (a .observation .now) (a .reward .now)) (limits c))
+stored c = stored-true _ (and-true (limitsHold (modelOf (tables (c .before .before .before .before)))) _ (limits c) .1)
 
 returns : tie.Need-returns
-unfolding modelVerdict
+unfolding tablesVerdict
 returns c = rw (sym (c .before .limits-hold .ensures) ∙ not-true _ (c .if1 .taken))
 
 rows-total-requires : tie.Need-rows-total-requires
 rows-total-requires c κs = let f = few-here c in ((f .actions, (f .states, f .states)), stored c .transitions)
 
 returns-2 : tie.Need-returns-2
-unfolding modelVerdict
+unfolding tablesVerdict
 returns-2 c = rw (limits (c .before .before .before), sym (c .before .before .rows-total .ensures) ∙ c .enum-told2 .given .1, c .enum-told2 .given .1)
 
 rows-total-requires-2 : tie.Need-rows-total-requires-2
@@ -34,11 +37,11 @@ rows-total-requires-2 c κs = let f = few-here (c .before .before .before) in
     ((f .actions, (f .states, omega (arith, f .observations))), stored (c .before .before .before) .observed)
 
 returns-3 : tie.Need-returns-3
-unfolding modelVerdict
+unfolding tablesVerdict
 returns-3 c = rw (limits (c .before .before .before .before), sym (c .before .before .before .rows-total .ensures) ∙ c .before .enum-told .given .1)
     (c .rows-total2 .ensures)
 
 pub judge-tables-spec : {M : Type 1} → statement M
 judge-tables-spec =
-    tie.close (tie.spec (λ c κs. c .before .before .pre) returns rows-total-requires (λ c. search needs) (λ c. search needs) returns-2 rows-total-requires-2
+    tie.close (tie.spec (λ c κs. search needs) returns rows-total-requires (λ c. search needs) (λ c. search needs) returns-2 rows-total-requires-2
     returns-3)

@@ -1,0 +1,261 @@
+-- Laws of the totals of a certifier that is not refused by 7: what is known of its parts, how large the totals are, and that they read weights of states only.
+-- Assumes nothing.
+use mathlib.Core.Path.{_≡_, refl, sym, _∙_, ap}
+use mathlib.Core.Bool.{Bool, true, false}
+use mathlib.Core.List.{List}
+use Prim.Native.Nat.{ℕ, _+_, _*_, _≤_, _<_, _^_}
+use native.Mathlib.Nat as NatL
+use native.Mathlib.Omega.{arith}
+use borrow.Author.Tests.{leb-true}
+use lib.Dec.{leb, ltb}
+use lib.ListN.{length, getD}
+use lib.IntN.{ℤ, natAbs, _-ℤ_}
+use Rattle.integers.specs.Whole.{totalTo, Below}
+use Rattle.integers.specs.Search.{every}
+use Rattle.integers.specs.Cells.{padded}
+use Rattle.integers.proofs.Lists.{padded-at, padded-length}
+use Rattle.integers.proofs.Searches.{and-true, every-at, largest-cong, largest-in}
+use Rattle.integers.proofs.Sizes.{times-bound, sum-weighed}
+use Rattle.integers.proofs.Sums.{total-bound}
+use Rattle.tables.specs.declared.Tables.{Tables}
+use Rattle.tables.specs.declared.Verdict.{Verdict}
+use Rattle.tables.specs.declared.Verdict.the-variants.{Fine, Refused}
+use Rattle.tables.specs.Limits.{maxStates, maxActions, maxWeight, maxEntry, maxLevels}
+use Rattle.tables.specs.Model.{Model}
+use Rattle.tables.specs.Storage.{weightIn, countsOf, modelOf}
+use Rattle.tables.specs.Verdicts.{_before_, unless}
+use Rattle.tables.proofs.Fitting.{row-alone}
+use Rattle.tables.proofs.Refusals.{before-fine, unless-fine}
+use Rattle.plans.specs.Limits.{maxPoints, range, maxReached}
+use Rattle.plans.specs.Level.{Level, product, gain, ceiling, Shaped}
+use Rattle.plans.specs.Totals.{best, lower, upper, advice}
+use Rattle.plans.proofs.Agreement.{product-cong, ceiling-weights}
+use Rattle.plans.proofs.Bracket.{best-exists}
+use Rattle.plans.proofs.Built.{ceiling-range, range-limit, shaped-mono}
+use Rattle.levels.specs.Storage.{Lent, levelOf, pointIn, numberIn, standingIn}
+use Rattle.levels.specs.Judged.{holds}
+use Rattle.sawtooth.specs.Steps.{positive, gainIn, ceilingIn}
+use Rattle.sawtooth.proofs.Joined.{ceiling-is}
+use Rattle.checks.specs.Steps.{Roofed}
+use Rattle.checks.proofs.Lent.{entries-lent, roof-lent}
+use Rattle.checks.proofs.Roofs.{corners-fit, points-fit, gains-below}
+use Rattle.runs.specs.declared.Bounds.{Bounds}
+use Rattle.runs.specs.State.{mixtureHolds, totalsVerdict, boundsBy, totalsOf}
+use Rattle.runs.proofs.Judged.{Standing, standing-true}
+use Rattle.bounds.specs.Steps.{standingVerdict, noBounds, bestIn, lowerIn, boundsIn, widened, unless17, answerIn, Asked}
+
+product-range : (n r : ℕ) (q : ℕ → ℕ) (e : ℕ → ℤ) → ((s : ℕ) → s < n → natAbs (e s) ≤ r) → natAbs (product n q e) ≤ totalTo n q * r
+unfolding product
+product-range n r q e h = sum-weighed n r q _ (λ s l. times-bound (q s) (e s) (NatL.le-refl (q s)) (h s l))
+
+-- ---- the answer over storage
+pub best-below : {vectors i : ℕ} (n : ℕ) (entries : List ℤ) (q : List ℕ) → 0 < vectors → i ≡ bestIn n vectors entries q → i < vectors
+best-below n entries q some e = rw e (largest-in _ _ some)
+
+-- by its parts
+pub bounds-by : (n vectors points : ℕ) (actions : List ℕ) (entries corners : List ℤ) (weights gains q : List ℕ) {i a : ℕ} {x y z : ℤ}
+    → i ≡ bestIn n vectors entries q → x ≡ lowerIn n vectors entries q → y ≡ ceilingIn n corners weights gains points q → z ≡ y -ℤ x
+    → a ≡ getD actions i 0
+    → _≡_ {A = Bounds} record { verdict = Fine; lower = x; upper = y; gap = z; action = record { 0 = a } }
+    (boundsIn n vectors points actions entries corners weights gains q)
+bounds-by n vectors points actions entries corners weights gains q e low high gap action = rw (action, gap, low, high, e)
+
+-- ---- the totals read weights of states only
+module _ (M : Model) (L : Level) (b b' : ℕ → ℕ) (same : (s : ℕ) → s < M .states → b s ≡ b' s) where
+  upper-weights : upper M L b ≡ upper M L b'
+  unfolding upper
+  upper-weights = ceiling-weights (M .states) L b b' same
+
+  module _ (some : 0 < L .vectors) where
+    best-weights : best M L b ≡ best M L b'
+    unfolding best
+    best-weights = largest-cong (L .vectors) _ _ some (λ v l. product-cong (M .states) b b' (L .entry v) (L .entry v) same (λ s k. refl))
+
+    lower-weights : lower M L b ≡ lower M L b'
+    unfolding lower
+    lower-weights = rw best-weights (product-cong (M .states) b b' _ _ same (λ s k. refl))
+
+    advice-weights : advice M L b ≡ advice M L b'
+    unfolding advice
+    advice-weights = ap (L .action) best-weights
+
+-- ---- a mixture
+widened-at : {n : ℕ} (b : List ℕ) (s : ℕ) → s < n → weightIn (widened n b) s ≡ weightIn b s
+widened-at {n} b s l = padded-at 0 maxStates n (pointIn n b 0) s 0 l ∙ ap (λ (i : ℕ). getD b i 0) (row-alone n s)
+
+-- what 17 tests
+pub record Mixed (n : ℕ) (b : List ℕ) : Type 0 where
+  pub long : n ≤ length b
+  pub small : (s : ℕ) → s < n → weightIn b s ≤ maxWeight
+
+pub mixed : (n : ℕ) (b : List ℕ) → mixtureHolds n b ≡ true → Mixed n b
+mixed n b h =
+    let e = and-true (leb n (length b)) _ h in
+    let w = and-true (every n (λ s. leb (weightIn b s) maxWeight)) _ (e .1) in
+    record { long = leb-true _ _ (e .0); small = λ s l. leb-true _ _ (every-at n _ (w .0) s l) }
+
+pub widened-long : (n : ℕ) (b : List ℕ) → n ≤ maxStates → length (widened n b) ≡ maxStates
+widened-long n b few = padded-length 0 maxStates n (pointIn n b 0) few
+
+pub widened-below : {n : ℕ} {b : List ℕ} → n ≤ maxStates → Mixed n b → Below maxWeight n (widened n b)
+widened-below {n} {b} few h = record {
+  long = rw (widened-long n b few) few;
+  below = λ s l. rw (widened-at b s l) (h .small s l);
+}
+
+pub below-reached : {n : ℕ} {q : List ℕ} → Below maxWeight n q → Below maxReached n q
+below-reached b = record { long = b .long; below = λ s l. omega (arith, b .below s l) }
+
+-- ---- an answer: its action exists or is 0, and its totals fit 64 bits
+module _ {n vectors points : ℕ} {actions : List ℕ} {entries corners : List ℤ} {weights gains : List ℕ}
+    (h : Asked n vectors points actions entries corners weights gains) (b : List ℕ) where
+  abbrev r : Bounds
+  r = answerIn n vectors points actions entries corners weights gains b
+
+  abbrev by-17 : Bool → Bounds
+  by-17 held = unless17 held (boundsIn n vectors points actions entries corners weights gains (widened n b))
+
+  pub acts-within : r .action .0 < maxActions
+  acts-within = by (mixtureHolds n b)
+    where
+      by : (held : Bool) → by-17 held .action .0 < maxActions
+      by true = h .acts _ (largest-in _ _ (h .some-vectors))
+      by false = omega arith
+
+  pub sizes-within : (natAbs (r .lower) < 2 ^ 63) × (natAbs (r .upper) < 2 ^ 63)
+  sizes-within = by (mixtureHolds n b) refl
+    where
+      by : (held : Bool) → mixtureHolds n b ≡ held → (natAbs (by-17 held .lower) < 2 ^ 63) × (natAbs (by-17 held .upper) < 2 ^ 63)
+      by true e = let f = h .fits (widened n b) (widened-below (h .few-states) (mixed n b e)) in (omega (arith, f), omega (arith, f))
+      by false e = (omega arith, omega arith)
+
+-- ---- a certifier that is not refused by 7
+-- the gains of the standing level, as the code lists them
+abbrev pub Gained : Tables → Lent → List ℕ → Type 0
+Gained m x gains =
+    gains ≡ padded 0 maxPoints (standingIn x .points)
+    (λ i. positive (gainIn (m .states) (x .cells .corners) (x .cells .weights) (x .cells .values) i))
+
+module _ (m : Tables) (x : Lent) (h : holds m x ≡ true) where
+  abbrev M : Model
+  M = modelOf m
+
+  abbrev L : Level
+  L = levelOf m (standingIn x)
+
+  pub stands : Standing m x
+  stands = standing-true m x h
+
+  some-vectors : 0 < L .vectors
+  some-vectors = stands .shaped .some-vectors
+
+  -- the level is within the limits of the hundredth
+  full : Shaped M maxLevels L
+  full = shaped-mono M L (numberIn x) maxLevels (stands .few-levels) (stands .shaped)
+
+  pub roofed : Roofed (countsOf m) (m .transition) (m .observation) (m .reward) (x .cells .corners) (standingIn x .points) (x .cells .weights)
+      (x .cells .values)
+  roofed = roof-lent m (standingIn x) (stands .valid-tables) (stands .stored-tables) (stands .read) full
+
+  -- how large the totals are
+  module _ {q : List ℕ} (b : Below maxWeight (m .states) q) where
+    total-limit : totalTo (m .states) (weightIn q) ≤ maxStates * maxWeight
+    total-limit = omega (arith, stands .valid-tables .few-states, total-bound (m .states) maxWeight (weightIn q) (b .below))
+
+    -- of the lower and of the upper
+    size-limit : totalTo (m .states) (weightIn q) * range (numberIn x) ≤ maxStates * maxWeight * maxEntry
+    size-limit = NatL.mul-le-mul total-limit (range-limit (numberIn x) (stands .few-levels))
+
+    totals-fit : natAbs (upper M L (weightIn q)) + natAbs (lower M L (weightIn q)) < 2 ^ 63
+    unfolding upper lower
+    totals-fit =
+        let v = best M L (weightIn q) in
+        omega (
+          arith,
+          size-limit,
+          ceiling-range M L (numberIn x) (stands .shaped) (weightIn q),
+          product-range (m .states) (range (numberIn x)) (weightIn q) (L .entry v)
+              (stands .shaped .entry-in v (best-exists M L (weightIn q) some-vectors)),
+        )
+
+  module _ {gains : List ℕ} (e : Gained m x gains) where
+    gains-at : (i : ℕ) → i < standingIn x .points
+        → getD gains i 0 ≡ positive (gainIn (m .states) (x .cells .corners) (x .cells .weights) (x .cells .values) i)
+    gains-at i l = rw e (padded-at 0 maxPoints (standingIn x .points) _ i 0 l)
+
+    pub gains-long : length gains ≡ maxPoints
+    gains-long = rw e (padded-length 0 maxPoints _ _ (full .few-points))
+
+    upper-is : (q : List ℕ) → ceilingIn (m .states) (x .cells .corners) (x .cells .weights) gains (standingIn x .points) q ≡ upper M L (weightIn q)
+    unfolding upper ceiling gain
+    upper-is q = ceiling-is (m .states) (x .cells .corners) (standingIn x .points) (x .cells .weights) (x .cells .values) gains q gains-at
+
+    lower-is : (q : List ℕ) → lowerIn (m .states) (standingIn x .vectors) (x .cells .entries) q ≡ lower M L (weightIn q)
+    unfolding lower best
+    lower-is q = refl
+
+    -- what is lent to an answer
+    pub asked : Asked (m .states) (standingIn x .vectors) (standingIn x .points) (x .cells .actions) (x .cells .entries) (x .cells .corners)
+        (x .cells .weights) gains
+    asked = record {
+      few-states = stands .valid-tables .few-states;
+      some-vectors = some-vectors;
+      actions-long = stands .read .actions;
+      acts = λ v l. omega (arith, full .action-in v l, stands .valid-tables .few-actions);
+      entries-fit = entries-lent m (standingIn x) (stands .valid-tables) (stands .stored-tables) (stands .read) full;
+      corners-fit = corners-fit roofed;
+      points-fit = points-fit roofed;
+      gains-fit = gains-below roofed e;
+      fits = λ q b. rw (upper-is q, lower-is q) (totals-fit b);
+    }
+
+    -- the answer is that of the standing level
+    bounds-are : (q : List ℕ) → boundsIn (m .states) (standingIn x .vectors) (standingIn x .points) (x .cells .actions) (x .cells .entries)
+        (x .cells .corners) (x .cells .weights) gains q ≡ boundsBy Fine m L q
+    unfolding lower advice best
+    bounds-are q = rw (upper-is q)
+
+    bounds-widened : (b : List ℕ) → boundsBy Fine m L (widened (m .states) b) ≡ boundsBy Fine m L b
+    bounds-widened b =
+        let same = widened-at b in
+        let q = weightIn (widened (m .states) b) in
+        rw (
+          lower-weights M L q (weightIn b) same some-vectors,
+          upper-weights M L q (weightIn b) same,
+          advice-weights M L q (weightIn b) same some-vectors,
+        )
+
+-- ---- each way out of totals
+before-assoc : (u v w : Verdict) → ((u before v) before w) ≡ (u before (v before w))
+before-assoc Fine v w = refl
+before-assoc (Refused k i) v w = refl
+
+module _ (m : Tables) (x : Lent) where
+  pub standing-holds : standingVerdict m x ≡ Fine → holds m x ≡ true
+  unfolding standingVerdict
+  standing-holds e = unless-fine _ 7 0 (before-fine _ _ e .0)
+
+  module _ (b : List ℕ) where
+    totals-verdict : totalsVerdict m x b ≡ (standingVerdict m x before unless (mixtureHolds (m .states) b) 17 0)
+    unfolding totalsVerdict standingVerdict
+    totals-verdict = sym (before-assoc (unless (holds m x) 7 0) (unless (ltb 0 (numberIn x)) 16 0) (unless (mixtureHolds (m .states) b) 17 0))
+
+    pub refused : {v : Verdict} {k i : ℕ} → v ≡ standingVerdict m x → v ≡ Refused k i → noBounds v ≡ totalsOf m x b
+    unfolding totalsOf
+    refused e f = rw (totals-verdict, sym e ∙ f, f)
+
+    -- 17, or the totals
+    at-mixture : (held : Bool) → mixtureHolds (m .states) b ≡ held → standingVerdict m x ≡ Fine
+        → unless17 held (boundsBy Fine m (levelOf m (standingIn x)) b) ≡ totalsOf m x b
+    unfolding totalsOf
+    at-mixture true f s = rw (totals-verdict, s, f)
+    at-mixture false f s = rw (totals-verdict, s, f)
+
+    pub answered : {gains : List ℕ} → standingVerdict m x ≡ Fine → Gained m x gains
+        → answerIn (m .states) (standingIn x .vectors) (standingIn x .points) (x .cells .actions) (x .cells .entries) (x .cells .corners)
+        (x .cells .weights) gains b
+        ≡ totalsOf m x b
+    answered s g =
+        let h = standing-holds s in
+        ap (λ (a : Bounds). unless17 (mixtureHolds (m .states) b) a) (bounds-are m x h g (widened (m .states) b) ∙ bounds-widened m x h g b)
+        ∙ at-mixture (mixtureHolds (m .states) b) refl s

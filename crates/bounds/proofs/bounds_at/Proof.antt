@@ -1,0 +1,90 @@
+use Rattle.bounds.proofs.Prelude.{ℕ, _+_, _*_, _<_, _≡_, _∙_, arith, needs, weightIn, ap}
+use lib.IntN.{pos}
+use lib.ListN.{getD}
+use mir.Syntax.{w64}
+use mir.Val.{toZ, ofZ}
+use Rattle.integers.proofs.Lists.{row-below}
+use Rattle.integers.proofs.Words.{answer}
+use Rattle.plans.specs.Level.{product}
+use Rattle.sawtooth.specs.Steps.{ceilingIn}
+use Rattle.bounds.specs.Steps.{bestIn, lowerIn}
+use Rattle.bounds.proofs.Bounds.{below-reached, best-below, bounds-by}
+use Rattle.bounds.proofs.bounds_at.Statement.{statement}
+use Rattle.bounds.proofs.bounds_at.Tie as tie
+
+-- places of the code, each from those after it
+abbrev start : tie.After-best-vector → tie.Start
+start c = c .before .before .before .before .before
+
+abbrev chosen : tie.After-product → tie.After-best-vector
+chosen c = c .before .before
+
+abbrev multiplied : tie.After-ceiling → tie.After-product
+multiplied c = c .before
+
+-- what is known there
+at-best : (c : tie.After-best-vector)
+    → let a = start c .args in c .best-vector .result .0 ≡ bestIn (a .n) (a .vectors) (a .entries .now) (a .q .now)
+at-best c = c .best-vector .ensures
+
+at-lower : (c : tie.After-product)
+    → let a = start (chosen c) .args in toZ w64 (ofZ w64 (c .product .result)) ≡ lowerIn (a .n) (a .vectors) (a .entries .now) (a .q .now)
+at-lower c =
+    let a = start (chosen c) .args in
+    answer (c .product .ok) (c .product .ensures)
+    ∙ ap (λ (z : ℕ). product (a .n) (weightIn (a .q .now)) (λ s. getD (a .entries .now) (z + s) (pos 0)))
+    (c .before .start .ensures ∙ ap (λ (v : ℕ). v * a .n) (at-best (chosen c)))
+
+at-upper : (c : tie.After-ceiling)
+    → let a = start (chosen (multiplied c)) .args in
+    toZ w64 (ofZ w64 (c .ceiling .result)) ≡ ceilingIn (a .n) (a .corners .now) (a .weights .now) (a .gains .now) (a .points) (a .q .now)
+at-upper c = answer (c .ceiling .ok) (c .ceiling .ensures)
+
+below : (c : tie.After-best-vector) → c .best-vector .result .0 < start c .args .vectors
+below c = let a = start c in best-below (a .args .n) (a .args .entries .now) (a .args .q .now) (a .pre .0 .some-vectors) (at-best c)
+
+best-vector-requires : tie.Need-best-vector-requires
+best-vector-requires c κs =
+    let h = c .before .before .before .before .pre in
+    ((h .0 .few-states, h .0 .some-vectors), (below-reached (h .1), h .0 .entries-fit))
+
+start-requires : tie.Need-start-requires
+start-requires c κs = let h = start c .pre .0 in (omega (arith, below c, h .entries-fit .few), h .few-states)
+
+product-requires : tie.Need-product-requires
+product-requires c κs =
+    let v = c .before in
+    let a = start v in
+    let fit = a .pre .0 .entries-fit in
+    let i = v .best-vector .result .0 in (
+      (a .pre .0 .few-states, rw (c .start .ensures) (omega (arith, row-below i (a .args .vectors) (a .args .n) (below v), fit .stored))),
+      (below-reached (a .pre .1), λ s b. rw (c .start .ensures) (fit .entry i (below v) s b)),
+    )
+
+ceiling-requires : tie.Need-ceiling-requires
+ceiling-requires c κs =
+    let a = start (chosen c) in
+    let h = a .pre .0 in
+    (h .few-states, (below-reached (a .pre .1), (h .corners-fit, (h .points-fit, h .gains-fit))))
+
+minus-requires : tie.Need-minus-requires
+minus-requires c κs =
+    let a = start (chosen (multiplied c)) in
+    rw (at-upper c, at-lower (multiplied c)) (a .pre .0 .fits (a .args .q .now) (a .pre .1))
+
+action-stored : tie.Need-shared-slice-read-action
+action-stored c =
+    let v = chosen (multiplied (c .before .before)) in
+    omega (arith, below v, start v .pre .0 .actions-long)
+
+returns : tie.Need-returns
+returns c =
+    let u = c .before .before .before in
+    let p = multiplied u in
+    let a = start (chosen p) .args in
+    bounds-by (a .n) (a .vectors) (a .points) (a .actions .now) (a .entries .now) (a .corners .now) (a .weights .now) (a .gains .now) (a .q .now)
+    (at-best (chosen p)) (at-lower p) (at-upper u) (answer (c .before .before .minus .ok) (c .before .before .minus .ensures)) (c .action .ensures)
+
+pub bounds-at-spec : {M : Type 1} → statement M
+bounds-at-spec =
+    tie.close (tie.spec best-vector-requires start-requires product-requires ceiling-requires minus-requires action-stored (λ c κs. search needs) returns)

@@ -1,0 +1,151 @@
+use Rattle.bounds.proofs.Prelude.{ℕ, _*_, _<_, _≡_, sym, _∙_, true, List, leb, needs, not-true, not-false, []}
+use Rattle.bounds.proofs.Prelude.{length, Tables, Fine, tablesIn, Lent, cells, lent, standingAt, corners-fit, points-fit, values-fit, stands}
+use borrow.Author.Tests.{leb-true}
+use Rattle.tables.specs.declared.Verdict.{Verdict}
+use Rattle.tables.specs.declared.Verdict.the-variants.{Refused}
+use Rattle.levels.specs.Judged.{holds}
+use Rattle.bounds.specs.Steps.{standingVerdict}
+use Rattle.bounds.specs.Each.{Answers, answers, mixtureAt, roomFor, eachVerdict}
+use Rattle.runs.specs.State.{totalsOf}
+use Rattle.bounds.proofs.Bounds.{Gained, roofed, asked, gains-long, standing-holds, answered}
+use Rattle.bounds.proofs.Answers.{enough, too-few, room-true, written-same, left-alone, refused-standing, refused-17, refused-9, given, all-written}
+use Rattle.bounds.proofs.each.Statement.{statement}
+use Rattle.bounds.proofs.each.Tie as tie
+
+-- from each place to the one before it
+abbrev start : tie.After-judge-standing → tie.Start
+start c = c .before .before .before .before .before .before .before .before .before
+
+abbrev of-certifier : tie.After-enum-told → tie.Start
+of-certifier c = start (c .before .before)
+
+abbrev of-mixtures : tie.Else1 → tie.After-enum-told
+of-mixtures c = c .before
+
+abbrev of-room : tie.Else2 → tie.Else1
+of-room c = c .before .before
+
+abbrev of-standing : tie.After-standing-in → tie.Start
+of-standing c = of-certifier (of-mixtures (of-room (c .before)))
+
+abbrev of-written : tie.After-write-answers → tie.After-gains
+of-written c = c .before .before .before .before .before .before
+
+-- what is lent
+abbrev tables : tie.Start → Tables
+tables c = tablesIn (c .args .c) (c .args .transition .now) (c .args .observation .now) (c .args .reward .now)
+
+abbrev certifier : tie.Start → List ℕ → Lent
+certifier c choices =
+    let a = c .args in
+    lent (a .state .now) (cells (a .actions .now) choices (a .entries .now) (a .corners .now) (a .weights .now) (a .values .now))
+
+abbrev lent-for : tie.Start → Answers
+lent-for c = answers (c .args .verdicts .now) (c .args .lower .now) (c .args .upper .now) (c .args .advice .now)
+
+-- ---- what each test says
+held : (c : tie.After-enum-told) (choices : List ℕ) → standingVerdict (tables (of-certifier c)) (certifier (of-certifier c) choices) ≡ Fine
+held c choices = sym (c .before .before .judge-standing .ensures choices) ∙ c .enum-told .given .1
+
+known : (c : tie.After-enum-told) → holds (tables (of-certifier c)) (certifier (of-certifier c) []) ≡ true
+known c = standing-holds (tables (of-certifier c)) (certifier (of-certifier c) []) (held c [])
+
+some-states : (c : tie.After-enum-told) → 0 < of-certifier c .args .c .states
+some-states c = stands (tables (of-certifier c)) (certifier (of-certifier c) []) (known c) .valid-tables .some-states
+
+packed : (c : tie.Else1) → let a = of-certifier (of-mixtures c) .args in leb (a .count * a .c .states) (length (a .mixtures .now)) ≡ true
+packed c = enough _ _ (some-states (of-mixtures c)) (c .if1 .left)
+
+room : (c : tie.Else2) → let y = lent-for (of-certifier (of-mixtures (of-room c))) in
+    roomFor (of-certifier (of-mixtures (of-room c)) .args .count) (length (y .verdicts)) (length (y .lower)) (length (y .upper)) (length (y .advice)) ≡ true
+room c = sym (c .before .room-for .ensures) ∙ not-false _ (c .if2 .left)
+
+said : (c : tie.After-standing-in) → c .standing-in .result ≡ standingAt (of-standing c .args .state .now)
+said c = c .standing-in .ensures
+
+gained : (c : tie.After-gains) → let s = of-standing (c .before) in Gained (tables s) (certifier s []) (c .gains .result)
+gained c = rw (said (c .before)) at (c .gains .ensures)
+
+-- what the contract says of the verdict
+abbrev Said : tie.Start → Verdict → Type 0
+Said s v = (choices : List ℕ) → v ≡ eachVerdict (tables s) (certifier s choices) (s .args .mixtures .now) (s .args .count) (lent-for s)
+
+returns : tie.Need-returns
+returns c =
+    let j = c .before .before in
+    let s = start j in
+    let f = c .enum-told2 .given .1 in
+    let e : Said s (j .judge-standing .result) = λ choices. refused-standing (tables s) (certifier s choices) (s .args .mixtures .now) (s .args .count)
+    (lent-for s) (j .judge-standing .ensures choices) f in
+    (e, λ choices. left-alone (tables s) (certifier s choices) (s .args .mixtures .now) (s .args .count) (lent-for s) (sym (e choices) ∙ f))
+
+returns-2 : tie.Need-returns-2
+returns-2 c =
+    let k = c .before in
+    let s = of-certifier k in
+    let e : Said s (Refused 17 0) = λ choices. refused-17 (tables s) (certifier s choices) (s .args .mixtures .now) (s .args .count) (lent-for s)
+    (k .before .before .judge-standing .ensures choices) (k .enum-told .given .1) (too-few _ _ (some-states k) (c .if1 .taken)) in
+    (e, λ choices. left-alone (tables s) (certifier s choices) (s .args .mixtures .now) (s .args .count) (lent-for s) (sym (e choices)))
+
+returns-3 : tie.Need-returns-3
+returns-3 c =
+    let w = c .before .before in
+    let k = of-mixtures w in
+    let s = of-certifier k in
+    let e : Said s (Refused 9 0) = λ choices. refused-9 (tables s) (certifier s choices) (s .args .mixtures .now) (s .args .count) (lent-for s)
+    (k .before .before .judge-standing .ensures choices) (k .enum-told .given .1) (packed w)
+    (sym (c .before .room-for .ensures) ∙ not-true _ (c .if2 .taken)) in
+    (e, λ choices. left-alone (tables s) (certifier s choices) (s .args .mixtures .now) (s .args .count) (lent-for s) (sym (e choices)))
+
+standing-in-requires : tie.Need-standing-in-requires
+standing-in-requires c κs =
+    let k = of-mixtures (of-room c) in
+    stands (tables (of-certifier k)) (certifier (of-certifier k) []) (known k) .state-long
+
+gains-requires : tie.Need-gains-requires
+gains-requires c κs =
+    let s = of-standing c in
+    let h = known (of-mixtures (of-room (c .before))) in
+    let r = roofed (tables s) (certifier s []) h in
+    rw (said c) (stands (tables s) (certifier s []) h .valid-tables .few-states, (corners-fit r, (points-fit r, values-fit r)))
+
+as-long : tie.Need-slice-aggregate-write-answers
+as-long c =
+    let n = c .before .before in
+    let s = of-standing n in
+    sym (gains-long (tables s) (certifier s []) (known (of-mixtures (of-room (n .before)))) (gained (c .before)))
+
+write-answers-requires : tie.Need-write-answers-requires
+write-answers-requires c κs =
+    let g = c .before .before .before .before .before in
+    let n = g .before in
+    let s = of-standing n in
+    let w = of-room (n .before) in
+    let r = room-true (s .args .count) (lent-for s) (room (n .before)) in
+    rw (said n) (
+      asked (tables s) (certifier s []) (known (of-mixtures w)) (gained g),
+      (leb-true _ _ (packed w), (r .verdicts, (r .lower, (r .upper, r .advice)))),
+    )
+
+returns-4 : tie.Need-returns-4
+returns-4 c =
+    let a = c .before .before .before .before .before .before in
+    let g = of-written a in
+    let n = g .before in
+    let w = of-room (n .before) in
+    let k = of-mixtures w in
+    let s = of-certifier k in
+    let e : Said s Fine = λ choices. given (tables s) (certifier s choices) (s .args .mixtures .now) (s .args .count) (lent-for s)
+    (k .before .before .judge-standing .ensures choices) (k .enum-told .given .1) (packed w) (room (n .before)) in (
+      e,
+      λ choices. all-written (tables s) (certifier s choices) (s .args .mixtures .now) (s .args .count) (lent-for s) (e choices)
+          (rw (said n) at (a .write-answers .ensures) ∙ written-same (s .args .count) _
+          (λ i. totalsOf (tables s) (certifier s choices) (mixtureAt (s .args .c .states) (s .args .mixtures .now) i)) (lent-for s)
+          (λ i. answered (tables s) (certifier s choices) (mixtureAt (s .args .c .states) (s .args .mixtures .now) i) (held k choices) (gained g))),
+    )
+
+pub each-spec : {M : Type 1} → statement M
+each-spec =
+    tie.close (tie.spec (λ c κs. search needs) (λ c. search needs) (λ c. search needs) returns some-states returns-2 (λ c κs. search needs) returns-3
+    standing-in-requires gains-requires as-long write-answers-requires (λ c. search needs) (λ c. search needs) (λ c. search needs) (λ c. search needs)
+    returns-4)

@@ -1,0 +1,3 @@
+-- Totals over storage, and at many mixtures.
+pub mod Steps
+pub mod Each

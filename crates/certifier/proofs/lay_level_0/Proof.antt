@@ -1,0 +1,51 @@
+use Prim.Native.Nat.{ℕ, _≤_}
+use mathlib.Core.Path.{_≡_, refl, sym, _∙_}
+use mathlib.Core.List.{List}
+use native.Mathlib.Omega.{arith}
+use lib.ListN.{length, replicate, length-replicate}
+use lib.Seq.{paste}
+use lib.IntN.{pos}
+use borrow.Author.Needs.{needs}
+use Rattle.integers.specs.Cells.{laid}
+use Rattle.integers.proofs.Lists.{laid-none, laid-turn, laid-cong, paste-laid, replicate-at}
+use Rattle.tables.specs.Limits.{maxStates, maxObservations}
+use Rattle.certifier.proofs.lay_level_0.Statement.{statement}
+use Rattle.certifier.proofs.lay_level_0.Tie as tie
+
+-- zeros over the first n cells
+zeros-laid : {A : Type 0} (z : A) (size n : ℕ) (xs : List A) → n ≤ size → paste xs 0 (replicate size z) n ≡ laid n (λ i. z) xs
+zeros-laid z size n xs l =
+    paste-laid n xs (replicate size z) z (rw (length-replicate size z) l) ∙ laid-cong n _ _ xs (λ i b. replicate-at z size i)
+
+-- from each slice that was written to the one before it
+abbrev start : tie.After-paste-u16 → tie.Start
+start c = c .before .before .before .before .before
+
+abbrev of-entries : tie.After-paste-i64 → tie.After-paste-u16
+of-entries c = c .before .before .before .before .before
+
+abbrev of-corners : tie.After-paste-i642 → tie.After-paste-i64
+of-corners c = c .before .before .before .before
+
+returns : tie.Need-returns
+returns c =
+    let r = c .before in
+    let e = of-corners r in
+    let h = of-entries e in
+    let s = start h in
+    let a = s .args in
+    let p = s .pre in (
+      laid-turn (λ v. 0) 0 (a .actions .now) 0 (sym (laid-none (λ v. 0) (a .actions .now))) refl (p .1 .0),
+      (
+        h .paste-u16 .ensures ∙ zeros-laid 0 maxObservations (a .k) (a .choices .now) (p .0 .1),
+        (
+          e .paste-i64 .ensures ∙ zeros-laid (pos 0) maxStates (a .n) (a .entries .now) (p .0 .0),
+          r .paste-i642 .ensures ∙ zeros-laid (pos 0) maxStates (a .n) (a .corners .now) (p .0 .0),
+        ),
+      ),
+    )
+
+pub lay-level-0-spec : {M : Type 1} → statement M
+lay-level-0-spec =
+    tie.close (tie.spec (λ c. search needs) (λ c. search needs) (λ c κs. search needs) (λ c. search needs) (λ c κs. search needs) (λ c. search needs)
+    (λ c κs. search needs) (λ c. search needs) (λ c. search needs) (λ c. search needs) (λ c. search needs) returns)

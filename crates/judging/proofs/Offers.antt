@@ -1,0 +1,107 @@
+-- An offer's tests in their two stages, and what the first leaves known for the second. Assumes nothing.
+use mathlib.Core.Path.{_≡_, refl}
+use mathlib.Core.List.{[]}
+use Prim.Native.Nat.{ℕ, _+_, _<_}
+use native.Mathlib.Omega.{arith}
+use Rattle.tables.specs.declared.Tables.{Tables}
+use Rattle.tables.specs.declared.Verdict.{Verdict}
+use Rattle.tables.specs.declared.Verdict.the-variants.{Fine, Refused}
+use Rattle.tables.specs.Limits.{maxLevels}
+use Rattle.tables.specs.Model.{Model}
+use Rattle.tables.specs.Storage.{countsOf, modelOf}
+use Rattle.tables.proofs.Fitting.{rows-stored}
+use Rattle.tables.proofs.Refusals.{stops, goes}
+use Rattle.plans.specs.Level.{Level, Shaped, ceiling, gain, backupAt, follows}
+use Rattle.plans.proofs.Built.{shaped-mono}
+use Rattle.levels.specs.Storage.{LentLevel, Lent, levelOf, floorIn, roofIn, numberIn, standingIn}
+use Rattle.levels.specs.Judged.{floorsVerdict, cornersVerdict, pointsVerdict, shapeVerdict, backupsVerdict, offerVerdict}
+use Rattle.runs.proofs.Judged.{Fitting}
+use Rattle.checks.specs.Steps.{Judging, Roofed}
+use Rattle.checks.proofs.Lent.{entries-lent, roof-lent}
+
+module _ (m : Tables) (x : Lent) (l : LentLevel) where
+  abbrev M : Model
+  M = modelOf m
+
+  abbrev L : Level
+  L = levelOf m (standingIn x)
+
+  abbrev W : Level
+  W = levelOf m l
+
+  -- ---- the stages as the code goes through them
+  module _ {shape : Verdict} (e : shape ≡ shapeVerdict m x l) where
+    pub refused-shape : {k i : ℕ} → shape ≡ Refused k i → shape ≡ offerVerdict m x l
+    unfolding offerVerdict
+    refused-shape f = stops _ e f
+
+    pub left-backups : {backups : Verdict} → shape ≡ Fine → backups ≡ backupsVerdict M L W → backups ≡ offerVerdict m x l
+    unfolding offerVerdict
+    left-backups f g = goes e f g
+
+  -- of the standing level and the offered one, each test of 13 to 15 reads a part
+  module _ {floor : Verdict}
+      (e : floor ≡ floorsVerdict M (floorIn (m .states) (m .observations) 0 [] [] (x .cells .entries))
+      (floorIn (m .states) (m .observations) (l .vectors) (l .cells .actions) (l .cells .choices) (l .cells .entries))) where
+    floor-read : floor ≡ floorsVerdict M L W
+    unfolding floorsVerdict follows
+    floor-read = e
+
+    pub refused-13 : {k i : ℕ} → floor ≡ Refused k i → floor ≡ backupsVerdict M L W
+    unfolding backupsVerdict
+    refused-13 f = stops _ floor-read f
+
+    -- the corners and points of the standing level
+    abbrev standing : Level
+    standing = roofIn (m .states) (x .cells .corners) (standingIn x .points) (x .cells .weights) (x .cells .values)
+
+    module _ (f : floor ≡ Fine) {roof : Verdict} (g : roof ≡ cornersVerdict M standing (roofIn (m .states) (l .cells .corners) 0 [] [])) where
+      roof-read : roof ≡ cornersVerdict M L W
+      unfolding cornersVerdict backupAt ceiling gain
+      roof-read = g
+
+      pub refused-14 : {k i : ℕ} → roof ≡ Refused k i → roof ≡ backupsVerdict M L W
+      unfolding backupsVerdict
+      refused-14 h = goes floor-read f (stops _ roof-read h)
+
+      module _ {points : Verdict} (p : points ≡ pointsVerdict M standing (roofIn (m .states) [] (l .points) (l .cells .weights) (l .cells .values))) where
+        points-read : points ≡ pointsVerdict M L W
+        unfolding pointsVerdict backupAt ceiling gain
+        points-read = p
+
+        pub left-15 : roof ≡ Fine → points ≡ backupsVerdict M L W
+        unfolding backupsVerdict
+        left-15 h = goes floor-read f (goes roof-read h points-read)
+
+  -- ---- what is lent to the tests of 13 to 15
+  module _ (f : Fitting m x l) where
+    standing-shaped : Shaped M maxLevels L
+    standing-shaped = shaped-mono M L (numberIn x) maxLevels (f .standing .few-levels) (f .standing .shaped)
+
+    pub offered-shaped : Shaped M maxLevels W
+    offered-shaped = shaped-mono M W (numberIn x + 1) maxLevels (omega (arith, f .room)) (f .shaped)
+
+    pub judging : Judging (countsOf m) (m .transition) (m .observation) (m .reward) (x .cells .entries) (l .vectors) (l .cells .actions)
+        (l .cells .choices) (l .cells .entries)
+    judging = record {
+      valid = f .standing .valid-tables;
+      stored = f .standing .stored-tables;
+      actions-long = f .given .read .actions;
+      acts = offered-shaped .action-in;
+      chosen = λ v b. record {
+        vectors = standingIn x .vectors;
+        entries-fit = entries-lent m (standingIn x) (f .standing .valid-tables) (f .standing .stored-tables) (f .standing .read) standing-shaped;
+        row = omega (arith, offered-shaped .few-vectors);
+        stored = rows-stored (m .observations) v (l .vectors) b (f .given .choices);
+        vector = f .chosen v b;
+      };
+      offers = entries-lent m l (f .standing .valid-tables) (f .standing .stored-tables) (f .given .read) offered-shaped;
+    }
+
+    pub standing-roof : Roofed (countsOf m) (m .transition) (m .observation) (m .reward) (x .cells .corners) (standingIn x .points) (x .cells .weights)
+        (x .cells .values)
+    standing-roof = roof-lent m (standingIn x) (f .standing .valid-tables) (f .standing .stored-tables) (f .standing .read) standing-shaped
+
+    pub offered-roof : Roofed (countsOf m) (m .transition) (m .observation) (m .reward) (l .cells .corners) (l .points) (l .cells .weights)
+        (l .cells .values)
+    offered-roof = roof-lent m l (f .standing .valid-tables) (f .standing .stored-tables) (f .given .read) offered-shaped

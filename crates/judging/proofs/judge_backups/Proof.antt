@@ -1,0 +1,90 @@
+use Rattle.judging.proofs.Prelude.{_≡_, needs, Tables, tablesIn, cells, lent}
+use Rattle.levels.specs.declared.Standing.{Standing}
+use Rattle.levels.specs.Storage.{LentLevel, Lent, lentFor, standingAt}
+use Rattle.runs.proofs.Judged.{Fitting, fitting}
+use Rattle.checks.proofs.Roofs.{corners-fit, points-fit, values-fit}
+use Rattle.judging.proofs.Offers.{refused-13, refused-14, left-15, judging, standing-roof, offered-roof, offered-shaped}
+use Rattle.judging.proofs.judge_backups.Statement.{statement}
+use Rattle.judging.proofs.judge_backups.Tie as tie
+
+-- from each place to the one before it
+abbrev start : tie.After-standing-in → tie.Start
+start c = c .before .before .before .before .before .before .before .before .before .before
+
+abbrev of-floor : tie.After-floors-hold → tie.After-standing-in
+of-floor c = c .before
+
+abbrev of-roof : tie.After-corners-hold → tie.After-floors-hold
+of-roof c = c .before .before .before
+
+-- what is lent
+abbrev tables : tie.Start → Tables
+tables c = tablesIn (c .args .c) (c .args .transition .now) (c .args .observation .now) (c .args .reward .now)
+
+abbrev certifier : tie.Start → Lent
+certifier c =
+    let a = c .args in
+    lent (a .state .now) (cells (a .actions .now) (a .choices .now) (a .entries .now) (a .corners .now) (a .weights .now) (a .values .now))
+
+abbrev offered : tie.Start → LentLevel
+offered c =
+    let a = c .args in
+    lentFor (a .vectors) (a .points)
+    (cells (a .newactions .now) (a .newchoices .now) (a .newentries .now) (a .newcorners .now) (a .newweights .now) (a .newvalues .now))
+
+known : (c : tie.Start) → Fitting (tables c) (certifier c) (offered c)
+known c = fitting (tables c) (certifier c) (offered c) (c .pre)
+
+stands : (c : tie.After-standing-in) → c .standing-in .result ≡ standingAt (start c .args .state .now)
+stands c = c .standing-in .ensures
+
+standing-in-requires : tie.Need-standing-in-requires
+standing-in-requires c κs = known (c .before .before .before .before .before .before .before .before .before) .standing .state-long
+
+floors-hold-requires : tie.Need-floors-hold-requires
+floors-hold-requires c κs = let s = start c in judging (tables s) (certifier s) (offered s) (known s)
+
+returns : tie.Need-returns
+returns c =
+    let f = c .before .before in
+    let s = start (of-floor f) in
+    refused-13 (tables s) (certifier s) (offered s) (f .floors-hold .ensures) (c .enum-told2 .given .1)
+
+corners-hold-requires : tie.Need-corners-hold-requires
+corners-hold-requires c κs =
+    let b = of-floor (c .before .before) in
+    let s = start b in
+    rw (stands b) (standing-roof (tables s) (certifier s) (offered s) (known s), corners-fit (offered-roof (tables s) (certifier s) (offered s) (known s)))
+
+returns-2 : tie.Need-returns-2
+returns-2 c =
+    let r = c .before .before in
+    let f = of-roof r in
+    let b = of-floor f in
+    let s = start b in
+    refused-14 (tables s) (certifier s) (offered s) (f .floors-hold .ensures) (r .before .enum-told .given .1)
+    (rw (stands b) at (r .corners-hold .ensures)) (c .enum-told4 .given .1)
+
+points-hold-requires : tie.Need-points-hold-requires
+points-hold-requires c κs =
+    let b = of-floor (of-roof (c .before .before)) in
+    let s = start b in
+    let w = offered-roof (tables s) (certifier s) (offered s) (known s) in
+    rw (stands b) (
+      standing-roof (tables s) (certifier s) (offered s) (known s),
+      (points-fit w, (values-fit w, offered-shaped (tables s) (certifier s) (offered s) (known s) .total)),
+    )
+
+returns-3 : tie.Need-returns-3
+returns-3 c =
+    let r = c .before .before .before in
+    let f = of-roof r in
+    let b = of-floor f in
+    let s = start b in
+    left-15 (tables s) (certifier s) (offered s) (f .floors-hold .ensures) (r .before .enum-told .given .1)
+    (rw (stands b) at (r .corners-hold .ensures)) (rw (stands b) at (c .points-hold .ensures)) (c .before .enum-told3 .given .1)
+
+pub judge-backups-spec : {M : Type 1} → statement M
+judge-backups-spec =
+    tie.close (tie.spec standing-in-requires floors-hold-requires (λ c. search needs) (λ c. search needs) returns corners-hold-requires (λ c. search needs)
+    (λ c. search needs) returns-2 points-hold-requires returns-3)

@@ -1,0 +1,412 @@
+// What a certifier and an offer to it are refused for, 7 to 15. Tables, the standing level and the offered one are lent; nothing is written.
+ghost use mathlib.Core.Path.{_≡_};
+ghost use mathlib.Core.List.{List, []};
+ghost use Prim.Native.Nat.{ℕ, _*_, _≤_};
+ghost use lib.ListN.{length};
+ghost use Rattle.tables.specs.declared.Verdict.the-variants.{Fine};
+ghost use Rattle.tables.specs.Limits.{maxStates, maxObservations, maxVectors, maxLevels};
+ghost use Rattle.tables.specs.Storage.{modelOf, tablesIn};
+ghost use Rattle.plans.specs.Limits.{maxPoints, range};
+ghost use Rattle.levels.specs.Storage.{cells, lentFor, levelIn, levelOf, lent, standingIn};
+ghost use Rattle.levels.specs.Judged.{rangesVerdict, holds, levelVerdict, shapeVerdict, backupsVerdict, offerVerdict};
+use levels::Level;
+use levels::Standing;
+use levels::shape;
+use tables::Counts;
+use tables::Tables;
+use tables::Verdict;
+use tables::judge;
+
+// The range of entries and corners at level t.
+fn range_of(t: usize) -> u64
+    requires { ⌜ t ≤ maxLevels ⌝ }
+    ensures { λ r. ⌜ r ≡ range t ⌝ }
+{
+    Tables::REWARD * t as u64
+}
+
+// 11: entries, then corners, then point values.
+fn ranges_hold<'a>(
+    entries: &'a [i64],
+    corners: &'a [i64],
+    weights: &'a [u32],
+    values: &'a [i64],
+    n: usize,
+    vectors: usize,
+    points: usize,
+    t: usize,
+) -> Verdict
+    requires { ⌜ (n ≤ maxStates) × ((t ≤ maxLevels) × ((vectors ≤ maxVectors) × (points ≤ maxPoints))) ⌝ }
+    requires { ⌜ (vectors * n ≤ length (now entries)) × ((n ≤ length (now corners)) × ((points * n ≤ length (now weights)) × (points ≤ length (now values)))) ⌝ }
+    ensures { λ r. ⌜ r ≡ rangesVerdict n t
+        (levelIn n 0 vectors [] [] (now (entries .entry)) (now (corners .entry)) points (now (weights .entry))
+        (now (values .entry))) ⌝ }
+{
+    let limit = range_of(t);
+    let floor = shape::rows_within(entries, vectors, n, limit, 11);
+    let Verdict::Fine = floor else {
+        return floor;
+    };
+    let roof = shape::rows_within(corners, n, 1, limit, 11);
+    let Verdict::Fine = roof else {
+        return roof;
+    };
+    shape::values_within(weights, values, n, points, limit)
+}
+
+// 7: whether the tables and the standing level are within their limits. Its choices are not read.
+pub fn standing_holds<'a, 'b>(
+    transition: &'a [u16],
+    observation: &'a [u16],
+    reward: &'a [i64],
+    c: Counts,
+    state: &'b [usize],
+    actions: &'b [u8],
+    entries: &'b [i64],
+    corners: &'b [i64],
+    weights: &'b [u32],
+    values: &'b [i64],
+) -> bool
+    ensures { λ r. ⌜ ((choices : List ℕ) → r ≡ holds (tablesIn c (now (transition .entry)) (now (observation .entry)) (now (reward .entry)))
+        (lent (now (state .entry)) (cells (now (actions .entry)) choices (now (entries .entry)) (now (corners .entry)) (now (weights .entry))
+        (now (values .entry))))) ⌝ }
+{
+    let tables = judge::judge_tables(transition, observation, reward, c);
+    let Verdict::Fine = tables else {
+        return false;
+    };
+    if state.len() < Standing::SIZE {
+        return false;
+    }
+    let s = levels::standing_in(state);
+    if Level::LEVELS < s.number {
+        return false;
+    }
+    if !shape::counts_hold(s.vectors, s.points) {
+        return false;
+    }
+    if !shape::readable(
+        c.states,
+        s.vectors,
+        s.points,
+        actions.len(),
+        entries.len(),
+        corners.len(),
+        weights.len(),
+        values.len(),
+    ) {
+        return false;
+    }
+    if !shape::actions_exist(actions, s.vectors, c.actions) {
+        return false;
+    }
+    let ranges = ranges_hold(
+        entries,
+        corners,
+        weights,
+        values,
+        c.states,
+        s.vectors,
+        s.points,
+        s.number,
+    );
+    let Verdict::Fine = ranges else {
+        return false;
+    };
+    let totals = shape::weights_hold(weights, c.states, s.points);
+    let Verdict::Fine = totals else {
+        return false;
+    };
+    true
+}
+
+// 10 to 12: the numbers of an offered level by themselves, at level t over so many standing vectors.
+fn judge_level<'a>(
+    actions: &'a [u8],
+    choices: &'a [u16],
+    entries: &'a [i64],
+    corners: &'a [i64],
+    weights: &'a [u32],
+    values: &'a [i64],
+    c: Counts,
+    vectors: usize,
+    points: usize,
+    standing: usize,
+    t: usize,
+) -> Verdict
+    requires { ⌜ (c .states ≤ maxStates) × ((c .observations ≤ maxObservations) × ((vectors ≤ maxVectors) × ((points ≤ maxPoints) × (t ≤ maxLevels)))) ⌝ }
+    requires { ⌜ (vectors ≤ length (now actions)) × ((vectors * c .observations ≤ length (now choices)) × (vectors * c .states ≤ length (now entries))) ⌝ }
+    requires { ⌜ (c .states ≤ length (now corners)) × ((points * c .states ≤ length (now weights)) × (points ≤ length (now values))) ⌝ }
+    ensures { λ r. ⌜ r ≡ levelVerdict (c .states) (c .actions) (c .observations) t standing (levelIn (c .states) (c .observations) vectors
+        (now (actions .entry)) (now (choices .entry)) (now (entries .entry)) (now (corners .entry)) points (now (weights .entry))
+        (now (values .entry))) ⌝ }
+{
+    let numbers = shape::numbers_exist(
+        actions,
+        choices,
+        vectors,
+        c.actions,
+        c.observations,
+        standing,
+        10,
+    );
+    let Verdict::Fine = numbers else {
+        return numbers;
+    };
+    let ranges = ranges_hold(
+        entries,
+        corners,
+        weights,
+        values,
+        c.states,
+        vectors,
+        points,
+        t,
+    );
+    let Verdict::Fine = ranges else {
+        return ranges;
+    };
+    shape::weights_hold(weights, c.states, points)
+}
+
+// 7 to 12: the certifier and the offered level by themselves.
+fn judge_shape<'a, 'b, 'c>(
+    transition: &'a [u16],
+    observation: &'a [u16],
+    reward: &'a [i64],
+    c: Counts,
+    state: &'b [usize],
+    actions: &'b [u8],
+    choices: &'b [u16],
+    entries: &'b [i64],
+    corners: &'b [i64],
+    weights: &'b [u32],
+    values: &'b [i64],
+    vectors: usize,
+    points: usize,
+    newactions: &'c [u8],
+    newchoices: &'c [u16],
+    newentries: &'c [i64],
+    newcorners: &'c [i64],
+    newweights: &'c [u32],
+    newvalues: &'c [i64],
+) -> Verdict
+    ensures { λ r. ⌜ r ≡ shapeVerdict (tablesIn c (now (transition .entry)) (now (observation .entry)) (now (reward .entry)))
+        (lent (now (state .entry)) (cells (now (actions .entry)) (now (choices .entry)) (now (entries .entry)) (now (corners .entry))
+        (now (weights .entry)) (now (values .entry))))
+        (lentFor vectors points (cells (now (newactions .entry)) (now (newchoices .entry)) (now (newentries .entry)) (now (newcorners .entry))
+        (now (newweights .entry)) (now (newvalues .entry)))) ⌝ }
+{
+    if !standing_holds(
+        transition,
+        observation,
+        reward,
+        c,
+        state,
+        actions,
+        entries,
+        corners,
+        weights,
+        values,
+    ) {
+        return Verdict::Refused(7, 0);
+    }
+    let s = levels::standing_in(state);
+    if Level::LEVELS <= s.number {
+        return Verdict::Refused(8, 0);
+    }
+    if !shape::counts_hold(vectors, points) {
+        return Verdict::Refused(9, 0);
+    }
+    if !shape::complete(
+        c.states,
+        c.observations,
+        vectors,
+        points,
+        newactions.len(),
+        newchoices.len(),
+        newentries.len(),
+        newcorners.len(),
+        newweights.len(),
+        newvalues.len(),
+    ) {
+        return Verdict::Refused(9, 0);
+    }
+    if !shape::complete(
+        c.states,
+        c.observations,
+        vectors,
+        points,
+        actions.len(),
+        choices.len(),
+        entries.len(),
+        corners.len(),
+        weights.len(),
+        values.len(),
+    ) {
+        return Verdict::Refused(9, 0);
+    }
+    judge_level(
+        newactions,
+        newchoices,
+        newentries,
+        newcorners,
+        newweights,
+        newvalues,
+        c,
+        vectors,
+        points,
+        s.vectors,
+        s.number + 1,
+    )
+}
+
+// 13 to 15: the backup inequalities.
+fn judge_backups<'a, 'b, 'c>(
+    transition: &'a [u16],
+    observation: &'a [u16],
+    reward: &'a [i64],
+    c: Counts,
+    state: &'b [usize],
+    actions: &'b [u8],
+    choices: &'b [u16],
+    entries: &'b [i64],
+    corners: &'b [i64],
+    weights: &'b [u32],
+    values: &'b [i64],
+    vectors: usize,
+    points: usize,
+    newactions: &'c [u8],
+    newchoices: &'c [u16],
+    newentries: &'c [i64],
+    newcorners: &'c [i64],
+    newweights: &'c [u32],
+    newvalues: &'c [i64],
+) -> Verdict
+    requires { ⌜ shapeVerdict (tablesIn c (now transition) (now observation) (now reward))
+        (lent (now state) (cells (now actions) (now choices) (now entries) (now corners) (now weights) (now values)))
+        (lentFor vectors points (cells (now newactions) (now newchoices) (now newentries) (now newcorners) (now newweights) (now newvalues))) ≡ Fine ⌝ }
+    ensures { λ r. ⌜ (let m = tablesIn c (now (transition .entry)) (now (observation .entry)) (now (reward .entry)) in
+        r ≡ backupsVerdict (modelOf m) (levelOf m (standingIn (lent (now (state .entry)) (cells (now (actions .entry)) (now (choices .entry)) (now (entries .entry)) (now (corners .entry))
+        (now (weights .entry)) (now (values .entry))))))
+        (levelOf m (lentFor vectors points (cells (now (newactions .entry)) (now (newchoices .entry)) (now (newentries .entry)) (now (newcorners .entry))
+        (now (newweights .entry)) (now (newvalues .entry)))))) ⌝ }
+{
+    let s = levels::standing_in(state);
+    let floor = checks::floors_hold(
+        transition,
+        observation,
+        reward,
+        entries,
+        newactions,
+        newchoices,
+        newentries,
+        c,
+        vectors,
+    );
+    let Verdict::Fine = floor else {
+        return floor;
+    };
+    let roof = checks::corners_hold(
+        transition,
+        observation,
+        reward,
+        corners,
+        weights,
+        values,
+        newcorners,
+        c,
+        s.points,
+    );
+    let Verdict::Fine = roof else {
+        return roof;
+    };
+    checks::points_hold(
+        transition,
+        observation,
+        reward,
+        corners,
+        weights,
+        values,
+        newweights,
+        newvalues,
+        c,
+        s.points,
+        points,
+    )
+}
+
+// 7 to 15.
+pub fn judge_offer<'a, 'b, 'c>(
+    transition: &'a [u16],
+    observation: &'a [u16],
+    reward: &'a [i64],
+    c: Counts,
+    state: &'b [usize],
+    actions: &'b [u8],
+    choices: &'b [u16],
+    entries: &'b [i64],
+    corners: &'b [i64],
+    weights: &'b [u32],
+    values: &'b [i64],
+    vectors: usize,
+    points: usize,
+    newactions: &'c [u8],
+    newchoices: &'c [u16],
+    newentries: &'c [i64],
+    newcorners: &'c [i64],
+    newweights: &'c [u32],
+    newvalues: &'c [i64],
+) -> Verdict
+    ensures { λ r. ⌜ r ≡ offerVerdict (tablesIn c (now (transition .entry)) (now (observation .entry)) (now (reward .entry)))
+        (lent (now (state .entry)) (cells (now (actions .entry)) (now (choices .entry)) (now (entries .entry)) (now (corners .entry))
+        (now (weights .entry)) (now (values .entry))))
+        (lentFor vectors points (cells (now (newactions .entry)) (now (newchoices .entry)) (now (newentries .entry)) (now (newcorners .entry))
+        (now (newweights .entry)) (now (newvalues .entry)))) ⌝ }
+{
+    let shape = judge_shape(
+        transition,
+        observation,
+        reward,
+        c,
+        state,
+        actions,
+        choices,
+        entries,
+        corners,
+        weights,
+        values,
+        vectors,
+        points,
+        newactions,
+        newchoices,
+        newentries,
+        newcorners,
+        newweights,
+        newvalues,
+    );
+    let Verdict::Fine = shape else {
+        return shape;
+    };
+    judge_backups(
+        transition,
+        observation,
+        reward,
+        c,
+        state,
+        actions,
+        choices,
+        entries,
+        corners,
+        weights,
+        values,
+        vectors,
+        points,
+        newactions,
+        newchoices,
+        newentries,
+        newcorners,
+        newweights,
+        newvalues,
+    )
+}

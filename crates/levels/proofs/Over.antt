@@ -1,0 +1,133 @@
+-- Slices with a level laid over them: the level is read from them again, they are as long as they were, and levels that agree are laid alike.
+-- Assumes nothing.
+use mathlib.Core.Path.{_≡_, refl}
+use mathlib.Core.Bool.{true}
+use Prim.Native.Nat.{ℕ, _*_, _≤_}
+use mathlib.Core.List.{List}
+use lib.ListN.{length}
+use lib.IntN.{ℤ, pos}
+use borrow.Author.Tests.{leb-true, le-leb}
+use Rattle.integers.proofs.Lists.{laid-at, laid-length, laid-cong, laidRows-at, laidRows-length, laidRows-cong}
+use Rattle.integers.proofs.Searches.{and-true, and-is}
+use Rattle.tables.specs.declared.Tables.{Tables}
+use Rattle.tables.specs.Storage.{modelOf}
+use Rattle.plans.specs.Level.{Level, Agree}
+use Rattle.levels.specs.Storage.{Cells, cells, LentLevel, levelOf, readable, complete, over, lentFor}
+
+-- what `readable` and `complete` test
+pub record Readable (m : Tables) (l : LentLevel) : Type 0 where
+  pub actions : l .vectors ≤ length (l .cells .actions)
+  pub entries : l .vectors * m .states ≤ length (l .cells .entries)
+  pub corners : m .states ≤ length (l .cells .corners)
+  pub weights : l .points * m .states ≤ length (l .cells .weights)
+  pub values : l .points ≤ length (l .cells .values)
+
+pub record Complete (m : Tables) (l : LentLevel) : Type 0 where
+  pub choices : l .vectors * m .observations ≤ length (l .cells .choices)
+  pub read : Readable m l
+
+-- two slices for each part that are as long as each other
+pub record AsLong (x y : Cells) : Type 0 where
+  pub choices : length (y .choices) ≡ length (x .choices)
+  pub actions : length (y .actions) ≡ length (x .actions)
+  pub entries : length (y .entries) ≡ length (x .entries)
+  pub corners : length (y .corners) ≡ length (x .corners)
+  pub weights : length (y .weights) ≡ length (x .weights)
+  pub values : length (y .values) ≡ length (x .values)
+
+pub as-long : (x : Cells) → AsLong x x
+as-long x = record { choices = refl; actions = refl; entries = refl; corners = refl; weights = refl; values = refl }
+
+module _ (m : Tables) where
+  module _ (l : LentLevel) where
+    pub readable-true : readable m l ≡ true → Readable m l
+    readable-true e =
+        let n = and-true _ _ e in
+        let s = and-true _ _ (n .1) in
+        let p = and-true _ _ (s .1) in
+        let w = and-true _ _ (p .1) in
+        record {
+          actions = leb-true _ _ (n .0);
+          entries = leb-true _ _ (s .0);
+          corners = leb-true _ _ (p .0);
+          weights = leb-true _ _ (w .0);
+          values = leb-true _ _ (w .1);
+        }
+
+    pub readable-is : Readable m l → readable m l ≡ true
+    readable-is c =
+        and-is (le-leb _ _ (c .actions)) (and-is (le-leb _ _ (c .entries)) (and-is (le-leb _ _ (c .corners))
+        (and-is (le-leb _ _ (c .weights)) (le-leb _ _ (c .values)))))
+
+    pub complete-true : complete m l ≡ true → Complete m l
+    complete-true e = let h = and-true _ _ e in record { choices = leb-true _ _ (h .0); read = readable-true (h .1) }
+
+    pub complete-is : Complete m l → complete m l ≡ true
+    complete-is c = and-is (le-leb _ _ (c .choices)) (readable-is (c .read))
+
+  module _ (W : Level) (x : Cells) where
+    -- The cells that are read lie where the level was laid. Qed.
+    pub over-agree : Agree (modelOf m) W (levelOf m (lentFor (W .vectors) (W .points) (over m W x)))
+    unfolding over
+    over-agree = record {
+      vectors-same = refl;
+      points-same = refl;
+      action-same = λ v h. laid-at (W .vectors) (W .action) (x .actions) v 0 h;
+      choice-same = λ v h o b. laidRows-at (W .vectors) (m .observations) (W .choice) (x .choices) v o 0 h b;
+      entry-same = λ v h s b. laidRows-at (W .vectors) (m .states) (W .entry) (x .entries) v s (pos 0) h b;
+      corner-same = λ s h. laid-at (m .states) (W .corner) (x .corners) s (pos 0) h;
+      weight-same = λ i h s b. laidRows-at (W .points) (m .states) (W .weight) (x .weights) i s 0 h b;
+      value-same = λ i h. laid-at (W .points) (W .value) (x .values) i (pos 0) h;
+    }
+
+    pub over-long : Complete m (lentFor (W .vectors) (W .points) x) → AsLong x (over m W x)
+    unfolding over
+    over-long c = record {
+      choices = laidRows-length (W .vectors) (m .observations) (W .choice) (x .choices) (c .choices);
+      actions = laid-length (W .vectors) (W .action) (x .actions) (c .read .actions);
+      entries = laidRows-length (W .vectors) (m .states) (W .entry) (x .entries) (c .read .entries);
+      corners = laid-length (m .states) (W .corner) (x .corners) (c .read .corners);
+      weights = laidRows-length (W .points) (m .states) (W .weight) (x .weights) (c .read .weights);
+      values = laid-length (W .points) (W .value) (x .values) (c .read .values);
+    }
+
+    pub over-same : (W' : Level) → Agree (modelOf m) W W' → over m W' x ≡ over m W x
+    unfolding over
+    over-same W' e = rw (
+      e .vectors-same,
+      e .points-same,
+      laid-cong (W .vectors) (W' .action) (W .action) (x .actions) (e .action-same),
+      laidRows-cong (W .vectors) (m .observations) (W' .choice) (W .choice) (x .choices) (e .choice-same),
+      laidRows-cong (W .vectors) (m .states) (W' .entry) (W .entry) (x .entries) (e .entry-same),
+      laid-cong (m .states) (W' .corner) (W .corner) (x .corners) (e .corner-same),
+      laidRows-cong (W .points) (m .states) (W' .weight) (W .weight) (x .weights) (e .weight-same),
+      laid-cong (W .points) (W' .value) (W .value) (x .values) (e .value-same),
+    )
+
+  -- slices as long as complete ones are complete
+  pub complete-long : {vectors points : ℕ} {x y : Cells} → AsLong x y → Complete m (lentFor vectors points x) → Complete m (lentFor vectors points y)
+  complete-long a c = record {
+    choices = rw (a .choices) (c .choices);
+    read = record {
+      actions = rw (a .actions) (c .read .actions);
+      entries = rw (a .entries) (c .read .entries);
+      corners = rw (a .corners) (c .read .corners);
+      weights = rw (a .weights) (c .read .weights);
+      values = rw (a .values) (c .read .values);
+    };
+  }
+
+pub long-long : {x y z : Cells} → AsLong x y → AsLong y z → AsLong x z
+long-long a b = record {
+  choices = rw (b .choices) (a .choices);
+  actions = rw (b .actions) (a .actions);
+  entries = rw (b .entries) (a .entries);
+  corners = rw (b .corners) (a .corners);
+  weights = rw (b .weights) (a .weights);
+  values = rw (b .values) (a .values);
+}
+
+-- slices that are the same, one by one
+pub cells-same : {a a' b b' : List ℕ} {e e' f f' : List ℤ} {w w' : List ℕ} {v v' : List ℤ} → a ≡ a' → b ≡ b' → e ≡ e' → f ≡ f' → w ≡ w' → v ≡ v'
+    → cells a b e f w v ≡ cells a' b' e' f' w' v'
+cells-same p q r s t u = rw (p, q, r, s, t, u)
