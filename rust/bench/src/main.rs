@@ -374,13 +374,15 @@ fn run(rounds: usize) -> Result<(), String> {
         valuing(Counts { states, ..LARGEST }, NODES, STEPS)
     })?;
 
-    println!("\nthe stack that a thread needs for a call, in kilobytes");
+    println!("\nthe stack that a thread needs for a call, in kilobytes; none has less than {}", LEAST_STACK);
     for (number, (name, _)) in calls().iter().enumerate() {
         println!("{:<44} {:>9}", name, stack(number, name)?);
     }
     Ok(())
 }
 
+/// No thread has less, in kilobytes.
+const LEAST_STACK: usize = 16;
 /// The option by which this command calls itself to make one call on a small stack.
 const ON_STACK: &str = "--on-stack";
 
@@ -395,7 +397,7 @@ fn stack(number: usize, name: &str) -> Result<usize, String> {
             .stderr(Stdio::null());
         child.status().map(|status| status.success()).map_err(|error| error.to_string())
     };
-    let (mut few, mut enough) = (0, 4_096);
+    let (mut few, mut enough) = (LEAST_STACK - 4, 4_096);
     if !ends(enough)? {
         return Err(format!("{} does not end on a stack of {} kilobytes", name, enough));
     }
