@@ -55,8 +55,8 @@
  *    7  BIIDHAQUN_CERTIFIER           0; a slice is too short for the tables, or for the level that stands (its choices, which
  *                                     no call reads, are not asked for)
  *    8  BIIDHAQUN_LEVELS              0
- *    9  BIIDHAQUN_LEVEL_SIZE          0; a slice is too short for the level offered or to be built, for the points, or for
- *                                     level 0 in biidhaqun_open
+ *    9  BIIDHAQUN_LEVEL_SIZE          0; a slice is too short for the level offered or to be built, for the points, for
+ *                                     level 0 in biidhaqun_open, or for answers
  *   10  BIIDHAQUN_NUMBERS             the vector
  *   11  BIIDHAQUN_RANGE               the first vector; else the first corner; else the first point, those that get 12 aside
  *   12  BIIDHAQUN_POINT_TOTAL         the point
@@ -64,7 +64,7 @@
  *   14  BIIDHAQUN_CORNER_BACKUP       the corner
  *   15  BIIDHAQUN_POINT_BACKUP        the point
  *   16  BIIDHAQUN_NO_LEVEL            0
- *   17  BIIDHAQUN_MIXTURE             0; the mixture has fewer weights than there are states
+ *   17  BIIDHAQUN_MIXTURE             0; the mixture has fewer weights than there are states, or several have too few
  *   18  BIIDHAQUN_GRAPH               the node; 0 for the node count, a short slice, or the node, state or steps asked for
  *  100  BIIDHAQUN_ROOM                the length that the first short slice of biidhaqun_read needs
  */
@@ -236,6 +236,21 @@ struct biidhaqun_bounds biidhaqun_totals(
     const uint8_t *standing_actions, size_t standing_actions_length, const int64_t *entries, size_t entries_length,
     const int64_t *corners, size_t corners_length, const uint32_t *weights, size_t weights_length,
     const int64_t *values, size_t values_length, const uint32_t *mixture, size_t mixture_length);
+
+/*
+ * The totals at `count` mixtures, whose weights lie one after the other; the certifier is judged once. Each answer is the one
+ * that biidhaqun_totals gives, at its mixture's number: 0 or 17, lower, upper, action (0 where it is refused). Tests for the
+ * whole call: 7, 16, 17 where there are fewer than count x n weights, 9 where a slice for answers is shorter than count.
+ */
+struct biidhaqun_refusal biidhaqun_each(
+    size_t states, size_t actions, size_t observations, uint64_t discount,
+    const uint16_t *transition, size_t transition_length, const uint16_t *observation, size_t observation_length,
+    const int64_t *reward, size_t reward_length, const size_t *state, size_t state_length,
+    const uint8_t *standing_actions, size_t standing_actions_length, const int64_t *entries, size_t entries_length,
+    const int64_t *corners, size_t corners_length, const uint32_t *weights, size_t weights_length,
+    const int64_t *values, size_t values_length, const uint32_t *mixtures, size_t mixtures_length,
+    size_t count, uint8_t *numbers, size_t numbers_length, int64_t *lower, size_t lower_length,
+    int64_t *upper, size_t upper_length, uint8_t *action, size_t action_length);
 
 /*
  * Builds a level upon the one that stands, with a vector at each corner and then at each of `count` points; it would be
@@ -439,6 +454,20 @@ static inline struct biidhaqun_bounds biidhaqun_totals_at(const struct biidhaqun
         t->observation_length, t->reward, t->reward_length, c->state, 3, c->actions, c->actions_length, c->entries,
         c->entries_length, c->corners, c->corners_length, c->weights, c->weights_length, c->values, c->values_length,
         mixture, mixture_length);
+}
+
+/* biidhaqun_each, with answers in slices of `count` */
+static inline struct biidhaqun_refusal biidhaqun_totals_at_each(const struct biidhaqun_tables *t,
+                                                                const struct biidhaqun_certifier *c,
+                                                                const uint32_t *mixtures, size_t mixtures_length,
+                                                                size_t count, uint8_t *numbers, int64_t *lower,
+                                                                int64_t *upper, uint8_t *action)
+{
+    return biidhaqun_each(
+        t->states, t->actions, t->observations, t->discount, t->transition, t->transition_length, t->observation,
+        t->observation_length, t->reward, t->reward_length, c->state, 3, c->actions, c->actions_length, c->entries,
+        c->entries_length, c->corners, c->corners_length, c->weights, c->weights_length, c->values, c->values_length,
+        mixtures, mixtures_length, count, numbers, count, lower, count, upper, count, action, count);
 }
 
 /*

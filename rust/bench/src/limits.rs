@@ -1,6 +1,6 @@
 //! What all forms in whole numbers share: document 01's limits, lent slices cut to their counts, and how a call ends.
 
-use biidhaqun::slices::{Certifier, Graph, Level, Reading, Refusal, Tables};
+use biidhaqun::slices::{Answers, Certifier, Graph, Level, Reading, Refusal, Tables, Totals};
 pub use biidhaqun::slices::{
     ACTIONS, BUILT_POINTS, FILE_BYTES, LEVELS, NODES, OBSERVATIONS, POINTS, STATES, STEPS, VECTORS,
 };
@@ -138,6 +138,41 @@ pub fn open(model: Model, certifier: &mut Certifier) -> Answer<()> {
         return refused(9, 0);
     }
     fresh.stand(0, certifier);
+    Ok(())
+}
+
+/// A mixture's weights, if there are enough, none is above its limit and not all are 0; or 17.
+pub fn mixture(weights: &[u32], n: usize) -> Answer<&[u32]> {
+    match weights.get(..n) {
+        Some(mixture) if mixture.iter().all(|&weight| weight <= WEIGHT) && mixture.iter().any(|&weight| weight > 0) => {
+            Ok(mixture)
+        }
+        _ => refused(17, 0),
+    }
+}
+
+/// The answers at many mixtures.
+pub fn answer(
+    n: usize,
+    (count, mixtures): (usize, &[u32]),
+    answers: &mut Answers,
+    totals: impl Fn(&[u32]) -> Answer<Totals>,
+) -> Answer<()> {
+    let mixtures = match count.checked_mul(n).and_then(|needed| mixtures.get(..needed)) {
+        Some(mixtures) => mixtures,
+        None => return refused(17, 0),
+    };
+    let Answers { numbers, lower, upper, actions } = answers;
+    if [numbers.len(), lower.len(), upper.len(), actions.len()].iter().any(|&length| length < count) {
+        return refused(9, 0);
+    }
+    for (at, mixture) in mixtures.chunks_exact(n).enumerate() {
+        let totals = totals(mixture).unwrap_or_else(|Refusal { number, .. }| Totals { number, ..Totals::default() });
+        numbers[at] = totals.number as u8;
+        lower[at] = totals.lower;
+        upper[at] = totals.upper;
+        actions[at] = totals.action as u8;
+    }
     Ok(())
 }
 

@@ -11,7 +11,7 @@ use bench::limits::{FILE_BYTES, NODES, POINTS, STEPS, TOTAL, VECTORS};
 use bench::plain::Plain;
 use bench::tuned::Tuned;
 use bench::{convert, floating};
-use biidhaqun::slices::{self, Certifier, Graph, Level, Reading, Refusal, Tables, Totals, Worth};
+use biidhaqun::slices::{self, Answers, Certifier, Graph, Level, Reading, Refusal, Tables, Totals, Worth};
 use compare::gen::Question;
 use compare::lent::{Call, Library};
 use compare::rng::Rng;
@@ -45,6 +45,17 @@ impl Library for Linked {
 
     fn totals(&self, tables: &Tables, certifier: &Certifier, mixture: &[u32]) -> Totals {
         slices::totals(tables, certifier, mixture)
+    }
+
+    fn each(
+        &self,
+        tables: &Tables,
+        certifier: &Certifier,
+        mixtures: &[u32],
+        count: usize,
+        answers: &mut Answers,
+    ) -> Refusal {
+        slices::each(tables, certifier, mixtures, count, answers)
     }
 
     fn build(
@@ -103,6 +114,9 @@ impl Form for Lent {
             Call::Open { tables, certifier } => self.by.open(tables, certifier).number as i64,
             Call::Offer { tables, certifier, level } => self.by.offer(tables, certifier, level).number as i64,
             Call::Totals { tables, certifier, mixture } => self.by.totals(tables, certifier, mixture).gap,
+            Call::Each { tables, certifier, mixtures, count, answers } => {
+                self.by.each(tables, certifier, mixtures, *count, answers).number as i64
+            }
             Call::Build { tables, certifier, count, points, level } => {
                 self.by.build(tables, certifier, *count, points, level).number as i64
             }
@@ -256,6 +270,14 @@ fn floating_form(call: &Call) -> Result<Box<dyn Form + '_>, String> {
             close(answer[3] as f64 / total, floating::totals(&standing, &belief).upper)?;
             Ok(form(standing, false, move |certifier| floating::totals(certifier, &belief).upper as i64))
         }
+        Call::Each { tables, certifier, mixtures, .. } => {
+            let standing = convert::floating_certifier(tables, certifier);
+            let beliefs: Vec<Vec<f64>> = mixtures.chunks(tables.states).map(convert::belief).collect();
+            let call = move |certifier: &mut floating::Certifier| {
+                beliefs.iter().map(|belief| floating::totals(certifier, belief).upper as i64).sum()
+            };
+            Ok(form(standing, false, call))
+        }
         Call::Build { tables, certifier, points, .. } => {
             let standing = convert::floating_certifier(tables, certifier);
             let beliefs: Vec<Vec<f64>> = points.chunks(tables.states).map(convert::belief).collect();
@@ -321,6 +343,12 @@ fn asking(Standing { tables, certifier }: Standing) -> Call {
     Call::Totals { tables, certifier, mixture }
 }
 
+fn asking_at(Standing { tables, certifier }: Standing, count: usize) -> Call {
+    let mut rng = rng();
+    let mixtures = (0..count).flat_map(|_| inputs::shares::<u32>(&mut rng, tables.states, 1_000)).collect();
+    Call::Each { tables, certifier, mixtures, count, answers: Answers::roomy(count) }
+}
+
 fn building(Standing { tables, certifier }: Standing, count: usize) -> Call {
     let points = inputs::points(&mut rng(), tables.states, count);
     let level = Level::zeros(tables.states, tables.observations, tables.states + count, count);
@@ -335,13 +363,14 @@ fn valuing(counts: Counts, nodes: usize, steps: usize) -> Call {
 }
 
 /// Every call at the limits, by name.
-fn calls() -> [(&'static str, Call); 6] {
+fn calls() -> [(&'static str, Call); 7] {
     let (standing, level) = inputs::offer(&mut rng(), LARGEST, VECTORS, POINTS, false);
     [
         ("reading", reading(&standing.tables)),
         ("opening", opening(&standing.tables)),
         ("an offer, 32 vectors, 32 points", offering((standing.clone(), level))),
         ("totals", asking(standing.clone())),
+        ("totals at 1,000 mixtures", asking_at(standing.clone(), 1_000)),
         ("building at 16 points", building(standing, 16)),
         ("a plan's worth, 32 nodes, 4 steps", valuing(LARGEST, NODES, STEPS)),
     ]
@@ -397,7 +426,7 @@ fn stack(number: usize, name: &str) -> Result<usize, String> {
             .stderr(Stdio::null());
         child.status().map(|status| status.success()).map_err(|error| error.to_string())
     };
-    let (mut few, mut enough) = (LEAST_STACK - 4, 4_096);
+    let (mut few, mut enough) = (0, 4_096);
     if !ends(enough)? {
         return Err(format!("{} does not end on a stack of {} kilobytes", name, enough));
     }
@@ -409,7 +438,7 @@ fn stack(number: usize, name: &str) -> Result<usize, String> {
             few = middle;
         }
     }
-    Ok(enough)
+    Ok(enough.max(LEAST_STACK))
 }
 
 /// Makes one call of the library in a thread with so large a stack.

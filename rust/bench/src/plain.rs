@@ -5,7 +5,7 @@
 
 use crate::limits::*;
 use crate::plain_file;
-use biidhaqun::slices::{Certifier, Graph, Level, Reading, Refusal, Tables, Totals, Worth};
+use biidhaqun::slices::{Answers, Certifier, Graph, Level, Reading, Refusal, Tables, Totals, Worth};
 use compare::gen::Question;
 use compare::lent::Library;
 
@@ -171,22 +171,29 @@ fn offer(tables: &Tables, certifier: &mut Certifier, level: &Level) -> Answer<()
     Ok(())
 }
 
-fn totals(tables: &Tables, certifier: &Certifier, mixture: &[u32]) -> Answer<Totals> {
-    let (model, number, level) = examine(tables, certifier)?;
-    if number == 0 {
-        return refused(16, 0);
+/// 7, 16.
+fn standing<'a>(tables: &'a Tables, certifier: &'a Certifier) -> Answer<(Model<'a>, Cut<'a>)> {
+    match examine(tables, certifier)? {
+        (_, 0, _) => refused(16, 0),
+        (model, _, level) => Ok((model, level)),
     }
-    let mixture = match mixture.get(..model.n) {
-        Some(mixture) => mixture,
-        None => return refused(17, 0),
-    };
-    if mixture.iter().any(|&weight| weight > WEIGHT) || mixture.iter().all(|&weight| weight == 0) {
-        return refused(17, 0);
-    }
-    let b = whole(mixture);
+}
+
+fn totals_at(model: &Model, level: &Cut, weights: &[u32]) -> Answer<Totals> {
+    let b = whole(mixture(weights, model.n)?);
     let (first, lower) = first_largest(level.entries.chunks(model.n).map(|entries| dot(entries, &b)));
-    let upper = ceiling(&level, &b);
+    let upper = ceiling(level, &b);
     Ok(Totals { lower, upper, gap: upper - lower, action: level.actions[first].into(), ..Totals::default() })
+}
+
+fn totals(tables: &Tables, certifier: &Certifier, mixture: &[u32]) -> Answer<Totals> {
+    let (model, level) = standing(tables, certifier)?;
+    totals_at(&model, &level, mixture)
+}
+
+fn each(tables: &Tables, certifier: &Certifier, mixtures: (usize, &[u32]), answers: &mut Answers) -> Answer<()> {
+    let (model, level) = standing(tables, certifier)?;
+    answer(model.n, mixtures, answers, |mixture| totals_at(&model, &level, mixture))
 }
 
 /// An alpha vector on its own.
@@ -287,6 +294,17 @@ impl Library for Plain {
             place,
             ..Totals::default()
         })
+    }
+
+    fn each(
+        &self,
+        tables: &Tables,
+        certifier: &Certifier,
+        mixtures: &[u32],
+        count: usize,
+        answers: &mut Answers,
+    ) -> Refusal {
+        ended(each(tables, certifier, (count, mixtures), answers))
     }
 
     fn build(

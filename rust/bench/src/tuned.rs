@@ -5,7 +5,7 @@
 
 use crate::limits::*;
 use crate::tuned_file;
-use biidhaqun::slices::{Certifier, Graph, Level, Reading, Refusal, Tables, Totals, Worth};
+use biidhaqun::slices::{Answers, Certifier, Graph, Level, Reading, Refusal, Tables, Totals, Worth};
 use compare::gen::Question;
 use compare::lent::Library;
 
@@ -281,22 +281,32 @@ fn offer(tables: &Tables, certifier: &mut Certifier, level: &Level) -> Answer<()
     Ok(())
 }
 
-fn totals(tables: &Tables, certifier: &Certifier, mixture: &[u32]) -> Answer<Totals> {
-    let (model, number, level) = examine(tables, certifier)?;
-    if number == 0 {
-        return refused(16, 0);
+/// 7, 16.
+fn standing<'a>(tables: &'a Tables, certifier: &'a Certifier) -> Answer<(Model<'a>, Cut<'a>)> {
+    match examine(tables, certifier)? {
+        (_, 0, _) => refused(16, 0),
+        (model, _, level) => Ok((model, level)),
     }
-    let mixture = match mixture.get(..model.n) {
-        Some(mixture) if mixture.iter().all(|&weight| weight <= WEIGHT) && mixture.iter().any(|&weight| weight > 0) => {
-            mixture
-        }
-        _ => return refused(17, 0),
-    };
+}
+
+fn totals_at(level: &Cut, sawtooth: &Sawtooth, weights: &[u32]) -> Answer<Totals> {
     let mut room = [0; STATES];
-    let b = whole(mixture, &mut room);
+    let b = whole(mixture(weights, level.corners.len())?, &mut room);
     let (first, lower) = best_vector(level.entries, b);
-    let upper = Sawtooth::of(&level, &mut [0; POINTS * STATES]).ceiling(b);
+    let upper = sawtooth.ceiling(b);
     Ok(Totals { lower, upper, gap: upper - lower, action: level.actions[first].into(), ..Totals::default() })
+}
+
+fn totals(tables: &Tables, certifier: &Certifier, mixture: &[u32]) -> Answer<Totals> {
+    let (_, level) = standing(tables, certifier)?;
+    totals_at(&level, &Sawtooth::of(&level, &mut [0; POINTS * STATES]), mixture)
+}
+
+fn each(tables: &Tables, certifier: &Certifier, mixtures: (usize, &[u32]), answers: &mut Answers) -> Answer<()> {
+    let (model, level) = standing(tables, certifier)?;
+    let mut weights = [0; POINTS * STATES];
+    let sawtooth = Sawtooth::of(&level, &mut weights);
+    answer(model.n, mixtures, answers, |mixture| totals_at(&level, &sawtooth, mixture))
 }
 
 fn build(tables: &Tables, certifier: &Certifier, (count, points): (usize, &[u32]), level: &mut Level) -> Answer<()> {
@@ -394,6 +404,17 @@ impl Library for Tuned {
             place,
             ..Totals::default()
         })
+    }
+
+    fn each(
+        &self,
+        tables: &Tables,
+        certifier: &Certifier,
+        mixtures: &[u32],
+        count: usize,
+        answers: &mut Answers,
+    ) -> Refusal {
+        ended(each(tables, certifier, (count, mixtures), answers))
     }
 
     fn build(

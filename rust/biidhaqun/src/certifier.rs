@@ -95,6 +95,26 @@ impl Certifier {
         Ok(Totals { lower: at.lower, upper: at.upper, gap: at.gap, action: at.action })
     }
 
+    /// The totals at many mixtures: what [`Certifier::totals`] answers at each, with the certifier judged once. A mixture that
+    /// is refused refuses its own answer alone. All are refused with 16.
+    pub fn totals_at(&self, mixtures: &[Mixture]) -> Result<Vec<Result<Totals, Refusal>>, Error> {
+        let mut weights = Vec::new();
+        for mixture in mixtures {
+            Length::test("weights of the mixture", None, mixture.weights.len(), self.model.shape().states)?;
+            weights.extend_from_slice(&mixture.weights);
+        }
+        let mut answers = slices::Answers::roomy(mixtures.len());
+        let ended = slices::each(self.model.tables(), &self.slices, &weights, mixtures.len(), &mut answers);
+        Refusal::unless(ended, Handed::Other)?;
+        let one = |at: usize| {
+            let ended = slices::Refusal { number: answers.numbers[at].into(), place: 0 };
+            Refusal::unless(ended, Handed::Other)?;
+            let (lower, upper) = (answers.lower[at], answers.upper[at]);
+            Ok(Totals { lower, upper, gap: upper - lower, action: answers.actions[at].into() })
+        };
+        Ok((0..mixtures.len()).map(one).collect())
+    }
+
     /// Builds a level upon the standing one, at every corner and at these points; it will be accepted. If all t levels so
     /// far were built, each entry is less than t ticks below what the plan earns that its vector names. Refused with 8, 9
     /// or 12.

@@ -1,9 +1,9 @@
-//! The library's six calls over slices. Nothing but this module is unsafe.
+//! The library's seven calls over slices. Nothing but this module is unsafe.
 //!
 //! A slice goes over as its pointer and its length. The library reads and writes inside these lengths only, writes nothing
 //! that is lent to be read, keeps no pointer, and answers whatever the content.
 
-use crate::slices::{Certifier, Graph, Level, Reading, Refusal, Tables, Totals, Worth};
+use crate::slices::{Answers, Certifier, Graph, Level, Reading, Refusal, Tables, Totals, Worth};
 
 mod library {
     use super::{Reading, Refusal, Totals, Worth};
@@ -116,6 +116,42 @@ mod library {
             mixture: *const u32,
             mixture_length: usize,
         ) -> Totals;
+
+        pub fn biidhaqun_each(
+            states: usize,
+            actions: usize,
+            observations: usize,
+            discount: u64,
+            transition: *const u16,
+            transition_length: usize,
+            observation: *const u16,
+            observation_length: usize,
+            reward: *const i64,
+            reward_length: usize,
+            state: *const usize,
+            state_length: usize,
+            standing_actions: *const u8,
+            standing_actions_length: usize,
+            entries: *const i64,
+            entries_length: usize,
+            corners: *const i64,
+            corners_length: usize,
+            weights: *const u32,
+            weights_length: usize,
+            values: *const i64,
+            values_length: usize,
+            mixtures: *const u32,
+            mixtures_length: usize,
+            count: usize,
+            numbers: *mut u8,
+            numbers_length: usize,
+            lower: *mut i64,
+            lower_length: usize,
+            upper: *mut i64,
+            upper_length: usize,
+            action: *mut u8,
+            action_length: usize,
+        ) -> Refusal;
 
         pub fn biidhaqun_build(
             states: usize,
@@ -309,6 +345,48 @@ pub fn totals(tables: &Tables, certifier: &Certifier, mixture: &[u32]) -> Totals
             certifier.values.len(),
             mixture.as_ptr(),
             mixture.len(),
+        )
+    }
+}
+
+/// The totals at so many mixtures, whose weights lie one after the other: what [`totals`] answers at each; or 7, 16, 17, 9
+/// for them all.
+pub fn each(tables: &Tables, certifier: &Certifier, mixtures: &[u32], count: usize, answers: &mut Answers) -> Refusal {
+    unsafe {
+        library::biidhaqun_each(
+            tables.states,
+            tables.actions,
+            tables.observations,
+            tables.discount,
+            tables.transition.as_ptr(),
+            tables.transition.len(),
+            tables.observation.as_ptr(),
+            tables.observation.len(),
+            tables.reward.as_ptr(),
+            tables.reward.len(),
+            certifier.state.as_ptr(),
+            certifier.state.len(),
+            certifier.actions.as_ptr(),
+            certifier.actions.len(),
+            certifier.entries.as_ptr(),
+            certifier.entries.len(),
+            certifier.corners.as_ptr(),
+            certifier.corners.len(),
+            certifier.weights.as_ptr(),
+            certifier.weights.len(),
+            certifier.values.as_ptr(),
+            certifier.values.len(),
+            mixtures.as_ptr(),
+            mixtures.len(),
+            count,
+            answers.numbers.as_mut_ptr(),
+            answers.numbers.len(),
+            answers.lower.as_mut_ptr(),
+            answers.lower.len(),
+            answers.upper.as_mut_ptr(),
+            answers.upper.len(),
+            answers.actions.as_mut_ptr(),
+            answers.actions.len(),
         )
     }
 }

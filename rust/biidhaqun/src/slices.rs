@@ -4,16 +4,16 @@
 //! nor written. n stands for the model's states, m for its actions, k for its observations.
 //!
 //! What is handed in may hold anything and have any length. With the feature `linked`, this module has the calls themselves
-//! too: [`read`], [`open`], [`offer`], [`totals`], [`build`] and [`worth`]. Each is proved to answer, and to leave in what
+//! too: [`read`], [`open`], [`offer`], [`totals`], [`each`], [`build`] and [`worth`]. Each is proved to answer, and to leave in what
 //! it is lent, what its definitions say; one that is refused leaves all as it was.
 //!
 //! A slice that is too short is refused: one of the tables by 3 at 0 where they are opened or a worth is asked, else by 7;
 //! one of a certifier by 7 for what stands (its choices are read by no call, and not asked for), by 9 for what is to stand;
-//! one of an offered level, of points or of a level to be built by 9; a mixture by 17; one of a plan graph by 18; one that
+//! one of an offered level, of points, of a level to be built or of answers by 9; a mixture, or several, by 17; one of a plan graph by 18; one that
 //! a file is read into by 100, and the place is then the length that it needs.
 
 #[cfg(feature = "linked")]
-pub use crate::ffi::{build, offer, open, read, totals, worth};
+pub use crate::ffi::{build, each, offer, open, read, totals, worth};
 
 /// Most states, actions, observations, vectors and points of a level, points to build at, nodes and steps of a plan graph,
 /// levels, and bytes of a file.
@@ -184,6 +184,23 @@ pub struct Totals {
     pub upper: i64,
     pub gap: i64,
     pub action: usize,
+}
+
+/// The answers at many mixtures, each at its mixture's number: what [`totals`] answers there.
+#[derive(Clone, Debug, Default, PartialEq, Eq, Hash)]
+pub struct Answers {
+    /// 0, or 17 for a mixture that is refused; the others are then 0.
+    pub numbers: Vec<u8>,
+    pub lower: Vec<i64>,
+    pub upper: Vec<i64>,
+    pub actions: Vec<u8>,
+}
+
+impl Answers {
+    /// Room for so many.
+    pub fn roomy(count: usize) -> Answers {
+        Answers { numbers: vec![0; count], lower: vec![0; count], upper: vec![0; count], actions: vec![0; count] }
+    }
 }
 
 /// How a worth ended, and what it is; 0 where it is refused.

@@ -39,6 +39,19 @@ fn levels_one_and_two() {
 }
 
 #[test]
+fn many_mixtures_at_once() {
+    let (_, _, two) = standing(2);
+    let mixtures = [[1, 0], [0, 1], [0, 0], [50, 50], [0, 1_000_001]].map(|weights| Mixture::new(&weights));
+    let answers = two.totals_at(&mixtures).unwrap();
+    for (answer, mixture) in answers.into_iter().zip(&mixtures) {
+        assert_eq!(answer.map_err(Error::from), two.totals(mixture));
+    }
+    assert_eq!(two.totals_at(&[]), Ok(Vec::new()));
+    let (_, _, fresh) = standing(0);
+    assert_eq!(refusal(fresh.totals_at(&mixtures)), (16, 0));
+}
+
+#[test]
 fn a_broken_level_two() {
     let second = |change: fn(&mut Level)| {
         let (_, start, mut certifier) = standing(1);

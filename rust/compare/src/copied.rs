@@ -6,7 +6,7 @@
 
 use crate::gen::{Question, DOCUMENT};
 use crate::lent::{narrowed, stored, Cell, Library};
-use biidhaqun::slices::{Certifier, Graph, Level, Reading, Refusal, Tables, Totals, Worth};
+use biidhaqun::slices::{Answers, Certifier, Graph, Level, Reading, Refusal, Tables, Totals, Worth};
 use reference::{Rules, BUILT_POINTS, NODES, OBSERVATIONS, POINTS, STATES, VECTORS};
 
 /// Lists the slips with a sentence each.
@@ -51,6 +51,8 @@ slips! {
     CountsKept: "an accepted level's counts are not written",
     OpeningClearsPoints: "opening clears the weights and values",
     RefusedTotals: "refused totals carry numbers",
+    OneRefusesAll: "a refused mixture among many refuses them all",
+    LaterAnswersLeft: "what comes after a refused mixture is not answered",
     RefusedReading: "a refused reading carries counts",
     RefusedWorth: "a refused worth carries ticks",
     RowsBySixteen: "entries and weights are packed by 16 states",
@@ -290,6 +292,52 @@ impl Copied {
         Ok(())
     }
 
+    /// Totals one by one, where 7 and 16 pass: that is asked at a mixture that is not refused.
+    fn each_of(
+        &self,
+        tables: &Tables,
+        lent: &Certifier,
+        (count, mixtures): (usize, &[u32]),
+        answers: &mut Answers,
+    ) -> Result<(), reference::Refusal> {
+        let n = self.standing(tables, lent).tables.states as usize;
+        let ended = |at: Totals| match at.number {
+            0 => Ok(at),
+            number => Err(reference::Refusal::at(number as u8, at.place as u64)),
+        };
+        ended(self.totals(tables, lent, &[1; STATES]))?;
+        let enough = count.checked_mul(n).map_or(false, |needed| self.long(mixtures, needed));
+        if !enough {
+            return Err(reference::Refusal::at(17, 0));
+        }
+        let room = self.long(&answers.numbers, count)
+            && self.long(&answers.lower, count)
+            && self.long(&answers.upper, count)
+            && self.long(&answers.actions, count);
+        if !room {
+            return Err(NINE);
+        }
+        let mut all = Answers::default();
+        for mixture in (0..count).map(|at| mixtures.get(at * n..(at + 1) * n).unwrap_or(&[])) {
+            let at = self.totals(tables, lent, mixture);
+            if at.number != 0 && self.has(Slip::OneRefusesAll) {
+                ended(at)?;
+            }
+            all.numbers.push(at.number as u8);
+            all.lower.push(at.lower);
+            all.upper.push(at.upper);
+            all.actions.push(at.action as u8);
+            if at.number != 0 && self.has(Slip::LaterAnswersLeft) {
+                break;
+            }
+        }
+        self.lay(&all.numbers, &mut answers.numbers);
+        self.lay(&all.lower, &mut answers.lower);
+        self.lay(&all.upper, &mut answers.upper);
+        self.lay(&all.actions, &mut answers.actions);
+        Ok(())
+    }
+
     fn built(
         &self,
         tables: &Tables,
@@ -398,6 +446,17 @@ impl Library for Copied {
                 Totals { number, place, lower: left, upper: left, ..Totals::default() }
             }
         }
+    }
+
+    fn each(
+        &self,
+        tables: &Tables,
+        certifier: &Certifier,
+        mixtures: &[u32],
+        count: usize,
+        answers: &mut Answers,
+    ) -> Refusal {
+        self.each_of(tables, certifier, (count, mixtures), answers).err().map_or(Refusal::default(), refused)
     }
 
     fn build(

@@ -3,16 +3,24 @@
 use crate::files;
 use crate::gen::Question;
 use crate::rng::Rng;
-use biidhaqun::slices::{Certifier, Graph, Level, Reading, Refusal, Tables, Totals, Worth};
+use biidhaqun::slices::{Answers, Certifier, Graph, Level, Reading, Refusal, Tables, Totals, Worth};
 use reference::{BUILT_POINTS, NODES, POINTS, VECTORS};
 use std::fmt;
 
-/// The library's six calls.
+/// The library's seven calls.
 pub trait Library {
     fn read(&self, file: &[u8], tables: &mut Tables, start: &mut [u16]) -> Reading;
     fn open(&self, tables: &Tables, certifier: &mut Certifier) -> Refusal;
     fn offer(&self, tables: &Tables, certifier: &mut Certifier, level: &Level) -> Refusal;
     fn totals(&self, tables: &Tables, certifier: &Certifier, mixture: &[u32]) -> Totals;
+    fn each(
+        &self,
+        tables: &Tables,
+        certifier: &Certifier,
+        mixtures: &[u32],
+        count: usize,
+        answers: &mut Answers,
+    ) -> Refusal;
     fn build(&self, tables: &Tables, certifier: &Certifier, count: usize, points: &[u32], level: &mut Level)
         -> Refusal;
     fn worth(&self, tables: &Tables, graph: &Graph, asked: Question) -> Worth;
@@ -213,6 +221,13 @@ pub enum Call {
         certifier: Certifier,
         mixture: Vec<u32>,
     },
+    Each {
+        tables: Tables,
+        certifier: Certifier,
+        mixtures: Vec<u32>,
+        count: usize,
+        answers: Answers,
+    },
     /// The counts and weights of the level are not lent.
     Build {
         tables: Tables,
@@ -250,6 +265,9 @@ impl Call {
             Call::Totals { tables, certifier, mixture } => {
                 let Totals { number, place, lower, upper, gap, action } = by.totals(tables, certifier, mixture);
                 vec![number.into(), place as i128, lower.into(), upper.into(), gap.into(), action as i128]
+            }
+            Call::Each { tables, certifier, mixtures, count, answers } => {
+                ended(by.each(tables, certifier, mixtures, *count, answers))
             }
             Call::Build { tables, certifier, count, points, level } => {
                 ended(by.build(tables, certifier, *count, points, level))
@@ -337,6 +355,15 @@ impl Call {
                 slices.extend(standing(certifier, false));
                 slices.push(("mixture", mixture));
             }
+            Call::Each { tables, certifier, mixtures, answers, .. } => {
+                slices.extend(of_tables(tables));
+                slices.extend(standing(certifier, false));
+                slices.push(("mixtures", mixtures));
+                slices.push(("answered numbers", &mut answers.numbers));
+                slices.push(("answered lower", &mut answers.lower));
+                slices.push(("answered upper", &mut answers.upper));
+                slices.push(("answered actions", &mut answers.actions));
+            }
             Call::Build { tables, certifier, points, level, .. } => {
                 slices.extend(of_tables(tables));
                 slices.extend(standing(certifier, false));
@@ -367,6 +394,13 @@ impl fmt::Display for Call {
             }
             Call::Totals { tables, certifier, mixture } => {
                 writeln!(f, "  totals: {:?}\n  {:?}\n  mixture {:?}", tables, certifier, mixture)
+            }
+            Call::Each { tables, certifier, mixtures, count, answers } => {
+                writeln!(
+                    f,
+                    "  each: {:?}\n  {:?}\n  {} mixtures {:?}\n  {:?}",
+                    tables, certifier, count, mixtures, answers
+                )
             }
             Call::Build { tables, certifier, count, points, level } => {
                 writeln!(f, "  build: {:?}\n  {:?}\n  {} points {:?}\n  {:?}", tables, certifier, count, points, level)

@@ -2,7 +2,7 @@
 
 use crate::gen::Question;
 use crate::lent::{Cell, Library};
-use biidhaqun::slices::{self, Certifier, Graph, Level, Reading, Refusal, Tables, Totals, Worth};
+use biidhaqun::slices::{self, Answers, Certifier, Graph, Level, Reading, Refusal, Tables, Totals, Worth};
 
 /// The number of a call that wrote past the end of a slice: none ends with it.
 const OUTSIDE: u64 = u64::MAX;
@@ -81,6 +81,26 @@ impl Library for Linked {
 
     fn totals(&self, tables: &Tables, certifier: &Certifier, mixture: &[u32]) -> Totals {
         slices::totals(tables, certifier, mixture)
+    }
+
+    fn each(
+        &self,
+        tables: &Tables,
+        certifier: &Certifier,
+        mixtures: &[u32],
+        count: usize,
+        answers: &mut Answers,
+    ) -> Refusal {
+        let mut copy = Answers {
+            numbers: edged(&answers.numbers),
+            lower: edged(&answers.lower),
+            upper: edged(&answers.upper),
+            actions: edged(&answers.actions),
+        };
+        let ended = slices::each(tables, certifier, mixtures, count, &mut copy);
+        let all = kept(&mut copy.numbers) && kept(&mut copy.lower) && kept(&mut copy.upper) && kept(&mut copy.actions);
+        *answers = copy;
+        Refusal { number: if all { ended.number } else { OUTSIDE }, ..ended }
     }
 
     fn build(

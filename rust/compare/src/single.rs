@@ -5,7 +5,7 @@ use crate::files;
 use crate::gen::{self, Shape, Step};
 use crate::lent::{self, Call, Slice};
 use crate::rng::Rng;
-use biidhaqun::slices::{Certifier, Level, Tables};
+use biidhaqun::slices::{Answers, Certifier, Level, Tables};
 use reference::{Points, STATES};
 
 /// A call with whole objects. Its slices are as long as they must be and no longer, and anything lies in those that are
@@ -47,6 +47,10 @@ fn whole(rng: &mut Rng) -> Call {
             let (certifier, steps) = gen::handed(rng, shape);
             match rng.pick(&steps) {
                 Step::Offer(level) => offering(rng, shape, &certifier, &level),
+                Step::Totals(_) if rng.once_in(2) => {
+                    let count = rng.index(4);
+                    asking(rng, shape, &certifier, count)
+                }
                 Step::Totals(mixture) => {
                     let mixture = lent::mixture(&mixture, shape.n);
                     let tables = lent::tables(&certifier.tables);
@@ -83,6 +87,24 @@ fn offering(rng: &mut Rng, shape: Shape, certifier: &reference::Certifier, level
     let level = lent::level(level, shape.n, shape.k);
     let standing = sized(rng, lent::certifier(certifier), &level);
     Call::Offer { tables: lent::tables(&certifier.tables), certifier: standing, level }
+}
+
+/// Totals at some mixtures, of which some are refused.
+fn asking(rng: &mut Rng, shape: Shape, certifier: &reference::Certifier, count: usize) -> Call {
+    let (mut mixtures, mut answers) = (Vec::new(), Answers::default());
+    for _ in 0..count {
+        let mut mixture = gen::mixture(rng, shape.n);
+        if rng.once_in(3) {
+            gen::spoil_mixture(rng, shape.n, &mut mixture);
+        }
+        mixtures.extend(lent::mixture(&mixture, shape.n));
+    }
+    answers.numbers.sized(count, rng);
+    answers.lower.sized(count, rng);
+    answers.upper.sized(count, rng);
+    answers.actions.sized(count, rng);
+    let tables = lent::tables(&certifier.tables);
+    Call::Each { tables, certifier: lent::certifier(certifier), mixtures, count, answers }
 }
 
 fn building(rng: &mut Rng, shape: Shape, certifier: &reference::Certifier, points: &Points) -> Call {
@@ -191,6 +213,7 @@ fn served(rng: &mut Rng, kind: u64) -> Call {
                 let points = gen::points(rng, shape.n, 2);
                 building(rng, shape, &certifier, &points)
             }
+            5 => asking(rng, shape, &certifier, 3),
             _ => {
                 let graph = gen::graph(rng, shape);
                 let asked = gen::question(rng, &graph, shape);
@@ -225,13 +248,16 @@ fn if_short(call: &Call, name: &str, length: usize) -> Option<(u64, usize)> {
         Call::Read { .. } => return Some((100, length)),
         Call::Open { .. } if of_tables => 3,
         Call::Open { .. } => 9,
-        Call::Offer { .. } | Call::Totals { .. } | Call::Build { .. } if of_tables => 7,
+        Call::Offer { .. } | Call::Totals { .. } | Call::Each { .. } | Call::Build { .. } if of_tables => 7,
         Call::Offer { .. } if level => 9,
         Call::Offer { level, .. } if name == "standing choices" && length > level.choices.len() => 0,
         Call::Offer { tables, certifier, .. } if length > stands(certifier, tables) => 9,
         Call::Offer { .. } => 7,
         Call::Totals { .. } if name == "mixture" => 17,
         Call::Totals { .. } => 7,
+        Call::Each { .. } if name == "mixtures" => 17,
+        Call::Each { .. } if name.starts_with("answered") => 9,
+        Call::Each { .. } => 7,
         Call::Build { .. } if level || name == "points" => 9,
         Call::Build { .. } => 7,
         Call::Worth { .. } if of_tables => 3,
@@ -243,7 +269,7 @@ fn if_short(call: &Call, name: &str, length: usize) -> Option<(u64, usize)> {
 /// A call that is served, and for each slice the same call with that slice one short, empty, and longer; with how the first
 /// of these ends by the header.
 pub fn lengths(rng: &mut Rng, number: u64) -> Vec<(Call, Option<(u64, usize)>)> {
-    let call = served(rng, number % 6);
+    let call = served(rng, number % 7);
     let mut calls = vec![(call.clone(), Some((0, 0)))];
     let count = call.clone().slices().len();
     for at in 0..count {
