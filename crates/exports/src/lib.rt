@@ -10,6 +10,7 @@ ghost use Rattle.levels.specs.Storage.{LentLevel, Lent, cells, lent, lentFor};
 ghost use Rattle.levels.specs.Judged.{offerVerdict};
 ghost use Rattle.modelfile.specs.ModelFile.{modelFile};
 ghost use Rattle.runs.specs.State.{left, openVerdict, opened, offered, mixtureHolds, totalsOf, buildVerdict, builtOf};
+ghost use Rattle.bounds.specs.Each.{answers, eachVerdict, eachOf};
 ghost use Rattle.runs.specs.Demand3.{ModelAccepted, after, steps, PointsHold};
 ghost use Rattle.worth.specs.Storage.{lentGraph};
 ghost use Rattle.worth.specs.Judged.{worthAnswer};
@@ -352,6 +353,66 @@ pub extern "C" fn biidhaqun_totals<'a, 'b>(
         gap: bounds.gap,
         action: action.0,
     }
+}
+
+// The totals of a certifier at a count of mixtures, packed: it is judged once, and a mixture that is refused refuses its own answer alone.
+#[no_mangle]
+pub extern "C" fn biidhaqun_each<'a, 'b>(
+    n: usize,
+    m: usize,
+    k: usize,
+    g: u64,
+    transition: &'a [u16],
+    observation: &'a [u16],
+    reward: &'a [i64],
+    state: &'b [usize],
+    actions: &'b [u8],
+    entries: &'b [i64],
+    corners: &'b [i64],
+    weights: &'b [u32],
+    values: &'b [i64],
+    mixtures: &[u32],
+    count: usize,
+    verdicts: &mut [u8],
+    lower: &mut [i64],
+    upper: &mut [i64],
+    advice: &mut [u8],
+) -> Refusal
+    ensures { λ r. ⌜ ((choices : List ℕ) → r ≡ refusalOf (eachVerdict (model n m k g (now (transition .entry)) (now (observation .entry)) (now (reward .entry)))
+        (lent (now (state .entry)) (cells (now (actions .entry)) choices (now (entries .entry))
+        (now (corners .entry)) (now (weights .entry)) (now (values .entry))))
+        (now (mixtures .entry)) count (answers (now (verdicts .entry)) (now (lower .entry)) (now (upper .entry)) (now (advice .entry))))) ⌝ }
+    ensures { λ _. ⌜ ((choices : List ℕ) → answers (now (verdicts .exit)) (now (lower .exit)) (now (upper .exit)) (now (advice .exit))
+        ≡ eachOf (model n m k g (now (transition .entry)) (now (observation .entry)) (now (reward .entry)))
+        (lent (now (state .entry)) (cells (now (actions .entry)) choices (now (entries .entry))
+        (now (corners .entry)) (now (weights .entry)) (now (values .entry))))
+        (now (mixtures .entry)) count (answers (now (verdicts .entry)) (now (lower .entry)) (now (upper .entry)) (now (advice .entry)))) ⌝ }
+{
+    let c = Counts {
+        states: n,
+        actions: m,
+        observations: k,
+        discount: g,
+    };
+    let verdict = bounds::each(
+        transition,
+        observation,
+        reward,
+        c,
+        state,
+        actions,
+        entries,
+        corners,
+        weights,
+        values,
+        mixtures,
+        count,
+        verdicts,
+        lower,
+        upper,
+        advice,
+    );
+    refusal_of(verdict)
 }
 
 // Builds the next level of a certifier from a count of points, whose weights are the level's own.

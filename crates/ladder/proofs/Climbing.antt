@@ -3,113 +3,208 @@ use mathlib.Core.Path.{_≡_, refl, sym, _∙_, ap, subst}
 use mathlib.Core.Bool.{true}
 use mathlib.Core.List.{List, [], _∷_, _++_}
 use Prim.Native.Nat.{ℕ, _+_, _*_, _≤_, _<_}
-use native.Mathlib.Nat.{add-zero, zero-add, add-assoc}
+use native.Mathlib.Nat.{add-zero, zero-add, add-assoc, mul-le-mul}
 use native.Mathlib.Omega.{arith}
 use borrow.Author.Tests.{le-leb, lt-ltb}
-use lib.ListN.{getD}
+use lib.IntN.{ℤ, pos}
+use lib.ListN.{length, replicate}
 use Rattle.integers.specs.Whole.{totalTo}
 use Rattle.integers.proofs.Searches.{and-is, at-every}
 use Rattle.integers.proofs.Sums.{total-part}
 use Rattle.tables.specs.declared.Tables.{Tables}
+use Rattle.tables.specs.declared.Verdict.{Verdict}
 use Rattle.tables.specs.declared.Verdict.the-variants.{Fine}
-use Rattle.tables.specs.Limits.{maxStates, maxWeight, maxLevels}
-use Rattle.tables.specs.Storage.{weightIn}
+use Rattle.tables.specs.Limits.{maxStates, maxObservations, maxWeight, maxLevels}
+use Rattle.tables.specs.Model.{Valid}
+use Rattle.tables.specs.Storage.{weightIn, countsOf, modelOf}
+use Rattle.tables.specs.Steps.{Stored}
+use Rattle.tables.proofs.Accepted.{tables-valid, tables-fine}
+use Rattle.tables.proofs.Fitting.{Long, sizes}
+use Rattle.plans.specs.Level.{IsPoint, level0}
+use Rattle.plans.specs.Build.{built}
 use Rattle.plans.proofs.Agreement.{point-weights}
-use Rattle.levels.specs.declared.Level.{Level}
-use Rattle.levels.specs.Storage.{pointIn}
-use Rattle.runs.specs.declared.Certifier.{Certifier}
-use Rattle.runs.specs.declared.Answer.{Answer}
-use Rattle.runs.specs.declared.Bounds.{Bounds}
-use Rattle.runs.specs.declared.Points.{Points}
-use Rattle.runs.specs.declared.Built.{Built}
-use Rattle.runs.specs.State.{opened, offered, mixtureHolds}
-use Rattle.runs.specs.Demand3.{ModelAccepted, run, counted, acceptances, after, steps, TotalsHold, BuildHolds, PointsHold}
-use Rattle.runs.proofs.Demand3.{demand3}
+use Rattle.levels.specs.Storage.{Cells, LentLevel, Lent, stateSize, cells, lent, pointIn, lentFor, complete}
+use Rattle.levels.specs.Judged.{offerVerdict}
+use Rattle.levels.proofs.Laws.{passed, fine-before}
+use Rattle.levels.proofs.Over.{Complete, complete-is, complete-true, complete-long, over-long}
+use Rattle.runs.specs.State.{openVerdict, opened, offered, mixtureHolds, answerFor, builtFrom}
+use Rattle.runs.specs.Demand3.{ModelAccepted, run, counted, acceptances, after, steps, last, BuildHolds, PointsHold}
+use Rattle.runs.proofs.Demand3.{fine-tables}
 use Rattle.modelfile.specs.declared.ModelFile.{ModelFile}
 use Rattle.modelfile.specs.ModelFile.{modelFile}
-use Rattle.modelfile.proofs.Opens.{read-opens, read-valid}
-use Rattle.modelfile.proofs.Opens.{FileOpens}
-use Rattle.ladder.specs.Climb.{Given, Climbed, Alike, OnePoint}
+use Rattle.modelfile.proofs.Opens.{read-opens, read-valid, FileOpens}
+use Rattle.ladder.specs.Climb.{Climbed, Asked, Alike}
 
 -- ---- one offer more
-run-more : (c : Certifier) (ls : List Level) (l : Level) → run c (ls ++ (l ∷ [])) ≡ offered (run c ls) l .certifier
+run-more : (m : Tables) (x : Lent) (ls : List LentLevel) (l : LentLevel) → run m x (ls ++ (l ∷ [])) ≡ offered m (run m x ls) l
 unfolding run
-run-more c [] l = refl
-run-more c (k ∷ ls) l = run-more (offered c k .certifier) ls l
+run-more m x [] l = refl
+run-more m x (k ∷ ls) l = run-more m (offered m x k) ls l
 
-acceptances-more : (c : Certifier) (ls : List Level) (l : Level)
-    → acceptances c (ls ++ (l ∷ [])) ≡ acceptances c ls + counted (offered (run c ls) l .verdict)
+acceptances-more : (m : Tables) (x : Lent) (ls : List LentLevel) (l : LentLevel)
+    → acceptances m x (ls ++ (l ∷ [])) ≡ acceptances m x ls + counted (offerVerdict m (run m x ls) l)
 unfolding run acceptances
-acceptances-more c [] l = add-zero _ ∙ sym (zero-add _)
-acceptances-more c (k ∷ ls) l =
-    ap (λ (n : ℕ). counted (offered c k .verdict) + n) (acceptances-more (offered c k .certifier) ls l) ∙ sym (add-assoc _ _ _)
+acceptances-more m x [] l = add-zero _ ∙ sym (zero-add _)
+acceptances-more m x (k ∷ ls) l =
+    ap (λ (n : ℕ). counted (offerVerdict m x k) + n) (acceptances-more m (offered m x k) ls l) ∙ sym (add-assoc _ _ _)
 
--- ---- points and mixtures
-module _ {m : Tables} {b : List ℕ} (g : Given m b) where
-  points-hold : {p : Points} → OnePoint b p → PointsHold m p
-  points-hold {p} o = record { few = omega (arith, o .one); total = λ i l. point-weights (m .states) (same i l) (g .total) }
-    where
-      same : (i : ℕ) → i < p .count → (s : ℕ) → s < m .states → pointIn (m .states) (p .weights) i s ≡ weightIn b s
-      same i l s h =
-          let first : i ≡ 0 = omega (arith, o .one) in
-          let place : 0 * m .states + s ≡ s = omega arith in
-          rw (first, place) (o .weights s (omega (arith, g .few-states)))
+-- ---- a mixture that is a point
+mixture-holds : (n : ℕ) (b : List ℕ) → n ≤ length b → IsPoint n (weightIn b) → mixtureHolds n b ≡ true
+mixture-holds n b long total =
+    and-is (le-leb n (length b) long)
+    (and-is (at-every n _ (λ s l. le-leb (weightIn b s) maxWeight (omega (arith, total, total-part n (weightIn b) s l))))
+    (lt-ltb 0 (totalTo n (weightIn b)) (omega (arith, total))))
 
-  mixture-holds : mixtureHolds (m .states) (weightIn b) ≡ true
-  mixture-holds =
-      and-is (at-every (m .states) _ (λ s l. le-leb (weightIn b s) maxWeight (omega (arith, g .total, total-part (m .states) (weightIn b) s l))))
-      (lt-ltb 0 (totalTo (m .states) (weightIn b)) (omega (arith, g .total)))
+-- the first point's weights are those of the mixture
+first-point : (n : ℕ) (b : List ℕ) (i s : ℕ) → i < 1 → pointIn n b i s ≡ weightIn b s
+first-point n b i s l =
+    let first : i ≡ 0 = omega arith in
+    let place : 0 * n + s ≡ s = omega arith in
+    rw (first, place)
+
+-- ---- climbing
+pub climbed-0 : {m : Tables} {x z : Lent} {y : Cells} → ModelAccepted m x → PointsHold m x 1 y → z ≡ opened m x → Climbed 0 m z y
+unfolding run acceptances
+climbed-0 {m} {x} o p e = record { first = x; offers = []; opens = o; left = e; accepted = refl; points = p }
+
+module _ {t : ℕ} {m : Tables} {z : Lent} {y : Cells} (k : Climbed t m z y) where
+  pub few-states : m .states ≤ maxStates
+  few-states = tables-valid m (fine-tables m (k .first) (k .opens)) .few-states
+
+  -- what the builder's contract says of its verdict v and of the slices y' that it left
+  module _ {v : Verdict} {y' : Cells} (few : t < maxLevels)
+      (h : (x : Lent) (ls : List LentLevel) → ModelAccepted m x → z ≡ after m x ls → steps m x ls < maxLevels → PointsHold m x 1 y
+      → BuildHolds m x ls 1 y v y') where
+    built-holds : BuildHolds m (k .first) (k .offers) 1 y v y'
+    built-holds = h (k .first) (k .offers) (k .opens) (k .left) (rw (k .accepted) few) (k .points)
+
+    pub built-given : v ≡ Fine
+    built-given = built-holds .given
+
+    pub built-accepted : offerVerdict m z (answerFor m 1 y') ≡ Fine
+    built-accepted = rw (k .left) (built-holds .accepted)
+
+    -- the slices that it left are as long as they were
+    built-room : complete m (answerFor m 1 y') ≡ true
+    unfolding built
+    built-room =
+        let room = complete-true m (answerFor m 1 y) (k .points .answer-room) in
+        let W = builtFrom m (last m (k .first) (k .offers)) 1 y in
+        complete-is m (answerFor m 1 y') (subst (λ (w : Cells). Complete m (answerFor m 1 w)) (sym (built-holds .level-is))
+        (complete-long m (over-long m W y room) room))
+
+    pub climbed-next : {z' : Lent} → y' .weights ≡ y .weights → z' ≡ offered m z (answerFor m 1 y') → Climbed (t + 1) m z' y'
+    climbed-next e f = record {
+      first = k .first;
+      offers = k .offers ++ (answerFor m 1 y' ∷ []);
+      opens = k .opens;
+      left = f ∙ rw (k .left) (sym (run-more m (opened m (k .first)) (k .offers) (answerFor m 1 y')));
+      accepted =
+          acceptances-more m (opened m (k .first)) (k .offers) (answerFor m 1 y')
+          ∙ rw (built-holds .accepted) (ap (λ (n : ℕ). n + 1) (k .accepted));
+      points = record {
+        few = k .points .few;
+        total = λ i l. rw e (k .points .total i l);
+        answer-room = built-room;
+        certifier-room = k .points .certifier-room;
+      };
+    }
+
+  pub asked : 0 < t → {state actions choices : List ℕ} {entries corners : List ℤ} {weights : List ℕ} {values : List ℤ}
+      → z ≡ lent state (cells actions choices entries corners weights values) → Asked m state actions entries corners weights values (y .weights)
+  asked some {choices = choices} e =
+      let room = complete-true m (answerFor m 1 y) (k .points .answer-room) in
+      record {
+        choices = choices;
+        first = k .first;
+        offers = k .offers;
+        opens = k .opens;
+        left = sym e ∙ k .left;
+        some = rw (k .accepted) some;
+        mixture = mixture-holds (m .states) (y .weights) (omega (arith, room .read .weights)) (point-weights (m .states)
+            (λ s l. sym (first-point (m .states) (y .weights) 0 s (let h : 0 < 1 = omega arith in h))) (k .points .total 0 (let h : 0 < 1 = omega arith in h)));
+      }
+
+-- ---- the program's own slices
+
+-- room for a vector at each corner and at one point
+pub record Roomy (x : Cells) : Type 0 where
+  pub actions : maxStates + 1 ≤ length (x .actions)
+  pub choices : (maxStates + 1) * maxObservations ≤ length (x .choices)
+  pub entries : (maxStates + 1) * maxStates ≤ length (x .entries)
+  pub corners : maxStates ≤ length (x .corners)
+  pub weights : maxStates ≤ length (x .weights)
+  pub values : 1 ≤ length (x .values)
+
+-- slices with that room, nothing but the weights written yet
+abbrev pub noneYet : List ℕ → Cells
+noneYet weights =
+    cells (replicate (maxStates + 1) 0) (replicate ((maxStates + 1) * maxObservations) 0) (replicate ((maxStates + 1) * maxStates) (pos 0))
+    (replicate maxStates (pos 0)) weights (replicate 1 (pos 0))
+
+pub none-roomy : (weights : List ℕ) → maxStates ≤ length weights → Roomy (noneYet weights)
+none-roomy weights long = record {
+  actions = omega arith;
+  choices = omega arith;
+  entries = omega arith;
+  corners = omega arith;
+  weights = long;
+  values = omega arith;
+}
+
+module _ (m : Tables) (v : Valid (modelOf m)) where
+  -- the vectors of any level within that room
+  roomy-complete : {vectors points : ℕ} {x : Cells} → vectors ≤ maxStates + 1 → points ≤ 1 → Roomy x → Complete m (lentFor vectors points x)
+  roomy-complete {vectors} {points} lv lp r =
+      let choices : vectors * m .observations ≤ (maxStates + 1) * maxObservations = mul-le-mul lv (v .few-observations) in
+      let entries : vectors * m .states ≤ (maxStates + 1) * maxStates = mul-le-mul lv (v .few-states) in
+      let weights : points * m .states ≤ 1 * maxStates = mul-le-mul lp (v .few-states) in
+      record {
+        choices = omega (arith, choices, r .choices);
+        read = record {
+          actions = omega (arith, lv, r .actions);
+          entries = omega (arith, entries, r .entries);
+          corners = omega (arith, v .few-states, r .corners);
+          weights = omega (arith, weights, r .weights);
+          values = omega (arith, lp, r .values);
+        };
+      }
+
+  one-more : m .states + 1 ≤ maxStates + 1
+  one-more = omega (arith, v .few-states)
+
+  -- the tables open in them
+  pub own-open : Long m → (x : Lent) → stateSize ≤ length (x .state) → Roomy (x .cells) → ModelAccepted m x
+  unfolding openVerdict level0
+  own-open long x state r =
+      let s = sizes (record { actions = v .few-actions; states = v .few-states; observations = v .few-observations }) in
+      let stored : Stored (countsOf m) (m .transition) (m .observation) (m .reward) = record {
+        transitions = omega (arith, s .transitions, long .transition);
+        observed = omega (arith, s .observed, long .observation);
+        rewards = omega (arith, s .rows, long .reward);
+      } in
+      fine-before (tables-fine m v stored) (passed 9 0 (and-is (le-leb stateSize (length (x .state)) state)
+      (complete-is m (lentFor 1 0 (x .cells)) (roomy-complete (omega arith) (omega arith) r))))
+
+  -- and each level has room in them
+  pub own-points : (x : Lent) (y : Cells) → Roomy (x .cells) → Roomy y → IsPoint (m .states) (weightIn (y .weights)) → PointsHold m x 1 y
+  own-points x y r s total = record {
+    few = omega arith;
+    total = λ i l. point-weights (m .states) (λ s h. first-point (m .states) (y .weights) i s l) total;
+    answer-room = complete-is m (answerFor m 1 y) (roomy-complete one-more (omega arith) s);
+    certifier-room = complete-is m (answerFor m 1 (x .cells)) (roomy-complete one-more (omega arith) r);
+  }
 
 -- ---- a file that is read
--- its tables open, and its start numbers are a point
-pub read-given : {f : ModelFile} {b : List ℕ} (file : List ℕ) → f ≡ modelFile file → f .verdict ≡ Fine → Alike maxStates b (f .start) → Given (f .tables) b
-unfolding opened
-read-given {f} {b} file e fine alike = record {
-  opens = rw (read .tables-fine) refl;
-  few-states = few;
-  total = point-weights (f .tables .states) (λ s l. alike s (omega (arith, few))) (omega (arith, read .start-total), omega (arith, read .start-total));
-}
+-- its tables are valid, and its start numbers are a point
+pub read-given : {f : ModelFile} (b file : List ℕ) → f ≡ modelFile file → f .verdict ≡ Fine → Alike maxStates b (f .start)
+    → Valid (modelOf (f .tables)) × IsPoint (f .tables .states) (weightIn b)
+read-given {f} b file e fine alike =
+    let start : IsPoint (f .tables .states) (weightIn (f .start)) = (omega (arith, read .start-total), omega (arith, read .start-total)) in
+    (valid, point-weights (f .tables .states) (λ s l. alike s (omega (arith, valid .few-states))) start)
   where
     read : FileOpens f
     read = subst FileOpens (sym e) (read-opens file (sym (ap (λ (x : ModelFile). x .verdict) e) ∙ fine))
 
-    few : f .tables .states ≤ maxStates
-    few = read-valid file e fine .few-states
-
--- ---- the calls
-pub climbed-0 : {m : Tables} {b : List ℕ} {a : Answer} → Given m b → a ≡ opened m → (a .verdict ≡ Fine) × (Climbed b (a .certifier) 0)
-unfolding run acceptances
-climbed-0 {m} g e = rw e (g .opens, record { tables = m; offers = []; given = g; left = refl; accepted = refl })
-
-module _ {b : List ℕ} {c : Certifier} {t : ℕ} (k : Climbed b c t) where
-  pub number-is : c .number ≡ t
-  number-is = rw (k .left) (demand3 (k .tables) (k .given .opens) (k .offers) .state .number) ∙ k .accepted
-
-  pub own-number : Climbed b c (c .number)
-  own-number = subst (λ (n : ℕ). Climbed b c n) (sym number-is) k
-
-  -- what the builder's contract says of its answer r
-  module _ {p : Points} {r : Built} (few : t < maxLevels) (o : OnePoint b p)
-      (h : (m : Tables) (ls : List Level) → ModelAccepted m → c ≡ after m ls → steps m ls < maxLevels → PointsHold m p → BuildHolds m ls p r) where
-    pub built-holds : BuildHolds (k .tables) (k .offers) p r
-    built-holds = h (k .tables) (k .offers) (k .given .opens) (k .left) (rw (k .accepted) few) (points-hold (k .given) o)
-
-    pub built-accepted : {a : Answer} → a ≡ offered c (r .level) → a .verdict ≡ Fine
-    built-accepted e = rw (e, k .left) (built-holds .accepted)
-
-    pub climbed-next : {a : Answer} → a ≡ offered c (r .level) → Climbed b (a .certifier) (t + 1)
-    climbed-next {a} e = record {
-      tables = k .tables;
-      offers = k .offers ++ (r .level ∷ []);
-      given = k .given;
-      left = rw (e, k .left) (sym (run-more (opened (k .tables) .certifier) (k .offers) (r .level)));
-      accepted =
-          acceptances-more (opened (k .tables) .certifier) (k .offers) (r .level)
-          ∙ rw (built-holds .accepted) (ap (λ (n : ℕ). n + 1) (k .accepted));
-    }
-
-  pub totals-given : {r : Bounds} → 0 < t
-      → ((m : Tables) (ls : List Level) → ModelAccepted m → c ≡ after m ls
-      → 0 < steps m ls → mixtureHolds (m .states) (weightIn b) ≡ true → TotalsHold m ls b r)
-      → r .verdict ≡ Fine
-  totals-given some h = h (k .tables) (k .offers) (k .given .opens) (k .left) (rw (k .accepted) some) (mixture-holds (k .given)) .given
+    valid : Valid (modelOf (f .tables))
+    valid = read-valid file e fine

@@ -4,20 +4,29 @@ ghost use mathlib.Core.Path.{_≡_};
 ghost use Prim.Native.Nat.{_+_, _<_};
 ghost use Rattle.tables.specs.declared.Verdict.the-variants.{Fine};
 ghost use Rattle.tables.specs.Limits.{maxStates, maxLevels};
-ghost use Rattle.ladder.specs.Climb.{Given, Climbed, Alike, OnePoint};
-use levels::Level;
+ghost use Rattle.tables.specs.Model.{Valid};
+ghost use Rattle.tables.specs.Storage.{weightIn, modelOf, tablesIn};
+ghost use Rattle.plans.specs.Level.{IsPoint};
+ghost use Rattle.levels.specs.Storage.{cells, lent};
+ghost use Rattle.runs.specs.Demand3.{ModelAccepted, PointsHold};
+ghost use Rattle.ladder.specs.Climb.{Climbed, Asked, Alike};
+use levels::Standing;
 use libc::STDERR_FILENO;
 use libc::STDIN_FILENO;
 use libc::STDOUT_FILENO;
 use modelfile::ModelFile;
 use modelfile::Start;
 use runs::Bounds;
-use runs::Certifier;
-use runs::Points;
+use tables::Counts;
 use tables::Tables;
 use tables::Verdict;
 
 const LEVELS: usize = 3;
+
+// Each level is built of one point: a vector at each corner and at the point.
+const POINTS: usize = 1;
+
+const VECTORS: usize = Tables::STATES + POINTS;
 
 type Mixture = [u32; Tables::STATES];
 
@@ -35,44 +44,6 @@ fn mixture(start: Start) -> Mixture
         b[s] = start[s] as u32;
     }
     b
-}
-
-// A mixture as one point.
-fn point(b: Mixture) -> Points
-    ensures { λ r. ⌜ OnePoint b r ⌝ }
-{
-    let mut weights = [0u32; Level::BUILT * Tables::STATES];
-    for s in 0..Tables::STATES {
-        weights[s] = b[s];
-    }
-    Points {
-        count: 1,
-        weights: weights,
-    }
-}
-
-// One level higher: the level that the builder makes, offered.
-fn climbed(c: Certifier, b: Mixture) -> Certifier
-    requires { ⌜ (c .number < maxLevels) × (Climbed b c (c .number)) ⌝ }
-    ensures { λ r. ⌜ (r .number ≡ c .number + 1) × (Climbed b r (r .number)) ⌝ }
-{
-    let built = certifier::build(c, point(b));
-    let made = built.verdict;
-    served(made);
-    let level = built.level;
-    let answer = certifier::offer(c, level);
-    let accepted = answer.verdict;
-    served(accepted);
-    answer.certifier
-}
-
-fn totals(c: Certifier, b: Mixture) -> Bounds
-    requires { ⌜ (0 < c .number) × (Climbed b c (c .number)) ⌝ }
-{
-    let r = certifier::totals(c, b);
-    let given = r.verdict;
-    served(given);
-    r
 }
 
 fn print_unsigned(x: u64, end: &[u8]) -> bool {
@@ -119,21 +90,242 @@ fn print_refusal(number: u8, place: usize) -> bool {
     print_unsigned(place as u64, b"\n")
 }
 
-// The lines of the levels; false where one could not be written.
-fn climb(tables: Tables, b: Mixture) -> bool
-    requires { ⌜ Given tables b ⌝ }
+// The line of level t, which stands; false where it could not be written.
+fn print_level<'a, 'b>(
+    transition: &'a [u16],
+    observation: &'a [u16],
+    reward: &'a [i64],
+    c: Counts,
+    t: usize,
+    state: &'b [usize],
+    actions: &'b [u8],
+    entries: &'b [i64],
+    corners: &'b [i64],
+    weights: &'b [u32],
+    values: &'b [i64],
+    given: &[u32],
+) -> bool
+    requires { ⌜ Asked (tablesIn c (now transition) (now observation) (now reward)) (now state) (now actions) (now entries) (now corners)
+        (now weights) (now values) (now given) ⌝ }
 {
-    let answer = certifier::open(tables);
-    let opened = answer.verdict;
+    let r = bounds::totals(
+        transition,
+        observation,
+        reward,
+        c,
+        state,
+        actions,
+        entries,
+        corners,
+        weights,
+        values,
+        given,
+    );
+    let told = r.verdict;
+    served(told);
+    print_totals(t, r)
+}
+
+// One level higher: the level that the builder makes of the point, offered, and its line; false where that could not be written.
+fn rung<'a>(
+    transition: &'a [u16],
+    observation: &'a [u16],
+    reward: &'a [i64],
+    c: Counts,
+    t: usize,
+    state: &mut [usize],
+    actions: &mut [u8],
+    choices: &mut [u16],
+    entries: &mut [i64],
+    corners: &mut [i64],
+    weights: &mut [u32],
+    values: &mut [i64],
+    given: &[u32],
+    newactions: &mut [u8],
+    newchoices: &mut [u16],
+    newentries: &mut [i64],
+    newcorners: &mut [i64],
+    newvalues: &mut [i64],
+) -> bool
+    requires { ⌜ t < maxLevels ⌝ }
+    requires { ⌜ Climbed t (tablesIn c (now transition) (now observation) (now reward))
+        (lent (now state) (cells (now actions) (now choices) (now entries) (now corners)
+        (now weights) (now values)))
+        (cells (now newactions) (now newchoices) (now newentries) (now newcorners) (now given) (now newvalues)) ⌝ }
+    ensures { λ _. ⌜ Climbed (t + 1) (tablesIn c (now (transition .entry)) (now (observation .entry)) (now (reward .entry)))
+        (lent (now (state .exit)) (cells (now (actions .exit)) (now (choices .exit)) (now (entries .exit)) (now (corners .exit))
+        (now (weights .exit)) (now (values .exit))))
+        (cells (now (newactions .exit)) (now (newchoices .exit)) (now (newentries .exit)) (now (newcorners .exit)) (now (given .entry))
+        (now (newvalues .exit))) ⌝ }
+{
+    let made = certifier::build(
+        transition,
+        observation,
+        reward,
+        c,
+        &state[..],
+        &actions[..],
+        &entries[..],
+        &corners[..],
+        &weights[..],
+        &values[..],
+        given,
+        POINTS,
+        newactions,
+        newchoices,
+        newentries,
+        newcorners,
+        newvalues,
+    );
+    served(made);
+    let accepted = certifier::offer(
+        transition,
+        observation,
+        reward,
+        c,
+        state,
+        actions,
+        choices,
+        entries,
+        corners,
+        weights,
+        values,
+        c.states + POINTS,
+        POINTS,
+        &newactions[..],
+        &newchoices[..],
+        &newentries[..],
+        &newcorners[..],
+        given,
+        &newvalues[..],
+    );
+    served(accepted);
+    print_level(
+        transition,
+        observation,
+        reward,
+        c,
+        t + 1,
+        &state[..],
+        &actions[..],
+        &entries[..],
+        &corners[..],
+        &weights[..],
+        &values[..],
+        given,
+    )
+}
+
+// The lines of the levels; false where one could not be written.
+fn climb<'a>(
+    transition: &'a [u16],
+    observation: &'a [u16],
+    reward: &'a [i64],
+    c: Counts,
+    state: &mut [usize],
+    actions: &mut [u8],
+    choices: &mut [u16],
+    entries: &mut [i64],
+    corners: &mut [i64],
+    weights: &mut [u32],
+    values: &mut [i64],
+    given: &[u32],
+    newactions: &mut [u8],
+    newchoices: &mut [u16],
+    newentries: &mut [i64],
+    newcorners: &mut [i64],
+    newvalues: &mut [i64],
+) -> bool
+    requires { ⌜ ModelAccepted (tablesIn c (now transition) (now observation) (now reward))
+        (lent (now state) (cells (now actions) (now choices) (now entries) (now corners)
+        (now weights) (now values))) ⌝ }
+    requires { ⌜ PointsHold (tablesIn c (now transition) (now observation) (now reward))
+        (lent (now state) (cells (now actions) (now choices) (now entries) (now corners)
+        (now weights) (now values))) 1
+        (cells (now newactions) (now newchoices) (now newentries) (now newcorners) (now given) (now newvalues)) ⌝ }
+{
+    let opened = certifier::open(
+        transition,
+        observation,
+        reward,
+        c,
+        state,
+        actions,
+        choices,
+        entries,
+        corners,
+        &weights[..],
+        &values[..],
+    );
     served(opened);
-    let mut c = answer.certifier;
-    for _ in 0..LEVELS {
-        c = climbed(c, b);
-        if !print_totals(c.number, totals(c, b)) {
+    for t in 0..LEVELS {
+        if !rung(
+            transition,
+            observation,
+            reward,
+            c,
+            t,
+            state,
+            actions,
+            choices,
+            entries,
+            corners,
+            weights,
+            values,
+            given,
+            newactions,
+            newchoices,
+            newentries,
+            newcorners,
+            newvalues,
+        ) {
             return false;
         }
     }
     true
+}
+
+// The lines of the levels over slices of its own.
+fn levels_of(tables: Tables, given: Mixture) -> bool
+    requires { ⌜ Valid (modelOf tables) ⌝ }
+    requires { ⌜ IsPoint (tables .states) (weightIn given) ⌝ }
+{
+    let mut state = [0usize; Standing::SIZE];
+    let mut actions = [0u8; VECTORS];
+    let mut choices = [0u16; VECTORS * Tables::OBSERVATIONS];
+    let mut entries = [0i64; VECTORS * Tables::STATES];
+    let mut corners = [0i64; Tables::STATES];
+    let mut weights = [0u32; POINTS * Tables::STATES];
+    let mut values = [0i64; POINTS];
+    let mut newactions = [0u8; VECTORS];
+    let mut newchoices = [0u16; VECTORS * Tables::OBSERVATIONS];
+    let mut newentries = [0i64; VECTORS * Tables::STATES];
+    let mut newcorners = [0i64; Tables::STATES];
+    let mut newvalues = [0i64; POINTS];
+    climb(
+        &tables.transition,
+        &tables.observation,
+        &tables.reward,
+        Counts {
+            states: tables.states,
+            actions: tables.actions,
+            observations: tables.observations,
+            discount: tables.discount,
+        },
+        &mut state,
+        &mut actions,
+        &mut choices,
+        &mut entries,
+        &mut corners,
+        &mut weights,
+        &mut values,
+        &given,
+        &mut newactions,
+        &mut newchoices,
+        &mut newentries,
+        &mut newcorners,
+        &mut newvalues,
+    )
 }
 
 // What is printed of a file; false where it could not be written.
@@ -143,7 +335,7 @@ fn answer(file: &[u8]) -> bool {
     match verdict {
         Verdict::Fine => {
             let start = model.start;
-            climb(model.tables, mixture(start))
+            levels_of(model.tables, mixture(start))
         }
         Verdict::Refused(number, place) => print_refusal(number, place),
     }

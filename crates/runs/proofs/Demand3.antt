@@ -29,11 +29,11 @@ use Rattle.plans.proofs.Agreement.{shaped-agree, meets-agree, meets-same, lower
 use Rattle.plans.proofs.Built.{built-shaped, built-meets, level0-shaped}
 use Rattle.plans.proofs.Rebuilt.{built-same}
 use Rattle.levels.specs.Storage.{Cells, LentLevel, Lent, stateSize, levelOf, pointIn, complete, over, numberIn, standingIn, lentFor}
-use Rattle.levels.specs.Judged.{holds, offerVerdict}
+use Rattle.levels.specs.Judged.{holds}
 use Rattle.levels.proofs.Laws.{passed, fine-before}
 use Rattle.levels.proofs.Over.{Complete, AsLong, as-long, long-long, complete-true, complete-long, over-agree, over-long, over-same}
 use Rattle.runs.specs.declared.Bounds.{Bounds}
-use Rattle.runs.specs.State.{left, at, openVerdict, opened, offered, mixtureHolds, totalsVerdict, totalsOf}
+use Rattle.runs.specs.State.{left, at, openVerdict, opened, verdictOn, offered, mixtureHolds, totalsVerdict, totalsOf}
 use Rattle.runs.specs.State.{answerFor, buildVerdict, builtFrom, builtOf}
 use Rattle.runs.specs.Demand3.{ModelAccepted, run, counted, acceptances, newer, lastOf, after, steps, last}
 use Rattle.runs.specs.Demand3.{StateHolds, TotalsHold, BuildHolds, PointsHold, Demand3}
@@ -110,9 +110,9 @@ module _ {m : Tables} {x₀ : Cells} {t : ℕ} {L : Level} {x : Lent} (r : Reach
 
   -- one offer keeps it: a refused one leaves all as it was
   reached-step : (l : LentLevel)
-      → Reached m x₀ (t + counted (offerVerdict m x l)) (newer (offerVerdict m x l) (levelOf m l) L) (offered m x l)
+      → Reached m x₀ (t + counted (verdictOn m x l)) (newer (verdictOn m x l) (levelOf m l) L) (offered m x l)
   unfolding offered
-  reached-step l = by (offerVerdict m x l) (accepted m x l)
+  reached-step l = by (verdictOn m x l) (accepted m x l)
     where
       by : (v : Verdict) → (v ≡ Fine → Accepted m x l)
           → Reached m x₀ (t + counted v) (newer v (levelOf m l) L) (left v (at m (numberIn x + 1) (levelOf m l) x) x)
@@ -158,7 +158,7 @@ module _ {m : Tables} {x₀ : Cells} {t : ℕ} {L : Level} {x : Lent} (r : Reach
           (fine-before (passed 8 0 (lt-ltb (numberIn x) maxLevels (omega (arith, r .number))))
           (fine-before (passed 9 0 (and-is (le-leb _ _ (points .few)) (points .answer-room))) (weights-is _ _ _ (points .total))))
 
-      built-accepted : offerVerdict m x (answerFor m count (over m (builtFrom m (levelOf m (standingIn x)) count y) y)) ≡ Fine
+      built-accepted : verdictOn m x (answerFor m count (over m (builtFrom m (levelOf m (standingIn x)) count y) y)) ≡ Fine
       unfolding built
       built-accepted =
           let M : Model = modelOf m in
@@ -185,7 +185,7 @@ reached-run : (m : Tables) (x₀ : Cells) (ls : List LentLevel) (t : ℕ) (L : L
 unfolding run acceptances lastOf
 reached-run m x₀ [] t L x r = rw (add-zero t) r
 reached-run m x₀ (l ∷ ls) t L x r =
-    rw (← add-assoc t (counted (offerVerdict m x l)) (acceptances m (offered m x l) ls))
+    rw (← add-assoc t (counted (verdictOn m x l)) (acceptances m (offered m x l) ls))
     (reached-run m x₀ ls _ _ (offered m x l) (reached-step r l))
 
 module _ (m : Tables) (x : Lent) (o : ModelAccepted m x) (ls : List LentLevel) where

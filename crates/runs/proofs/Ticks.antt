@@ -23,9 +23,8 @@ use Rattle.plans.proofs.Agreement.{backup-cong}
 use Rattle.plans.proofs.Built.{action-exists, chosen-exists}
 use Rattle.plans.proofs.Ticks.{BackedUp, low-next, high-next}
 use Rattle.levels.specs.Storage.{Cells, LentLevel, Lent, levelOf, pointIn, over, numberIn, standingIn}
-use Rattle.levels.specs.Judged.{offerVerdict}
 use Rattle.levels.proofs.Over.{over-agree}
-use Rattle.runs.specs.State.{left, at, opened, offered, answerFor, buildVerdict, builtFrom, builtOf}
+use Rattle.runs.specs.State.{left, at, opened, verdictOn, offered, answerFor, buildVerdict, builtFrom, builtOf}
 use Rattle.runs.specs.Demand3.{ModelAccepted, run, newer, lastOf, after, steps, last}
 use Rattle.runs.specs.Ticks.{Points, builtLevel, unlessRefused, offers, stacked, levelsOf, levels, made, Ticks}
 use Rattle.runs.proofs.Judged.{accepted}
@@ -69,7 +68,7 @@ stacked-open m x o = record {
 module _ (m : Tables) (valid-tables : Valid (modelOf m)) (x₀ : Cells) where
   module _ {below : List Level} {L : Level} {x : Lent} (k : Stacked m x₀ below L x) (p : Points) where
     -- a level that was built, and accepted
-    stacked-next : (l : LentLevel) → offerVerdict m x l ≡ Fine → Agree (modelOf m) (builtFrom m L (p .count) (p .cells)) (levelOf m l)
+    stacked-next : (l : LentLevel) → verdictOn m x l ≡ Fine → Agree (modelOf m) (builtFrom m L (p .count) (p .cells)) (levelOf m l)
         → Stacked m x₀ (levelOf m l ∷ below) (levelOf m l) (at m (numberIn x + 1) (levelOf m l) x)
     stacked-next l fine agree = record {
       reached = reached-next (k .reached) l (accepted m x l fine);
@@ -101,9 +100,9 @@ module _ (m : Tables) (valid-tables : Valid (modelOf m)) (x₀ : Cells) where
     built-agrees e = rw (e, level-built (k .reached) (p .count) (p .cells)) (over-agree m (builtFrom m L (p .count) (p .cells)) (p .cells))
 
     stacked-step : (l : LentLevel) → Agree (modelOf m) (builtFrom m L (p .count) (p .cells)) (levelOf m l)
-        → Stacked m x₀ (stacked (offerVerdict m x l) (levelOf m l) below) (newer (offerVerdict m x l) (levelOf m l) L) (offered m x l)
+        → Stacked m x₀ (stacked (verdictOn m x l) (levelOf m l) below) (newer (verdictOn m x l) (levelOf m l) L) (offered m x l)
     unfolding offered
-    stacked-step l agree = by (offerVerdict m x l) (λ fine. stacked-next l fine agree)
+    stacked-step l agree = by (verdictOn m x l) (λ fine. stacked-next l fine agree)
       where
         by : (v : Verdict) → (v ≡ Fine → Stacked m x₀ (levelOf m l ∷ below) (levelOf m l) (at m (numberIn x + 1) (levelOf m l) x))
             → Stacked m x₀ (stacked v (levelOf m l) below) (newer v (levelOf m l) L) (left v (at m (numberIn x + 1) (levelOf m l) x) x)

@@ -19,9 +19,8 @@ use Rattle.plans.specs.Limits.{maxBuilt}
 use Rattle.plans.specs.Level.{Level, Agree, level0, IsPoint}
 use Rattle.plans.specs.Totals.{lower, upper, advice, Bracket}
 use Rattle.levels.specs.Storage.{Cells, LentLevel, Lent, levelOf, pointIn, complete, over, numberIn, standingIn}
-use Rattle.levels.specs.Judged.{offerVerdict}
 use Rattle.runs.specs.declared.Bounds.{Bounds}
-use Rattle.runs.specs.State.{openVerdict, opened, offered, mixtureHolds, totalsOf, answerFor, buildVerdict, builtFrom, builtOf}
+use Rattle.runs.specs.State.{openVerdict, opened, verdictOn, offered, mixtureHolds, totalsOf, answerFor, buildVerdict, builtFrom, builtOf}
 
 -- a model is accepted if opening does not refuse its tables, nor the slices lent
 abbrev pub ModelAccepted : Tables → Lent → Type 0
@@ -38,7 +37,7 @@ counted (Refused number place) = 0
 
 unfoldable pub acceptances : Tables → Lent → List LentLevel → ℕ
 acceptances m x [] = 0
-acceptances m x (l ∷ ls) = counted (offerVerdict m x l) + acceptances m (offered m x l) ls
+acceptances m x (l ∷ ls) = counted (verdictOn m x l) + acceptances m (offered m x l) ls
 
 -- the later of two levels, if its offer was accepted
 abbrev pub newer : Verdict → Level → Level → Level
@@ -47,7 +46,7 @@ newer (Refused number place) new old = old
 
 unfoldable pub lastOf : Tables → Level → Lent → List LentLevel → Level
 lastOf m old x [] = old
-lastOf m old x (l ∷ ls) = lastOf m (newer (offerVerdict m x l) (levelOf m l) old) (offered m x l) ls
+lastOf m old x (l ∷ ls) = lastOf m (newer (verdictOn m x l) (levelOf m l) old) (offered m x l) ls
 
 abbrev pub after : Tables → Lent → List LentLevel → Lent
 after m x ls = run m (opened m x) ls
@@ -78,7 +77,7 @@ pub record TotalsHold (m : Tables) (x : Lent) (ls : List LentLevel) (b : List �
 pub record BuildHolds (m : Tables) (x : Lent) (ls : List LentLevel) (count : ℕ) (y : Cells) (v : Verdict) (y' : Cells) : Type 0 where
   pub given : v ≡ Fine
   pub level-is : y' ≡ over m (builtFrom m (last m x ls) count y) y
-  pub accepted : offerVerdict m (after m x ls) (answerFor m count y') ≡ Fine
+  pub accepted : verdictOn m (after m x ls) (answerFor m count y') ≡ Fine
 
 -- points within the builder's limits, and slices long enough: those that are lent for the answer and those that the certifier was opened with
 pub record PointsHold (m : Tables) (x : Lent) (count : ℕ) (y : Cells) : Type 0 where

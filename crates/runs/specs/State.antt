@@ -44,9 +44,12 @@ opened m x = left (openVerdict m x) (at m 0 level0 x) x
 
 -- ---- offering
 
+abbrev pub verdictOn : Tables → Lent → LentLevel → Verdict
+verdictOn m x l = offerVerdict m x l
+
 -- one level higher with the offered level, or as it was
 unfoldable pub offered : Tables → Lent → LentLevel → Lent
-offered m x l = left (offerVerdict m x l) (at m (numberIn x + 1) (levelOf m l) x) x
+offered m x l = left (verdictOn m x l) (at m (numberIn x + 1) (levelOf m l) x) x
 
 -- ---- totals
 

@@ -20,8 +20,7 @@ use Rattle.plans.specs.Plan.{earns}
 use Rattle.plans.specs.Level.{Level}
 use Rattle.plans.specs.Named.{named}
 use Rattle.levels.specs.Storage.{Cells, LentLevel, Lent, levelOf}
-use Rattle.levels.specs.Judged.{offerVerdict}
-use Rattle.runs.specs.State.{opened, offered, answerFor, buildVerdict, builtOf}
+use Rattle.runs.specs.State.{opened, verdictOn, offered, answerFor, buildVerdict, builtOf}
 use Rattle.runs.specs.Demand3.{steps, last}
 
 -- what a building is handed: a count of points, and the slices lent for its level, whose weights are the points'
@@ -53,7 +52,7 @@ stacked (Refused number place) new below = below
 
 unfoldable pub levelsOf : Tables → List Level → Lent → List LentLevel → List Level
 levelsOf m below x [] = below
-levelsOf m below x (l ∷ ls) = levelsOf m (stacked (offerVerdict m x l) (levelOf m l) below) (offered m x l) ls
+levelsOf m below x (l ∷ ls) = levelsOf m (stacked (verdictOn m x l) (levelOf m l) below) (offered m x l) ls
 
 abbrev pub levels : Tables → Lent → List LentLevel → List Level
 levels m x ls = levelsOf m [] (opened m x) ls

@@ -1,0 +1,15 @@
+use mathlib.Core.Path.{_∙_, ap}
+use borrow.Author.Needs.{needs}
+use Rattle.exports.specs.Calls.{refusalOf}
+use Rattle.exports.proofs.biidhaqun_each.Statement.{statement}
+use Rattle.exports.proofs.biidhaqun_each.Tie as tie
+
+returns : tie.Need-returns
+returns c =
+    let e = c .before .before .before .before .before .before .before .each .ensures in
+    (λ choices. c .refusal-of .ensures ∙ ap refusalOf (e .0 choices), e .1)
+
+pub biidhaqun-each-spec : {M : Type 1} → statement M
+biidhaqun-each-spec =
+    tie.close (tie.spec (λ c κs. search needs) (λ c κs. search needs) (λ c. search needs) (λ c. search needs) (λ c. search needs)
+    (λ c. search needs) returns)

@@ -1,0 +1,84 @@
+use mathlib.Core.Path.{refl, _∙_}
+use Prim.Native.Nat.{_+_}
+use native.Mathlib.Omega.{arith}
+use borrow.Author.Needs.{needs}
+use Rattle.tables.specs.Storage.{tablesIn}
+use Rattle.levels.specs.Storage.{Cells, Lent, cells, lent}
+use Rattle.ladder.specs.Climb.{Climbed}
+use Rattle.ladder.proofs.Climbing.{few-states, built-given, built-accepted, climbed-next, asked}
+use Rattle.ladder.proofs.rung.Statement.{statement}
+use Rattle.ladder.proofs.rung.Tie as tie
+
+-- from each place to the one before it
+abbrev start : tie.After-build → tie.Start
+start c =
+    let d = c .before .before .before .before .before .before .before .before .before .before .before in
+    d .before .before .before .before .before .before .before .before .before .before
+
+abbrev of-building : tie.After-offer → tie.After-build
+of-building c =
+    let d = c .before .before .before .before .before .before .before .before .before .before .before .before .before in
+    d .before .before .before .before .before .before .before .before .before
+
+abbrev of-offer : tie.After-values → tie.After-offer
+of-offer c = c .before .before .before .before .before .before .before .before .before .before .before
+
+abbrev of-line : tie.After-print-level → tie.After-served2
+of-line c = c .before .before .before .before .before .before .before
+
+served-requires : tie.Need-served-requires
+served-requires c κs =
+    let b = c .before .before .before .before .before .before .before in
+    let s = start b in
+    built-given (s .pre .1) (s .pre .0) (b .build .ensures .1 .1 (s .args .choices .now))
+
+add-offer : tie.Need-add-offer
+add-offer c =
+    let b = c .before .before .before .before .before .before .before .before .before .before .before .before .before .before .before .before in
+    omega (arith, few-states (start b .pre .1))
+
+served-requires-2 : tie.Need-served-requires-2
+served-requires-2 c κs =
+    let o = of-offer c in
+    let b = of-building o in
+    let s = start b in
+    o .offer .ensures .0 ∙ built-accepted (s .pre .1) (s .pre .0) (b .build .ensures .1 .1 (s .args .choices .now))
+
+-- what is left in the slices
+abbrev certifier : tie.After-offer → Lent
+certifier c =
+    let l = c .offer .last .1 .1 .1 .1 in
+    lent (l .0) (cells (l .1 .0) (l .1 .1 .0) (l .1 .1 .1 .0) (l .1 .1 .1 .1 .0) (l .1 .1 .1 .1 .1 .0) (l .1 .1 .1 .1 .1 .1 .0))
+
+abbrev built : tie.After-build → Cells
+built c =
+    let l = c .build .last .1 .1 .1 .1 .1 .1 .1 .1 .1 .1 .1 .1 in
+    cells (l .0) (l .1 .0) (l .1 .1 .0) (l .1 .1 .1 .0) (start c .args .given .now) (l .1 .1 .1 .1 .0)
+
+-- one level higher
+climbed : (c : tie.After-served2) → let o = of-offer (c .before) in let a = start (of-building o) .args in
+    Climbed (a .t + 1) (tablesIn (a .c) (a .transition .now) (a .observation .now) (a .reward .now)) (certifier o) (built (of-building o))
+climbed c =
+    let o = of-offer (c .before) in
+    let b = of-building o in
+    let s = start b in
+    climbed-next (s .pre .1) (s .pre .0) (b .build .ensures .1 .1 (s .args .choices .now)) refl (o .offer .ensures .1)
+
+add-print-level : tie.Need-add-print-level
+add-print-level c = omega (arith, start (of-building (of-offer (c .before))) .pre .0)
+
+print-level-requires : tie.Need-print-level-requires
+print-level-requires c κs = asked (climbed (c .before .before .before .before .before .before)) (omega arith) refl
+
+pub rung-spec : {M : Type 1} → statement M
+rung-spec =
+    tie.close (tie.spec (λ c κs. search needs) served-requires add-offer (λ c κs. search needs) served-requires-2 add-print-level print-level-requires
+    (λ c. of-offer (of-line c .before) .offer .kept .1 .1 .1 .1 .0) (λ c. of-offer (of-line c .before) .offer .kept .1 .1 .1 .1 .1 .0)
+    (λ c. of-offer (of-line c .before) .offer .kept .1 .1 .1 .1 .1 .1 .0) (λ c. of-offer (of-line c .before) .offer .kept .1 .1 .1 .1 .1 .1 .1 .0)
+    (λ c. of-offer (of-line c .before) .offer .kept .1 .1 .1 .1 .1 .1 .1 .1 .0) (λ c. of-offer (of-line c .before) .offer .kept .1 .1 .1 .1 .1 .1 .1 .1 .1 .0)
+    (λ c. of-offer (of-line c .before) .offer .kept .1 .1 .1 .1 .1 .1 .1 .1 .1 .1 .0)
+    (λ c. of-building (of-offer (of-line c .before)) .build .kept .1 .1 .1 .1 .1 .1 .1 .1 .1 .1 .1 .1 .0)
+    (λ c. of-building (of-offer (of-line c .before)) .build .kept .1 .1 .1 .1 .1 .1 .1 .1 .1 .1 .1 .1 .1 .0)
+    (λ c. of-building (of-offer (of-line c .before)) .build .kept .1 .1 .1 .1 .1 .1 .1 .1 .1 .1 .1 .1 .1 .1 .0)
+    (λ c. of-building (of-offer (of-line c .before)) .build .kept .1 .1 .1 .1 .1 .1 .1 .1 .1 .1 .1 .1 .1 .1 .1 .0)
+    (λ c. of-building (of-offer (of-line c .before)) .build .kept .1 .1 .1 .1 .1 .1 .1 .1 .1 .1 .1 .1 .1 .1 .1 .1 .0) (λ c. climbed (of-line c)))
