@@ -10,25 +10,17 @@
 
 #include "biidhaqun.h"
 
-/* A file may have 32,768 bytes; one more shows that it is too long. */
-enum { BYTES = 32768 };
-
-static uint8_t file[BYTES + 1];
-static int64_t tables[BIIDHAQUN_TABLES];
-static int64_t start[BIIDHAQUN_MIXTURE];
-static int64_t certifier[BIIDHAQUN_CERTIFIER];
-static int64_t level[BIIDHAQUN_LEVEL];
-static int64_t points[1 + BIIDHAQUN_MIXTURE];
-
-/* The number of words in a buffer. */
-#define WORDS(buffer) (sizeof(buffer) / sizeof((buffer)[0]))
+/* One byte more than a file may have shows that it is too long. */
+static uint8_t file[BIIDHAQUN_FILE_BYTES + 1];
+static struct biidhaqun_tables_room tables_room;
+static struct biidhaqun_level_room standing_room, built_room;
 
 /* Says what was refused; whether anything was. */
 static int refused(uint64_t number, size_t place)
 {
-    if (number != 0)
+    if (number != BIIDHAQUN_SERVED)
         printf("refused %" PRIu64 " at %zu\n", number, place);
-    return number != 0;
+    return number != BIIDHAQUN_SERVED;
 }
 
 int main(void)
@@ -38,29 +30,37 @@ int main(void)
         fputs("ladder: standard input cannot be read\n", stderr);
         return 2;
     }
-    struct biidhaqun_refusal x = biidhaqun_read(file, length, tables, WORDS(tables), start, WORDS(start));
+    struct biidhaqun_tables tables;
+    struct biidhaqun_certifier certifier;
+    struct biidhaqun_level level;
+    biidhaqun_tables_in(&tables, &tables_room);
+    biidhaqun_certifier_in(&certifier, &standing_room);
+    biidhaqun_level_in(&level, &built_room);
+
+    uint16_t start[BIIDHAQUN_STATES];
+    struct biidhaqun_refusal x = biidhaqun_read_file(file, length, &tables, start, BIIDHAQUN_STATES);
     if (refused(x.number, x.place))
         return 1;
-    x = biidhaqun_open(tables, WORDS(tables), certifier, WORDS(certifier));
+    x = biidhaqun_open_on(&tables, &certifier);
     if (refused(x.number, x.place))
         return 1;
 
-    /* One point to build upon: the start numbers, one for each state. */
-    points[0] = 1;
-    for (int64_t s = 0; s < tables[0]; s++)
-        points[1 + s] = start[s];
+    /* One point to build at, and the mixture to ask at: the start numbers. */
+    uint32_t point[BIIDHAQUN_STATES];
+    for (size_t s = 0; s < tables.states; s++)
+        point[s] = start[s];
 
     for (int step = 0; step < 3; step++) {
-        x = biidhaqun_build(certifier, WORDS(certifier), points, WORDS(points), level, WORDS(level));
+        x = biidhaqun_build_level(&tables, &certifier, 1, point, tables.states, &level);
         if (refused(x.number, x.place))
             return 1;
-        x = biidhaqun_offer(certifier, WORDS(certifier), level, WORDS(level));
+        x = biidhaqun_offer_level(&tables, &certifier, &level);
         if (refused(x.number, x.place))
             return 1;
-        struct biidhaqun_totals at = biidhaqun_totals(certifier, WORDS(certifier), start, WORDS(start));
+        struct biidhaqun_bounds at = biidhaqun_totals_at(&tables, &certifier, point, tables.states);
         if (refused(at.number, at.place))
             return 1;
-        printf("%" PRId64 " %" PRId64 " %" PRId64 " %" PRId64 " %zu\n", certifier[0], at.lower, at.upper, at.gap,
+        printf("%zu %" PRId64 " %" PRId64 " %" PRId64 " %zu\n", certifier.state[0], at.lower, at.upper, at.gap,
                at.action);
     }
     if (fflush(stdout) != 0) {

@@ -6,62 +6,67 @@
  * level exactly where every backup inequality holds. From then on its totals at a mixture of the states bracket what the
  * best of all plans earns that have as many steps as levels were accepted.
  *
- * Objects are slices of 64-bit words: a pointer, and a length in words. n stands for the states, m for the actions, k for
- * the observations of the model; the last index is the fastest.
+ *     cc -std=c99 -Iinclude program.c target/staticlib/libbiidhaqun.a -o program
  *
- *   tables      n, m, k, discount,
- *               T (m x n x n) by action, state left, state reached; O (m x n x k) by action, state reached, observation;
- *               R (m x n) by action, state.
- *               T, O and the discount are in thousandths; each row of T and of O totals 1,000. R is in ticks (hundredths
- *               of a reward unit), within -100,000 and 100,000.
- *   level       vectors (1 to 32), points (0 to 32),
- *               actions (vectors), choices (vectors x k), entries (vectors x n), corners (n),
- *               weights (points x n), values (points).
- *               A choice is the number of a vector of the level below. Entries and corners are in ticks. A point's weights
- *               total 1 to 100, and its value is in ticks times that total. At level t entries and corners lie within
- *               100,000 x t of 0, a value within 100,000 x t times its point's total.
- *   certifier   the number of accepted levels, tables, the level that stands.
- *   points      count (0 to 16), weights (count x n); the weights of each total 1 to 100.
- *   mixture     n weights, 0 to 1,000,000 each, not all 0.
- *   graph       nodes (1 to 32), actions (nodes), next nodes (nodes x k).
+ * examples/ladder.c is a whole program. The library is for x86-64. It keeps nothing between calls, allocates nothing, and
+ * may be called from any thread, as long as no two calls at once are lent the same memory and one of them writes it.
  *
- * What is proved: each call, by itself, answers and leaves in every buffer what the definitions of crates/exports/specs say,
- * whatever it is handed. That the totals bracket every plan and that a built level is accepted is proved of the certifier
- * behind these calls, for every list of offers; that the words which one call writes are those that the next one reads is
- * tested, not proved.
+ * What is proved: whatever it is lent, a call ends without fault, answers, and leaves in every slice what the definitions of
+ * crates/exports/specs say. Where a certifier was opened by biidhaqun_open and its slices were written by biidhaqun_offer
+ * alone, whatever was offered, its totals bracket every plan and a level that is built is accepted. The inline functions at
+ * the end, and what this file says, are not proved.
  *
- * A slice may be longer than its object; what lies behind is not read. The answer of a call is written at the front of the
- * buffer lent for it, and what lies behind it stays as it was.
+ * SLICES. What a call is lent are slices: a pointer, and a length in elements. They are packed by the model's counts (n
+ * states, m actions, k observations), the last index fastest, and may be longer: what lies behind is neither read nor
+ * written. A pointer is aligned as its type asks for, and may be anything if its length is 0. A slice that is lent to be
+ * written must not overlap another of the same call.
  *
- * Whatever the words are, a call ends without fault: it is served, or it is refused and every buffer stays as it was. A
- * word that is outside of an unsigned number's type counts as that type's largest value. An object whose counts are
- * outside their limits, or that has too few words for its counts, is refused (tables by 3, a certifier by 7, a level or
- * points by 9, a mixture by 17, a graph by 18). A pointer may be anything if its length is 0. Buffers that are lent to be
- * written must not overlap others of the same call.
+ *   tables       transition   m x n x n   by action, state left, state reached      thousandths; a row totals 1,000
+ *                observation  m x n x k   by action, state reached, observation     thousandths; a row totals 1,000
+ *                reward       m x n       by action, state                          ticks, within -100,000 and 100,000
+ *                discount                                                           thousandths
+ *   certifier    state        3           levels accepted; vectors and points of the last of them
+ *                and the slices of that level
+ *   level t      actions      vectors     the action that a plan of the vector opens with
+ *                choices      vectors x k the vector of level t - 1 to go on with after an observation
+ *                entries      vectors x n ticks, within 100,000 x t of 0
+ *                corners      n           ticks, within 100,000 x t of 0
+ *                weights      points x n  the weights of a point total 1 to 100
+ *                values       points      ticks times the total of the point's weights, within 100,000 x t times that total
+ *   mixture      weights      n           0 to 1,000,000 each, not all 0
+ *   plan graph   actions      nodes       next         nodes x k   the node to go on with after an observation
+ *   start        numbers      n           hundredths; they total 100
  *
- * A refusal has a number and a place. The place is that of the offending vector, corner, point or node, or 0; in a file it is
- * the number of bytes before the offending word, or the file's length.
+ * A tick is a hundredth of a unit of reward. Totals are in ticks times the mixture's total weight: over 100 times that
+ * weight they are units of reward.
  *
- *    0  served
- *    1  the file has more than 32,768 bytes
- *    2  a word of the file does not fit its form, or is missing
- *    3  a count, index, start number, probability, discount or reward is outside its limit
- *    4  the start numbers do not total 1
- *    5  a row of T does not total 1 (on tables, the place is action x n + state left)
- *    6  a row of O does not total 1 (on tables, the place is action x n + state reached)
- *    7  the certifier's tables or standing level break a limit, or its number is above 100
- *    8  100 levels already stand
- *    9  a level has no vector, over 32 vectors or over 32 points, or the builder is given over 16 points
- *   10  an action or a chosen vector does not exist
- *   11  an entry, corner or point value is outside its level's range; points that get 12 are passed over
- *   12  a point's weights total less than 1 or more than 100
- *   13  a vector's entry is above its backup
- *   14  a corner is below its backup
- *   15  a point is below its backup
- *   16  there are no totals at level 0
- *   17  a mixture's weight is above 1,000,000, or all are 0
- *   18  a plan graph's node count, action or next node, or the node, state or steps asked for are outside their limits
- *  100  the buffer lent for the answer is too short; the place is the length that it needs
+ * REFUSALS. A call is served, or it is refused by a number with a place: then nothing that was lent has changed, and every
+ * other field of the answer is 0. One number is tested throughout before the next, in the order given for each call; the
+ * place is the first that offends. A slice that is too short for its counts is refused where the number stands that is given
+ * here; a slice to be written is asked for room before anything is written.
+ *
+ *    number                           place
+ *    1  BIIDHAQUN_FILE_LENGTH         0
+ *    2  BIIDHAQUN_FORM                the bytes before the word; the file's length where a word is missing
+ *    3  BIIDHAQUN_LIMIT               in a file the bytes before the word; on tables 0; also: a slice of the tables is short
+ *    4  BIIDHAQUN_START_TOTAL         the file's length
+ *    5  BIIDHAQUN_TRANSITION_TOTAL    in a file its length; on tables action x n + state left
+ *    6  BIIDHAQUN_OBSERVATION_TOTAL   in a file its length; on tables action x n + state reached
+ *    7  BIIDHAQUN_CERTIFIER           0; a slice is too short for the tables, or for the level that stands (its choices, which
+ *                                     no call reads, are not asked for)
+ *    8  BIIDHAQUN_LEVELS              0
+ *    9  BIIDHAQUN_LEVEL_SIZE          0; a slice is too short for the level offered or to be built, for the points, for
+ *                                     level 0 in biidhaqun_open, or for answers
+ *   10  BIIDHAQUN_NUMBERS             the vector
+ *   11  BIIDHAQUN_RANGE               the first vector; else the first corner; else the first point, those that get 12 aside
+ *   12  BIIDHAQUN_POINT_TOTAL         the point
+ *   13  BIIDHAQUN_VECTOR_BACKUP       the vector
+ *   14  BIIDHAQUN_CORNER_BACKUP       the corner
+ *   15  BIIDHAQUN_POINT_BACKUP        the point
+ *   16  BIIDHAQUN_NO_LEVEL            0
+ *   17  BIIDHAQUN_MIXTURE             0; the mixture has fewer weights than there are states, or several have too few
+ *   18  BIIDHAQUN_GRAPH               the node; 0 for the node count, a short slice, or the node, state or steps asked for
+ *  100  BIIDHAQUN_ROOM                the length that the first short slice of biidhaqun_read needs
  */
 #ifndef BIIDHAQUN_H
 #define BIIDHAQUN_H
@@ -73,24 +78,102 @@
 extern "C" {
 #endif
 
-/* The longest objects, in words. */
+/*
+ * The version of the layout: of the calls' names, parameters and answers. It changes when they do; a program that was
+ * compiled with another one must be compiled anew. It is this file's: the library has no word of its own for it.
+ */
+#define BIIDHAQUN_VERSION 2
+
+static inline int biidhaqun_version(void)
+{
+    return BIIDHAQUN_VERSION;
+}
+
+/* Limits. */
 enum {
-    BIIDHAQUN_TABLES = 4 + 8 * 16 * 16 + 8 * 16 * 8 + 8 * 16,
-    BIIDHAQUN_LEVEL = 2 + 32 + 32 * 8 + 32 * 16 + 16 + 32 * 16 + 32,
-    BIIDHAQUN_CERTIFIER = 1 + BIIDHAQUN_TABLES + BIIDHAQUN_LEVEL,
-    BIIDHAQUN_POINTS = 1 + 16 * 16,
-    BIIDHAQUN_MIXTURE = 16,
-    BIIDHAQUN_GRAPH = 1 + 32 + 32 * 8
+    BIIDHAQUN_STATES = 16,
+    BIIDHAQUN_ACTIONS = 8,
+    BIIDHAQUN_OBSERVATIONS = 8,
+    BIIDHAQUN_VECTORS = 32,      /* of a level */
+    BIIDHAQUN_POINTS = 32,       /* of a level */
+    BIIDHAQUN_BUILT_POINTS = 16, /* to build at */
+    BIIDHAQUN_NODES = 32,
+    BIIDHAQUN_STEPS = 4,
+    BIIDHAQUN_ACCEPTED = 100,    /* levels */
+    BIIDHAQUN_FILE_BYTES = 32768
 };
 
-/* A refusal's number, or 0; and its place. */
+/* Refusals. */
+enum {
+    BIIDHAQUN_SERVED = 0,
+    BIIDHAQUN_FILE_LENGTH = 1,
+    BIIDHAQUN_FORM = 2,
+    BIIDHAQUN_LIMIT = 3,
+    BIIDHAQUN_START_TOTAL = 4,
+    BIIDHAQUN_TRANSITION_TOTAL = 5,
+    BIIDHAQUN_OBSERVATION_TOTAL = 6,
+    BIIDHAQUN_CERTIFIER = 7,
+    BIIDHAQUN_LEVELS = 8,
+    BIIDHAQUN_LEVEL_SIZE = 9,
+    BIIDHAQUN_NUMBERS = 10,
+    BIIDHAQUN_RANGE = 11,
+    BIIDHAQUN_POINT_TOTAL = 12,
+    BIIDHAQUN_VECTOR_BACKUP = 13,
+    BIIDHAQUN_CORNER_BACKUP = 14,
+    BIIDHAQUN_POINT_BACKUP = 15,
+    BIIDHAQUN_NO_LEVEL = 16,
+    BIIDHAQUN_MIXTURE = 17,
+    BIIDHAQUN_GRAPH = 18,
+    BIIDHAQUN_ROOM = 100
+};
+
+/* A refusal in words. */
+static inline const char *biidhaqun_words(uint64_t number)
+{
+    switch (number) {
+    case BIIDHAQUN_SERVED: return "served";
+    case BIIDHAQUN_FILE_LENGTH: return "the file has more than 32,768 bytes";
+    case BIIDHAQUN_FORM: return "a word of the file does not fit its form, or is missing";
+    case BIIDHAQUN_LIMIT: return "a count, index, start number, probability, discount or reward is outside its limit";
+    case BIIDHAQUN_START_TOTAL: return "the start numbers do not total 1";
+    case BIIDHAQUN_TRANSITION_TOTAL: return "a row of T does not total 1";
+    case BIIDHAQUN_OBSERVATION_TOTAL: return "a row of O does not total 1";
+    case BIIDHAQUN_CERTIFIER: return "the certifier's tables or standing level break a limit, or over 100 levels stand";
+    case BIIDHAQUN_LEVELS: return "100 levels already stand";
+    case BIIDHAQUN_LEVEL_SIZE: return "a level has no vector, over 32 vectors or over 32 points, the builder is given over "
+                                      "16 points, or a slice is too short";
+    case BIIDHAQUN_NUMBERS: return "an action or a chosen vector does not exist";
+    case BIIDHAQUN_RANGE: return "an entry, corner or point value is outside its level's range";
+    case BIIDHAQUN_POINT_TOTAL: return "a point's weights total less than 1 or more than 100";
+    case BIIDHAQUN_VECTOR_BACKUP: return "a vector's entry is above its backup";
+    case BIIDHAQUN_CORNER_BACKUP: return "a corner is below its backup";
+    case BIIDHAQUN_POINT_BACKUP: return "a point is below its backup";
+    case BIIDHAQUN_NO_LEVEL: return "there are no totals at level 0";
+    case BIIDHAQUN_MIXTURE: return "a mixture's weight is missing or above 1,000,000, or all are 0";
+    case BIIDHAQUN_GRAPH: return "a plan graph, or the node, state or steps asked for, are outside their limits";
+    case BIIDHAQUN_ROOM: return "a slice that the file is read into is too short";
+    default: return "no such refusal is known";
+    }
+}
+
+/* How a call ended. */
 struct biidhaqun_refusal {
-    uint64_t number;
+    uint64_t number; /* 0, or the refusal's */
     size_t place;
 };
 
-/* What is certified at a mixture; all 0 if it is refused. */
-struct biidhaqun_totals {
+/* How reading ended, and what the file says beside its tables. */
+struct biidhaqun_reading {
+    uint64_t number;
+    size_t place;
+    size_t states;
+    size_t actions;
+    size_t observations;
+    uint64_t discount;
+};
+
+/* What is certified at a mixture, in ticks times its total weight. */
+struct biidhaqun_bounds {
     uint64_t number;
     size_t place;
     int64_t lower; /* the largest product of a vector with the mixture */
@@ -99,49 +182,327 @@ struct biidhaqun_totals {
     size_t action; /* the action of the first such vector: some plan that opens with it earns the lower total */
 };
 
-/* What a plan graph's node is worth, in ticks; 0 if it is refused. */
-struct biidhaqun_worth {
+/* What a plan graph's node is worth. */
+struct biidhaqun_value {
     uint64_t number;
     size_t place;
     int64_t ticks;
 };
 
-/*
- * Reads a model file: its tables, and its start numbers in hundredths (n words). Refused by 1 to 6 or 100; room is asked
- * for the tables first.
- */
-struct biidhaqun_refusal biidhaqun_read(const uint8_t *file, size_t file_length, int64_t *tables, size_t tables_length,
-                                        int64_t *start, size_t start_length);
-
-/* Opens a certifier on tables: level 0 stands, one zero vector, zero corners and no points. Refused by 3, 5, 6 or 100. */
-struct biidhaqun_refusal biidhaqun_open(const int64_t *tables, size_t tables_length, int64_t *certifier,
-                                        size_t certifier_length);
+/* ---- the calls, slice by slice; below are shorter ones */
 
 /*
- * Offers a level. Accepted, it stands in the certifier, and the certifier's number is one more. Refused by 7 to 15, or by
- * 100 where the certifier's buffer has no room for the level.
+ * Reads a model file. Tests: 1, 2 and 3 word by word, 4, 5, 6, 100. Room is asked for transition, observation, reward and
+ * start, in this order.
  */
-struct biidhaqun_refusal biidhaqun_offer(int64_t *certifier, size_t certifier_length, const int64_t *level,
-                                         size_t level_length);
-
-/* The totals at a mixture. Refused by 7, 16 or 17. */
-struct biidhaqun_totals biidhaqun_totals(const int64_t *certifier, size_t certifier_length, const int64_t *mixture,
-                                         size_t mixture_length);
+struct biidhaqun_reading biidhaqun_read(
+    const uint8_t *file, size_t file_length, uint16_t *transition, size_t transition_length,
+    uint16_t *observation, size_t observation_length, int64_t *reward, size_t reward_length,
+    uint16_t *start, size_t start_length);
 
 /*
- * Builds a level upon the one that stands, with a vector at each corner and then at each point; it would be accepted. If
- * the t levels so far were all built, each entry is less than t ticks below what the plan earns that its vector names.
- * Refused by 7, 8, 9, 12 or 100.
+ * Opens a certifier: level 0 stands, one vector of zeros with action and choices 0, zero corners and no points. Of weights
+ * and values only the length is looked at. Tests: 3, 5, 6, 9.
  */
-struct biidhaqun_refusal biidhaqun_build(const int64_t *certifier, size_t certifier_length, const int64_t *points,
-                                         size_t points_length, int64_t *level, size_t level_length);
+struct biidhaqun_refusal biidhaqun_open(
+    size_t states, size_t actions, size_t observations, uint64_t discount,
+    const uint16_t *transition, size_t transition_length, const uint16_t *observation, size_t observation_length,
+    const int64_t *reward, size_t reward_length, size_t *state, size_t state_length,
+    uint8_t *standing_actions, size_t standing_actions_length, uint16_t *choices, size_t choices_length,
+    int64_t *entries, size_t entries_length, int64_t *corners, size_t corners_length,
+    const uint32_t *weights, size_t weights_length, const int64_t *values, size_t values_length);
 
 /*
- * What a plan graph's node is worth at a state with some steps left (0 to 4), rounded down at each step. Refused by 3, 5,
- * 6 or 18.
+ * Offers a level: accepted, it is copied into the certifier's slices, and the first number of the state is one more. Tests:
+ * 7 to 15. A level with slices that are too short therefore gets 8 where 100 levels stand, and 9 before anything in it is
+ * looked at.
  */
-struct biidhaqun_worth biidhaqun_worth(const int64_t *tables, size_t tables_length, const int64_t *graph,
-                                       size_t graph_length, size_t node, size_t state, size_t steps);
+struct biidhaqun_refusal biidhaqun_offer(
+    size_t states, size_t actions, size_t observations, uint64_t discount,
+    const uint16_t *transition, size_t transition_length, const uint16_t *observation, size_t observation_length,
+    const int64_t *reward, size_t reward_length, size_t *state, size_t state_length,
+    uint8_t *standing_actions, size_t standing_actions_length, uint16_t *choices, size_t choices_length,
+    int64_t *entries, size_t entries_length, int64_t *corners, size_t corners_length,
+    uint32_t *weights, size_t weights_length, int64_t *values, size_t values_length, size_t vectors, size_t points,
+    const uint8_t *new_actions, size_t new_actions_length, const uint16_t *new_choices, size_t new_choices_length,
+    const int64_t *new_entries, size_t new_entries_length, const int64_t *new_corners, size_t new_corners_length,
+    const uint32_t *new_weights, size_t new_weights_length, const int64_t *new_values, size_t new_values_length);
+
+/* The totals at a mixture. Tests: 7, 16, 17: a short mixture gets 16 at level 0. */
+struct biidhaqun_bounds biidhaqun_totals(
+    size_t states, size_t actions, size_t observations, uint64_t discount,
+    const uint16_t *transition, size_t transition_length, const uint16_t *observation, size_t observation_length,
+    const int64_t *reward, size_t reward_length, const size_t *state, size_t state_length,
+    const uint8_t *standing_actions, size_t standing_actions_length, const int64_t *entries, size_t entries_length,
+    const int64_t *corners, size_t corners_length, const uint32_t *weights, size_t weights_length,
+    const int64_t *values, size_t values_length, const uint32_t *mixture, size_t mixture_length);
+
+/*
+ * The totals at `count` mixtures, whose weights lie one after the other; the certifier is judged once. Each answer is the one
+ * that biidhaqun_totals gives, at its mixture's number: 0 or 17, lower, upper, action (0 where it is refused). Tests for the
+ * whole call: 7, 16, 17 where there are fewer than count x n weights, 9 where a slice for answers is shorter than count.
+ */
+struct biidhaqun_refusal biidhaqun_each(
+    size_t states, size_t actions, size_t observations, uint64_t discount,
+    const uint16_t *transition, size_t transition_length, const uint16_t *observation, size_t observation_length,
+    const int64_t *reward, size_t reward_length, const size_t *state, size_t state_length,
+    const uint8_t *standing_actions, size_t standing_actions_length, const int64_t *entries, size_t entries_length,
+    const int64_t *corners, size_t corners_length, const uint32_t *weights, size_t weights_length,
+    const int64_t *values, size_t values_length, const uint32_t *mixtures, size_t mixtures_length,
+    size_t count, uint8_t *numbers, size_t numbers_length, int64_t *lower, size_t lower_length,
+    int64_t *upper, size_t upper_length, uint8_t *action, size_t action_length);
+
+/*
+ * Builds a level upon the one that stands, with a vector at each corner and then at each of `count` points; it would be
+ * accepted. It has n + count vectors and count points, and its weights are the points: they are not written anew. If the t
+ * levels so far were all built, each entry is less than t ticks below what the plan earns that its vector names. Tests: 7,
+ * 8, 9, 12.
+ */
+struct biidhaqun_refusal biidhaqun_build(
+    size_t states, size_t actions, size_t observations, uint64_t discount,
+    const uint16_t *transition, size_t transition_length, const uint16_t *observation, size_t observation_length,
+    const int64_t *reward, size_t reward_length, const size_t *state, size_t state_length,
+    const uint8_t *standing_actions, size_t standing_actions_length, const int64_t *entries, size_t entries_length,
+    const int64_t *corners, size_t corners_length, const uint32_t *weights, size_t weights_length,
+    const int64_t *values, size_t values_length, size_t count, const uint32_t *points, size_t points_length,
+    uint8_t *new_actions, size_t new_actions_length, uint16_t *new_choices, size_t new_choices_length,
+    int64_t *new_entries, size_t new_entries_length, int64_t *new_corners, size_t new_corners_length,
+    int64_t *new_values, size_t new_values_length);
+
+/*
+ * What a plan graph's node is worth at a state with some steps left (0 to 4), in ticks, rounded down at each step. Tests: 3,
+ * 5, 6, 18.
+ */
+struct biidhaqun_value biidhaqun_worth(
+    size_t states, size_t actions, size_t observations, uint64_t discount,
+    const uint16_t *transition, size_t transition_length, const uint16_t *observation, size_t observation_length,
+    const int64_t *reward, size_t reward_length, size_t nodes, const uint8_t *node_actions, size_t node_actions_length,
+    const uint16_t *next, size_t next_length, size_t node, size_t state, size_t steps);
+
+/*
+ * The stack that a thread needs: 36 kilobytes for reading a file; every other call does with 16, the least that a thread has
+ * on Linux.
+ */
+
+/* ---- the same over structs of pointers */
+
+/* Tables. */
+struct biidhaqun_tables {
+    size_t states;
+    size_t actions;
+    size_t observations;
+    uint64_t discount;
+    uint16_t *transition;
+    size_t transition_length;
+    uint16_t *observation;
+    size_t observation_length;
+    int64_t *reward;
+    size_t reward_length;
+};
+
+/* What a certifier keeps between calls. state[0] is the number of levels accepted. */
+struct biidhaqun_certifier {
+    size_t state[3];
+    uint8_t *actions;
+    size_t actions_length;
+    uint16_t *choices;
+    size_t choices_length;
+    int64_t *entries;
+    size_t entries_length;
+    int64_t *corners;
+    size_t corners_length;
+    uint32_t *weights;
+    size_t weights_length;
+    int64_t *values;
+    size_t values_length;
+};
+
+/* A level to be offered, or to be built. No call writes its weights. */
+struct biidhaqun_level {
+    size_t vectors;
+    size_t points;
+    uint8_t *actions;
+    size_t actions_length;
+    uint16_t *choices;
+    size_t choices_length;
+    int64_t *entries;
+    size_t entries_length;
+    int64_t *corners;
+    size_t corners_length;
+    const uint32_t *weights;
+    size_t weights_length;
+    int64_t *values;
+    size_t values_length;
+};
+
+/* A plan graph. */
+struct biidhaqun_graph {
+    size_t nodes;
+    const uint8_t *actions;
+    size_t actions_length;
+    const uint16_t *next;
+    size_t next_length;
+};
+
+/* Room for the tables of any model, 7 KB. */
+struct biidhaqun_tables_room {
+    uint16_t transition[BIIDHAQUN_ACTIONS * BIIDHAQUN_STATES * BIIDHAQUN_STATES];
+    uint16_t observation[BIIDHAQUN_ACTIONS * BIIDHAQUN_STATES * BIIDHAQUN_OBSERVATIONS];
+    int64_t reward[BIIDHAQUN_ACTIONS * BIIDHAQUN_STATES];
+};
+
+/* Room for any level, 7 KB: a certifier's, one that is offered, or one that is built. */
+struct biidhaqun_level_room {
+    uint8_t actions[BIIDHAQUN_VECTORS];
+    uint16_t choices[BIIDHAQUN_VECTORS * BIIDHAQUN_OBSERVATIONS];
+    int64_t entries[BIIDHAQUN_VECTORS * BIIDHAQUN_STATES];
+    int64_t corners[BIIDHAQUN_STATES];
+    uint32_t weights[BIIDHAQUN_POINTS * BIIDHAQUN_STATES];
+    int64_t values[BIIDHAQUN_POINTS];
+};
+
+#define BIIDHAQUN_LEND(object, room, slice) \
+    ((object)->slice = (room)->slice, (object)->slice##_length = sizeof(room)->slice / sizeof(room)->slice[0])
+
+/* Tables that lie in a room; their counts are still to be said, or read from a file. */
+static inline void biidhaqun_tables_in(struct biidhaqun_tables *tables, struct biidhaqun_tables_room *room)
+{
+    tables->states = tables->actions = tables->observations = 0;
+    tables->discount = 0;
+    BIIDHAQUN_LEND(tables, room, transition);
+    BIIDHAQUN_LEND(tables, room, observation);
+    BIIDHAQUN_LEND(tables, room, reward);
+}
+
+/* A certifier whose level lies in a room; it is still to be opened. */
+static inline void biidhaqun_certifier_in(struct biidhaqun_certifier *certifier, struct biidhaqun_level_room *room)
+{
+    certifier->state[0] = certifier->state[1] = certifier->state[2] = 0;
+    BIIDHAQUN_LEND(certifier, room, actions);
+    BIIDHAQUN_LEND(certifier, room, choices);
+    BIIDHAQUN_LEND(certifier, room, entries);
+    BIIDHAQUN_LEND(certifier, room, corners);
+    BIIDHAQUN_LEND(certifier, room, weights);
+    BIIDHAQUN_LEND(certifier, room, values);
+}
+
+/* A level that lies in a room; its counts are still to be said, or it is to be built. */
+static inline void biidhaqun_level_in(struct biidhaqun_level *level, struct biidhaqun_level_room *room)
+{
+    level->vectors = level->points = 0;
+    BIIDHAQUN_LEND(level, room, actions);
+    BIIDHAQUN_LEND(level, room, choices);
+    BIIDHAQUN_LEND(level, room, entries);
+    BIIDHAQUN_LEND(level, room, corners);
+    BIIDHAQUN_LEND(level, room, weights);
+    BIIDHAQUN_LEND(level, room, values);
+}
+
+#undef BIIDHAQUN_LEND
+
+/* biidhaqun_read, which also sets the counts and the discount of the tables if it is served. */
+static inline struct biidhaqun_refusal biidhaqun_read_file(const uint8_t *file, size_t file_length,
+                                                           struct biidhaqun_tables *tables, uint16_t *start,
+                                                           size_t start_length)
+{
+    struct biidhaqun_reading x = biidhaqun_read(
+        file, file_length, tables->transition, tables->transition_length, tables->observation,
+        tables->observation_length, tables->reward, tables->reward_length, start, start_length);
+    struct biidhaqun_refusal refusal;
+    if (x.number == BIIDHAQUN_SERVED) {
+        tables->states = x.states;
+        tables->actions = x.actions;
+        tables->observations = x.observations;
+        tables->discount = x.discount;
+    }
+    refusal.number = x.number;
+    refusal.place = x.place;
+    return refusal;
+}
+
+/* biidhaqun_open */
+static inline struct biidhaqun_refusal biidhaqun_open_on(const struct biidhaqun_tables *t, struct biidhaqun_certifier *c)
+{
+    return biidhaqun_open(
+        t->states, t->actions, t->observations, t->discount, t->transition, t->transition_length, t->observation,
+        t->observation_length, t->reward, t->reward_length, c->state, 3, c->actions, c->actions_length, c->choices,
+        c->choices_length, c->entries, c->entries_length, c->corners, c->corners_length, c->weights, c->weights_length,
+        c->values, c->values_length);
+}
+
+/* biidhaqun_offer */
+static inline struct biidhaqun_refusal biidhaqun_offer_level(const struct biidhaqun_tables *t,
+                                                             struct biidhaqun_certifier *c,
+                                                             const struct biidhaqun_level *l)
+{
+    return biidhaqun_offer(
+        t->states, t->actions, t->observations, t->discount, t->transition, t->transition_length, t->observation,
+        t->observation_length, t->reward, t->reward_length, c->state, 3, c->actions, c->actions_length, c->choices,
+        c->choices_length, c->entries, c->entries_length, c->corners, c->corners_length, c->weights, c->weights_length,
+        c->values, c->values_length, l->vectors, l->points, l->actions, l->actions_length, l->choices, l->choices_length,
+        l->entries, l->entries_length, l->corners, l->corners_length, l->weights, l->weights_length, l->values,
+        l->values_length);
+}
+
+/* biidhaqun_totals */
+static inline struct biidhaqun_bounds biidhaqun_totals_at(const struct biidhaqun_tables *t,
+                                                          const struct biidhaqun_certifier *c, const uint32_t *mixture,
+                                                          size_t mixture_length)
+{
+    return biidhaqun_totals(
+        t->states, t->actions, t->observations, t->discount, t->transition, t->transition_length, t->observation,
+        t->observation_length, t->reward, t->reward_length, c->state, 3, c->actions, c->actions_length, c->entries,
+        c->entries_length, c->corners, c->corners_length, c->weights, c->weights_length, c->values, c->values_length,
+        mixture, mixture_length);
+}
+
+/* biidhaqun_each, with answers in slices of `count` */
+static inline struct biidhaqun_refusal biidhaqun_totals_at_each(const struct biidhaqun_tables *t,
+                                                                const struct biidhaqun_certifier *c,
+                                                                const uint32_t *mixtures, size_t mixtures_length,
+                                                                size_t count, uint8_t *numbers, int64_t *lower,
+                                                                int64_t *upper, uint8_t *action)
+{
+    return biidhaqun_each(
+        t->states, t->actions, t->observations, t->discount, t->transition, t->transition_length, t->observation,
+        t->observation_length, t->reward, t->reward_length, c->state, 3, c->actions, c->actions_length, c->entries,
+        c->entries_length, c->corners, c->corners_length, c->weights, c->weights_length, c->values, c->values_length,
+        mixtures, mixtures_length, count, numbers, count, lower, count, upper, count, action, count);
+}
+
+/*
+ * biidhaqun_build, which also sets the counts of the level if it is served. Its weights are then the points themselves, which
+ * must outlive it.
+ */
+static inline struct biidhaqun_refusal biidhaqun_build_level(const struct biidhaqun_tables *t,
+                                                             const struct biidhaqun_certifier *c, size_t count,
+                                                             const uint32_t *points, size_t points_length,
+                                                             struct biidhaqun_level *l)
+{
+    struct biidhaqun_refusal x = biidhaqun_build(
+        t->states, t->actions, t->observations, t->discount, t->transition, t->transition_length, t->observation,
+        t->observation_length, t->reward, t->reward_length, c->state, 3, c->actions, c->actions_length, c->entries,
+        c->entries_length, c->corners, c->corners_length, c->weights, c->weights_length, c->values, c->values_length, count,
+        points, points_length, l->actions, l->actions_length, l->choices, l->choices_length, l->entries,
+        l->entries_length, l->corners, l->corners_length, l->values, l->values_length);
+    if (x.number == BIIDHAQUN_SERVED) {
+        l->vectors = t->states + count;
+        l->points = count;
+        l->weights = points;
+        l->weights_length = points_length;
+    }
+    return x;
+}
+
+/* biidhaqun_worth */
+static inline struct biidhaqun_value biidhaqun_worth_of(const struct biidhaqun_tables *t, const struct biidhaqun_graph *g,
+                                                        size_t node, size_t state, size_t steps)
+{
+    return biidhaqun_worth(
+        t->states, t->actions, t->observations, t->discount, t->transition, t->transition_length, t->observation,
+        t->observation_length, t->reward, t->reward_length, g->nodes, g->actions, g->actions_length, g->next,
+        g->next_length, node, state, steps);
+}
 
 #ifdef __cplusplus
 }

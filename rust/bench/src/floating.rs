@@ -2,7 +2,7 @@
 //!
 //! Tables are trusted once they are open, rows total 1 up to a tolerance, and nothing is rounded.
 
-use crate::limits::Graph;
+use biidhaqun::slices::Graph;
 
 /// How far a row may be from 1, or an inequality from holding, in units of the numbers compared.
 const TOLERANCE: f64 = 1e-6;
@@ -320,7 +320,11 @@ pub fn read(file: &[u8]) -> Option<(Tables, Vec<f64>)> {
 pub fn worth(tables: &Tables, graph: &Graph, node: usize, state: usize, steps: usize) -> f64 {
     let nodes = graph.actions.iter().zip(graph.next.chunks(tables.observations));
     let nodes: Vec<Vector> = nodes
-        .map(|(&action, next)| Vector { action, choices: next.to_vec(), entries: vec![0.0; tables.states] })
+        .map(|(&action, next)| Vector {
+            action: action.into(),
+            choices: next.iter().map(|&node| node.into()).collect(),
+            entries: vec![0.0; tables.states],
+        })
         .collect();
     let mut level = Level { vectors: nodes, ..Level::default() };
     for _ in 0..steps {

@@ -1,8 +1,10 @@
 //! Models, levels and files that leave a call as much work as there can be: no probability and no weight is 0, every level
 //! is accepted, and every point takes something off the corners.
 
-use crate::limits::{Graph, Tables, BUILT_POINTS, REWARD, THOUSAND, TOTAL};
-use crate::tuned::{self, Certifier, Level};
+use crate::limits::{BUILT_POINTS, REWARD, TOTAL};
+use crate::tuned::Tuned;
+use biidhaqun::slices::{Certifier, Graph, Level, Refusal, Tables};
+use compare::lent::Library;
 use compare::rng::Rng;
 
 /// The counts of a model.
@@ -14,10 +16,11 @@ pub struct Counts {
 }
 
 /// Weights with this total, none of them 0.
-pub fn shares(rng: &mut Rng, cells: usize, total: i64) -> Vec<i64> {
-    let mut row = vec![1; cells];
-    for _ in cells as i64..total {
-        row[rng.index(cells)] += 1;
+pub fn shares<Weight: Copy + From<u8> + std::ops::AddAssign>(rng: &mut Rng, cells: usize, total: usize) -> Vec<Weight> {
+    let one = Weight::from(1);
+    let mut row = vec![one; cells];
+    for _ in cells..total {
+        row[rng.index(cells)] += one;
     }
     row
 }
@@ -31,48 +34,76 @@ pub fn tables(rng: &mut Rng, counts: Counts) -> Tables {
         actions,
         observations,
         discount: 950,
-        transitions: (0..rows).flat_map(|_| shares(rng, states, THOUSAND)).collect(),
-        sights: (0..rows).flat_map(|_| shares(rng, observations, THOUSAND)).collect(),
-        rewards: (0..rows).map(|_| rng.within(-REWARD, REWARD)).collect(),
+        transition: (0..rows).flat_map(|_| shares(rng, states, 1_000)).collect(),
+        observation: (0..rows).flat_map(|_| shares(rng, observations, 1_000)).collect(),
+        reward: (0..rows).map(|_| rng.within(-REWARD, REWARD)).collect(),
     }
 }
 
 /// A plan graph with so many nodes.
 pub fn graph(rng: &mut Rng, counts: Counts, nodes: usize) -> Graph {
     Graph {
-        actions: (0..nodes).map(|_| rng.index(counts.actions)).collect(),
-        next: (0..nodes * counts.observations).map(|_| rng.index(nodes)).collect(),
+        nodes,
+        actions: (0..nodes).map(|_| rng.index(counts.actions) as u8).collect(),
+        next: (0..nodes * counts.observations).map(|_| rng.index(nodes) as u16).collect(),
     }
 }
 
 /// The weights of so many points.
-pub fn points(rng: &mut Rng, states: usize, count: usize) -> Vec<Vec<i64>> {
-    (0..count).map(|_| shares(rng, states, TOTAL)).collect()
+pub fn points(rng: &mut Rng, states: usize, count: usize) -> Vec<u32> {
+    (0..count).flat_map(|_| shares::<u32>(rng, states, TOTAL as usize)).collect()
 }
 
-/// A level that is accepted, with so many vectors and these points: built, in parts where there are more points than the
-/// builder takes.
-pub fn level(certifier: &Certifier, points: &[Vec<i64>], vectors: usize) -> Level {
-    let build = |part: &[Vec<i64>]| tuned::build(certifier, part).expect("points within the limits");
-    let k = certifier.tables.observations;
-    let n = certifier.tables.states;
-    let mut level = build(&points[..points.len().min(BUILT_POINTS)]);
-    for part in points.chunks(BUILT_POINTS).skip(1) {
-        let more = build(part);
-        // The first vectors are those of the corners, once more.
-        level.actions.extend_from_slice(&more.actions[n..]);
-        level.choices.extend_from_slice(&more.choices[n * k..]);
-        level.entries.extend_from_slice(&more.entries[n * n..]);
-        level.weights.extend_from_slice(&more.weights);
-        level.values.extend_from_slice(&more.values);
+/// A model and a certifier.
+#[derive(Clone)]
+pub struct Standing {
+    pub tables: Tables,
+    pub certifier: Certifier,
+}
+
+impl Standing {
+    /// A certifier that opens on tables.
+    pub fn fresh(tables: Tables) -> Standing {
+        let mut certifier = Certifier::roomy(tables.states, tables.observations);
+        assert_eq!(Tuned.open(&tables, &mut certifier), Refusal::default(), "tables within the limits");
+        Standing { tables, certifier }
     }
-    let made = level.actions.len();
-    let order: Vec<usize> = (0..vectors).map(|v| v % made).collect();
-    Level {
-        actions: order.iter().map(|&v| level.actions[v]).collect(),
-        choices: order.iter().flat_map(|&v| level.choices[v * k..(v + 1) * k].to_vec()).collect(),
-        entries: order.iter().flat_map(|&v| level.entries[v * n..(v + 1) * n].to_vec()).collect(),
-        ..level
+
+    /// The level that is built at some points.
+    pub fn built(&self, points: &[u32]) -> Level {
+        let (n, k) = (self.tables.states, self.tables.observations);
+        let count = points.len() / n;
+        let mut level = Level::zeros(n, k, n + count, count);
+        let ended = Tuned.build(&self.tables, &self.certifier, count, points, &mut level);
+        assert_eq!(ended, Refusal::default(), "points within the limits");
+        Level { vectors: n + count, points: count, weights: points.to_vec(), ..level }
+    }
+
+    /// A level that is accepted, with so many vectors and these points: built, in parts where there are more points than the
+    /// builder takes.
+    fn level(&self, points: &[u32], vectors: usize) -> Level {
+        let (n, k) = (self.tables.states, self.tables.observations);
+        let mut parts = points.chunks(BUILT_POINTS * n);
+        let mut level = self.built(parts.next().unwrap_or(&[]));
+        for part in parts {
+            let more = self.built(part);
+            // The first vectors are those of the corners, once more.
+            level.actions.extend_from_slice(&more.actions[n..]);
+            level.choices.extend_from_slice(&more.choices[n * k..]);
+            level.entries.extend_from_slice(&more.entries[n * n..]);
+            level.weights.extend_from_slice(&more.weights);
+            level.values.extend_from_slice(&more.values);
+        }
+        let made = level.actions.len();
+        let order: Vec<usize> = (0..vectors).map(|v| v % made).collect();
+        Level {
+            vectors,
+            points: level.values.len(),
+            actions: order.iter().map(|&v| level.actions[v]).collect(),
+            choices: order.iter().flat_map(|&v| level.choices[v * k..(v + 1) * k].to_vec()).collect(),
+            entries: order.iter().flat_map(|&v| level.entries[v * n..(v + 1) * n].to_vec()).collect(),
+            ..level
+        }
     }
 }
 
@@ -92,48 +123,49 @@ fn stairs(level: Level) -> Level {
 }
 
 /// A certifier after three levels with so many vectors and points, and a level to offer it that is accepted.
-pub fn offer(rng: &mut Rng, counts: Counts, vectors: usize, count: usize, steep: bool) -> (Certifier, Level) {
-    let mut certifier = tuned::open(&tables(rng, counts)).expect("tables within the limits");
+pub fn offer(rng: &mut Rng, counts: Counts, vectors: usize, count: usize, steep: bool) -> (Standing, Level) {
+    let mut standing = Standing::fresh(tables(rng, counts));
     for step in 1..=3 {
-        let mut next = level(&certifier, &points(rng, counts.states, count), vectors);
+        let mut next = standing.level(&points(rng, counts.states, count), vectors);
         if steep && step == 3 {
             next = stairs(next);
         }
-        tuned::offer(&mut certifier, &next).expect("a built level is accepted");
+        let ended = Tuned.offer(&standing.tables, &mut standing.certifier, &next);
+        assert_eq!(ended, Refusal::default(), "a built level is accepted");
     }
-    let offered = level(&certifier, &points(rng, counts.states, count), vectors);
-    (certifier, offered)
+    let offered = standing.level(&points(rng, counts.states, count), vectors);
+    (standing, offered)
 }
 
 /// A model file for tables and a start point, filled up with statements to nearly the longest there may be.
-pub fn file(tables: &Tables, start: &[i64], longest: usize) -> String {
-    let share = |cell: &i64| format!("{}.{:03}", cell / THOUSAND, cell % THOUSAND);
-    let row = |cells: &[i64]| cells.iter().map(share).collect::<Vec<String>>().join(" ");
+pub fn file(tables: &Tables, start: &[u16], longest: usize) -> String {
+    let share = |cell: u64| format!("{}.{:03}", cell / 1_000, cell % 1_000);
+    let row = |cells: &[u16]| cells.iter().map(|&cell| share(cell.into())).collect::<Vec<String>>().join(" ");
     let n = tables.states;
     let mut text = format!(
         "discount: {}\nvalues: reward\nstates: {}\nactions: {}\nobservations: {}\nstart:",
-        share(&tables.discount),
+        share(tables.discount),
         n,
         tables.actions,
         tables.observations
     );
     for number in start {
-        text.push_str(&format!(" {}.{:02}", number / TOTAL, number % TOTAL));
+        text.push_str(&format!(" {}.{:02}", number / 100, number % 100));
     }
     text.push('\n');
-    for (at, cells) in tables.transitions.chunks(n).enumerate() {
+    for (at, cells) in tables.transition.chunks(n).enumerate() {
         text.push_str(&format!("T: {} : {} {}\n", at / n, at % n, row(cells)));
     }
-    for (at, cells) in tables.sights.chunks(tables.observations).enumerate() {
+    for (at, cells) in tables.observation.chunks(tables.observations).enumerate() {
         text.push_str(&format!("O: {} : {} {}\n", at / n, at % n, row(cells)));
     }
-    for (at, reward) in tables.rewards.iter().enumerate() {
+    for (at, reward) in tables.reward.iter().enumerate() {
         let sign = if *reward < 0 { "-" } else { "" };
         let (units, hundredths) = (reward.abs() / 100, reward.abs() % 100);
         text.push_str(&format!("R: {} : {} : * : * {}{}.{:02}\n", at / n, at % n, sign, units, hundredths));
     }
-    for (at, cell) in tables.transitions.iter().enumerate() {
-        let line = format!("T: {} : {} : {} {}\n", at / n / n, at / n % n, at % n, share(cell));
+    for (at, &cell) in tables.transition.iter().enumerate() {
+        let line = format!("T: {} : {} : {} {}\n", at / n / n, at / n % n, at % n, share(cell.into()));
         if text.len() + line.len() > longest {
             break;
         }
@@ -152,14 +184,15 @@ mod tests {
     fn the_largest_level_is_accepted_and_all_its_points_matter() {
         let counts = Counts { states: 16, actions: 8, observations: 8 };
         for steep in [false, true] {
-            let (mut certifier, offered) = offer(&mut Rng::for_case(1, "bench", 0), counts, VECTORS, POINTS, steep);
+            let (mut standing, offered) = offer(&mut Rng::for_case(1, "bench", 0), counts, VECTORS, POINTS, steep);
             assert_eq!((offered.actions.len(), offered.values.len()), (VECTORS, POINTS));
-            let standing = &certifier.level;
-            for (weights, value) in standing.weights.chunks(16).zip(&standing.values) {
-                let corners: i64 = weights.iter().zip(&standing.corners).map(|(p, c)| p * c).sum();
+            let Certifier { weights, values, corners, .. } = &standing.certifier;
+            for (weights, value) in weights.chunks(16).zip(values) {
+                let corners: i64 = weights.iter().zip(corners).map(|(&p, c)| i64::from(p) * c).sum();
                 assert!(corners > *value);
             }
-            assert_eq!(tuned::offer(&mut certifier, &offered), Ok(()));
+            let ended = Tuned.offer(&standing.tables, &mut standing.certifier, &offered);
+            assert_eq!(ended, Refusal::default());
         }
     }
 
@@ -167,10 +200,12 @@ mod tests {
     fn a_large_file_reads_back() {
         let mut rng = Rng::for_case(1, "bench", 1);
         let tables = tables(&mut rng, Counts { states: 16, actions: 8, observations: 8 });
-        let start = shares(&mut rng, 16, TOTAL);
+        let start: Vec<u16> = shares(&mut rng, 16, 100);
         let text = file(&tables, &start, FILE_BYTES);
         assert!(text.len() > FILE_BYTES - 100 && text.len() <= FILE_BYTES);
-        assert_eq!(plain_file::read(text.as_bytes()), Ok((tables.clone(), start.clone())));
-        assert_eq!(tuned_file::read(text.as_bytes()), Ok((tables, start)));
+        for read in [plain_file::read(text.as_bytes()), tuned_file::read(text.as_bytes())] {
+            let read = read.unwrap();
+            assert_eq!((&read.tables, &read.start), (&tables, &start));
+        }
     }
 }

@@ -1,85 +1,230 @@
-//! What all forms share: document 01's limits, refusals, and what a call answers in whole numbers.
+//! What all forms in whole numbers share: document 01's limits, lent slices cut to their counts, and how a call ends.
 
-/// A refusal: its number and its place.
-#[derive(Clone, Copy, Debug, PartialEq, Eq)]
-pub struct Refused {
-    pub number: u8,
-    pub place: usize,
-}
+use biidhaqun::slices::{Answers, Certifier, Graph, Level, Reading, Refusal, Tables, Totals};
+pub use biidhaqun::slices::{
+    ACTIONS, BUILT_POINTS, FILE_BYTES, LEVELS, NODES, OBSERVATIONS, POINTS, STATES, STEPS, VECTORS,
+};
 
-impl Refused {
-    pub fn at(number: u8, place: usize) -> Refused {
-        Refused { number, place }
-    }
-}
-
-/// Totals at a mixture.
-#[derive(Clone, Copy, Debug, PartialEq, Eq)]
-pub struct Totals {
-    pub lower: i64,
-    pub upper: i64,
-    pub gap: i64,
-    pub action: usize,
-}
-
-/// Tables of any content, packed: T by action, state left, state reached; O by action, state reached, observation; R by
-/// action, state.
-#[derive(Clone, Debug, Default, PartialEq, Eq)]
-pub struct Tables {
-    pub states: usize,
-    pub actions: usize,
-    pub observations: usize,
-    pub discount: i64,
-    pub transitions: Vec<i64>,
-    pub sights: Vec<i64>,
-    pub rewards: Vec<i64>,
-}
-
-impl Tables {
-    /// Whether the counts are within their limits and each table has as many cells as they say.
-    pub fn counts_fit(&self) -> bool {
-        let (n, m, k) = (self.states, self.actions, self.observations);
-        (1..=STATES).contains(&n)
-            && (1..=ACTIONS).contains(&m)
-            && (1..=OBSERVATIONS).contains(&k)
-            && self.transitions.len() == m * n * n
-            && self.sights.len() == m * n * k
-            && self.rewards.len() == m * n
-    }
-}
-
-/// A plan graph, packed: each node's action, and its next nodes by node and observation.
-#[derive(Clone, Debug)]
-pub struct Graph {
-    pub actions: Vec<usize>,
-    pub next: Vec<usize>,
-}
-
-impl Graph {
-    /// Whether the node count, the actions and the next nodes are within their limits.
-    pub fn fits(&self, tables: &Tables) -> bool {
-        let nodes = self.actions.len();
-        (1..=NODES).contains(&nodes)
-            && self.next.len() == nodes * tables.observations
-            && self.actions.iter().all(|&action| action < tables.actions)
-            && self.next.iter().all(|&node| node < nodes)
-    }
-}
-
-pub const STATES: usize = 16;
-pub const ACTIONS: usize = 8;
-pub const OBSERVATIONS: usize = 8;
-pub const VECTORS: usize = 32;
-pub const POINTS: usize = 32;
-pub const BUILT_POINTS: usize = 16;
-pub const LEVELS: usize = 100;
-pub const NODES: usize = 32;
-pub const STEPS: usize = 4;
 pub const THOUSAND: i64 = 1_000;
 pub const REWARD: i64 = 100_000;
 /// What start numbers total, and a point's weights at most.
 pub const TOTAL: i64 = 100;
-pub const WEIGHT: i64 = 1_000_000;
-pub const FILE_BYTES: usize = 32_768;
+pub const WEIGHT: u32 = 1_000_000;
 /// Products of two thousandths and a discount are counted in this.
 pub const K: i64 = 1_000_000_000;
+
+/// What a call answers, or its refusal.
+pub type Answer<Value> = Result<Value, Refusal>;
+
+pub fn refused<Value>(number: u64, place: usize) -> Answer<Value> {
+    Err(Refusal { number, place })
+}
+
+/// A refusal at the offender, if there is one.
+pub fn refuse(number: u64, offender: Option<usize>) -> Answer<()> {
+    offender.map_or(Ok(()), |place| refused(number, place))
+}
+
+pub fn ended(answer: Answer<()>) -> Refusal {
+    answer.err().unwrap_or_default()
+}
+
+/// Tables cut to their counts.
+#[derive(Clone, Copy)]
+pub struct Model<'a> {
+    pub n: usize,
+    pub m: usize,
+    pub k: usize,
+    pub g: i64,
+    pub t: &'a [u16],
+    pub o: &'a [u16],
+    pub r: &'a [i64],
+}
+
+impl<'a> Model<'a> {
+    /// If the counts are within their limits, the discount too, and no slice is too short.
+    pub fn of(tables: &'a Tables) -> Option<Model<'a>> {
+        let Tables { states: n, actions: m, observations: k, discount, .. } = *tables;
+        if !tables.counts_fit() || discount > THOUSAND as u64 {
+            return None;
+        }
+        let (t, o) = (tables.transition.get(..m * n * n)?, tables.observation.get(..m * n * k)?);
+        Some(Model { n, m, k, g: discount as i64, t, o, r: tables.reward.get(..m * n)? })
+    }
+}
+
+/// A level cut to its counts.
+#[derive(Clone, Copy)]
+pub struct Cut<'a> {
+    pub actions: &'a [u8],
+    pub choices: &'a [u16],
+    pub entries: &'a [i64],
+    pub corners: &'a [i64],
+    pub weights: &'a [u32],
+    pub values: &'a [i64],
+}
+
+/// 9: whether the counts of a level are within their limits.
+fn counts_fit(vectors: usize, points: usize) -> bool {
+    (1..=VECTORS).contains(&vectors) && points <= POINTS
+}
+
+impl<'a> Cut<'a> {
+    /// An offered level, if its counts are within their limits and no slice is too short.
+    pub fn offered(level: &'a Level, n: usize, k: usize) -> Option<Cut<'a>> {
+        let Level { vectors, points, .. } = *level;
+        if !counts_fit(vectors, points) {
+            return None;
+        }
+        Some(Cut {
+            actions: level.actions.get(..vectors)?,
+            choices: level.choices.get(..vectors * k)?,
+            entries: level.entries.get(..vectors * n)?,
+            corners: level.corners.get(..n)?,
+            weights: level.weights.get(..points * n)?,
+            values: level.values.get(..points)?,
+        })
+    }
+
+    /// What stands, likewise, and its number. Its choices are read nowhere, and left out.
+    pub fn standing(certifier: &'a Certifier, n: usize) -> Option<(usize, Cut<'a>)> {
+        let (number, vectors, points) = match certifier.state[..] {
+            [number, vectors, points, ..] if number <= LEVELS && counts_fit(vectors, points) => {
+                (number, vectors, points)
+            }
+            _ => return None,
+        };
+        let level = Cut {
+            actions: certifier.actions.get(..vectors)?,
+            choices: &[],
+            entries: certifier.entries.get(..vectors * n)?,
+            corners: certifier.corners.get(..n)?,
+            weights: certifier.weights.get(..points * n)?,
+            values: certifier.values.get(..points)?,
+        };
+        Some((number, level))
+    }
+
+    /// Whether a certifier's slices have room for the level.
+    pub fn has_room_in(&self, certifier: &Certifier) -> bool {
+        certifier.state.len() >= 3
+            && certifier.actions.len() >= self.actions.len()
+            && certifier.choices.len() >= self.choices.len()
+            && certifier.entries.len() >= self.entries.len()
+            && certifier.corners.len() >= self.corners.len()
+            && certifier.weights.len() >= self.weights.len()
+            && certifier.values.len() >= self.values.len()
+    }
+
+    /// Lays the level over a certifier's slices.
+    pub fn stand(&self, number: usize, certifier: &mut Certifier) {
+        certifier.state[..3].copy_from_slice(&[number, self.actions.len(), self.values.len()]);
+        certifier.actions[..self.actions.len()].copy_from_slice(self.actions);
+        certifier.choices[..self.choices.len()].copy_from_slice(self.choices);
+        certifier.entries[..self.entries.len()].copy_from_slice(self.entries);
+        certifier.corners[..self.corners.len()].copy_from_slice(self.corners);
+        certifier.weights[..self.weights.len()].copy_from_slice(self.weights);
+        certifier.values[..self.values.len()].copy_from_slice(self.values);
+    }
+}
+
+/// Level 0 in a certifier's slices.
+pub fn open(model: Model, certifier: &mut Certifier) -> Answer<()> {
+    let zeros = [0; STATES];
+    let corners = &zeros[..model.n];
+    let choices = &[0; OBSERVATIONS][..model.k];
+    let fresh = Cut { actions: &[0], choices, entries: corners, corners, weights: &[], values: &[] };
+    if !fresh.has_room_in(certifier) {
+        return refused(9, 0);
+    }
+    fresh.stand(0, certifier);
+    Ok(())
+}
+
+/// A mixture's weights, if there are enough, none is above its limit and not all are 0; or 17.
+pub fn mixture(weights: &[u32], n: usize) -> Answer<&[u32]> {
+    match weights.get(..n) {
+        Some(mixture) if mixture.iter().all(|&weight| weight <= WEIGHT) && mixture.iter().any(|&weight| weight > 0) => {
+            Ok(mixture)
+        }
+        _ => refused(17, 0),
+    }
+}
+
+/// The answers at many mixtures.
+pub fn answer(
+    n: usize,
+    (count, mixtures): (usize, &[u32]),
+    answers: &mut Answers,
+    totals: impl Fn(&[u32]) -> Answer<Totals>,
+) -> Answer<()> {
+    let mixtures = match count.checked_mul(n).and_then(|needed| mixtures.get(..needed)) {
+        Some(mixtures) => mixtures,
+        None => return refused(17, 0),
+    };
+    let Answers { numbers, lower, upper, actions } = answers;
+    if [numbers.len(), lower.len(), upper.len(), actions.len()].iter().any(|&length| length < count) {
+        return refused(9, 0);
+    }
+    for (at, mixture) in mixtures.chunks_exact(n).enumerate() {
+        let totals = totals(mixture).unwrap_or_else(|Refusal { number, .. }| Totals { number, ..Totals::default() });
+        numbers[at] = totals.number as u8;
+        lower[at] = totals.lower;
+        upper[at] = totals.upper;
+        actions[at] = totals.action as u8;
+    }
+    Ok(())
+}
+
+/// Whether slices have room for a level built at so many points.
+pub fn has_room(level: &Level, n: usize, k: usize, count: usize) -> bool {
+    let vectors = n + count;
+    level.actions.len() >= vectors
+        && level.choices.len() >= vectors * k
+        && level.entries.len() >= vectors * n
+        && level.corners.len() >= n
+        && level.values.len() >= count
+}
+
+/// The actions and next nodes of a graph, cut to their counts; or 18.
+pub fn nodes<'a>(model: &Model, graph: &'a Graph) -> Answer<(&'a [u8], &'a [u16])> {
+    let nodes = graph.nodes;
+    let cut = || Some((graph.actions.get(..nodes)?, graph.next.get(..nodes * model.k)?));
+    let (actions, next) = match cut() {
+        Some(cut) if (1..=NODES).contains(&nodes) => cut,
+        _ => return refused(18, 0),
+    };
+    let missing = |(&action, next): (&u8, &[u16])| {
+        usize::from(action) >= model.m || next.iter().any(|&next| usize::from(next) >= nodes)
+    };
+    refuse(18, actions.iter().zip(next.chunks_exact(model.k)).position(missing))?;
+    Ok((actions, next))
+}
+
+/// A file that was read, before it is laid over what is lent.
+pub struct Read {
+    pub tables: Tables,
+    pub start: Vec<u16>,
+}
+
+/// Lays what was read over the slices lent for it, if they have room.
+pub fn laid(read: Answer<Read>, lent: &mut Tables, start: &mut [u16]) -> Reading {
+    let lay = |read: Read| {
+        let Tables { states, actions, observations, discount, transition, observation, reward } = read.tables;
+        let lengths = [
+            (lent.transition.len(), transition.len()),
+            (lent.observation.len(), observation.len()),
+            (lent.reward.len(), reward.len()),
+            (start.len(), states),
+        ];
+        if let Some((_, needed)) = lengths.iter().find(|(length, needed)| length < needed) {
+            return refused(100, *needed);
+        }
+        lent.transition[..transition.len()].copy_from_slice(&transition);
+        lent.observation[..observation.len()].copy_from_slice(&observation);
+        lent.reward[..reward.len()].copy_from_slice(&reward);
+        start[..states].copy_from_slice(&read.start);
+        Ok(Reading { states, actions, observations, discount, ..Reading::default() })
+    };
+    read.and_then(lay).unwrap_or_else(|Refusal { number, place }| Reading { number, place, ..Reading::default() })
+}

@@ -1,102 +1,77 @@
-//! The obvious form: document 01's equations as they stand, in i64, over vectors of rows.
+//! The obvious form: document 01's equations as they stand, in i64.
 //!
 //! Each sum is written where the document has it, a drop is divided state by state, and nothing is kept from one sum to the
 //! next.
 
 use crate::limits::*;
+use crate::plain_file;
+use biidhaqun::slices::{Answers, Certifier, Graph, Level, Reading, Refusal, Tables, Totals, Worth};
+use compare::gen::Question;
+use compare::lent::Library;
 
-/// An alpha vector.
-#[derive(Clone, Debug, PartialEq, Eq)]
-pub struct Vector {
-    pub action: usize,
-    pub choices: Vec<usize>,
-    pub entries: Vec<i64>,
-}
+pub struct Plain;
 
-/// A point.
-#[derive(Clone, Debug, PartialEq, Eq)]
-pub struct Point {
-    pub weights: Vec<i64>,
-    pub value: i64,
-}
-
-/// A level of any content.
-#[derive(Clone, Debug, Default, PartialEq, Eq)]
-pub struct Level {
-    pub vectors: Vec<Vector>,
-    pub corners: Vec<i64>,
-    pub points: Vec<Point>,
-}
-
-/// A certifier of any content.
-#[derive(Clone, Debug, PartialEq, Eq)]
-pub struct Certifier {
-    pub tables: Tables,
-    pub number: usize,
-    pub level: Level,
-}
-
-impl Tables {
+impl Model<'_> {
     fn t(&self, s: usize, a: usize, s2: usize) -> i64 {
-        self.transitions[(a * self.states + s) * self.states + s2]
+        i64::from(self.t[(a * self.n + s) * self.n + s2])
     }
 
     fn o(&self, a: usize, s2: usize, o: usize) -> i64 {
-        self.sights[(a * self.states + s2) * self.observations + o]
+        i64::from(self.o[(a * self.n + s2) * self.k + o])
     }
 
     fn r(&self, s: usize, a: usize) -> i64 {
-        self.rewards[a * self.states + s]
+        self.r[a * self.n + s]
     }
 
     /// q(s') is the sum over s of p(s) × T × O.
     fn successor(&self, p: &[i64], a: usize, o: usize) -> Vec<i64> {
-        let q = |s2| (0..self.states).map(|s| p[s] * self.t(s, a, s2) * self.o(a, s2, o)).sum();
-        (0..self.states).map(q).collect()
+        let q = |s2| (0..self.n).map(|s| p[s] * self.t(s, a, s2) * self.o(a, s2, o)).sum();
+        (0..self.n).map(q).collect()
     }
 
     /// K × R + g × the sum over s' and o of T × O × (the entry at s' of the vector chosen for o).
-    fn vector_backup(&self, level: &Level, s: usize, a: usize, choices: &[usize]) -> i64 {
+    fn vector_backup(&self, entries: &[i64], s: usize, a: usize, choices: &[u16]) -> i64 {
         let mut sum = 0;
-        for s2 in 0..self.states {
+        for s2 in 0..self.n {
             for (o, &choice) in choices.iter().enumerate() {
-                sum += self.t(s, a, s2) * self.o(a, s2, o) * level.vectors[choice].entries[s2];
+                sum += self.t(s, a, s2) * self.o(a, s2, o) * entries[usize::from(choice) * self.n + s2];
             }
         }
-        K * self.r(s, a) + self.discount * sum
+        K * self.r(s, a) + self.g * sum
     }
 
     /// K × p·R + g × the sum over o of the ceiling at q.
-    fn ceiling_backup(&self, level: &Level, p: &[i64], a: usize) -> i64 {
-        let earned: i64 = (0..self.states).map(|s| p[s] * self.r(s, a)).sum();
-        let ceilings: i64 = (0..self.observations).map(|o| level.ceiling(&self.successor(p, a, o))).sum();
-        K * earned + self.discount * ceilings
+    fn ceiling_backup(&self, level: &Cut, p: &[i64], a: usize) -> i64 {
+        let earned: i64 = (0..self.n).map(|s| p[s] * self.r(s, a)).sum();
+        let ceilings: i64 = (0..self.k).map(|o| ceiling(level, &self.successor(p, a, o))).sum();
+        K * earned + self.g * ceilings
     }
+}
 
-    /// 3, 5, 6.
-    fn judge(&self) -> Result<(), Refused> {
-        let thousandths = |cell: &i64| (0..=THOUSAND).contains(cell);
-        let within = self.counts_fit()
-            && thousandths(&self.discount)
-            && self.transitions.iter().all(thousandths)
-            && self.sights.iter().all(thousandths)
-            && self.rewards.iter().all(|cell| (-REWARD..=REWARD).contains(cell));
-        if !within {
-            return Err(Refused::at(3, 0));
-        }
-        for (number, cells, width) in [(5, &self.transitions, self.states), (6, &self.sights, self.observations)] {
-            for (row, cells) in cells.chunks(width).enumerate() {
-                if cells.iter().sum::<i64>() != THOUSAND {
-                    return Err(Refused::at(number, row));
-                }
-            }
-        }
-        Ok(())
+/// 3, 5, 6.
+fn judge(tables: &Tables) -> Answer<Model<'_>> {
+    let model = match Model::of(tables) {
+        Some(model) => model,
+        None => return refused(3, 0),
+    };
+    let thousandths = |&cell: &u16| i64::from(cell) <= THOUSAND;
+    let rewards = model.r.iter().all(|cell| (-REWARD..=REWARD).contains(cell));
+    if !(model.t.iter().all(thousandths) && model.o.iter().all(thousandths) && rewards) {
+        return refused(3, 0);
     }
+    let wrong = |row: &[u16]| row.iter().map(|&cell| i64::from(cell)).sum::<i64>() != THOUSAND;
+    refuse(5, model.t.chunks(model.n).position(wrong))?;
+    refuse(6, model.o.chunks(model.k).position(wrong))?;
+    Ok(model)
 }
 
 fn dot(left: &[i64], right: &[i64]) -> i64 {
     left.iter().zip(right).map(|(x, y)| x * y).sum()
+}
+
+fn whole(weights: &[u32]) -> Vec<i64> {
+    weights.iter().map(|&weight| i64::from(weight)).collect()
 }
 
 /// The first largest of a list that is not empty.
@@ -114,200 +89,239 @@ fn corner(n: usize, state: usize) -> Vec<i64> {
     (0..n).map(|s| i64::from(s == state)).collect()
 }
 
-/// What the weights of a point total, if that is 1 to 100 and none of them is below 0.
-fn total(weights: &[i64]) -> Option<i64> {
-    let within = weights.iter().all(|weight| (0..=TOTAL).contains(weight));
-    within.then(|| weights.iter().sum()).filter(|total| (1..=TOTAL).contains(total))
+/// What the weights of a point total, if that is 1 to 100.
+fn total(weights: &[u32]) -> Option<i64> {
+    let total = whole(weights).iter().sum();
+    (1..=TOTAL).contains(&total).then_some(total)
 }
 
-impl Level {
-    /// Level 0.
-    fn fresh(n: usize, k: usize) -> Level {
-        let vector = Vector { action: 0, choices: vec![0; k], entries: vec![0; n] };
-        Level { vectors: vec![vector], corners: vec![0; n], points: Vec::new() }
-    }
-
-    /// Corners·q less the largest drop, or less 0.
-    fn ceiling(&self, q: &[i64]) -> i64 {
-        let drop = |point: &Point| {
-            let gain = dot(&self.corners, &point.weights) - point.value;
-            if gain <= 0 {
-                return 0;
-            }
-            let weighted = q.iter().zip(&point.weights).filter(|(_, &p)| p > 0);
-            weighted.map(|(q, p)| q * gain / p).min().unwrap_or(0)
-        };
-        dot(&self.corners, q) - self.points.iter().map(drop).max().unwrap_or(0)
-    }
-
-    /// 9.
-    fn counts_fit(&self) -> bool {
-        (1..=VECTORS).contains(&self.vectors.len()) && self.points.len() <= POINTS
-    }
-
-    /// 11: the first vector, else corner, else point outside the range of level t. Points that get 12 are passed over.
-    fn first_outside(&self, t: usize) -> Option<usize> {
-        let end = REWARD * t as i64;
-        let outside = |value: &i64, end: i64| !(-end..=end).contains(value);
-        let vector = self.vectors.iter().position(|vector| vector.entries.iter().any(|entry| outside(entry, end)));
-        let corner = self.corners.iter().position(|corner| outside(corner, end));
-        let outlying = |point: &Point| total(&point.weights).map_or(false, |total| outside(&point.value, total * end));
-        let point = self.points.iter().position(outlying);
-        vector.or(corner).or(point)
-    }
-
-    /// 12.
-    fn first_untotalled(&self) -> Option<usize> {
-        self.points.iter().position(|point| total(&point.weights).is_none())
-    }
-}
-
-/// Opens a certifier on tables.
-pub fn open(tables: &Tables) -> Result<Certifier, Refused> {
-    tables.judge()?;
-    Ok(Certifier { tables: tables.clone(), number: 0, level: Level::fresh(tables.states, tables.observations) })
-}
-
-impl Certifier {
-    /// 7.
-    fn examine(&self) -> Result<(), Refused> {
-        let level = &self.level;
-        let holds = self.tables.judge().is_ok()
-            && self.number <= LEVELS
-            && level.counts_fit()
-            && level.vectors.iter().all(|vector| vector.action < self.tables.actions)
-            && level.first_outside(self.number).is_none()
-            && level.first_untotalled().is_none();
-        if holds {
-            Ok(())
-        } else {
-            Err(Refused::at(7, 0))
+/// Corners·q less the largest drop, or less 0.
+fn ceiling(level: &Cut, q: &[i64]) -> i64 {
+    let drop = |(p, value): (&[u32], &i64)| {
+        let p = whole(p);
+        let gain = dot(level.corners, &p) - value;
+        if gain <= 0 {
+            return 0;
         }
-    }
+        let weighted = q.iter().zip(&p).filter(|(_, &p)| p > 0);
+        weighted.map(|(q, p)| q * gain / p).min().unwrap_or(0)
+    };
+    let points = level.weights.chunks(q.len()).zip(level.values);
+    dot(level.corners, q) - points.map(drop).max().unwrap_or(0)
+}
 
-    /// Whether a value is at least every action's backup.
-    fn covers(&self, value: i64, p: &[i64]) -> bool {
-        (0..self.tables.actions).all(|a| K * value >= self.tables.ceiling_backup(&self.level, p, a))
+/// 11: the first vector, else corner, else point outside the range of level t. Points that get 12 are passed over.
+fn first_outside(level: &Cut, n: usize, t: usize) -> Option<usize> {
+    let end = REWARD * t as i64;
+    let outside = |value: &i64, end: i64| !(-end..=end).contains(value);
+    let vector = level.entries.chunks(n).position(|row| row.iter().any(|entry| outside(entry, end)));
+    let corner = level.corners.iter().position(|corner| outside(corner, end));
+    let outlying = |(p, value): (&[u32], &i64)| total(p).map_or(false, |total| outside(value, total * end));
+    let point = level.weights.chunks(n).zip(level.values).position(outlying);
+    vector.or(corner).or(point)
+}
+
+/// 12.
+fn first_untotalled(weights: &[u32], n: usize) -> Option<usize> {
+    weights.chunks(n).position(|p| total(p).is_none())
+}
+
+/// 7.
+fn examine<'a>(tables: &'a Tables, certifier: &'a Certifier) -> Answer<(Model<'a>, usize, Cut<'a>)> {
+    let seven = Refusal { number: 7, place: 0 };
+    let model = judge(tables).map_err(|_| seven)?;
+    let (number, level) = Cut::standing(certifier, model.n).ok_or(seven)?;
+    let holds = level.actions.iter().all(|&action| usize::from(action) < model.m)
+        && first_outside(&level, model.n, number).is_none()
+        && first_untotalled(level.weights, model.n).is_none();
+    if holds {
+        Ok((model, number, level))
+    } else {
+        Err(seven)
     }
 }
 
-fn refuse(number: u8, offender: Option<usize>) -> Result<(), Refused> {
-    match offender {
-        Some(place) => Err(Refused::at(number, place)),
-        None => Ok(()),
+fn offer(tables: &Tables, certifier: &mut Certifier, level: &Level) -> Answer<()> {
+    let (model, number, standing) = examine(tables, certifier)?;
+    let (n, k) = (model.n, model.k);
+    if number == LEVELS {
+        return refused(8, 0);
     }
-}
-
-/// Offers a level.
-pub fn offer(certifier: &mut Certifier, offered: &Level) -> Result<(), Refused> {
-    certifier.examine()?;
-    if certifier.number == LEVELS {
-        return Err(Refused::at(8, 0));
-    }
-    if !offered.counts_fit() {
-        return Err(Refused::at(9, 0));
-    }
-    let (tables, standing) = (&certifier.tables, &certifier.level);
-    let exists = |vector: &Vector| {
-        vector.action < tables.actions && vector.choices.iter().all(|&choice| choice < standing.vectors.len())
+    let offered = match Cut::offered(level, n, k) {
+        Some(offered) if offered.has_room_in(certifier) => offered,
+        _ => return refused(9, 0),
     };
-    refuse(10, offered.vectors.iter().position(|vector| !exists(vector)))?;
-    refuse(11, offered.first_outside(certifier.number + 1))?;
-    refuse(12, offered.first_untotalled())?;
-    let above = |vector: &Vector| {
-        (0..tables.states)
-            .any(|s| K * vector.entries[s] > tables.vector_backup(standing, s, vector.action, &vector.choices))
+    let vectors = || offered.actions.iter().zip(offered.choices.chunks(k)).zip(offered.entries.chunks(n));
+    let missing = |((&action, choices), _): ((&u8, &[u16]), &[i64])| {
+        usize::from(action) >= model.m || choices.iter().any(|&v| usize::from(v) >= standing.actions.len())
     };
-    refuse(13, offered.vectors.iter().position(above))?;
-    let below = |s: &usize| !certifier.covers(offered.corners[*s], &corner(tables.states, *s));
-    refuse(14, (0..tables.states).find(below))?;
-    let below = |point: &Point| !certifier.covers(point.value, &point.weights);
-    refuse(15, offered.points.iter().position(below))?;
-    certifier.level = offered.clone();
-    certifier.number += 1;
+    refuse(10, vectors().position(missing))?;
+    refuse(11, first_outside(&offered, n, number + 1))?;
+    refuse(12, first_untotalled(offered.weights, n))?;
+    let above = |((&action, choices), entries): ((&u8, &[u16]), &[i64])| {
+        let backup = |s| model.vector_backup(standing.entries, s, usize::from(action), choices);
+        (0..n).any(|s| K * entries[s] > backup(s))
+    };
+    refuse(13, vectors().position(above))?;
+    let covers = |value: i64, p: &[i64]| (0..model.m).all(|a| K * value >= model.ceiling_backup(&standing, p, a));
+    refuse(14, (0..n).find(|&s| !covers(offered.corners[s], &corner(n, s))))?;
+    let below = |(p, &value): (&[u32], &i64)| !covers(value, &whole(p));
+    refuse(15, offered.weights.chunks(n).zip(offered.values).position(below))?;
+    offered.stand(number + 1, certifier);
     Ok(())
 }
 
-/// The totals at a mixture.
-pub fn totals(certifier: &Certifier, mixture: &[i64]) -> Result<Totals, Refused> {
-    certifier.examine()?;
-    if certifier.number == 0 {
-        return Err(Refused::at(16, 0));
+/// 7, 16.
+fn standing<'a>(tables: &'a Tables, certifier: &'a Certifier) -> Answer<(Model<'a>, Cut<'a>)> {
+    match examine(tables, certifier)? {
+        (_, 0, _) => refused(16, 0),
+        (model, _, level) => Ok((model, level)),
     }
-    let fits = mixture.len() == certifier.tables.states
-        && mixture.iter().all(|weight| (0..=WEIGHT).contains(weight))
-        && mixture.iter().any(|&weight| weight > 0);
-    if !fits {
-        return Err(Refused::at(17, 0));
-    }
-    let level = &certifier.level;
-    let (first, lower) = first_largest(level.vectors.iter().map(|vector| dot(&vector.entries, mixture)));
-    let upper = level.ceiling(mixture);
-    Ok(Totals { lower, upper, gap: upper - lower, action: level.vectors[first].action })
+}
+
+fn totals_at(model: &Model, level: &Cut, weights: &[u32]) -> Answer<Totals> {
+    let b = whole(mixture(weights, model.n)?);
+    let (first, lower) = first_largest(level.entries.chunks(model.n).map(|entries| dot(entries, &b)));
+    let upper = ceiling(level, &b);
+    Ok(Totals { lower, upper, gap: upper - lower, action: level.actions[first].into(), ..Totals::default() })
+}
+
+fn totals(tables: &Tables, certifier: &Certifier, mixture: &[u32]) -> Answer<Totals> {
+    let (model, level) = standing(tables, certifier)?;
+    totals_at(&model, &level, mixture)
+}
+
+fn each(tables: &Tables, certifier: &Certifier, mixtures: (usize, &[u32]), answers: &mut Answers) -> Answer<()> {
+    let (model, level) = standing(tables, certifier)?;
+    answer(model.n, mixtures, answers, |mixture| totals_at(&model, &level, mixture))
+}
+
+/// An alpha vector on its own.
+struct Vector {
+    action: usize,
+    choices: Vec<u16>,
+    entries: Vec<i64>,
 }
 
 /// The vector of an action at weights p.
-fn action_vector(tables: &Tables, level: &Level, p: &[i64], a: usize) -> Vector {
+fn action_vector(model: &Model, level: &Cut, p: &[i64], a: usize) -> Vector {
     let choice = |o| {
-        let q = tables.successor(p, a, o);
-        first_largest(level.vectors.iter().map(|vector| dot(&vector.entries, &q))).0
+        let q = model.successor(p, a, o);
+        first_largest(level.entries.chunks(model.n).map(|entries| dot(entries, &q))).0 as u16
     };
-    let choices: Vec<usize> = (0..tables.observations).map(choice).collect();
-    let entry = |s| tables.vector_backup(level, s, a, &choices).div_euclid(K);
-    let entries = (0..tables.states).map(entry).collect();
+    let choices: Vec<u16> = (0..model.k).map(choice).collect();
+    let entry = |s| model.vector_backup(level.entries, s, a, &choices).div_euclid(K);
+    let entries = (0..model.n).map(entry).collect();
     Vector { action: a, choices, entries }
 }
 
 /// The first of the actions' vectors with the largest product with p.
-fn best_vector(tables: &Tables, level: &Level, p: &[i64]) -> Vector {
-    let mut vectors: Vec<Vector> = (0..tables.actions).map(|a| action_vector(tables, level, p, a)).collect();
+fn best_vector(model: &Model, level: &Cut, p: &[i64]) -> Vector {
+    let mut vectors: Vec<Vector> = (0..model.m).map(|a| action_vector(model, level, p, a)).collect();
     let (first, _) = first_largest(vectors.iter().map(|vector| dot(&vector.entries, p)));
     vectors.swap_remove(first)
 }
 
 /// The least value that covers every action's backup.
-fn least_value(tables: &Tables, level: &Level, p: &[i64]) -> i64 {
-    let least = |a| -(-tables.ceiling_backup(level, p, a)).div_euclid(K);
-    (0..tables.actions).map(least).max().unwrap_or(0)
+fn least_value(model: &Model, level: &Cut, p: &[i64]) -> i64 {
+    let least = |a| -(-model.ceiling_backup(level, p, a)).div_euclid(K);
+    (0..model.m).map(least).max().unwrap_or(0)
 }
 
-/// Builds a level at some points.
-pub fn build(certifier: &Certifier, points: &[Vec<i64>]) -> Result<Level, Refused> {
-    certifier.examine()?;
-    if certifier.number == LEVELS {
-        return Err(Refused::at(8, 0));
+fn build(tables: &Tables, certifier: &Certifier, (count, points): (usize, &[u32]), level: &mut Level) -> Answer<()> {
+    let (model, number, standing) = examine(tables, certifier)?;
+    let (n, k) = (model.n, model.k);
+    if number == LEVELS {
+        return refused(8, 0);
     }
-    if points.len() > BUILT_POINTS {
-        return Err(Refused::at(9, 0));
+    if count > BUILT_POINTS || points.len() < count * n || !has_room(level, n, k, count) {
+        return refused(9, 0);
     }
-    refuse(12, points.iter().position(|weights| total(weights).is_none()))?;
-    let (tables, standing) = (&certifier.tables, &certifier.level);
-    let corners: Vec<Vec<i64>> = (0..tables.states).map(|s| corner(tables.states, s)).collect();
-    let point = |p: &Vec<i64>| Point { weights: p.clone(), value: least_value(tables, standing, p) };
-    Ok(Level {
-        vectors: corners.iter().chain(points).map(|p| best_vector(tables, standing, p)).collect(),
-        corners: corners.iter().map(|p| least_value(tables, standing, p)).collect(),
-        points: points.iter().map(point).collect(),
-    })
+    let points = &points[..count * n];
+    refuse(12, first_untotalled(points, n))?;
+    let corners = (0..n).map(|s| corner(n, s));
+    for (v, p) in corners.chain(points.chunks(n).map(whole)).enumerate() {
+        let Vector { action, choices, entries } = best_vector(&model, &standing, &p);
+        level.actions[v] = action as u8;
+        level.choices[v * k..(v + 1) * k].copy_from_slice(&choices);
+        level.entries[v * n..(v + 1) * n].copy_from_slice(&entries);
+        let value = least_value(&model, &standing, &p);
+        if v < n {
+            level.corners[v] = value;
+        } else {
+            level.values[v - n] = value;
+        }
+    }
+    Ok(())
 }
 
-/// What a node is worth at a state with some steps left: the equation as it stands, for all nodes and states at each step.
-pub fn worth(tables: &Tables, graph: &Graph, node: usize, state: usize, steps: usize) -> Result<i64, Refused> {
-    tables.judge()?;
-    if !graph.fits(tables) || node >= graph.actions.len() || state >= tables.states || steps > STEPS {
-        return Err(Refused::at(18, 0));
+/// The equation as it stands, for all nodes and states at each step.
+fn worth(tables: &Tables, graph: &Graph, asked: Question) -> Answer<i64> {
+    let model = judge(tables)?;
+    let (actions, next) = nodes(&model, graph)?;
+    let n = model.n;
+    if asked.node >= actions.len() as u64 || asked.state >= n as u64 || asked.steps > STEPS as u64 {
+        return refused(18, 0);
     }
-    let nodes = graph.actions.iter().zip(graph.next.chunks(tables.observations));
-    let nodes: Vec<Vector> = nodes
-        .map(|(&action, next)| Vector { action, choices: next.to_vec(), entries: vec![0; tables.states] })
-        .collect();
-    let mut level = Level { vectors: nodes, ..Level::default() };
-    for _ in 0..steps {
-        let worths = |node: &Vector| {
-            let backup = |s| tables.vector_backup(&level, s, node.action, &node.choices).div_euclid(K);
-            Vector { entries: (0..tables.states).map(backup).collect(), ..node.clone() }
-        };
-        level = Level { vectors: level.vectors.iter().map(worths).collect(), ..Level::default() };
+    let mut worths = vec![0; actions.len() * n];
+    for _ in 0..asked.steps {
+        let mut more = Vec::new();
+        for (&action, next) in actions.iter().zip(next.chunks(model.k)) {
+            let backup = |s| model.vector_backup(&worths, s, usize::from(action), next).div_euclid(K);
+            more.extend((0..n).map(backup));
+        }
+        worths = more;
     }
-    Ok(level.vectors[node].entries[state])
+    Ok(worths[asked.node as usize * n + asked.state as usize])
+}
+
+impl Library for Plain {
+    fn read(&self, file: &[u8], tables: &mut Tables, start: &mut [u16]) -> Reading {
+        laid(plain_file::read(file), tables, start)
+    }
+
+    fn open(&self, tables: &Tables, certifier: &mut Certifier) -> Refusal {
+        ended(judge(tables).and_then(|model| open(model, certifier)))
+    }
+
+    fn offer(&self, tables: &Tables, certifier: &mut Certifier, level: &Level) -> Refusal {
+        ended(offer(tables, certifier, level))
+    }
+
+    fn totals(&self, tables: &Tables, certifier: &Certifier, mixture: &[u32]) -> Totals {
+        totals(tables, certifier, mixture).unwrap_or_else(|Refusal { number, place }| Totals {
+            number,
+            place,
+            ..Totals::default()
+        })
+    }
+
+    fn each(
+        &self,
+        tables: &Tables,
+        certifier: &Certifier,
+        mixtures: &[u32],
+        count: usize,
+        answers: &mut Answers,
+    ) -> Refusal {
+        ended(each(tables, certifier, (count, mixtures), answers))
+    }
+
+    fn build(
+        &self,
+        tables: &Tables,
+        certifier: &Certifier,
+        count: usize,
+        points: &[u32],
+        level: &mut Level,
+    ) -> Refusal {
+        ended(build(tables, certifier, (count, points), level))
+    }
+
+    fn worth(&self, tables: &Tables, graph: &Graph, asked: Question) -> Worth {
+        match worth(tables, graph, asked) {
+            Ok(ticks) => Worth { ticks, ..Worth::default() },
+            Err(Refusal { number, place }) => Worth { number, place, ticks: 0 },
+        }
+    }
 }

@@ -1,8 +1,7 @@
 //! Reading a model file the obvious way: all words first, then the grammar over them.
 
 use crate::limits::*;
-
-type Answer<Value> = Result<Value, Refused>;
+use biidhaqun::slices::{Refusal, Tables};
 
 /// The words of a file with the bytes before each.
 fn words(file: &[u8]) -> Vec<(usize, &[u8])> {
@@ -89,7 +88,7 @@ struct Reader<'a> {
 
 impl<'a> Reader<'a> {
     fn word(&mut self) -> Answer<(usize, &'a [u8])> {
-        let word = self.words.get(self.next).copied().ok_or(Refused::at(2, self.length))?;
+        let word = self.words.get(self.next).copied().ok_or(Refusal { number: 2, place: self.length })?;
         self.next += 1;
         Ok(word)
     }
@@ -99,7 +98,7 @@ impl<'a> Reader<'a> {
         if word == key.as_bytes() {
             Ok(())
         } else {
-            Err(Refused::at(2, place))
+            refused(2, place)
         }
     }
 
@@ -110,9 +109,9 @@ impl<'a> Reader<'a> {
     fn count(&mut self, most: usize) -> Answer<usize> {
         let (place, word) = self.word()?;
         match index(word) {
-            None => Err(Refused::at(2, place)),
+            None => refused(2, place),
             Some(count) if (1..=most as i64).contains(&count) => Ok(count as usize),
-            Some(_) => Err(Refused::at(3, place)),
+            Some(_) => refused(3, place),
         }
     }
 
@@ -123,9 +122,9 @@ impl<'a> Reader<'a> {
             return Ok(0..count);
         }
         match index(word) {
-            None => Err(Refused::at(2, place)),
+            None => refused(2, place),
             Some(index) if index < count as i64 => Ok(index as usize..index as usize + 1),
-            Some(_) => Err(Refused::at(3, place)),
+            Some(_) => refused(3, place),
         }
     }
 
@@ -133,9 +132,9 @@ impl<'a> Reader<'a> {
     fn share(&mut self, decimals: usize) -> Answer<i64> {
         let (place, word) = self.word()?;
         match amount(word, 1, decimals) {
-            None => Err(Refused::at(2, place)),
+            None => refused(2, place),
             Some(share) if share <= 10_i64.pow(decimals as u32) => Ok(share),
-            Some(_) => Err(Refused::at(3, place)),
+            Some(_) => refused(3, place),
         }
     }
 
@@ -146,9 +145,9 @@ impl<'a> Reader<'a> {
             None => (1, word),
         };
         match amount(digits, 4, 2) {
-            None => Err(Refused::at(2, place)),
+            None => refused(2, place),
             Some(reward) if reward <= REWARD => Ok(sign * reward),
-            Some(_) => Err(Refused::at(3, place)),
+            Some(_) => refused(3, place),
         }
     }
 
@@ -168,24 +167,29 @@ impl<'a> Reader<'a> {
         let (n, k) = (tables.states, tables.observations);
         let (place, kind) = self.word()?;
         if !matches!(kind, b"T" | b"O" | b"R") {
-            return Err(Refused::at(2, place));
+            return refused(2, place);
         }
         self.key(":")?;
         let actions = self.indices(tables.actions)?;
         self.key(":")?;
         let states = self.indices(n)?;
-        let (cells, width, row) = match kind {
-            b"T" => (&mut tables.transitions, n, self.shares(n)?),
-            b"O" => (&mut tables.sights, k, self.shares(k)?),
+        let (width, row) = match kind {
+            b"T" => (n, self.shares(n)?),
+            b"O" => (k, self.shares(k)?),
             _ => {
                 self.keys(&[":", "*", ":", "*"])?;
-                (&mut tables.rewards, 1, vec![(0, self.reward()?)])
+                (1, vec![(0, self.reward()?)])
             }
         };
         for a in actions {
             for s in states.clone() {
                 for &(index, number) in &row {
-                    cells[(a * n + s) * width + index] = number;
+                    let cell = (a * n + s) * width + index;
+                    match kind {
+                        b"T" => tables.transition[cell] = number as u16,
+                        b"O" => tables.observation[cell] = number as u16,
+                        _ => tables.reward[cell] = number,
+                    }
                 }
             }
         }
@@ -194,9 +198,9 @@ impl<'a> Reader<'a> {
 }
 
 /// Reads a model file: its tables and start numbers.
-pub fn read(file: &[u8]) -> Answer<(Tables, Vec<i64>)> {
+pub fn read(file: &[u8]) -> Answer<Read> {
     if file.len() > FILE_BYTES {
-        return Err(Refused::at(1, 0));
+        return refused(1, 0);
     }
     let mut reader = Reader { words: words(file), next: 0, length: file.len() };
     reader.keys(&["discount", ":"])?;
@@ -208,29 +212,30 @@ pub fn read(file: &[u8]) -> Answer<(Tables, Vec<i64>)> {
     reader.keys(&["observations", ":"])?;
     let observations = reader.count(OBSERVATIONS)?;
     reader.keys(&["start", ":"])?;
-    let start = (0..states).map(|_| reader.share(2)).collect::<Answer<Vec<i64>>>()?;
+    let start = (0..states).map(|_| reader.share(2).map(|share| share as u16)).collect::<Answer<Vec<u16>>>()?;
     let rows = actions * states;
     let mut tables = Tables {
         states,
         actions,
         observations,
-        discount,
-        transitions: vec![0; rows * states],
-        sights: vec![0; rows * observations],
-        rewards: vec![0; rows],
+        discount: discount as u64,
+        transition: vec![0; rows * states],
+        observation: vec![0; rows * observations],
+        reward: vec![0; rows],
     };
     while reader.next < reader.words.len() {
         reader.statement(&mut tables)?;
     }
-    let wrong = |cells: &[i64], width: usize| cells.chunks(width).any(|row| row.iter().sum::<i64>() != THOUSAND);
-    if start.iter().sum::<i64>() != TOTAL {
-        return Err(Refused::at(4, file.len()));
+    let total = |cells: &[u16]| cells.iter().map(|&cell| i64::from(cell)).sum::<i64>();
+    let wrong = |cells: &[u16], width: usize| cells.chunks(width).any(|row| total(row) != THOUSAND);
+    if total(&start) != TOTAL {
+        return refused(4, file.len());
     }
-    if wrong(&tables.transitions, states) {
-        return Err(Refused::at(5, file.len()));
+    if wrong(&tables.transition, states) {
+        return refused(5, file.len());
     }
-    if wrong(&tables.sights, observations) {
-        return Err(Refused::at(6, file.len()));
+    if wrong(&tables.observation, observations) {
+        return refused(6, file.len());
     }
-    Ok((tables, start))
+    Ok(Read { tables, start })
 }

@@ -1,135 +1,126 @@
-//! The same algorithm written as well as we can, in i64, over packed cells and without allocation in its loops.
+//! The same algorithm written as well as we can, in i64, without allocation.
 //!
 //! Sums are regrouped so that each partial sum is worked out once, a drop is found by cross-multiplication with one
 //! division, and a point is left at the first state that shows that it cannot beat the largest drop so far.
 
 use crate::limits::*;
+use crate::tuned_file;
+use biidhaqun::slices::{Answers, Certifier, Graph, Level, Reading, Refusal, Tables, Totals, Worth};
+use compare::gen::Question;
+use compare::lent::Library;
 
-/// A level of any content, packed: choices by vector and observation, entries by vector and state, weights by point and
-/// state.
-#[derive(Clone, Debug, Default, PartialEq, Eq)]
-pub struct Level {
-    pub actions: Vec<usize>,
-    pub choices: Vec<usize>,
-    pub entries: Vec<i64>,
-    pub corners: Vec<i64>,
-    pub weights: Vec<i64>,
-    pub values: Vec<i64>,
-}
-
-/// A certifier of any content.
-#[derive(Clone, Debug, PartialEq, Eq)]
-pub struct Certifier {
-    pub tables: Tables,
-    pub number: usize,
-    pub level: Level,
-}
+pub struct Tuned;
 
 /// Room for a number for each state.
 type States = [i64; STATES];
 /// Room for each point's gain.
 type Gains = [i64; POINTS];
+/// Room for the weights of all points.
+type Weights = [i64; POINTS * STATES];
 
 fn dot(left: &[i64], right: &[i64]) -> i64 {
     left.iter().zip(right).map(|(x, y)| x * y).sum()
 }
 
+/// The product of thousandths with numbers.
+fn mean(row: &[u16], numbers: &[i64]) -> i64 {
+    row.iter().zip(numbers).map(|(&cell, number)| i64::from(cell) * number).sum()
+}
+
+/// Weights as i64, in room for them.
+fn whole<'a>(weights: &[u32], room: &'a mut [i64]) -> &'a [i64] {
+    let room = &mut room[..weights.len()];
+    for (cell, &weight) in room.iter_mut().zip(weights) {
+        *cell = i64::from(weight);
+    }
+    room
+}
+
 /// The rows of an action, each of `width` cells.
-fn of_action(cells: &[i64], n: usize, width: usize, a: usize) -> &[i64] {
+fn of_action<Cell>(cells: &[Cell], n: usize, width: usize, a: usize) -> &[Cell] {
     &cells[a * n * width..(a + 1) * n * width]
 }
 
-/// The first row whose cells do not total as they should; all cells are within 0 and the total.
-fn first_row(cells: &[i64], width: usize, total: i64) -> Option<usize> {
-    cells.chunks_exact(width).position(|row| row.iter().sum::<i64>() != total)
+/// The first row whose cells do not total 1,000.
+fn first_row(cells: &[u16], width: usize) -> Option<usize> {
+    let total = |row: &[u16]| row.iter().map(|&cell| u32::from(cell)).sum::<u32>();
+    cells.chunks_exact(width).position(|row| total(row) != THOUSAND as u32)
 }
 
 /// 3, 5, 6.
-fn judge(tables: &Tables) -> Result<(), Refused> {
-    let thousandths = |cells: &[i64]| cells.iter().all(|&cell| cell as u64 <= THOUSAND as u64);
-    let within = tables.counts_fit()
-        && thousandths(&[tables.discount])
-        && thousandths(&tables.transitions)
-        && thousandths(&tables.sights)
-        && tables.rewards.iter().all(|cell| (-REWARD..=REWARD).contains(cell));
-    if !within {
-        return Err(Refused::at(3, 0));
-    }
-    refuse(5, first_row(&tables.transitions, tables.states, THOUSAND))?;
-    refuse(6, first_row(&tables.sights, tables.observations, THOUSAND))
-}
-
-fn refuse(number: u8, offender: Option<usize>) -> Result<(), Refused> {
-    match offender {
-        Some(place) => Err(Refused::at(number, place)),
-        None => Ok(()),
-    }
+fn judge(tables: &Tables) -> Answer<Model<'_>> {
+    let thousandths = |cells: &[u16]| cells.iter().all(|&cell| i64::from(cell) <= THOUSAND);
+    let rewards = |cells: &[i64]| cells.iter().all(|cell| (-REWARD..=REWARD).contains(cell));
+    let model = match Model::of(tables) {
+        Some(model) if thousandths(model.t) && thousandths(model.o) && rewards(model.r) => model,
+        _ => return refused(3, 0),
+    };
+    refuse(5, first_row(model.t, model.n))?;
+    refuse(6, first_row(model.o, model.k))?;
+    Ok(model)
 }
 
 /// What the weights of a point total, if that is 1 to 100.
-fn total(row: &[i64]) -> Option<i64> {
-    let within = row.iter().all(|&p| p as u64 <= TOTAL as u64);
-    within.then(|| row.iter().sum()).filter(|total| (1..=TOTAL).contains(total))
+fn total(row: &[u32]) -> Option<i64> {
+    let total = row.iter().map(|&weight| i64::from(weight)).sum();
+    (1..=TOTAL).contains(&total).then_some(total)
 }
 
 /// 12: the first point whose weights total less than 1 or more than 100.
-fn first_untotalled(weights: &[i64], n: usize) -> Option<usize> {
+fn first_untotalled(weights: &[u32], n: usize) -> Option<usize> {
     weights.chunks_exact(n).position(|row| total(row).is_none())
 }
 
-impl Level {
-    /// 9, and as many cells as the counts say.
-    fn counts_fit(&self, n: usize, k: usize) -> bool {
-        let (vectors, points) = (self.actions.len(), self.values.len());
-        (1..=VECTORS).contains(&vectors)
-            && points <= POINTS
-            && self.choices.len() == vectors * k
-            && self.entries.len() == vectors * n
-            && self.corners.len() == n
-            && self.weights.len() == points * n
-    }
+/// 11.
+fn first_outside(level: &Cut, n: usize, t: usize) -> Option<usize> {
+    let end = REWARD * t as i64;
+    let outside = |value: &i64, end: i64| !(-end..=end).contains(value);
+    let vector = level.entries.iter().position(|entry| outside(entry, end)).map(|cell| cell / n);
+    vector.or_else(|| level.corners.iter().position(|corner| outside(corner, end))).or_else(|| {
+        let mut points = level.values.iter().zip(level.weights.chunks_exact(n));
+        points.position(|(value, p)| total(p).map_or(false, |total| outside(value, total * end)))
+    })
+}
 
-    /// 11.
-    fn first_outside(&self, n: usize, t: usize) -> Option<usize> {
-        let end = REWARD * t as i64;
-        let outside = |value: &i64, end: i64| !(-end..=end).contains(value);
-        let vector = self.entries.iter().position(|entry| outside(entry, end)).map(|cell| cell / n);
-        vector.or_else(|| self.corners.iter().position(|corner| outside(corner, end))).or_else(|| {
-            let mut points = self.values.iter().zip(self.weights.chunks_exact(n));
-            points.position(|(value, p)| total(p).map_or(false, |total| outside(value, total * end)))
-        })
-    }
+/// The sawtooth of a level: its corners, its points' weights, and what each point takes off the corners.
+struct Sawtooth<'a> {
+    corners: &'a [i64],
+    weights: &'a [i64],
+    gains: Gains,
+}
 
-    /// What each point takes off the corners at its weights.
-    fn gains(&self, n: usize) -> Gains {
+impl<'a> Sawtooth<'a> {
+    fn of(level: &Cut<'a>, room: &'a mut Weights) -> Sawtooth<'a> {
+        let weights = whole(level.weights, room);
         let mut gains = [0; POINTS];
-        for ((gain, p), value) in gains.iter_mut().zip(self.weights.chunks_exact(n)).zip(&self.values) {
-            *gain = dot(&self.corners, p) - value;
+        let points = weights.chunks_exact(level.corners.len()).zip(level.values);
+        for (gain, (p, value)) in gains.iter_mut().zip(points) {
+            *gain = dot(level.corners, p) - value;
         }
-        gains
+        Sawtooth { corners: level.corners, weights, gains }
     }
 
     /// The ceiling at q.
-    fn ceiling(&self, gains: &Gains, q: &[i64]) -> i64 {
+    fn ceiling(&self, q: &[i64]) -> i64 {
         // With the largest number of states, the loops over them have a length that the compiler knows.
         let drop = match <&[i64; STATES]>::try_from(q) {
-            Ok(q) => largest_drop(&self.weights, gains, q, STATES),
-            Err(_) => largest_drop(&self.weights, gains, q, q.len()),
+            Ok(q) => largest_drop(self.weights, &self.gains, q, STATES),
+            Err(_) => largest_drop(self.weights, &self.gains, q, q.len()),
         };
-        dot(&self.corners, q) - drop
+        dot(self.corners, q) - drop
     }
+}
 
-    /// The first vector with the largest product with q, and that product.
-    fn best_vector(&self, q: &[i64]) -> (usize, i64) {
-        let mut best = (0, i64::MIN);
-        for (v, entries) in self.entries.chunks_exact(q.len()).enumerate() {
-            let product = dot(entries, q);
-            if product > best.1 {
-                best = (v, product);
-            }
+/// The first vector with the largest product with q, and that product.
+fn best_vector(entries: &[i64], q: &[i64]) -> (usize, i64) {
+    let mut best = (0, i64::MIN);
+    for (v, entries) in entries.chunks_exact(q.len()).enumerate() {
+        let product = dot(entries, q);
+        if product > best.1 {
+            best = (v, product);
         }
-        best
     }
+    best
 }
 
 /// The largest drop of a point at q, or 0.
@@ -163,44 +154,30 @@ fn drop_of(q: &[i64], p: &[i64], gain: i64) -> i64 {
     top * gain / under
 }
 
-/// Opens a certifier on tables.
-pub fn open(tables: &Tables) -> Result<Certifier, Refused> {
-    judge(tables)?;
-    let level = Level {
-        actions: vec![0],
-        choices: vec![0; tables.observations],
-        entries: vec![0; tables.states],
-        corners: vec![0; tables.states],
-        ..Level::default()
-    };
-    Ok(Certifier { tables: tables.clone(), number: 0, level })
-}
-
 /// 7.
-fn examine(certifier: &Certifier) -> Result<(), Refused> {
-    let Certifier { tables, number, level } = certifier;
-    let holds = judge(tables).is_ok()
-        && *number <= LEVELS
-        && level.counts_fit(tables.states, tables.observations)
-        && level.actions.iter().all(|&action| action < tables.actions)
-        && level.first_outside(tables.states, *number).is_none()
-        && first_untotalled(&level.weights, tables.states).is_none();
+fn examine<'a>(tables: &'a Tables, certifier: &'a Certifier) -> Answer<(Model<'a>, usize, Cut<'a>)> {
+    let seven = Refusal { number: 7, place: 0 };
+    let model = judge(tables).map_err(|_| seven)?;
+    let (number, level) = Cut::standing(certifier, model.n).ok_or(seven)?;
+    let holds = level.actions.iter().all(|&action| usize::from(action) < model.m)
+        && first_outside(&level, model.n, number).is_none()
+        && first_untotalled(level.weights, model.n).is_none();
     if holds {
-        Ok(())
+        Ok((model, number, level))
     } else {
-        Err(Refused::at(7, 0))
+        Err(seven)
     }
 }
 
 /// What moves to each state by an action: the sum over s of p(s) × T.
-fn moved<'a>(tables: &Tables, p: &[i64], a: usize, room: &'a mut States) -> &'a [i64] {
-    let n = tables.states;
+fn moved<'a>(model: &Model, p: &[i64], a: usize, room: &'a mut States) -> &'a [i64] {
+    let n = model.n;
     let u = &mut room[..n];
     u.fill(0);
-    for (&p, row) in p.iter().zip(of_action(&tables.transitions, n, n, a).chunks_exact(n)) {
+    for (&p, row) in p.iter().zip(of_action(model.t, n, n, a).chunks_exact(n)) {
         if p != 0 {
-            for (u, t) in u.iter_mut().zip(row) {
-                *u += p * t;
+            for (u, &t) in u.iter_mut().zip(row) {
+                *u += p * i64::from(t);
             }
         }
     }
@@ -208,52 +185,51 @@ fn moved<'a>(tables: &Tables, p: &[i64], a: usize, room: &'a mut States) -> &'a 
 }
 
 /// The successor weights for an observation, from what moved.
-fn successor<'a>(tables: &Tables, u: &[i64], a: usize, o: usize, room: &'a mut States) -> &'a [i64] {
-    let (n, k) = (tables.states, tables.observations);
+fn successor<'a>(model: &Model, u: &[i64], a: usize, o: usize, room: &'a mut States) -> &'a [i64] {
+    let (n, k) = (model.n, model.k);
     let q = &mut room[..n];
-    for ((q, u), row) in q.iter_mut().zip(u).zip(of_action(&tables.sights, n, k, a).chunks_exact(k)) {
-        *q = u * row[o];
+    for ((q, u), row) in q.iter_mut().zip(u).zip(of_action(model.o, n, k, a).chunks_exact(k)) {
+        *q = u * i64::from(row[o]);
     }
     q
 }
 
 /// The sum over o of O × (the entry of the vector chosen for o), at each state reached.
-fn foreseen<'a>(tables: &Tables, entries: &[i64], a: usize, choices: &[usize], room: &'a mut States) -> &'a [i64] {
-    let (n, k) = (tables.states, tables.observations);
+fn foreseen<'a>(model: &Model, entries: &[i64], a: usize, choices: &[u16], room: &'a mut States) -> &'a [i64] {
+    let (n, k) = (model.n, model.k);
     let f = &mut room[..n];
     f.fill(0);
-    let rows = of_action(&tables.sights, n, k, a);
+    let rows = of_action(model.o, n, k, a);
     for (o, &choice) in choices.iter().enumerate() {
-        let entries = &entries[choice * n..(choice + 1) * n];
+        let entries = of_action(entries, n, 1, usize::from(choice));
         for ((f, entry), row) in f.iter_mut().zip(entries).zip(rows.chunks_exact(k)) {
-            *f += row[o] * entry;
+            *f += i64::from(row[o]) * entry;
         }
     }
     f
 }
 
 /// Each state's backup by an action, from what is foreseen.
-fn backups<'a>(tables: &'a Tables, a: usize, f: &'a [i64]) -> impl Iterator<Item = i64> + 'a {
-    let n = tables.states;
-    let rows = of_action(&tables.transitions, n, n, a).chunks_exact(n);
-    let rewards = of_action(&tables.rewards, n, 1, a);
-    rows.zip(rewards).map(move |(row, reward)| K * reward + tables.discount * dot(row, f))
+fn backups<'a>(model: &Model<'a>, a: usize, f: &'a [i64]) -> impl Iterator<Item = i64> + 'a {
+    let (n, g) = (model.n, model.g);
+    let rows = of_action(model.t, n, n, a).chunks_exact(n);
+    rows.zip(of_action(model.r, n, 1, a)).map(move |(row, reward)| K * reward + g * mean(row, f))
 }
 
 /// K × p·R(·, a).
-fn earned(tables: &Tables, p: &[i64], a: usize) -> i64 {
-    K * dot(p, of_action(&tables.rewards, tables.states, 1, a))
+fn earned(model: &Model, p: &[i64], a: usize) -> i64 {
+    K * dot(p, of_action(model.r, model.n, 1, a))
 }
 
-/// K times the least value at p that every action allows.
-fn ceiling_backup(tables: &Tables, level: &Level, gains: &Gains, p: &[i64], a: usize) -> i64 {
+/// K times the least value at p that an action allows.
+fn ceiling_backup(model: &Model, sawtooth: &Sawtooth, p: &[i64], a: usize) -> i64 {
     let (mut room, mut next) = ([0; STATES], [0; STATES]);
-    let u = moved(tables, p, a, &mut room);
+    let u = moved(model, p, a, &mut room);
     let mut ceilings = 0;
-    for o in 0..tables.observations {
-        ceilings += level.ceiling(gains, successor(tables, u, a, o, &mut next));
+    for o in 0..model.k {
+        ceilings += sawtooth.ceiling(successor(model, u, a, o, &mut next));
     }
-    earned(tables, p, a) + tables.discount * ceilings
+    earned(model, p, a) + model.g * ceilings
 }
 
 /// Weight 1 on one state.
@@ -263,149 +239,199 @@ fn corner(state: usize) -> States {
     p
 }
 
-/// Offers a level.
-pub fn offer(certifier: &mut Certifier, offered: &Level) -> Result<(), Refused> {
-    examine(certifier)?;
-    if certifier.number == LEVELS {
-        return Err(Refused::at(8, 0));
+fn offer(tables: &Tables, certifier: &mut Certifier, level: &Level) -> Answer<()> {
+    let (model, number, standing) = examine(tables, certifier)?;
+    if number == LEVELS {
+        return refused(8, 0);
     }
-    let (tables, standing) = (&certifier.tables, &certifier.level);
-    let (n, k) = (tables.states, tables.observations);
-    if !offered.counts_fit(n, k) {
-        return Err(Refused::at(9, 0));
-    }
-    let exists = |(&action, choices): (&usize, &[usize])| {
-        action < tables.actions && choices.iter().all(|&choice| choice < standing.actions.len())
+    let (n, k) = (model.n, model.k);
+    let offered = match Cut::offered(level, n, k) {
+        Some(offered) if offered.has_room_in(certifier) => offered,
+        _ => return refused(9, 0),
+    };
+    let exists = |(&action, choices): (&u8, &[u16])| {
+        usize::from(action) < model.m && choices.iter().all(|&v| usize::from(v) < standing.actions.len())
     };
     refuse(10, offered.actions.iter().zip(offered.choices.chunks_exact(k)).position(|vector| !exists(vector)))?;
-    refuse(11, offered.first_outside(n, certifier.number + 1))?;
-    refuse(12, first_untotalled(&offered.weights, n))?;
+    refuse(11, first_outside(&offered, n, number + 1))?;
+    refuse(12, first_untotalled(offered.weights, n))?;
 
     let mut room = [0; STATES];
     let rows = offered.choices.chunks_exact(k).zip(offered.entries.chunks_exact(n));
     for (v, (&a, (choices, entries))) in offered.actions.iter().zip(rows).enumerate() {
-        let f = foreseen(tables, &standing.entries, a, choices, &mut room);
-        if entries.iter().zip(backups(tables, a, f)).any(|(entry, backup)| K * entry > backup) {
-            return Err(Refused::at(13, v));
+        let f = foreseen(&model, standing.entries, a.into(), choices, &mut room);
+        if entries.iter().zip(backups(&model, a.into(), f)).any(|(entry, backup)| K * entry > backup) {
+            return refused(13, v);
         }
     }
-    let gains = standing.gains(n);
-    let covers = |value: i64, p: &[i64]| {
-        (0..tables.actions).all(|a| K * value >= ceiling_backup(tables, standing, &gains, p, a))
-    };
+    let mut weights = [0; POINTS * STATES];
+    let sawtooth = Sawtooth::of(&standing, &mut weights);
+    let covers = |value: i64, p: &[i64]| (0..model.m).all(|a| K * value >= ceiling_backup(&model, &sawtooth, p, a));
     for (s, &value) in offered.corners.iter().enumerate() {
         if !covers(value, &corner(s)[..n]) {
-            return Err(Refused::at(14, s));
+            return refused(14, s);
         }
     }
     for (j, (&value, p)) in offered.values.iter().zip(offered.weights.chunks_exact(n)).enumerate() {
-        if !covers(value, p) {
-            return Err(Refused::at(15, j));
+        if !covers(value, whole(p, &mut room)) {
+            return refused(15, j);
         }
     }
-    certifier.level = offered.clone();
-    certifier.number += 1;
+    offered.stand(number + 1, certifier);
     Ok(())
 }
 
-/// The totals at a mixture.
-pub fn totals(certifier: &Certifier, mixture: &[i64]) -> Result<Totals, Refused> {
-    examine(certifier)?;
-    if certifier.number == 0 {
-        return Err(Refused::at(16, 0));
+/// 7, 16.
+fn standing<'a>(tables: &'a Tables, certifier: &'a Certifier) -> Answer<(Model<'a>, Cut<'a>)> {
+    match examine(tables, certifier)? {
+        (_, 0, _) => refused(16, 0),
+        (model, _, level) => Ok((model, level)),
     }
-    let n = certifier.tables.states;
-    let fits = mixture.len() == n
-        && mixture.iter().all(|&weight| weight as u64 <= WEIGHT as u64)
-        && mixture.iter().any(|&weight| weight > 0);
-    if !fits {
-        return Err(Refused::at(17, 0));
-    }
-    let level = &certifier.level;
-    let (first, lower) = level.best_vector(mixture);
-    let upper = level.ceiling(&level.gains(n), mixture);
-    Ok(Totals { lower, upper, gap: upper - lower, action: level.actions[first] })
 }
 
-/// Builds a level at some points.
-pub fn build(certifier: &Certifier, points: &[Vec<i64>]) -> Result<Level, Refused> {
-    examine(certifier)?;
-    if certifier.number == LEVELS {
-        return Err(Refused::at(8, 0));
+fn totals_at(level: &Cut, sawtooth: &Sawtooth, weights: &[u32]) -> Answer<Totals> {
+    let mut room = [0; STATES];
+    let b = whole(mixture(weights, level.corners.len())?, &mut room);
+    let (first, lower) = best_vector(level.entries, b);
+    let upper = sawtooth.ceiling(b);
+    Ok(Totals { lower, upper, gap: upper - lower, action: level.actions[first].into(), ..Totals::default() })
+}
+
+fn totals(tables: &Tables, certifier: &Certifier, mixture: &[u32]) -> Answer<Totals> {
+    let (_, level) = standing(tables, certifier)?;
+    totals_at(&level, &Sawtooth::of(&level, &mut [0; POINTS * STATES]), mixture)
+}
+
+fn each(tables: &Tables, certifier: &Certifier, mixtures: (usize, &[u32]), answers: &mut Answers) -> Answer<()> {
+    let (model, level) = standing(tables, certifier)?;
+    let mut weights = [0; POINTS * STATES];
+    let sawtooth = Sawtooth::of(&level, &mut weights);
+    answer(model.n, mixtures, answers, |mixture| totals_at(&level, &sawtooth, mixture))
+}
+
+fn build(tables: &Tables, certifier: &Certifier, (count, points): (usize, &[u32]), level: &mut Level) -> Answer<()> {
+    let (model, number, standing) = examine(tables, certifier)?;
+    if number == LEVELS {
+        return refused(8, 0);
     }
-    if points.len() > BUILT_POINTS {
-        return Err(Refused::at(9, 0));
+    let n = model.n;
+    if count > BUILT_POINTS || points.len() < count * n || !has_room(level, n, model.k, count) {
+        return refused(9, 0);
     }
-    let n = certifier.tables.states;
-    let wrong = |p: &Vec<i64>| p.len() != n || first_untotalled(p, n).is_some();
-    refuse(12, points.iter().position(wrong))?;
-    let gains = certifier.level.gains(n);
-    let mut built = Level::default();
+    let points = &points[..count * n];
+    refuse(12, first_untotalled(points, n))?;
+    let mut weights = [0; POINTS * STATES];
+    let sawtooth = Sawtooth::of(&standing, &mut weights);
     for s in 0..n {
-        let value = add_vector(certifier, &gains, &corner(s)[..n], &mut built);
-        built.corners.push(value);
+        level.corners[s] = put_vector(&model, &standing, &sawtooth, &corner(s)[..n], s, level);
     }
-    for p in points {
-        let value = add_vector(certifier, &gains, p, &mut built);
-        built.weights.extend_from_slice(p);
-        built.values.push(value);
+    for (j, p) in points.chunks_exact(n).enumerate() {
+        let mut room = [0; STATES];
+        level.values[j] = put_vector(&model, &standing, &sawtooth, whole(p, &mut room), n + j, level);
     }
-    Ok(built)
+    Ok(())
 }
 
-/// Adds the vector at p; the least value there. An action's successor weights serve both.
-fn add_vector(certifier: &Certifier, gains: &Gains, p: &[i64], built: &mut Level) -> i64 {
-    let (tables, standing) = (&certifier.tables, &certifier.level);
-    let (n, k) = (tables.states, tables.observations);
+/// Writes the vector at p; the least value there. An action's successor weights serve both.
+fn put_vector(model: &Model, standing: &Cut, sawtooth: &Sawtooth, p: &[i64], v: usize, level: &mut Level) -> i64 {
+    let (n, k) = (model.n, model.k);
     let (mut room, mut next, mut ahead) = ([0; STATES], [0; STATES], [0; STATES]);
-    let (mut choices, mut best_choices) = ([0; OBSERVATIONS], [0; OBSERVATIONS]);
-    let (mut entries, mut best_entries) = ([0; STATES], [0; STATES]);
-    let (mut action, mut most, mut value) = (0, i64::MIN, i64::MIN);
-    for a in 0..tables.actions {
-        let u = moved(tables, p, a, &mut room);
+    let mut choices = [0; OBSERVATIONS];
+    let mut entries = [0; STATES];
+    let (mut most, mut value) = (i64::MIN, i64::MIN);
+    for a in 0..model.m {
+        let u = moved(model, p, a, &mut room);
         let mut ceilings = 0;
         for (o, choice) in choices[..k].iter_mut().enumerate() {
-            let q = successor(tables, u, a, o, &mut next);
-            *choice = standing.best_vector(q).0;
-            ceilings += standing.ceiling(gains, q);
+            let q = successor(model, u, a, o, &mut next);
+            *choice = best_vector(standing.entries, q).0 as u16;
+            ceilings += sawtooth.ceiling(q);
         }
-        let backup = earned(tables, p, a) + tables.discount * ceilings;
+        let backup = earned(model, p, a) + model.g * ceilings;
         value = value.max(-(-backup).div_euclid(K));
-        let f = foreseen(tables, &standing.entries, a, &choices[..k], &mut ahead);
-        for (entry, backup) in entries.iter_mut().zip(backups(tables, a, f)) {
+        let f = foreseen(model, standing.entries, a, &choices[..k], &mut ahead);
+        for (entry, backup) in entries.iter_mut().zip(backups(model, a, f)) {
             *entry = backup.div_euclid(K);
         }
         let product = dot(&entries[..n], p);
         if product > most {
-            action = a;
             most = product;
-            best_choices = choices;
-            best_entries = entries;
+            level.actions[v] = a as u8;
+            level.choices[v * k..(v + 1) * k].copy_from_slice(&choices[..k]);
+            level.entries[v * n..(v + 1) * n].copy_from_slice(&entries[..n]);
         }
     }
-    built.actions.push(action);
-    built.choices.extend_from_slice(&best_choices[..k]);
-    built.entries.extend_from_slice(&best_entries[..n]);
     value
 }
 
-/// What a node is worth at a state with some steps left.
-pub fn worth(tables: &Tables, graph: &Graph, node: usize, state: usize, steps: usize) -> Result<i64, Refused> {
-    judge(tables)?;
-    let (n, k, nodes) = (tables.states, tables.observations, graph.actions.len());
-    if !graph.fits(tables) || node >= nodes || state >= n || steps > STEPS {
-        return Err(Refused::at(18, 0));
+fn worth(tables: &Tables, graph: &Graph, asked: Question) -> Answer<i64> {
+    let model = judge(tables)?;
+    let (actions, next) = nodes(&model, graph)?;
+    let (n, k) = (model.n, model.k);
+    if asked.node >= actions.len() as u64 || asked.state >= n as u64 || asked.steps > STEPS as u64 {
+        return refused(18, 0);
     }
     let (mut worths, mut more) = ([0; NODES * STATES], [0; NODES * STATES]);
-    for _ in 0..steps {
-        for ((&a, next), row) in graph.actions.iter().zip(graph.next.chunks_exact(k)).zip(more.chunks_exact_mut(n)) {
+    for _ in 0..asked.steps {
+        for ((&a, next), row) in actions.iter().zip(next.chunks_exact(k)).zip(more.chunks_exact_mut(n)) {
             let mut room = [0; STATES];
-            let f = foreseen(tables, &worths, a, next, &mut room);
-            for (worth, backup) in row.iter_mut().zip(backups(tables, a, f)) {
+            let f = foreseen(&model, &worths, a.into(), next, &mut room);
+            for (worth, backup) in row.iter_mut().zip(backups(&model, a.into(), f)) {
                 *worth = backup.div_euclid(K);
             }
         }
         std::mem::swap(&mut worths, &mut more);
     }
-    Ok(worths[node * n + state])
+    Ok(worths[asked.node as usize * n + asked.state as usize])
+}
+
+impl Library for Tuned {
+    fn read(&self, file: &[u8], tables: &mut Tables, start: &mut [u16]) -> Reading {
+        laid(tuned_file::read(file), tables, start)
+    }
+
+    fn open(&self, tables: &Tables, certifier: &mut Certifier) -> Refusal {
+        ended(judge(tables).and_then(|model| open(model, certifier)))
+    }
+
+    fn offer(&self, tables: &Tables, certifier: &mut Certifier, level: &Level) -> Refusal {
+        ended(offer(tables, certifier, level))
+    }
+
+    fn totals(&self, tables: &Tables, certifier: &Certifier, mixture: &[u32]) -> Totals {
+        totals(tables, certifier, mixture).unwrap_or_else(|Refusal { number, place }| Totals {
+            number,
+            place,
+            ..Totals::default()
+        })
+    }
+
+    fn each(
+        &self,
+        tables: &Tables,
+        certifier: &Certifier,
+        mixtures: &[u32],
+        count: usize,
+        answers: &mut Answers,
+    ) -> Refusal {
+        ended(each(tables, certifier, (count, mixtures), answers))
+    }
+
+    fn build(
+        &self,
+        tables: &Tables,
+        certifier: &Certifier,
+        count: usize,
+        points: &[u32],
+        level: &mut Level,
+    ) -> Refusal {
+        ended(build(tables, certifier, (count, points), level))
+    }
+
+    fn worth(&self, tables: &Tables, graph: &Graph, asked: Question) -> Worth {
+        match worth(tables, graph, asked) {
+            Ok(ticks) => Worth { ticks, ..Worth::default() },
+            Err(Refusal { number, place }) => Worth { number, place, ticks: 0 },
+        }
+    }
 }

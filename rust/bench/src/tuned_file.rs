@@ -1,8 +1,7 @@
 //! Reading a model file as well as we can: word by word, digits as they come, and nothing allocated but the tables.
 
 use crate::limits::*;
-
-type Answer<Value> = Result<Value, Refused>;
+use biidhaqun::slices::{Refusal, Tables};
 
 /// The file and the offset that was reached.
 struct Reader<'a> {
@@ -18,8 +17,8 @@ struct Word<'a> {
 }
 
 impl Word<'_> {
-    fn refused(&self, number: u8) -> Refused {
-        Refused::at(number, self.place)
+    fn refused(&self, number: u64) -> Refusal {
+        Refusal { number, place: self.place }
     }
 
     /// Form, then limit.
@@ -113,7 +112,7 @@ impl<'a> Reader<'a> {
     }
 
     fn word(&mut self) -> Answer<Word<'a>> {
-        self.next().ok_or_else(|| Refused::at(2, self.file.len()))
+        self.next().ok_or(Refusal { number: 2, place: self.file.len() })
     }
 
     fn key(&mut self, key: &[u8]) -> Answer<()> {
@@ -147,7 +146,7 @@ impl<'a> Reader<'a> {
     }
 
     /// Rows of T or of O: a colon, indices and one number, or a number for each cell.
-    fn rows(&mut self, cells: &mut [i64], n: usize, width: usize, actions: usize) -> Answer<()> {
+    fn rows(&mut self, cells: &mut [u16], n: usize, width: usize, actions: usize) -> Answer<()> {
         let (first_action, after_action) = self.indices(actions)?;
         let (first_state, after_state) = self.indices(n)?;
         let mut row = [0; STATES];
@@ -159,7 +158,7 @@ impl<'a> Reader<'a> {
             row[first..after].fill(self.share()?);
             (first, after)
         } else {
-            row[0] = word.within(amount(word.bytes, 1, 3), 0, THOUSAND)?;
+            row[0] = word.within(amount(word.bytes, 1, 3), 0, THOUSAND)? as u16;
             for cell in &mut row[1..width] {
                 *cell = self.share()?;
             }
@@ -174,9 +173,9 @@ impl<'a> Reader<'a> {
         Ok(())
     }
 
-    fn share(&mut self) -> Answer<i64> {
+    fn share(&mut self) -> Answer<u16> {
         let word = self.word()?;
-        word.within(amount(word.bytes, 1, 3), 0, THOUSAND)
+        word.within(amount(word.bytes, 1, 3), 0, THOUSAND).map(|share| share as u16)
     }
 
     fn rewards(&mut self, cells: &mut [i64], n: usize, actions: usize) -> Answer<()> {
@@ -198,9 +197,9 @@ impl<'a> Reader<'a> {
 }
 
 /// Reads a model file: its tables and start numbers.
-pub fn read(file: &[u8]) -> Answer<(Tables, Vec<i64>)> {
+pub fn read(file: &[u8]) -> Answer<Read> {
     if file.len() > FILE_BYTES {
-        return Err(Refused::at(1, 0));
+        return refused(1, 0);
     }
     let mut reader = Reader { file, offset: 0 };
     reader.header(b"discount")?;
@@ -217,34 +216,35 @@ pub fn read(file: &[u8]) -> Answer<(Tables, Vec<i64>)> {
     let mut start = vec![0; states];
     for number in &mut start {
         let word = reader.word()?;
-        *number = word.within(amount(word.bytes, 1, 2), 0, TOTAL)?;
+        *number = word.within(amount(word.bytes, 1, 2), 0, TOTAL)? as u16;
     }
     let rows = actions * states;
     let mut tables = Tables {
         states,
         actions,
         observations,
-        discount,
-        transitions: vec![0; rows * states],
-        sights: vec![0; rows * observations],
-        rewards: vec![0; rows],
+        discount: discount.into(),
+        transition: vec![0; rows * states],
+        observation: vec![0; rows * observations],
+        reward: vec![0; rows],
     };
     while let Some(word) = reader.next() {
         match word.bytes {
-            b"T" => reader.rows(&mut tables.transitions, states, states, actions)?,
-            b"O" => reader.rows(&mut tables.sights, states, observations, actions)?,
-            b"R" => reader.rewards(&mut tables.rewards, states, actions)?,
+            b"T" => reader.rows(&mut tables.transition, states, states, actions)?,
+            b"O" => reader.rows(&mut tables.observation, states, observations, actions)?,
+            b"R" => reader.rewards(&mut tables.reward, states, actions)?,
             _ => return Err(word.refused(2)),
         }
     }
-    let wrong = |cells: &[i64], width: usize| cells.chunks_exact(width).any(|row| row.iter().sum::<i64>() != THOUSAND);
+    let total = |cells: &[u16]| cells.iter().map(|&cell| i64::from(cell)).sum::<i64>();
+    let wrong = |cells: &[u16], width: usize| cells.chunks_exact(width).any(|row| total(row) != THOUSAND);
     let tests = [
-        (4, start.iter().sum::<i64>() != TOTAL),
-        (5, wrong(&tables.transitions, states)),
-        (6, wrong(&tables.sights, observations)),
+        (4, total(&start) != TOTAL),
+        (5, wrong(&tables.transition, states)),
+        (6, wrong(&tables.observation, observations)),
     ];
     match tests.iter().find(|(_, wrong)| *wrong) {
-        Some(&(number, _)) => Err(Refused::at(number, file.len())),
-        None => Ok((tables, start)),
+        Some(&(number, _)) => refused(number, file.len()),
+        None => Ok(Read { tables, start }),
     }
 }

@@ -1,226 +1,155 @@
-//! Models and their certifiers.
+//! Certifiers.
 
-use crate::error::{Error, Refusal};
-use crate::ffi::{self, Ended};
-use crate::parts::{Graph, Level, Mixture, Points};
+use crate::error::{Error, Handed, Length, Refusal};
+use crate::level::Level;
+use crate::model::Model;
+use crate::parts::{Mixture, Points};
+use crate::rule::Rule;
 use crate::shape::Shape;
-
-/// The answer where a call was served, or its refusal.
-fn served(ended: Ended) -> Result<(), Refusal> {
-    refused(ended.number, ended.place)
-}
-
-fn refused(number: u64, place: usize) -> Result<(), Refusal> {
-    match number {
-        0 => Ok(()),
-        _ => Err(Refusal { number, place }),
-    }
-}
-
-/// A model within the limits: its tables, as words.
-///
-/// The words are `states, actions, observations, discount`, then T by action, state left and state reached, O by action,
-/// state reached and observation, R by action and state, packed by the counts. T, O and the discount are in thousandths,
-/// R in ticks (hundredths of a reward unit).
-#[derive(Clone, Debug, PartialEq, Eq, Hash)]
-pub struct Model {
-    words: Vec<i64>,
-    shape: Shape,
-}
-
-impl Model {
-    /// Reads a model file: the model, and the start numbers as weights that total 100. Refused with 1 to 6.
-    pub fn read(file: &[u8]) -> Result<(Model, Mixture), Refusal> {
-        let mut words = vec![0; Shape::most_tables()];
-        let mut start = vec![0; Shape::most_states()];
-        served(ffi::read(file, &mut words, &mut start))?;
-        let shape = Shape::of(&words);
-        words.truncate(shape.tables());
-        words.shrink_to_fit();
-        start.truncate(shape.states);
-        Ok((Model { words, shape }, Mixture::of(&start)))
-    }
-
-    /// The model of these words. Refused with 3, 5 or 6; too few words get 3, and words past the last are left out.
-    pub fn from_words(words: &[i64]) -> Result<Model, Refusal> {
-        let shape = Shape::of(words);
-        opened(words, shape)?;
-        Ok(Model { words: words.iter().copied().take(shape.tables()).collect(), shape })
-    }
-
-    /// The words.
-    pub fn words(&self) -> &[i64] {
-        &self.words
-    }
-
-    /// The counts.
-    pub fn shape(&self) -> Shape {
-        self.shape
-    }
-
-    /// The discount, in thousandths.
-    pub fn discount(&self) -> u64 {
-        thousandths(self.words[3])
-    }
-
-    /// T: how likely an action leads from a state to another, in thousandths. Panics outside the counts, as indexing does.
-    pub fn transition(&self, action: usize, state: usize, reached: usize) -> u64 {
-        let Shape { states, .. } = self.shape;
-        thousandths(self.words[4 + self.row(action, state) * states + below(reached, states)])
-    }
-
-    /// O: how likely an observation is where an action led to a state, in thousandths. Panics outside the counts.
-    pub fn observation(&self, action: usize, reached: usize, observation: usize) -> u64 {
-        let Shape { states, actions, observations } = self.shape;
-        let first = 4 + actions * states * states;
-        thousandths(self.words[first + self.row(action, reached) * observations + below(observation, observations)])
-    }
-
-    /// R: the reward of an action in a state, in ticks. Panics outside the counts.
-    pub fn reward(&self, action: usize, state: usize) -> i64 {
-        let Shape { states, actions, observations } = self.shape;
-        self.words[4 + actions * states * (states + observations) + self.row(action, state)]
-    }
-
-    fn row(&self, action: usize, state: usize) -> usize {
-        below(action, self.shape.actions) * self.shape.states + below(state, self.shape.states)
-    }
-
-    /// What a plan graph earns at least, in ticks, if it is entered at this node and state with so many steps left (0 to
-    /// 4), rounded down at each step. Refused with 18.
-    pub fn worth(&self, graph: &Graph, node: usize, state: usize, steps: usize) -> Result<i64, Error> {
-        let graph = graph.words(self.shape)?;
-        let ended = ffi::worth(&self.words, &graph, node, state, steps);
-        refused(ended.number, ended.place)?;
-        Ok(ended.ticks)
-    }
-}
-
-/// A word that the library has accepted as thousandths.
-fn thousandths(word: i64) -> u64 {
-    u64::try_from(word).unwrap_or(0)
-}
-
-/// An index that is below its count.
-fn below(index: usize, count: usize) -> usize {
-    assert!(index < count, "index {} of {}", index, count);
-    index
-}
-
-/// The words of the certifier that opens on tables.
-fn opened(tables: &[i64], shape: Shape) -> Result<Vec<i64>, Refusal> {
-    let mut certifier = vec![0; shape.certifier(shape.level(1, 0))];
-    served(ffi::open(tables, &mut certifier))?;
-    Ok(certifier)
-}
-
-/// What is certified at a mixture.
-#[derive(Clone, Copy, Debug, PartialEq, Eq, Hash)]
-pub struct Totals {
-    /// Some plan that opens with the action earns at least this, in ticks times the mixture's total weight.
-    pub lower: i64,
-    /// No plan of as many steps as levels were accepted earns more than this.
-    pub upper: i64,
-    /// The upper total less the lower one.
-    pub gap: i64,
-    /// The action to open with.
-    pub action: usize,
-}
+use crate::slices;
+use crate::totals::Totals;
 
 /// A certifier: a model, the number of levels that were accepted, and the last of them.
-#[derive(Clone, Debug, PartialEq, Eq, Hash)]
+///
+/// It owns a copy of the model and slices with room for every level, so that it can be kept and sent anywhere and no offer
+/// lacks room; the calls are handed these slices as they lie, and nothing is translated or allocated in an offer or in
+/// totals.
+///
+/// What is proved of one that was opened on a [`Model`] and offered levels of any content: its totals bracket what every
+/// plan earns that has as many steps as levels were accepted, and a level that it builds is accepted.
+#[derive(Clone, Debug)]
 pub struct Certifier {
-    words: Vec<i64>,
-    shape: Shape,
+    model: Model,
+    slices: slices::Certifier,
 }
 
 impl Certifier {
     /// A fresh certifier, at level 0. A [`Model`] is never refused.
     pub fn open(model: &Model) -> Result<Certifier, Refusal> {
-        Ok(Certifier { words: opened(&model.words, model.shape)?, shape: model.shape })
+        let Shape { states, observations, .. } = model.shape();
+        let mut slices = slices::Certifier::roomy(states, observations);
+        Refusal::unless(slices::open(model.tables(), &mut slices), Handed::Tables(states))?;
+        Ok(Certifier { model: model.clone(), slices })
     }
 
-    /// The certifier of these words, as [`Certifier::words`] gave them. Refused with 7 where they break a limit. Nothing
-    /// says that the levels of foreign words were ever accepted: take words from where you trust them.
-    pub fn from_words(words: &[i64]) -> Result<Certifier, Refusal> {
+    /// The certifier of these slices, as [`Certifier::slices`] gave them. Refused with 7 where they break a limit or are too
+    /// short. Nothing says that the levels of foreign slices were ever accepted: take them from where you trust them.
+    pub fn from_slices(model: &Model, slices: slices::Certifier) -> Result<Certifier, Refusal> {
         // Totals at no mixture at all refuse every certifier: a broken one with 7, any other with 16 or 17.
-        let ended = ffi::totals(words, &[]);
-        if ended.number == 7 {
-            return Err(Refusal { number: ended.number, place: ended.place });
+        let ended = slices::totals(model.tables(), &slices, &[]);
+        if ended.number == Rule::Certifier.number() {
+            Refusal::unless(slices::Refusal { number: ended.number, place: ended.place }, Handed::Other)?;
         }
-        let shape = Shape::of(words.get(1..).unwrap_or(&[]));
-        let mut certifier = Certifier { words: words.to_vec(), shape };
-        certifier.tidy();
-        Ok(certifier)
+        let Shape { states, observations, .. } = model.shape();
+        let room = slices::Certifier::roomy(states, observations);
+        Ok(Certifier { model: model.clone(), slices: grown(slices, &room) })
     }
 
-    /// The words: the number of accepted levels, the tables, the standing level (`vectors, points`, actions, choices,
-    /// entries, corners, weights, values).
-    pub fn words(&self) -> &[i64] {
-        &self.words
+    /// The slices: the state, and the standing level in slices with room for every other.
+    pub fn slices(&self) -> &slices::Certifier {
+        &self.slices
     }
 
-    /// The counts of the model.
-    pub fn shape(&self) -> Shape {
-        self.shape
+    /// The model.
+    pub fn model(&self) -> &Model {
+        &self.model
     }
 
     /// How many levels were accepted.
     pub fn level(&self) -> usize {
-        self.words.first().map_or(0, |&number| usize::try_from(number).unwrap_or(0))
+        self.slices.state[0]
     }
 
-    /// The standing level: the last one that was accepted, or the zero vector at level 0.
+    /// The standing level: the last one that was accepted, or the zero vector at level 0. Whatever the slices were made
+    /// from, it shows what stands there.
     pub fn standing(&self) -> Level {
-        Level::of(self.standing_words(), self.shape)
-    }
-
-    fn standing_words(&self) -> &[i64] {
-        self.words.get(self.shape.certifier(0)..).unwrap_or(&[])
-    }
-
-    /// Cuts the words after the last one.
-    fn tidy(&mut self) {
-        let count = |word: Option<&i64>| word.map_or(0, |&count| usize::try_from(count).unwrap_or(0));
-        let level = self.standing_words();
-        let size = self.shape.level(count(level.first()), count(level.get(1)));
-        self.words.truncate(self.shape.certifier(size));
+        let Shape { states, observations, .. } = self.model.shape();
+        let standing = slices::Level {
+            vectors: self.slices.state[1],
+            points: self.slices.state[2],
+            actions: self.slices.actions.clone(),
+            choices: self.slices.choices.clone(),
+            entries: self.slices.entries.clone(),
+            corners: self.slices.corners.clone(),
+            weights: self.slices.weights.clone(),
+            values: self.slices.values.clone(),
+        };
+        Level::of(standing, states, observations)
     }
 
     /// Offers a level: it is accepted, and stands, exactly if it is within the limits and meets every backup inequality
     /// upon the level that stands. Refused with 8 to 15, and then nothing changes.
     pub fn offer(&mut self, level: &Level) -> Result<(), Error> {
-        let level = level.words(self.shape)?;
-        let before = self.words.len();
-        let room = self.shape.certifier(self.shape.largest_level());
-        self.words.resize(before.max(room), 0);
-        match served(ffi::offer(&mut self.words, &level)) {
-            Ok(()) => {
-                self.tidy();
-                Ok(())
-            }
-            Err(refusal) => {
-                self.words.truncate(before);
-                Err(refusal.into())
-            }
-        }
+        let shape = self.model.shape();
+        Length::test("states of the level", None, level.states, shape.states)?;
+        Length::test("observations of the level", None, level.observations, shape.observations)?;
+        let ended = slices::offer(self.model.tables(), &mut self.slices, &level.slices);
+        Ok(Refusal::unless(ended, Handed::Other)?)
     }
 
     /// The totals at a mixture. Refused with 16 or 17.
     pub fn totals(&self, mixture: &Mixture) -> Result<Totals, Error> {
-        let mixture = mixture.words(self.shape)?;
-        let ended = ffi::totals(&self.words, &mixture);
-        refused(ended.number, ended.place)?;
-        Ok(Totals { lower: ended.lower, upper: ended.upper, gap: ended.gap, action: ended.action })
+        Length::test("weights of the mixture", None, mixture.weights.len(), self.model.shape().states)?;
+        let at = slices::totals(self.model.tables(), &self.slices, &mixture.weights);
+        Refusal::unless(slices::Refusal { number: at.number, place: at.place }, Handed::Other)?;
+        Ok(Totals { lower: at.lower, upper: at.upper, gap: at.gap, action: at.action })
+    }
+
+    /// The totals at many mixtures: what [`Certifier::totals`] answers at each, with the certifier judged once. A mixture that
+    /// is refused refuses its own answer alone. All are refused with 16.
+    pub fn totals_at(&self, mixtures: &[Mixture]) -> Result<Vec<Result<Totals, Refusal>>, Error> {
+        let mut weights = Vec::new();
+        for mixture in mixtures {
+            Length::test("weights of the mixture", None, mixture.weights.len(), self.model.shape().states)?;
+            weights.extend_from_slice(&mixture.weights);
+        }
+        let mut answers = slices::Answers::roomy(mixtures.len());
+        let ended = slices::each(self.model.tables(), &self.slices, &weights, mixtures.len(), &mut answers);
+        Refusal::unless(ended, Handed::Other)?;
+        let one = |at: usize| {
+            let ended = slices::Refusal { number: answers.numbers[at].into(), place: 0 };
+            Refusal::unless(ended, Handed::Other)?;
+            let (lower, upper) = (answers.lower[at], answers.upper[at]);
+            Ok(Totals { lower, upper, gap: upper - lower, action: answers.actions[at].into() })
+        };
+        Ok((0..mixtures.len()).map(one).collect())
     }
 
     /// Builds a level upon the standing one, at every corner and at these points; it will be accepted. If all t levels so
     /// far were built, each entry is less than t ticks below what the plan earns that its vector names. Refused with 8, 9
     /// or 12.
     pub fn build(&self, points: &Points) -> Result<Level, Error> {
-        let points = points.words(self.shape)?;
-        let mut level = vec![0; self.shape.largest_level()];
-        served(ffi::build(&self.words, &points, &mut level))?;
-        Ok(Level::of(&level, self.shape))
+        let Shape { states, observations, .. } = self.model.shape();
+        let count = points.weights.len();
+        let weights = points.packed(states)?;
+        let vectors = states + count;
+        let mut level = slices::Level::zeros(states, observations, vectors, count);
+        let ended = slices::build(self.model.tables(), &self.slices, count, &weights, &mut level);
+        Refusal::unless(ended, Handed::Other)?;
+        Ok(Level { states, observations, slices: slices::Level { vectors, points: count, weights, ..level } })
     }
+}
+
+/// Equal are certifiers of the same model at the same level, upon which the same level stands; what lies past its counts
+/// is not looked at.
+impl PartialEq for Certifier {
+    fn eq(&self, other: &Certifier) -> bool {
+        self.model == other.model && self.level() == other.level() && self.standing() == other.standing()
+    }
+}
+
+impl Eq for Certifier {}
+
+/// Slices that are as long as others, at least.
+fn grown(mut slices: slices::Certifier, room: &slices::Certifier) -> slices::Certifier {
+    fn grow<Cell: Clone + Default>(cells: &mut Vec<Cell>, room: &[Cell]) {
+        cells.resize(cells.len().max(room.len()), Cell::default());
+    }
+    grow(&mut slices.actions, &room.actions);
+    grow(&mut slices.choices, &room.choices);
+    grow(&mut slices.entries, &room.entries);
+    grow(&mut slices.corners, &room.corners);
+    grow(&mut slices.weights, &room.weights);
+    grow(&mut slices.values, &room.values);
+    slices
 }

@@ -1,75 +1,162 @@
 //! Why a call was not served.
 
+use crate::rule::Rule;
+use crate::slices;
 use std::error;
 use std::fmt;
 
-/// A refusal: its number among document 01's, and its place.
+/// Where a refused call went wrong. [`Place::number`] is the number that the library gives for it.
+#[derive(Clone, Copy, Debug, PartialEq, Eq, Hash)]
+#[non_exhaustive]
+pub enum Place {
+    /// Nothing more is said than the rule; the number is 0.
+    Whole,
+    /// So many bytes of the file stand before the word; or the file's length, where a word is missing or a total is wrong.
+    Byte(usize),
+    /// The row of T or of O with this number, action × states + state: that of the action and the state left (T) or reached
+    /// (O).
+    Row { number: usize, action: usize, state: usize },
+    /// The vector with this number.
+    Vector(usize),
+    /// The corner of the state with this number.
+    Corner(usize),
+    /// The point with this number.
+    Point(usize),
+    /// The first vector that has such an entry; else the first such corner; else the first such point.
+    Part(usize),
+    /// The node of a plan graph with this number; or 0 for what else was asked of it.
+    Node(usize),
+    /// The length that a slice needs.
+    Length(usize),
+}
+
+impl Place {
+    /// The number.
+    pub fn number(self) -> usize {
+        match self {
+            Place::Whole => 0,
+            Place::Row { number, .. } => number,
+            Place::Byte(number)
+            | Place::Vector(number)
+            | Place::Corner(number)
+            | Place::Point(number)
+            | Place::Part(number)
+            | Place::Node(number)
+            | Place::Length(number) => number,
+        }
+    }
+}
+
+/// A refusal: the rule that was broken, and where.
 ///
-/// The number says which rule was broken, the place where: bytes before the offending word of a file, the number of a
-/// vector, corner, point or node, or 0. The text says it in one sentence.
+/// What is proved: the rule is the first of document 01's that does not hold, in the order of its tests, and the place is
+/// the first where it does not; nothing that was lent has changed.
 ///
 /// ```
-/// let refusal = biidhaqun::Refusal { number: 13, place: 2 };
+/// use biidhaqun::{Place, Refusal, Rule};
+///
+/// let refusal = Refusal { rule: Rule::VectorBackup, place: Place::Vector(2) };
+/// assert_eq!(refusal.number(), 13);
 /// assert_eq!(refusal.to_string(), "refused 13 at 2: vector 2 has an entry above its backup; lower it, or choose other vectors");
 /// ```
 #[derive(Clone, Copy, Debug, PartialEq, Eq, Hash)]
 pub struct Refusal {
-    pub number: u64,
-    pub place: usize,
+    pub rule: Rule,
+    pub place: Place,
+}
+
+/// What a refused call was handed.
+#[derive(Clone, Copy)]
+pub(crate) enum Handed {
+    File,
+    /// Tables with so many states.
+    Tables(usize),
+    Other,
+}
+
+impl Refusal {
+    /// The rule's number among document 01's.
+    pub fn number(&self) -> u64 {
+        self.rule.number()
+    }
+
+    /// Whether a call was served; else its refusal.
+    pub(crate) fn unless(ended: slices::Refusal, handed: Handed) -> Result<(), Refusal> {
+        if ended.number == 0 {
+            return Ok(());
+        }
+        let at = ended.place;
+        // No other number is answered.
+        let rule = Rule::of(ended.number).unwrap_or(Rule::Certifier);
+        let place = match (rule, handed) {
+            (Rule::Room, _) => Place::Length(at),
+            (Rule::FileLength, _) => Place::Whole,
+            (_, Handed::File) => Place::Byte(at),
+            (Rule::TransitionTotal | Rule::ObservationTotal, Handed::Tables(states)) => {
+                Place::Row { number: at, action: at / states.max(1), state: at % states.max(1) }
+            }
+            (Rule::Numbers | Rule::VectorBackup, _) => Place::Vector(at),
+            (Rule::Range, _) => Place::Part(at),
+            (Rule::CornerBackup, _) => Place::Corner(at),
+            (Rule::PointTotal | Rule::PointBackup, _) => Place::Point(at),
+            (Rule::Graph, _) => Place::Node(at),
+            _ => Place::Whole,
+        };
+        Err(Refusal { rule, place })
+    }
 }
 
 impl fmt::Display for Refusal {
     fn fmt(&self, f: &mut fmt::Formatter) -> fmt::Result {
-        let place = self.place;
-        write!(f, "refused {} at {}: ", self.number, place)?;
-        match self.number {
-            1 => write!(f, "the model file has more than 32,768 bytes"),
-            2 => write!(f, "the word after {} bytes does not fit its form, or is missing", place),
-            3 => write!(
+        let at = self.place.number();
+        write!(f, "refused {} at {}: ", self.number(), at)?;
+        match (self.rule, self.place) {
+            (Rule::FileLength, _) => write!(f, "the model file has more than 32,768 bytes"),
+            (Rule::Form, _) => write!(f, "the word after {} bytes does not fit its form, or is missing", at),
+            (Rule::Limit, Place::Byte(_)) => write!(
                 f,
-                "a count, index, start number, probability, discount or reward is outside its limit (in a file, the word \
-                 after {} bytes)",
-                place
+                "a count, index, start number, probability, discount or reward is outside its limit: the word after {} bytes",
+                at
             ),
-            4 => write!(f, "the start numbers do not total 1"),
-            5 => write!(
-                f,
-                "a row of T does not total 1 (on tables, row {} by action × states + state left; in a file, the place is \
-                 its length)",
-                place
-            ),
-            6 => write!(
-                f,
-                "a row of O does not total 1 (on tables, row {} by action × states + state reached; in a file, the place \
-                 is its length)",
-                place
-            ),
-            7 => write!(f, "the certifier handed in is no certifier: its tables or its standing level break a limit"),
-            8 => write!(f, "100 levels already stand, and no more are accepted"),
-            9 => write!(
+            (Rule::Limit, _) => write!(f, "a count, probability, reward or the discount is outside its limit"),
+            (Rule::StartTotal, _) => write!(f, "the start numbers do not total 1"),
+            (Rule::TransitionTotal, Place::Row { action, state, .. }) => {
+                write!(f, "the row of T of action {} from state {} does not total 1", action, state)
+            }
+            (Rule::TransitionTotal, _) => write!(f, "a row of T does not total 1; the place is the file's length"),
+            (Rule::ObservationTotal, Place::Row { action, state, .. }) => {
+                write!(f, "the row of O of action {} at state {} does not total 1", action, state)
+            }
+            (Rule::ObservationTotal, _) => write!(f, "a row of O does not total 1; the place is the file's length"),
+            (Rule::Certifier, _) => {
+                write!(f, "the certifier handed in is no certifier: its tables or its standing level break a limit")
+            }
+            (Rule::Levels, _) => write!(f, "100 levels already stand, and no more are accepted"),
+            (Rule::LevelSize, _) => write!(
                 f,
                 "a level has 1 to 32 vectors and at most 32 points, and the builder is given at most 16 points"
             ),
-            10 => write!(f, "vector {} names an action or a chosen vector that does not exist", place),
-            11 => write!(
+            (Rule::Numbers, _) => write!(f, "vector {} names an action or a chosen vector that does not exist", at),
+            (Rule::Range, _) => write!(
                 f,
                 "an entry of vector {0}, or corner {0}, or the value of point {0} is outside its level's range",
-                place
+                at
             ),
-            12 => write!(f, "the weights of point {} total less than 1 or more than 100", place),
-            13 => write!(f, "vector {} has an entry above its backup; lower it, or choose other vectors", place),
-            14 => write!(f, "corner {} is below its backup; raise it", place),
-            15 => write!(f, "point {} is below its backup; raise its value", place),
-            16 => write!(f, "no level was accepted yet, so there are no totals; offer one first"),
-            17 => write!(f, "a mixture's weights are 0 to 1,000,000 each, and not all 0"),
-            18 => write!(
+            (Rule::PointTotal, _) => write!(f, "the weights of point {} total less than 1 or more than 100", at),
+            (Rule::VectorBackup, _) => {
+                write!(f, "vector {} has an entry above its backup; lower it, or choose other vectors", at)
+            }
+            (Rule::CornerBackup, _) => write!(f, "corner {} is below its backup; raise it", at),
+            (Rule::PointBackup, _) => write!(f, "point {} is below its backup; raise its value", at),
+            (Rule::NoLevel, _) => write!(f, "no level was accepted yet, so there are no totals; offer one first"),
+            (Rule::Mixture, _) => write!(f, "a mixture's weights are 0 to 1,000,000 each, and not all 0"),
+            (Rule::Graph, _) => write!(
                 f,
                 "the plan graph has no node or over 32, or node {} names an action or next node that does not exist, or \
                  the node, state or steps asked for are outside their limits",
-                place
+                at
             ),
-            100 => write!(f, "the buffer lent for the answer is too short; it needs {} words", place),
-            _ => write!(f, "no such refusal is known"),
+            (Rule::Room, _) => write!(f, "a slice lent for the answer is too short; it needs {}", at),
         }
     }
 }

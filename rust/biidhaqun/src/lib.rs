@@ -6,7 +6,11 @@
 //! levels were accepted.
 //!
 //! The calls are those of a static library in which each is proved to meet its contract, never to fault, and to end,
-//! whatever it is handed; a [`Refusal`] says which rule was broken and where.
+//! whatever it is handed; a [`Refusal`] says which rule was broken and where. What each type promises, and what of it is
+//! proved, stands with the type. The library keeps nothing between calls and allocates nothing; its calls may be made from
+//! any thread.
+//!
+//! The types are handles over [`slices`], the layout that the library takes: a C program lends the same.
 //!
 //! ```
 //! use biidhaqun::{Certifier, Model, Points};
@@ -30,7 +34,7 @@
 //!
 //! // A level whose floor is too high is refused, and what stands stays.
 //! let mut wrong = certifier.build(&Points::default())?;
-//! wrong.vectors[1].entries[0] += 1;
+//! wrong.entries_mut(1)[0] += 1;
 //! let refusal = certifier.offer(&wrong).unwrap_err();
 //! assert!(refusal.to_string().starts_with("refused 13 at 1"));
 //! assert_eq!(certifier.level(), 3);
@@ -38,28 +42,33 @@
 //! # }
 //! ```
 
+// Without the calls there is the layout, and what serves the calls is idle.
+#![cfg_attr(not(feature = "linked"), allow(dead_code))]
+
+#[cfg(feature = "linked")]
 mod certifier;
 mod error;
+#[cfg(feature = "linked")]
 mod ffi;
+mod level;
+#[cfg(feature = "linked")]
+mod model;
 mod parts;
 mod rule;
 mod shape;
-mod units;
+pub mod slices;
+mod totals;
 
-pub use certifier::{Certifier, Model, Totals};
-pub use error::{Error, Length, Refusal};
-pub use parts::{Graph, Level, Mixture, Node, Point, Points, Vector};
+#[cfg(feature = "linked")]
+pub use certifier::Certifier;
+pub use error::{Error, Length, Place, Refusal};
+pub use level::{Level, Point, Vector};
+#[cfg(feature = "linked")]
+pub use model::{Action, Model};
+pub use parts::{Graph, Mixture, Points};
 pub use rule::Rule;
 pub use shape::Shape;
-pub use units::{Bracket, Units};
+pub use totals::{Bracket, Totals, Units};
 
-/// The six calls on words of any content, as the library has them.
-///
-/// Whatever is handed in, a call ends without fault. One that is served writes its answer at the front of the buffer lent
-/// for it and leaves the rest as it was; one that is not leaves every buffer as it was.
-pub mod words {
-    pub use crate::ffi::{build, offer, open, read, totals, worth, Ended, EndedTotals, EndedWorth};
-}
-
-#[cfg(test)]
+#[cfg(all(test, feature = "linked"))]
 mod tests;

@@ -1,79 +1,70 @@
 //! Document 01's refusals by name.
 
-use crate::error::Refusal;
+use std::fmt;
 
-/// The rule that a refusal is about.
-#[derive(Clone, Copy, Debug, PartialEq, Eq, PartialOrd, Ord, Hash)]
-#[non_exhaustive]
-pub enum Rule {
-    /// 1: a file has at most 32,768 bytes.
-    FileLength,
-    /// 2: each word of a file fits its form.
-    Form,
-    /// 3: counts, indices, start numbers, probabilities, discount and rewards are within their limits.
-    Limit,
-    /// 4: the start numbers total 1.
-    StartTotal,
-    /// 5: each row of T totals 1.
-    TransitionTotal,
-    /// 6: each row of O totals 1.
-    ObservationTotal,
-    /// 7: a certifier handed in is within its limits.
-    Certifier,
-    /// 8: at most 100 levels are accepted.
-    Levels,
-    /// 9: a level has 1 to 32 vectors and at most 32 points, and the builder is given at most 16.
-    LevelSize,
-    /// 10: actions and chosen vectors exist.
-    Numbers,
-    /// 11: entries, corners and point values are within their level's range.
-    Range,
-    /// 12: a point's weights total 1 to 100.
-    PointTotal,
-    /// 13: no entry is above its backup.
-    VectorBackup,
-    /// 14: no corner is below its backup.
-    CornerBackup,
-    /// 15: no point is below its backup.
-    PointBackup,
-    /// 16: totals are asked above level 0.
-    NoLevel,
-    /// 17: a mixture's weights are at most 1,000,000, and not all 0.
-    Mixture,
-    /// 18: a plan graph, and what is asked of it, are within their limits.
-    Graph,
-    /// 100: the buffer lent for an answer has room for it.
-    Buffer,
+/// Lists the rules: the number of the refusal, the name, and what it says.
+macro_rules! rules {
+    ($($number:literal $name:ident: $text:literal,)*) => {
+        /// The rule that a refusal is about: what holds where it is not refused. [`Rule::number`] is its number among document
+        /// 01's.
+        #[derive(Clone, Copy, Debug, PartialEq, Eq, PartialOrd, Ord, Hash)]
+        #[non_exhaustive]
+        pub enum Rule {
+            $(#[doc = concat!(stringify!($number), ": ", $text, ".")] $name,)*
+        }
+
+        impl Rule {
+            /// All of them, by number.
+            pub const ALL: &'static [Rule] = &[$(Rule::$name,)*];
+
+            /// The number.
+            pub fn number(self) -> u64 {
+                match self {
+                    $(Rule::$name => $number,)*
+                }
+            }
+
+            /// The rule in words.
+            pub fn text(self) -> &'static str {
+                match self {
+                    $(Rule::$name => $text,)*
+                }
+            }
+        }
+    };
+}
+
+rules! {
+    1 FileLength: "a file has at most 32,768 bytes",
+    2 Form: "each word of a file fits its form, and none is missing",
+    3 Limit: "counts, indices, start numbers, probabilities, discount and rewards are within their limits",
+    4 StartTotal: "the start numbers total 1",
+    5 TransitionTotal: "each row of T totals 1",
+    6 ObservationTotal: "each row of O totals 1",
+    7 Certifier: "the tables and the standing level of a certifier are within their limits, and at most 100 levels stand",
+    8 Levels: "at most 100 levels are accepted",
+    9 LevelSize: "a level has 1 to 32 vectors and at most 32 points, the builder is given at most 16, and slices have room",
+    10 Numbers: "actions and chosen vectors exist",
+    11 Range: "entries, corners and point values are within their level's range",
+    12 PointTotal: "a point's weights total 1 to 100",
+    13 VectorBackup: "no entry is above its backup",
+    14 CornerBackup: "no corner is below its backup",
+    15 PointBackup: "no point is below its backup",
+    16 NoLevel: "totals are asked above level 0",
+    17 Mixture: "a mixture has a weight for each state, each is at most 1,000,000, and not all are 0",
+    18 Graph: "a plan graph, and the node, state and steps asked for, are within their limits",
+    100 Room: "the slices that a file is read into have room",
 }
 
 impl Rule {
-    /// All of them with their numbers, in order.
-    pub const ALL: [(u64, Rule); 19] = [
-        (1, Rule::FileLength),
-        (2, Rule::Form),
-        (3, Rule::Limit),
-        (4, Rule::StartTotal),
-        (5, Rule::TransitionTotal),
-        (6, Rule::ObservationTotal),
-        (7, Rule::Certifier),
-        (8, Rule::Levels),
-        (9, Rule::LevelSize),
-        (10, Rule::Numbers),
-        (11, Rule::Range),
-        (12, Rule::PointTotal),
-        (13, Rule::VectorBackup),
-        (14, Rule::CornerBackup),
-        (15, Rule::PointBackup),
-        (16, Rule::NoLevel),
-        (17, Rule::Mixture),
-        (18, Rule::Graph),
-        (100, Rule::Buffer),
-    ];
+    /// The rule of this number.
+    pub fn of(number: u64) -> Option<Rule> {
+        Rule::ALL.iter().copied().find(|rule| rule.number() == number)
+    }
 }
 
-impl Refusal {
-    /// The rule that was broken, if the number is a known one.
-    pub fn rule(&self) -> Option<Rule> {
-        Rule::ALL.iter().find(|(number, _)| *number == self.number).map(|&(_, rule)| rule)
+impl fmt::Display for Rule {
+    fn fmt(&self, f: &mut fmt::Formatter) -> fmt::Result {
+        f.write_str(self.text())
     }
 }

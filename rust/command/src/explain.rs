@@ -162,9 +162,9 @@ const EXPLANATIONS: &[Explanation] = &[
     },
     Explanation {
         number: 100,
-        means: "The buffer lent for the answer is too short. Only programs that call the library meet this.",
-        place: "the length that it needs, in words",
-        causes: &["include/biidhaqun.h has the lengths that always do."],
+        means: "A slice that a file is read into is too short. Only programs that call the library meet this.",
+        place: "the length that it needs",
+        causes: &["include/biidhaqun.h has room that always does."],
     },
 ];
 

@@ -116,10 +116,10 @@ pub const LEVELS: u64 = 3;
 
 /// A weight for each state.
 #[derive(Clone, Debug, PartialEq, Eq)]
-pub struct Weights(pub Vec<u64>);
+pub struct Weights(pub Vec<u32>);
 
 fn weights(text: &str) -> Result<Weights, String> {
-    let weight = |word: &str| word.trim().parse().map_err(|_| format!("`{}` is no whole number", word));
+    let weight = |word: &str| word.trim().parse().map_err(|_| format!("`{}` is no whole number below 2^32", word));
     text.split(',').map(weight).collect::<Result<_, _>>().map(Weights)
 }
 

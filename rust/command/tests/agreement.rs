@@ -14,7 +14,7 @@ const SEED: u64 = 7;
 fn agree(case: &Case) {
     match (Model::read(&case.file), judge(&case.file)) {
         (Err(refusal), Err(trouble)) => {
-            assert_eq!((refusal.number, refusal.place), (trouble.number, trouble.place), "{}", case.about);
+            assert_eq!((refusal.number(), refusal.place.number()), (trouble.number, trouble.place), "{}", case.about);
             for mark in &trouble.told.marks {
                 assert!(mark.span.end <= case.file.len(), "{}", case.about);
             }
@@ -34,12 +34,12 @@ fn agree(case: &Case) {
             for action in 0..shape.actions {
                 for state in 0..shape.states {
                     let row: Vec<i64> =
-                        (0..shape.states).map(|to| model.transition(action, state, to) as i64).collect();
+                        (0..shape.states).map(|to| model.transition(state, action, to) as i64).collect();
                     assert_eq!(row, draft.transitions.numbers(action, state), "{}", case.about);
                     let row: Vec<i64> =
                         (0..shape.observations).map(|seen| model.observation(action, state, seen) as i64).collect();
                     assert_eq!(row, draft.observations.numbers(action, state), "{}", case.about);
-                    assert_eq!([model.reward(action, state)], draft.rewards.numbers(action, state), "{}", case.about);
+                    assert_eq!([model.reward(state, action)], draft.rewards.numbers(action, state), "{}", case.about);
                 }
             }
         }

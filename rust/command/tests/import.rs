@@ -17,7 +17,7 @@ fn example(name: &str) -> Vec<u8> {
 }
 
 /// A file of the literature as the command imports it, the model that the library reads of it, and its start weights.
-fn imported(name: &str) -> (String, Model, Vec<u64>) {
+fn imported(name: &str) -> (String, Model, Vec<u32>) {
     let path = format!("examples/cassandra/{}.POMDP", name);
     let arguments = ["import", &path, "--round"];
     let output = Command::cargo_bin("biidhaqun").unwrap().current_dir(root()).args(arguments).output().unwrap();
@@ -28,7 +28,7 @@ fn imported(name: &str) -> (String, Model, Vec<u64>) {
 }
 
 /// What is certified of a model at its start, in the lines of `ladder`.
-fn certified(model: &Model, start: &[u64], levels: usize) -> String {
+fn certified(model: &Model, start: &[u32], levels: usize) -> String {
     let mut certifier = Certifier::open(model).unwrap();
     let mut lines = String::new();
     for number in 1..=levels {
@@ -71,10 +71,10 @@ fn the_crying_baby_looks_ahead_as_in_its_book() {
     let vectors = [[-3.7, -15.0], [-2.0, -21.0]];
     // Feed, sing, ignore.
     for (action, expected) in [-11.8, -14.0, -13.9].into_iter().enumerate() {
-        let mut worth: f64 = (0..2).map(|state| 0.5 * model.reward(action, state) as f64 / 100.0).sum();
+        let mut worth: f64 = (0..2).map(|state| 0.5 * model.reward(state, action) as f64 / 100.0).sum();
         for seen in 0..2 {
             let weight = |to: usize| -> f64 {
-                let reached: u64 = (0..2).map(|state| model.transition(action, state, to)).sum();
+                let reached: u64 = (0..2).map(|state| model.transition(state, action, to)).sum();
                 0.5 * (reached * model.observation(action, to, seen)) as f64 / 1e6
             };
             let best =
@@ -92,7 +92,7 @@ fn the_corridor_has_the_beliefs_of_its_paper() {
     let mut belief = vec![1.0 / 3.0, 1.0 / 3.0, 0.0, 1.0 / 3.0];
     for expected in [[0.100, 0.450, 0.000, 0.450], [0.100, 0.164, 0.000, 0.736]] {
         let reached = |to: usize| -> f64 {
-            let from = |state: usize| belief[state] * model.transition(0, state, to) as f64;
+            let from = |state: usize| belief[state] * model.transition(state, 0, to) as f64;
             (0..4).map(from).sum::<f64>() * model.observation(0, to, 0) as f64
         };
         let next: Vec<f64> = (0..4).map(reached).collect();
@@ -103,7 +103,7 @@ fn the_corridor_has_the_beliefs_of_its_paper() {
         }
     }
     // Reaching the goal earns 1: expected rewards are its probability.
-    assert_eq!((model.reward(0, 1), model.reward(0, 3), model.reward(1, 3)), (90, 10, 90));
+    assert_eq!((model.reward(1, 0), model.reward(3, 0), model.reward(3, 1)), (90, 10, 90));
 }
 
 #[test]
@@ -111,8 +111,8 @@ fn the_machine_is_rounded_as_is_said() {
     let (text, model, start) = imported("machine");
     assert_eq!(start, [100, 0, 0]);
     assert_eq!((model.observation(1, 0, 0), model.observation(1, 0, 1)), (903, 97));
-    assert_eq!((model.reward(0, 0), model.reward(0, 1)), (90, 48));
-    assert_eq!((model.transition(3, 2, 0), model.transition(2, 1, 0)), (1_000, 1_000));
+    assert_eq!((model.reward(0, 0), model.reward(1, 0)), (90, 48));
+    assert_eq!((model.transition(2, 3, 0), model.transition(1, 2, 0)), (1_000, 1_000));
     assert!(
         text.contains("# O: 1 of 12 rows rounded to thousandths that total 1; the largest change is 0.0005"),
         "{}",
@@ -126,15 +126,15 @@ fn the_mazes() {
     let (_, cheese, start) = imported("cheese");
     assert_eq!(start, [10, 10, 10, 10, 10, 10, 10, 10, 10, 10, 0]);
     assert_eq!(
-        (cheese.transition(1, 6, 10), cheese.transition(2, 0, 1), cheese.transition(3, 10, 4)),
+        (cheese.transition(6, 1, 10), cheese.transition(0, 2, 1), cheese.transition(10, 3, 4)),
         (1_000, 1_000, 100)
     );
-    assert_eq!((cheese.reward(1, 6), cheese.reward(0, 6), cheese.observation(2, 9, 5)), (100, 0, 1_000));
+    assert_eq!((cheese.reward(6, 1), cheese.reward(6, 0), cheese.observation(2, 9, 5)), (100, 0, 1_000));
     let (_, maze, start) = imported("four-by-three");
-    assert_eq!(start.iter().sum::<u64>(), 100);
+    assert_eq!(start.iter().sum::<u32>(), 100);
     assert_eq!((start[3], start[6]), (0, 0));
-    assert_eq!((maze.transition(2, 2, 3), maze.transition(0, 3, 0), maze.transition(0, 3, 1)), (800, 112, 111));
-    assert_eq!((maze.reward(0, 0), maze.reward(1, 3), maze.reward(2, 6)), (-4, 100, -100));
+    assert_eq!((maze.transition(2, 2, 3), maze.transition(3, 0, 0), maze.transition(3, 0, 1)), (800, 112, 111));
+    assert_eq!((maze.reward(0, 0), maze.reward(3, 1), maze.reward(6, 2)), (-4, 100, -100));
 }
 
 /// The names are shown in place of numbers, or beside them.
@@ -213,7 +213,7 @@ fn every_form_of_r() {
     let rest = "T: * : * 0.25 0.75 O: * uniform";
     let reward = |statements: &str| {
         let model = model(&format!("{} {}", statements, rest));
-        [(0, 0), (0, 1), (1, 0), (1, 1)].map(|(action, state)| model.reward(action, state))
+        [(0, 0), (0, 1), (1, 0), (1, 1)].map(|(action, state)| model.reward(state, action))
     };
     assert_eq!(reward("R: * : * : * : * -1.5"), [-150; 4]);
     assert_eq!(reward("R: listen : left : right : * 4"), [300, 0, 0, 0]);

@@ -2,14 +2,18 @@
 
 pub mod bracket;
 pub mod calls;
+pub mod copied;
 pub mod files;
 pub mod gen;
-pub mod library;
+pub mod lent;
+#[cfg(feature = "library")]
+pub mod linked;
 pub mod options;
 pub mod program;
 pub mod rng;
 pub mod show;
+pub mod single;
 pub mod suites;
+pub mod through;
 pub mod ticks;
 pub mod traps;
-pub mod words;

@@ -10,7 +10,8 @@
 //! - `ticks`: levels built and offered in turn, each entry held against what the plan named by its vector earns,
 //! - `calls`: storage of any content, lists of offers up to level 100 and past it, used with `--library` and `--traps`,
 //! - `ends`: storage with every number at an end of its range, for the largest sums, used with `--library`,
-//! - `words`: one call on words of any content and length, every buffer compared whole, used with `--library`.
+//! - `slices`: one call on slices of any content and length, each compared whole, used with `--library`,
+//! - `lengths`: served calls with each slice in turn one short, empty, exact and longer, used with `--library`.
 //!
 //! From the root of the repository: `rust/target/release/compare target/bin/ladder`; with the feature `library`,
 //! `rust/target/release/compare --library`.
@@ -82,7 +83,7 @@ fn run(options: &Options) -> io::Result<bool> {
 /// Compares the linked library.
 #[cfg(feature = "library")]
 fn library(options: &Options) -> io::Result<bool> {
-    compare::suites::run(options, &compare::library::Linked)
+    compare::suites::run(options, &compare::linked::Linked)
 }
 
 #[cfg(not(feature = "library"))]

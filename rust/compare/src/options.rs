@@ -9,10 +9,11 @@ usage: compare LADDER [OPTIONS]     compare the program at the path LADDER with 
        compare --self [OPTIONS]     compare the reference with itself
   --seed N         the seed of the random cases (default 1)
   --seconds N      go on with random cases until so many seconds have passed (default: a fixed number of cases)
-  --traps          show that each trap is caught: a copy of the rules with that trap must differ
-  --only SUITE:N   one case alone: fixed:N, random:N, calls:N, plans:N, ticks:N, ends:N or words:N
+  --traps          show that deliberate mistakes are noticed: a copy of the rules, or of the interface, with one of them must
+                   differ from the program in files, and from the reference in calls; with --library, from the library
+  --only SUITE:N   one case alone: fixed:N, random:N, calls:N, plans:N, ticks:N, ends:N, slices:N or lengths:N
   --file PATH      one file alone
-  --save PATH      where to write the case that differs (the file, or the case in words)
+  --save PATH      where to write the case that differs (the file, or the case as text)
   --examples DIR   model files to compare as well (default: examples)";
 
 /// What was asked for.

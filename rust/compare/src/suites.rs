@@ -1,10 +1,12 @@
-//! The suites of calls, run against a library: files, storage, words, and all plans of small models.
+//! The suites of calls, run against a library: files, storage, slices, and all plans of small models.
 
-use crate::library::{self, ByWords, Call};
+use crate::copied::{Copied, Slip, BY_THE_DOCUMENT};
+use crate::lent::{Call, Library};
 use crate::options::Options;
 use crate::rng::Rng;
-use crate::words::{Copied, Slip, WordCalls};
-use crate::{bracket, calls, files, show, ticks};
+use crate::through::{self, Through};
+use crate::{bracket, calls, files, show, single, ticks};
+use reference::Trap;
 use std::collections::BTreeMap;
 use std::time::{Duration, Instant};
 use std::{fs, io};
@@ -13,20 +15,21 @@ use std::{fs, io};
 const FILES: u64 = 10_000;
 const CALLS: u64 = 5_000;
 const ENDS: u64 = 1_500;
-const WORDS: u64 = 15_000;
+const SLICES: u64 = 15_000;
+const LENGTHS: u64 = 600;
 const PLANS: u64 = 1_000;
 const CLIMBS: u64 = 500;
 
-/// How many calls on words each slip is looked for in.
+/// How many random cases a slip or a trap is looked for in.
 const HUNTED: u64 = 3_000;
 
 /// Does what was asked for; whether all was well.
-pub fn run(options: &Options, library: &dyn WordCalls) -> io::Result<bool> {
-    let mut suites = Suites { options, linked: library, through: ByWords::new(library), tally: BTreeMap::new() };
+pub fn run(options: &Options, library: &dyn Library) -> io::Result<bool> {
+    let mut suites = Suites { options, linked: library, tally: BTreeMap::new() };
     let well = if options.traps {
-        suites.slips()
+        suites.traps()
     } else if let Some(path) = &options.file {
-        suites.call("file", &library::reading(&fs::read(path)?))?
+        suites.call("file", &single::reading(&fs::read(path)?))?
     } else if let Some((suite, number)) = &options.only {
         suites.only(suite, *number)?
     } else {
@@ -40,10 +43,16 @@ pub fn run(options: &Options, library: &dyn WordCalls) -> io::Result<bool> {
 
 struct Suites<'a> {
     options: &'a Options,
-    linked: &'a dyn WordCalls,
-    through: ByWords<'a>,
-    /// How many calls on words ended in which way.
+    linked: &'a dyn Library,
+    /// How many single calls ended in which way.
     tally: BTreeMap<u64, u64>,
+}
+
+/// A copy with one mistake, and the first case that tells it from the library.
+struct Hunted {
+    name: String,
+    copy: Copied,
+    caught: Option<String>,
 }
 
 impl Suites<'_> {
@@ -56,13 +65,13 @@ impl Suites<'_> {
         let start = Instant::now();
         let fixed = files::fixed();
         for (number, case) in fixed.iter().enumerate() {
-            if !self.call(&format!("fixed:{}", number), &library::reading(&case.file))? {
+            if !self.call(&format!("fixed:{}", number), &single::reading(&case.file))? {
                 return Ok(false);
             }
         }
         let examples = files::examples(&self.options.examples, self.options.seed)?;
         for (name, case) in &examples {
-            if !self.call(name, &library::reading(&case.file))? {
+            if !self.call(name, &single::reading(&case.file))? {
                 return Ok(false);
             }
         }
@@ -73,7 +82,8 @@ impl Suites<'_> {
             ("random", FILES),
             ("calls", CALLS),
             ("ends", ENDS),
-            ("words", WORDS),
+            ("slices", SLICES),
+            ("lengths", LENGTHS),
             ("plans", PLANS),
             ("ticks", CLIMBS),
         ];
@@ -95,7 +105,7 @@ impl Suites<'_> {
         for (suite, _, count) in done {
             println!("{}: {}", suite, count);
         }
-        println!("calls on words, by the number that they end with:");
+        println!("single calls, by the number that they end with:");
         for (number, count) in &self.tally {
             println!("  {}: {}", number, count);
         }
@@ -112,13 +122,14 @@ impl Suites<'_> {
                 let index = usize::try_from(number).unwrap_or(usize::MAX);
                 let case = fixed.get(index).ok_or_else(|| unknown("there is no such fixed file"))?;
                 println!("{}\n{}", case.about, files::escaped(&case.file));
-                return self.call(&format!("fixed:{}", number), &library::reading(&case.file));
+                return self.call(&format!("fixed:{}", number), &single::reading(&case.file));
             }
             "random" => println!("{}", files::escaped(&files::random(&mut rng).file)),
             "calls" => print!("{}", calls::random(&mut rng, number).show()),
             "ends" => print!("{}", calls::at_ends(&mut rng, number).show()),
             "plans" => print!("{}", show::list(&bracket::random(&mut rng))),
-            "words" => print!("{}", library::random(&mut rng)),
+            "slices" => print!("{}", single::random(&mut rng)),
+            "lengths" => print!("{}", single::lengths(&mut rng, number)[0].0),
             "ticks" => print!("{}", ticks::random(&mut rng).show()),
             _ => return Err(unknown("there is no such suite")),
         }
@@ -130,31 +141,42 @@ impl Suites<'_> {
         let mut rng = self.rng(suite, number);
         let name = format!("{}:{}", suite, number);
         match suite {
-            "random" => self.call(&name, &library::reading(&files::random(&mut rng).file)),
-            "words" => self.call(&name, &library::random(&mut rng)),
+            "random" => self.call(&name, &single::reading(&files::random(&mut rng).file)),
+            "slices" => self.call(&name, &single::random(&mut rng)),
+            "lengths" => {
+                for (call, ends) in single::lengths(&mut rng, number) {
+                    let (answer, _) = call.made(self.linked);
+                    let wrong = ends.filter(|&(number, place)| answer[..2] != [number.into(), place as i128]);
+                    let wrong = wrong.map(|ends| format!("it ends with {:?}, not with {:?}", &answer[..2], ends));
+                    if !self.told(&name, wrong, || call.to_string())? || !self.call(&name, &call)? {
+                        return Ok(false);
+                    }
+                }
+                Ok(true)
+            }
             "calls" | "ends" => {
                 let case =
                     if suite == "calls" { calls::random(&mut rng, number) } else { calls::at_ends(&mut rng, number) };
-                let found = case.difference(&self.through).or_else(|| self.through.wrong());
+                let found = through::difference(&case, &BY_THE_DOCUMENT, self.linked, &mut rng);
                 self.told(&name, found, || case.show())
             }
             "ticks" => {
                 let climb = ticks::random(&mut rng);
-                let found = ticks::check(&climb, &self.through).err().or_else(|| self.through.wrong());
+                let found = ticks::check(&climb, &Through(self.linked)).err();
                 self.told(&name, found, || climb.show())
             }
             _ => {
                 let list = bracket::random(&mut rng);
-                let found = bracket::check(&list, &self.through).err().or_else(|| self.through.wrong());
+                let found = bracket::check(&list, &Through(self.linked)).err();
                 self.told(&name, found, || show::list(&list))
             }
         }
     }
 
-    /// Whether a call on words ends as by the reference, and leaves the same in every buffer.
+    /// Whether a call ends as by the reference, and leaves the same in every slice.
     fn call(&mut self, name: &str, call: &Call) -> io::Result<bool> {
-        *self.tally.entry(call.number()).or_insert(0) += 1;
-        self.told(name, call.difference(self.linked), || call.to_string())
+        *self.tally.entry(call.number(self.linked)).or_insert(0) += 1;
+        self.told(name, call.difference(&BY_THE_DOCUMENT, self.linked), || call.to_string())
     }
 
     /// Tells a difference, if there is one.
@@ -173,30 +195,80 @@ impl Suites<'_> {
         Ok(false)
     }
 
-    /// Whether a copy of the interface with one slip differs from the library, for every slip.
-    fn slips(&self) -> bool {
-        let mut left: Vec<Slip> = Slip::ALL.to_vec();
-        for number in 0..HUNTED {
-            let call = library::random(&mut self.rng("words", number));
-            let answer = call.made(self.linked);
-            if answer != call.made(&Copied::default()) {
-                println!("DIFFERENCE between the library and the reference in words:{}; run without --traps", number);
+    /// Whether the library differs from every copy with one mistake: slips of the interface in single calls, traps of the
+    /// reader in files, traps of the judging in calls on storage. In each case the library itself is held against the
+    /// document first.
+    fn traps(&self) -> bool {
+        let slips = Slip::ALL.iter().map(|&slip| (format!("{:?} ({})", slip, slip.text()), Copied::slipping(slip)));
+        let traps = |list: &[Trap]| -> Vec<Hunted> {
+            list.iter().map(|&trap| hunted((trap.to_string(), Copied::trapped(trap)))).collect()
+        };
+        let mut all = true;
+        let slips = slips.map(hunted).collect();
+        all &= self.hunt("slips of the interface, by single calls", HUNTED, slips, &|number| {
+            if number % 20 == 0 {
+                let calls = single::lengths(&mut self.rng("lengths", number / 20), number / 20);
+                let differs = move |one: &dyn Library, other: &dyn Library| {
+                    calls.iter().find_map(|(call, _)| call.difference(one, other))
+                };
+                return (format!("lengths:{}", number / 20), Box::new(differs));
+            }
+            let call = single::random(&mut self.rng("slices", number));
+            (format!("slices:{}", number), Box::new(move |one, other| call.difference(one, other)))
+        });
+        let fixed = files::fixed();
+        let cases = fixed.len() as u64 + HUNTED;
+        all &= self.hunt("traps of the reader, by files", cases, traps(Trap::READING), &|number| {
+            let (name, file) = match fixed.get(number as usize) {
+                Some(case) => (format!("fixed:{}", number), case.file.clone()),
+                None => (format!("random:{}", number), files::random(&mut self.rng("random", number)).file),
+            };
+            let call = single::reading(&file);
+            (name, Box::new(move |one, other| call.difference(one, other)))
+        });
+        let judging = traps(Trap::JUDGING);
+        all &= self.hunt("traps of the judging, by calls on storage", HUNTED, judging, &|number| {
+            let mut rng = self.rng("calls", number);
+            let case = calls::random(&mut rng, number);
+            let differs =
+                move |one: &dyn Library, other: &dyn Library| through::difference(&case, one, other, &mut rng.clone());
+            (format!("calls:{}", number), Box::new(differs))
+        });
+        all
+    }
+
+    /// Whether every copy is told from the library by one of the cases.
+    fn hunt(&self, what: &str, cases: u64, mut hunts: Vec<Hunted>, case: &dyn Fn(u64) -> (String, Differs)) -> bool {
+        for number in 0..cases {
+            if hunts.iter().all(|hunted| hunted.caught.is_some()) {
+                break;
+            }
+            let (name, differs) = case(number);
+            if differs(&BY_THE_DOCUMENT, self.linked).is_some() {
+                println!("DIFFERENCE between the library and the reference in {}; run without --traps", name);
                 return false;
             }
-            left.retain(|&slip| {
-                let caught = call.made(&Copied { slip: Some(slip) }) != answer;
-                if caught {
-                    println!("caught  {:?}: words:{}", slip, number);
+            for hunted in hunts.iter_mut().filter(|hunted| hunted.caught.is_none()) {
+                if differs(self.linked, &hunted.copy).is_some() {
+                    println!("caught  {}: {}", hunted.name, name);
+                    hunted.caught = Some(name.clone());
                 }
-                !caught
-            });
+            }
         }
-        for slip in &left {
-            println!("NOT CAUGHT  {:?}", slip);
+        let left: Vec<&Hunted> = hunts.iter().filter(|hunted| hunted.caught.is_none()).collect();
+        for hunted in &left {
+            println!("NOT CAUGHT  {}", hunted.name);
         }
-        println!("{} slips of the interface: {} caught", Slip::ALL.len(), Slip::ALL.len() - left.len());
+        println!("{}: {} of {} caught", what, hunts.len() - left.len(), hunts.len());
         left.is_empty()
     }
+}
+
+/// How two differ in a case.
+type Differs = Box<dyn Fn(&dyn Library, &dyn Library) -> Option<String>>;
+
+fn hunted((name, copy): (String, Copied)) -> Hunted {
+    Hunted { name, copy, caught: None }
 }
 
 fn unknown(what: &str) -> io::Error {
@@ -206,21 +278,47 @@ fn unknown(what: &str) -> io::Error {
 #[cfg(test)]
 mod tests {
     use super::*;
+    use std::collections::BTreeSet;
 
     #[test]
-    fn a_copy_passes_and_its_slips_are_caught() {
+    fn a_copy_passes_and_its_mistakes_are_caught() {
         let words = ["--library", "--examples", "nowhere"].iter().map(|word| word.to_string());
         let mut options = Options::parse(words).unwrap();
-        let copy = Copied::default();
-        for only in [("fixed", 3), ("random", 5), ("calls", 7), ("ends", 1), ("plans", 2), ("words", 11), ("ticks", 3)]
-        {
-            options.only = Some((only.0.to_string(), only.1));
-            assert!(run(&options, &copy).unwrap());
+        let one = [("fixed", 3), ("random", 5), ("calls", 7), ("ends", 1), ("plans", 2), ("slices", 11), ("ticks", 3)];
+        let lengths = (0..6).map(|number| ("lengths", number));
+        for (suite, number) in one.into_iter().chain(lengths) {
+            options.only = Some((suite.to_string(), number));
+            assert!(run(&options, &BY_THE_DOCUMENT).unwrap(), "{}:{}", suite, number);
         }
         options.only = None;
         options.traps = true;
-        assert!(run(&options, &copy).unwrap());
+        assert!(run(&options, &BY_THE_DOCUMENT).unwrap());
         options.traps = false;
-        assert!(!run(&options, &Copied { slip: Some(Slip::TailCleared) }).unwrap());
+        assert!(!run(&options, &Copied::slipping(Slip::PastCleared)).unwrap());
+    }
+
+    #[test]
+    fn every_end_of_a_single_call_occurs() {
+        let mut seen = BTreeSet::new();
+        for number in 0..3_000 {
+            let call = single::random(&mut Rng::for_case(3, "slices", number));
+            assert!(!call.to_string().is_empty());
+            seen.insert(call.number(&BY_THE_DOCUMENT));
+        }
+        // 1 and 4 are of files alone, which have tests of their own.
+        let all: BTreeSet<u64> = [0, 2, 3, 100].into_iter().chain(5..=18).collect();
+        assert!(seen.is_superset(&all), "{:?}", seen);
+    }
+
+    #[test]
+    fn the_copy_answers_as_the_reference() {
+        for number in 0..300 {
+            let case = calls::random(&mut Rng::for_case(3, "calls", number), number);
+            assert_eq!(case.difference(&Through(&BY_THE_DOCUMENT)), None, "calls:{}", number);
+        }
+        for number in 0..40 {
+            let list = bracket::random(&mut Rng::for_case(3, "plans", number));
+            assert!(bracket::check(&list, &Through(&BY_THE_DOCUMENT)).is_ok());
+        }
     }
 }

@@ -32,9 +32,10 @@ impl Hunt {
 
 /// Runs the suites against every trap; false if one is caught by none of them.
 ///
-/// Files are answered by the program that is compared, and by the copy in the reference's stead. Calls are compared between
-/// the copy and the reference. In the third suite the copy is held against all plans of small models, in the fourth against
-/// the plans that its vectors name.
+/// Files are answered by the program that is compared, and by the copy in the reference's stead. The other suites show what
+/// the comparison notices, not what the program does: calls are compared between the copy and the reference, in the third
+/// suite the copy is held against all plans of small models, in the fourth against the plans that its vectors name. With
+/// `--library` there is a hunt in which the library itself is told from the copies (`suites.rs`).
 pub fn run(answerer: &Answerer, seed: u64) -> io::Result<bool> {
     let hunt = |trap: Trap, reading: bool| Hunt { trap, reading, files: None, calls: None, plans: None, ticks: None };
     let judging = Trap::JUDGING.iter().map(|&trap| hunt(trap, false));
@@ -90,7 +91,7 @@ pub fn run(answerer: &Answerer, seed: u64) -> io::Result<bool> {
     }
     let caught_by = |suite: fn(&Hunt) -> bool| hunts.iter().filter(|hunt| suite(hunt)).count();
     println!(
-        "{} traps: {} caught by files, {} by calls, {} by plans, {} by ticks",
+        "{} traps: {} told from the program by files; copy against reference: {} by calls, {} by plans, {} by ticks",
         hunts.len(),
         caught_by(|hunt| hunt.files.is_some()),
         caught_by(|hunt| hunt.calls.is_some()),

@@ -72,12 +72,8 @@ pub fn corner(count: usize, state: usize) -> Vec<BigInt> {
 }
 
 /// What is kept of an array of which the first `used` cells count: those, then zeros.
-pub fn kept<Cell: Copy + Default>(cells: &[Cell], used: usize, rules: &Rules) -> Vec<Cell> {
-    let mut kept = cells.to_vec();
-    if !rules.has(Trap::PastCountsKept) {
-        for cell in &mut kept[used..] {
-            *cell = Cell::default();
-        }
-    }
+pub fn kept<Cell: Copy + Default>(cells: &[Cell], used: usize) -> Vec<Cell> {
+    let mut kept = cells[..used].to_vec();
+    kept.resize(cells.len(), Cell::default());
     kept
 }

@@ -139,18 +139,18 @@ impl Level {
     }
 
     /// What is stored of an accepted level: what the rules read, and 0 past the counts.
-    fn stored(&self, model: &Model, rules: &Rules) -> Level {
+    fn stored(&self, model: &Model) -> Level {
         let vectors = self.vectors as usize;
         let points = self.points as usize;
         Level {
             vectors: self.vectors,
-            actions: kept(&self.actions, vectors, rules),
-            choices: kept(&self.choices, vectors * model.k, rules),
-            entries: kept(&self.entries, vectors * model.n, rules),
-            corners: kept(&self.corners, model.n, rules),
+            actions: kept(&self.actions, vectors),
+            choices: kept(&self.choices, vectors * model.k),
+            entries: kept(&self.entries, vectors * model.n),
+            corners: kept(&self.corners, model.n),
             points: self.points,
-            weights: kept(&self.weights, points * model.n, rules),
-            values: kept(&self.values, points, rules),
+            weights: kept(&self.weights, points * model.n),
+            values: kept(&self.values, points),
         }
     }
 }
@@ -158,7 +158,7 @@ impl Level {
 /// What the weights of a point total.
 fn total(point: &[u64], rules: &Rules) -> BigInt {
     if rules.has(Trap::SumsWrap) {
-        BigInt::from(point.iter().fold(0, |sum: u64, &weight| sum.wrapping_add(weight)))
+        BigInt::from(point.iter().fold(0, |sum: u32, &weight| sum.wrapping_add(weight as u32)))
     } else {
         weights(point).iter().sum()
     }
@@ -228,7 +228,7 @@ pub fn vector_backup(model: &Model, standing: &Lists, s: usize, a: usize, choice
 /// Opens a certifier on tables, or refuses them with 3, 5 or 6. It stands at level 0.
 pub fn open(tables: &Tables, rules: &Rules) -> Result<Certifier, Refusal> {
     Model::of(tables, rules)?;
-    Ok(Certifier { tables: tables.stored(rules), standing: Level::fresh(), level: 0 })
+    Ok(Certifier { tables: tables.stored(), standing: Level::fresh(), level: 0 })
 }
 
 /// 7: the certifier handed in is within the limits of 3, 5, 6, 9, 11 and 12, each standing vector has an action, and its
@@ -294,7 +294,7 @@ fn judge(certifier: &Certifier, offered: &Level, rules: &Rules) -> Result<Level,
     if !offered.counts_fit() {
         return Err(Refusal::at(9, 0));
     }
-    let stored = offered.stored(&model, rules);
+    let stored = offered.stored(&model);
     if rules.has(Trap::AcceptAll) {
         return Ok(stored);
     }

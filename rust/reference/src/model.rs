@@ -130,12 +130,12 @@ impl Tables {
     }
 
     /// What is stored of tables within the limits: entries past the counts are 0.
-    pub fn stored(&self, rules: &Rules) -> Tables {
+    pub fn stored(&self) -> Tables {
         let (transitions, sights, rewards) = self.cells_used();
         Tables {
-            transitions: kept(&self.transitions, transitions, rules),
-            sights: kept(&self.sights, sights, rules),
-            rewards: kept(&self.rewards, rewards, rules),
+            transitions: kept(&self.transitions, transitions),
+            sights: kept(&self.sights, sights),
+            rewards: kept(&self.rewards, rewards),
             ..self.clone()
         }
     }

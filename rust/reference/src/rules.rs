@@ -88,7 +88,6 @@ traps! {
         SightRowsFirst: "6 is tested before 5",
         ProbabilityUnlimited: "probabilities in tables have no limit of their own",
         RowsBySixteen: "a row's place counts 16 states to an action",
-        PastCountsKept: "what stands past the counts is stored",
         // Levels.
         WithoutThirteen: "vectors are accepted without their inequality",
         WithoutFourteen: "corners are accepted without their inequality",
@@ -113,7 +112,7 @@ traps! {
         HundredEarly: "100 levels are said to stand at 99",
         StandingChoicesRead: "7 reads the standing level's choices",
         FreshOnly: "7 refuses any level 0 but the fresh one",
-        SumsWrap: "weights are added in 64 bits",
+        SumsWrap: "weights are added in 32 bits",
         LargestRatio: "a point's drop is its largest ratio",
         SmallestDrop: "the ceiling takes the smallest drop",
         // Totals.

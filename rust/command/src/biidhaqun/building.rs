@@ -1,7 +1,7 @@
 //! Levels that are built at points, offered, and asked at mixtures.
 
 use crate::stop::Stop;
-use biidhaqun::{Certifier, Error, Mixture, Model, Points};
+use biidhaqun::{Certifier, Error, Mixture, Model, Points, Rule};
 use command::files;
 use command::names::Named;
 use command::options::{Built, Weights, LEVELS};
@@ -77,11 +77,12 @@ impl Building {
             Error::Refused(refusal) => refusal,
             Error::Length(length) => return Stop::Usage(length.to_string()),
         };
-        let note = match (refusal.number, self.points.get(refusal.place)) {
-            (12, Some(point)) => {
-                format!("point {} is {}, which total {}", refusal.place, joined(&point.weights), point.total())
+        let at = refusal.place.number();
+        let note = match (refusal.rule, self.points.get(at)) {
+            (Rule::PointTotal, Some(point)) => {
+                format!("point {} is {}, which total {}", at, joined(&point.weights), point.total())
             }
-            (9, _) => format!("there are {} points", self.points.len()),
+            (Rule::LevelSize, _) => format!("there are {} points", self.points.len()),
             _ => "this command should not meet such a refusal, which is an error of ours: please report it".to_string(),
         };
         Stop::Refused { refusal, note }
@@ -102,8 +103,8 @@ pub fn fitting(option: &str, list: &[Weights], states: usize) -> Result<Vec<Mixt
 }
 
 /// Weights as they are written in options: `50,50`.
-pub fn joined(weights: &[u64]) -> String {
-    let words: Vec<String> = weights.iter().map(u64::to_string).collect();
+pub fn joined(weights: &[u32]) -> String {
+    let words: Vec<String> = weights.iter().map(u32::to_string).collect();
     words.join(",")
 }
 

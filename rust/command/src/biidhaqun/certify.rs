@@ -4,16 +4,18 @@ use crate::building::{self, joined, progress};
 use crate::levels::{self, Certified};
 use crate::shortfall;
 use crate::stop::{put, Stop};
-use biidhaqun::{Certifier, Error, Level, Mixture, Point, Vector};
+use biidhaqun::{Certifier, Error, Length, Level, Mixture, Shape};
 use command::files;
 use command::options::Weights;
+use num_traits::Bounded;
 use serde_json::Value;
 use std::path::Path;
 
 pub fn run(path: &Path, offers: &Path, asked: &[Weights], json: bool) -> Result<(), Stop> {
     let (model, start, named) = building::read(path, !json)?;
     let file = files::read(offers).map_err(Stop::File)?;
-    let levels = parsed(&file).map_err(|message| Stop::Levels(format!("{}: {}", offers.display(), message)))?;
+    let levels =
+        parsed(&file, model.shape()).map_err(|message| Stop::Levels(format!("{}: {}", offers.display(), message)))?;
     let mixtures = match asked {
         [] => vec![start],
         _ => building::fitting("--at", asked, model.shape().states)?,
@@ -47,41 +49,61 @@ pub fn run(path: &Path, offers: &Path, asked: &[Weights], json: bool) -> Result<
 }
 
 /// The levels of a JSON object, as `levels --json` prints them: `levels`, each with `vectors`, `corners` and `points`.
-fn parsed(file: &[u8]) -> Result<Vec<Level>, String> {
+fn parsed(file: &[u8], shape: Shape) -> Result<Vec<Level>, String> {
     let value: Value = serde_json::from_slice(file).map_err(|error| error.to_string())?;
     let list = value.get("levels").and_then(Value::as_array).ok_or("it has no list `levels`")?;
     let one = |(number, value): (usize, &Value)| {
-        level(value).ok_or_else(|| {
-            format!(
-                "level {} is not of the form {{\"vectors\": [{{\"action\", \"choices\", \"entries\"}}], \"corners\": [], \
-                 \"points\": [{{\"weights\", \"value\"}}]}} in whole numbers",
-                number + 1
-            )
-        })
+        let wrong = |length: Length| format!("level {}: {}", number + 1, length);
+        level(value, shape).map_or_else(
+            || {
+                Err(format!(
+                    "level {} is not of the form {{\"vectors\": [{{\"action\", \"choices\", \"entries\"}}], \"corners\": \
+                     [], \"points\": [{{\"weights\", \"value\"}}]}} in whole numbers",
+                    number + 1
+                ))
+            },
+            |level| level.map_err(wrong),
+        )
     };
     list.iter().enumerate().map(one).collect()
 }
 
-fn level(value: &Value) -> Option<Level> {
+/// The level of a value, if it is of the form; whether its lists are as long as the model wants.
+fn level(value: &Value, shape: Shape) -> Option<Result<Level, Length>> {
     let vector = |value: &Value| {
-        Some(Vector {
-            action: whole(value.get("action")?)?,
-            choices: list(value.get("choices")?, whole)?,
-            entries: list(value.get("entries")?, Value::as_i64)?,
-        })
+        Some((
+            natural(value.get("action")?)?,
+            list(value.get("choices")?, natural)?,
+            list(value.get("entries")?, Value::as_i64)?,
+        ))
     };
-    let point = |value: &Value| {
-        Some(Point { weights: list(value.get("weights")?, Value::as_u64)?, value: value.get("value")?.as_i64()? })
-    };
-    Some(Level {
-        vectors: list(value.get("vectors")?, vector)?,
-        corners: list(value.get("corners")?, Value::as_i64)?,
-        points: list(value.get("points")?, point)?,
-    })
+    let point = |value: &Value| Some((list(value.get("weights")?, natural)?, value.get("value")?.as_i64()?));
+    let vectors: Vec<(u8, Vec<u16>, Vec<i64>)> = list(value.get("vectors")?, vector)?;
+    let points: Vec<(Vec<u32>, i64)> = list(value.get("points")?, point)?;
+    let corners = list(value.get("corners")?, Value::as_i64)?;
+    Some(made(shape, &vectors, &corners, &points))
 }
 
-fn whole(value: &Value) -> Option<usize> {
-    value.as_u64().and_then(|number| usize::try_from(number).ok())
+fn made(
+    shape: Shape,
+    vectors: &[(u8, Vec<u16>, Vec<i64>)],
+    corners: &[i64],
+    points: &[(Vec<u32>, i64)],
+) -> Result<Level, Length> {
+    let mut level = Level::new(shape);
+    for (action, choices, entries) in vectors {
+        level.add_vector(*action, choices, entries)?;
+    }
+    level.set_corners(corners)?;
+    for (weights, value) in points {
+        level.add_point(weights, *value)?;
+    }
+    Ok(level)
+}
+
+/// A whole number that is not below 0. One that its type does not hold is outside every limit, as the largest of the type is.
+fn natural<Number: TryFrom<u64> + Bounded>(value: &Value) -> Option<Number> {
+    value.as_u64().map(|number| Number::try_from(number).unwrap_or_else(|_| Number::max_value()))
 }
 
 fn list<Item>(value: &Value, item: impl Fn(&Value) -> Option<Item>) -> Option<Vec<Item>> {

@@ -9,7 +9,7 @@ use std::path::Path;
 pub fn run(path: &Path) -> Result<(), Stop> {
     let (model, start, named) = building::read(path, false)?;
     let shape = model.shape();
-    let start: Vec<String> = start.weights.iter().map(|&weight| shown(weight as i64, 2)).collect();
+    let start: Vec<String> = start.weights.iter().map(|&weight| shown(i64::from(weight), 2)).collect();
     put(&format!(
         "{}: accepted\n  {}\n  {}\n  {}\n  discount {}, start {}\n",
         path.display(),

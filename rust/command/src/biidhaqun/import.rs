@@ -1,7 +1,7 @@
 //! `import`: a file in Cassandra's format as a model file that the library reads.
 
 use crate::stop::{put, Stop};
-use biidhaqun::Model;
+use biidhaqun::{Model, Rule};
 use command::cassandra::{self, Fitted};
 use command::files;
 use command::model_file::Counts;
@@ -34,23 +34,23 @@ pub fn run(path: &Path, round: bool, out: Option<&Path>) -> Result<(), Stop> {
 /// What was written is read by the library, with the same numbers.
 fn tested(fitted: &Fitted, text: &str) -> Result<(), Stop> {
     let (model, start) = Model::read(text.as_bytes()).map_err(|refusal| {
-        let note = match refusal.number {
-            1 => format!("the model file would have {} bytes; shorter names help", text.len()),
+        let note = match refusal.rule {
+            Rule::FileLength => format!("the model file would have {} bytes; shorter names help", text.len()),
             _ => "the importer wrote a file that is not read, which is an error of ours: please report it".to_string(),
         };
         Stop::Refused { refusal, note }
     })?;
     let Counts { states, actions, observations } = fitted.counts;
-    let mut same = start.weights.iter().map(|&weight| weight as i64).eq(fitted.start.iter().copied());
+    let mut same = start.weights.iter().map(|&weight| i64::from(weight)).eq(fitted.start.iter().copied());
     same &= model.discount() as i64 == fitted.discount;
     for action in 0..actions {
         for state in 0..states {
             let row = action * states + state;
-            let left = (0..states).map(|to| model.transition(action, state, to) as i64);
+            let left = (0..states).map(|to| model.transition(state, action, to) as i64);
             let seen = (0..observations).map(|seen| model.observation(action, state, seen) as i64);
             same &= left.eq(fitted.transitions[row].iter().copied());
             same &= seen.eq(fitted.observations[row].iter().copied());
-            same &= model.reward(action, state) == fitted.rewards[row];
+            same &= model.reward(state, action) == fitted.rewards[row];
         }
     }
     if same {

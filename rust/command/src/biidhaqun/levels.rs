@@ -85,7 +85,7 @@ fn tables(certified: &Certified) -> String {
 fn about(named: &Named, mixture: &Mixture) -> String {
     let mut text = joined(&mixture.weights);
     if !named.states.all().is_empty() {
-        let part = |(state, weight): (usize, &u64)| format!("{} {}", named.states.or_number(state), weight);
+        let part = |(state, weight): (usize, &u32)| format!("{} {}", named.states.or_number(state), weight);
         let parts: Vec<String> =
             mixture.weights.iter().enumerate().filter(|(_, &weight)| weight > 0).map(part).collect();
         text.push_str(&format!(" ({})", parts.join(", ")));
@@ -117,15 +117,14 @@ fn object(certified: &Certified) -> String {
         let at: Vec<Value> =
             certified.mixtures.iter().zip(totals).map(|(mixture, totals)| at(mixture, totals)).collect();
         let vectors = level
-            .vectors
-            .iter()
+            .vectors()
             .map(|vector| json!({ "action": vector.action, "choices": vector.choices, "entries": vector.entries }));
-        let points = level.points.iter().map(|point| json!({ "weights": point.weights, "value": point.value }));
+        let points = level.points().map(|point| json!({ "weights": point.weights, "value": point.value }));
         json!({
             "level": number + 1,
             "at": at,
             "vectors": vectors.collect::<Vec<_>>(),
-            "corners": level.corners,
+            "corners": level.corners(),
             "points": points.collect::<Vec<_>>(),
         })
     };
@@ -148,7 +147,7 @@ fn object(certified: &Certified) -> String {
 /// A refusal as a JSON object.
 pub fn refused(refusal: &Refusal) -> String {
     let object = json!({
-        "refused": { "number": refusal.number, "place": refusal.place, "text": refusal.to_string() },
+        "refused": { "number": refusal.number(), "place": refusal.place.number(), "text": refusal.to_string() },
     });
     format!("{:#}\n", object)
 }

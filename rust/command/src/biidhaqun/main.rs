@@ -40,7 +40,7 @@ fn stopped(stop: &Stop, json: bool) -> i32 {
             if json {
                 print!("{}", levels::refused(refusal));
             } else if *line {
-                println!("refused {} at {}", refusal.number, refusal.place);
+                println!("refused {} at {}", refusal.number(), refusal.place.number());
             }
             report::model(path, file, refusal);
             exit::REFUSED
@@ -50,7 +50,7 @@ fn stopped(stop: &Stop, json: bool) -> i32 {
                 print!("{}", levels::refused(refusal));
             }
             eprintln!("biidhaqun: {}", refusal);
-            eprintln!("  {}\n  `biidhaqun explain {}` says more", note, refusal.number);
+            eprintln!("  {}\n  `biidhaqun explain {}` says more", note, refusal.number());
             exit::REFUSED
         }
         Stop::Source { path, file, told } => {

@@ -16,15 +16,15 @@ const LONG: usize = 400;
 /// library's own sentence is shown, and that the shell is wrong.
 pub fn model(path: &Path, file: &[u8], refusal: &Refusal) {
     match model_file::judge(file) {
-        Err(trouble) if (trouble.number, trouble.place) == (refusal.number, refusal.place) => {
-            let more = format!("refused by {} of document 01; `biidhaqun explain {0}` says more", refusal.number);
-            show(path, file, &trouble.told, Some(&refusal.number.to_string()), &[more]);
+        Err(trouble) if (trouble.number, trouble.place) == (refusal.number(), refusal.place.number()) => {
+            let more = format!("refused by {} of document 01; `biidhaqun explain {0}` says more", refusal.number());
+            show(path, file, &trouble.told, Some(&refusal.number().to_string()), &[more]);
         }
         other => {
             let told = Told { title: refusal.to_string(), marks: Vec::new(), notes: Vec::new() };
             let found = other.err().map_or("nothing".to_string(), |own| format!("{} at {}", own.number, own.place));
             let ours = format!("the explanation finds {} instead, which is an error of ours: please report it", found);
-            show(path, file, &told, Some(&refusal.number.to_string()), &[ours]);
+            show(path, file, &told, Some(&refusal.number().to_string()), &[ours]);
         }
     }
 }

@@ -20,11 +20,11 @@ struct Offer<'a> {
 pub fn told(model: &Model, named: &Named, certifier: &Certifier, level: &Level, refusal: &Refusal) -> Option<String> {
     let standing = certifier.standing();
     let offer = Offer { model, standing: &standing, level };
-    let at = refusal.place;
-    match refusal.rule()? {
+    let at = refusal.place.number();
+    match refusal.rule {
         Rule::VectorBackup => {
             let (state, ticks) = offer.vector(at)?;
-            let entry = level.vectors.get(at)?.entries.get(state)?;
+            let entry = level.vector(at)?.entries.get(state)?;
             Some(format!(
                 "vector {}: the entry of state {} is {}, {} above its backup; {} would pass",
                 at,
@@ -36,7 +36,7 @@ pub fn told(model: &Model, named: &Named, certifier: &Certifier, level: &Level, 
         }
         Rule::CornerBackup => {
             let (action, ticks) = offer.corner(at)?;
-            let corner = level.corners.get(at)?;
+            let corner = level.corners().get(at)?;
             Some(format!(
                 "corner {}: {} is {} below the backup of action {}; {} would pass",
                 named.states.with(at),
@@ -48,12 +48,12 @@ pub fn told(model: &Model, named: &Named, certifier: &Certifier, level: &Level, 
         }
         Rule::PointBackup => {
             let (action, short) = offer.point(at)?;
-            let point = level.points.get(at)?;
+            let point = level.point(at)?;
             Some(format!(
                 "point {}: its value {} (ticks x its total weight, {}) is {} below the backup of action {}; {} would pass",
                 at,
                 point.value,
-                point.weights.iter().sum::<u64>(),
+                point.weights.iter().sum::<u32>(),
                 short,
                 named.actions.with(action),
                 i128::from(point.value) + short
@@ -70,18 +70,19 @@ fn counted(ticks: i128) -> String {
 impl Offer<'_> {
     /// The state at which a vector's entry is furthest above its backup, and by how many ticks.
     fn vector(&self, number: usize) -> Option<(usize, i128)> {
-        let vector = self.level.vectors.get(number)?;
+        let vector = self.level.vector(number)?;
+        let action = usize::from(vector.action);
         let shape = self.model.shape();
         let above = |state: usize| -> Option<(usize, i128)> {
             let mut next = 0;
             for reached in 0..shape.states {
                 for observation in 0..shape.observations {
-                    let chosen = self.standing.vectors.get(*vector.choices.get(observation)?)?;
-                    let likely = self.successor(vector.action, state, reached, observation);
+                    let chosen = self.standing.vector(usize::from(*vector.choices.get(observation)?))?;
+                    let likely = self.successor(action, state, reached, observation);
                     next += likely * i128::from(*chosen.entries.get(reached)?);
                 }
             }
-            let reward = i128::from(self.model.reward(vector.action, state));
+            let reward = i128::from(self.model.reward(state, action));
             let backup = K * reward + i128::from(self.model.discount()) * next;
             Some((state, i128::from(*vector.entries.get(state)?) - backup.div_euclid(K)))
         };
@@ -93,23 +94,23 @@ impl Offer<'_> {
     fn corner(&self, state: usize) -> Option<(usize, i128)> {
         let mut weights = vec![0; self.model.shape().states];
         *weights.get_mut(state)? = 1;
-        self.below(&weights, *self.level.corners.get(state)?)
+        self.below(&weights, *self.level.corners().get(state)?)
     }
 
     /// The action whose backup a point's value is furthest below, and by how much: ticks times its total weight.
     fn point(&self, number: usize) -> Option<(usize, i128)> {
-        let point = self.level.points.get(number)?;
-        self.below(&point.weights, point.value)
+        let point = self.level.point(number)?;
+        self.below(point.weights, point.value)
     }
 
     /// K x R + g x the sum over o of the ceiling at q, for every action; how far the value is below the largest, rounded up.
-    fn below(&self, weights: &[u64], value: i64) -> Option<(usize, i128)> {
+    fn below(&self, weights: &[u32], value: i64) -> Option<(usize, i128)> {
         let shape = self.model.shape();
         let short = |action: usize| -> Option<(usize, i128)> {
             let mut next = 0;
             for observation in 0..shape.observations {
                 let weight = |reached: usize| -> i128 {
-                    let from = |(state, &weight): (usize, &u64)| {
+                    let from = |(state, &weight): (usize, &u32)| {
                         i128::from(weight) * self.successor(action, state, reached, observation)
                     };
                     weights.iter().enumerate().map(from).sum()
@@ -117,7 +118,7 @@ impl Offer<'_> {
                 next += self.ceiling(&(0..shape.states).map(weight).collect::<Vec<_>>())?;
             }
             let reward =
-                |(state, &weight): (usize, &u64)| i128::from(weight) * i128::from(self.model.reward(action, state));
+                |(state, &weight): (usize, &u32)| i128::from(weight) * i128::from(self.model.reward(state, action));
             let now: i128 = weights.iter().enumerate().map(reward).sum();
             let backup = K * now + i128::from(self.model.discount()) * next;
             // Rounded up: minus the floor of minus the backup.
@@ -129,18 +130,18 @@ impl Offer<'_> {
 
     /// T x O, in millionths.
     fn successor(&self, action: usize, state: usize, reached: usize, observation: usize) -> i128 {
-        i128::from(self.model.transition(action, state, reached))
+        i128::from(self.model.transition(state, action, reached))
             * i128::from(self.model.observation(action, reached, observation))
     }
 
     /// The standing level's sawtooth at some weights.
     fn ceiling(&self, weights: &[i128]) -> Option<i128> {
         let corners = |with: &mut dyn Iterator<Item = i128>| -> i128 {
-            self.standing.corners.iter().zip(with).map(|(&corner, weight)| i128::from(corner) * weight).sum()
+            self.standing.corners().iter().zip(with).map(|(&corner, weight)| i128::from(corner) * weight).sum()
         };
         let flat = corners(&mut weights.iter().copied());
         let mut largest = 0;
-        for point in &self.standing.points {
+        for point in self.standing.points() {
             let gain = corners(&mut point.weights.iter().map(|&weight| i128::from(weight))) - i128::from(point.value);
             if gain > 0 {
                 let ratios = point.weights.iter().zip(weights).filter(|(&part, _)| part > 0);
@@ -173,7 +174,7 @@ mod tests {
     fn refused(certifier: &Certifier, level: &Level) -> Option<(u64, usize)> {
         match certifier.clone().offer(level) {
             Ok(()) => None,
-            Err(Error::Refused(refusal)) => Some((refusal.number, refusal.place)),
+            Err(Error::Refused(refusal)) => Some((refusal.number(), refusal.place.number())),
             Err(Error::Length(length)) => panic!("{}", length),
         }
     }
@@ -189,40 +190,40 @@ mod tests {
                 let built = certifier.build(&Points { weights: vec![start.weights.clone(), vec![1, 2]] }).unwrap();
                 let standing = certifier.standing();
                 for by in [1, 2, 57, 1_000] {
-                    for (v, s) in (0..built.vectors.len()).flat_map(|v| [(v, 0), (v, 1)]) {
+                    for (v, s) in (0..built.vectors().count()).flat_map(|v| [(v, 0), (v, 1)]) {
                         let mut level = built.clone();
-                        level.vectors[v].entries[s] += by;
+                        level.entries_mut(v)[s] += by;
                         let offer = Offer { model: &model, standing: &standing, level: &level };
                         assert_eq!(refused(&certifier, &level), Some((13, v)));
                         let (state, short) = offer.vector(v).unwrap();
                         assert_eq!(state, s);
                         let mut moved = level.clone();
-                        moved.vectors[v].entries[s] -= short as i64;
+                        moved.entries_mut(v)[s] -= short as i64;
                         assert_eq!(refused(&certifier, &moved), None);
-                        moved.vectors[v].entries[s] += 1;
+                        moved.entries_mut(v)[s] += 1;
                         assert_eq!(refused(&certifier, &moved), Some((13, v)));
                         tried += 1;
                     }
                     for s in 0..2 {
                         let mut level = built.clone();
-                        level.corners[s] -= by;
+                        level.corners_mut()[s] -= by;
                         assert_eq!(refused(&certifier, &level), Some((14, s)));
                         let offer = Offer { model: &model, standing: &standing, level: &level };
                         let (_, short) = offer.corner(s).unwrap();
-                        level.corners[s] += short as i64;
+                        level.corners_mut()[s] += short as i64;
                         assert_eq!(refused(&certifier, &level), None);
-                        level.corners[s] -= 1;
+                        level.corners_mut()[s] -= 1;
                         assert_eq!(refused(&certifier, &level), Some((14, s)));
                     }
                     for j in 0..2 {
                         let mut level = built.clone();
-                        level.points[j].value -= by;
+                        *level.value_mut(j) -= by;
                         assert_eq!(refused(&certifier, &level), Some((15, j)));
                         let offer = Offer { model: &model, standing: &standing, level: &level };
                         let (_, short) = offer.point(j).unwrap();
-                        level.points[j].value += short as i64;
+                        *level.value_mut(j) += short as i64;
                         assert_eq!(refused(&certifier, &level), None);
-                        level.points[j].value -= 1;
+                        *level.value_mut(j) -= 1;
                         assert_eq!(refused(&certifier, &level), Some((15, j)));
                     }
                 }

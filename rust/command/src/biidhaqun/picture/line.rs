@@ -10,7 +10,7 @@ use plotters::prelude::{Cartesian2d, ChartBuilder, ChartContext, Rectangle, SVGB
 use plotters::style::{Color, RGBColor};
 
 /// How many parts the line of mixtures is sampled in.
-const PARTS: u64 = 400;
+const PARTS: u32 = 400;
 const FLOOR: RGBColor = RGBColor(0, 70, 140);
 const CEILING: RGBColor = RGBColor(180, 50, 0);
 

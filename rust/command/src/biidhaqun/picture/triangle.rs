@@ -10,17 +10,17 @@ use plotters::style::text_anchor::{HPos, Pos, VPos};
 use plotters::style::{IntoFont, TextStyle};
 
 /// How many parts a side of the triangle is sampled in.
-const PARTS: u64 = 48;
+const PARTS: u32 = 48;
 /// The height of a triangle whose sides are 1.
 const TALL: f64 = 0.866_025_403_784;
 
 pub fn mixtures() -> Vec<Mixture> {
-    let weights = |top: u64| (0..=PARTS - top).map(move |right| Mixture::new(&[PARTS - top - right, right, top]));
+    let weights = |top: u32| (0..=PARTS - top).map(move |right| Mixture::new(&[PARTS - top - right, right, top]));
     (0..=PARTS).flat_map(weights).collect()
 }
 
 /// Where a mixture stands: state 0 at the left, 1 at the right, 2 at the top.
-fn place(weights: &[u64]) -> (f64, f64) {
+fn place(weights: &[u32]) -> (f64, f64) {
     let share = |state: usize| weights[state] as f64 / PARTS as f64;
     (share(1) + 0.5 * share(2), TALL * share(2))
 }

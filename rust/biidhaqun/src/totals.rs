@@ -1,8 +1,23 @@
-//! Totals in units of reward.
+//! Totals, in ticks and in units of reward.
 
-use crate::certifier::Totals;
 use crate::parts::Mixture;
 use std::fmt;
+
+/// What is certified at a mixture, in ticks times the mixture's total weight; [`Totals::bracket`] has it in units of reward.
+///
+/// What is proved, where a [`Certifier`](crate::Certifier) gave it: no plan earns more than the upper total that has as many
+/// steps as levels were accepted, and some such plan that opens with the action earns the lower one.
+#[derive(Clone, Copy, Debug, PartialEq, Eq, Hash)]
+pub struct Totals {
+    /// Some plan that opens with the action earns at least this.
+    pub lower: i64,
+    /// No plan earns more than this.
+    pub upper: i64,
+    /// The upper total less the lower one.
+    pub gap: i64,
+    /// The action to open with.
+    pub action: usize,
+}
 
 /// Ten-thousandths in a unit, and in a tick.
 const UNIT: i64 = 10_000;
@@ -41,13 +56,6 @@ pub struct Bracket {
     pub floor: Units,
     /// No plan earns more than this on average: the upper total, rounded up.
     pub ceiling: Units,
-}
-
-impl Mixture {
-    /// The total of the weights.
-    pub fn total(&self) -> u64 {
-        self.weights.iter().fold(0, |total, &weight| total.saturating_add(weight))
-    }
 }
 
 impl Totals {

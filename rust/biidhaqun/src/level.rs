@@ -1,0 +1,191 @@
+//! Levels.
+
+use crate::error::Length;
+use crate::shape::Shape;
+use crate::slices;
+use std::fmt;
+
+/// A level: floors, and a sawtooth ceiling by corners and points.
+///
+/// Anyone may make one, of any content; it promises nothing until a [`Certifier`](crate::Certifier) accepts it. What is
+/// proved of an accepted one: each vector is a floor under what some plan earns that opens with its action, and the ceiling
+/// of its corners and points lies above what every plan earns.
+///
+/// It lies in slices as the library takes them, and is handed over without being copied.
+///
+/// ```
+/// use biidhaqun::{Level, Shape};
+///
+/// let mut level = Level::new(Shape { states: 2, actions: 2, observations: 2 });
+/// level.add_vector(0, &[0, 0], &[-100, -100])?;
+/// level.add_vector(1, &[0, 0], &[-1_000, 600])?;
+/// level.set_corners(&[-100, 600])?;
+/// level.add_point(&[1, 1], 500)?;
+/// assert_eq!(level.vector(1).map(|vector| vector.entries[1]), Some(600));
+/// assert_eq!(level.to_string(), "\
+/// vector 0: action 0, choices [0, 0], entries [-100, -100]
+/// vector 1: action 1, choices [0, 0], entries [-1000, 600]
+/// corners [-100, 600]
+/// point 0: weights [1, 1], value 500
+/// ");
+/// # Ok::<(), biidhaqun::Length>(())
+/// ```
+#[derive(Clone, Debug, PartialEq, Eq, Hash)]
+pub struct Level {
+    pub(crate) states: usize,
+    pub(crate) observations: usize,
+    pub(crate) slices: slices::Level,
+}
+
+/// An alpha vector of a level.
+#[derive(Clone, Copy, Debug, PartialEq, Eq, Hash)]
+pub struct Vector<'a> {
+    /// The action that a plan of this vector opens with.
+    pub action: u8,
+    /// For each observation, the number of the level below's vector to go on with.
+    pub choices: &'a [u16],
+    /// For each state, the floor in ticks (hundredths of a reward unit).
+    pub entries: &'a [i64],
+}
+
+/// A point of a level: the ceiling at some weights.
+#[derive(Clone, Copy, Debug, PartialEq, Eq, Hash)]
+pub struct Point<'a> {
+    /// A weight for each state; they total 1 to 100.
+    pub weights: &'a [u32],
+    /// The ceiling there, in ticks times the total of the weights.
+    pub value: i64,
+}
+
+impl Level {
+    /// A level for models of these counts, with no vectors, no points, and corners of 0.
+    pub fn new(shape: Shape) -> Level {
+        let Shape { states, observations, .. } = shape;
+        Level { states, observations, slices: slices::Level::zeros(states, observations, 0, 0) }
+    }
+
+    /// The level in slices. What lies past its counts is cut off.
+    pub(crate) fn of(mut slices: slices::Level, states: usize, observations: usize) -> Level {
+        slices.actions.truncate(slices.vectors);
+        slices.choices.truncate(slices.vectors * observations);
+        slices.entries.truncate(slices.vectors * states);
+        slices.corners.truncate(states);
+        slices.weights.truncate(slices.points * states);
+        slices.values.truncate(slices.points);
+        Level { states, observations, slices }
+    }
+
+    /// The slices.
+    pub fn slices(&self) -> &slices::Level {
+        &self.slices
+    }
+
+    /// Adds an alpha vector, if it has a choice for each observation and an entry for each state.
+    pub fn add_vector(&mut self, action: u8, choices: &[u16], entries: &[i64]) -> Result<(), Length> {
+        let number = Some(self.slices.vectors);
+        Length::test("choices of vector", number, choices.len(), self.observations)?;
+        Length::test("entries of vector", number, entries.len(), self.states)?;
+        self.slices.vectors += 1;
+        self.slices.actions.push(action);
+        self.slices.choices.extend_from_slice(choices);
+        self.slices.entries.extend_from_slice(entries);
+        Ok(())
+    }
+
+    /// Sets the corners, if there is one for each state.
+    pub fn set_corners(&mut self, corners: &[i64]) -> Result<(), Length> {
+        Length::test("corners of the level", None, corners.len(), self.states)?;
+        self.slices.corners.copy_from_slice(corners);
+        Ok(())
+    }
+
+    /// Adds a point, if it has a weight for each state.
+    pub fn add_point(&mut self, weights: &[u32], value: i64) -> Result<(), Length> {
+        Length::test("weights of point", Some(self.slices.points), weights.len(), self.states)?;
+        self.slices.points += 1;
+        self.slices.weights.extend_from_slice(weights);
+        self.slices.values.push(value);
+        Ok(())
+    }
+
+    /// The vectors in turn.
+    pub fn vectors(&self) -> impl Iterator<Item = Vector<'_>> {
+        (0..self.slices.vectors).filter_map(move |number| self.vector(number))
+    }
+
+    /// The vector with this number.
+    pub fn vector(&self, number: usize) -> Option<Vector<'_>> {
+        Some(Vector {
+            action: *self.slices.actions.get(number)?,
+            choices: row(&self.slices.choices, number, self.observations)?,
+            entries: row(&self.slices.entries, number, self.states)?,
+        })
+    }
+
+    /// For each state, the ceiling in ticks where all weight is on it.
+    pub fn corners(&self) -> &[i64] {
+        &self.slices.corners
+    }
+
+    /// The points in turn.
+    pub fn points(&self) -> impl Iterator<Item = Point<'_>> {
+        (0..self.slices.points).filter_map(move |number| self.point(number))
+    }
+
+    /// The point with this number.
+    pub fn point(&self, number: usize) -> Option<Point<'_>> {
+        Some(Point {
+            weights: row(&self.slices.weights, number, self.states)?,
+            value: *self.slices.values.get(number)?,
+        })
+    }
+
+    /// The action of a vector, to be changed. Panics if there is no such vector, as indexing does; so do the others.
+    pub fn action_mut(&mut self, vector: usize) -> &mut u8 {
+        &mut self.slices.actions[vector]
+    }
+
+    /// The choices of a vector, to be changed.
+    pub fn choices_mut(&mut self, vector: usize) -> &mut [u16] {
+        &mut self.slices.choices[vector * self.observations..(vector + 1) * self.observations]
+    }
+
+    /// The entries of a vector, to be changed.
+    pub fn entries_mut(&mut self, vector: usize) -> &mut [i64] {
+        &mut self.slices.entries[vector * self.states..(vector + 1) * self.states]
+    }
+
+    /// The corners, to be changed.
+    pub fn corners_mut(&mut self) -> &mut [i64] {
+        &mut self.slices.corners
+    }
+
+    /// The weights of a point, to be changed.
+    pub fn weights_mut(&mut self, point: usize) -> &mut [u32] {
+        &mut self.slices.weights[point * self.states..(point + 1) * self.states]
+    }
+
+    /// The value of a point, to be changed.
+    pub fn value_mut(&mut self, point: usize) -> &mut i64 {
+        &mut self.slices.values[point]
+    }
+}
+
+/// A row of cells.
+fn row<Cell>(cells: &[Cell], number: usize, width: usize) -> Option<&[Cell]> {
+    cells.get(number * width..(number + 1) * width)
+}
+
+/// A line for each vector, for the corners, and for each point.
+impl fmt::Display for Level {
+    fn fmt(&self, f: &mut fmt::Formatter) -> fmt::Result {
+        for (number, Vector { action, choices, entries }) in self.vectors().enumerate() {
+            writeln!(f, "vector {}: action {}, choices {:?}, entries {:?}", number, action, choices, entries)?;
+        }
+        writeln!(f, "corners {:?}", self.corners())?;
+        for (number, Point { weights, value }) in self.points().enumerate() {
+            writeln!(f, "point {}: weights {:?}, value {}", number, weights, value)?;
+        }
+        Ok(())
+    }
+}

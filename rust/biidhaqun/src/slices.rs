@@ -1,0 +1,213 @@
+//! The layout: what the library's calls are lent, in slices of their own types, and what they answer.
+//!
+//! A slice is packed by the counts, the last index fastest, and may be longer than that: what lies behind is neither read
+//! nor written. n stands for the model's states, m for its actions, k for its observations.
+//!
+//! What is handed in may hold anything and have any length. With the feature `linked`, this module has the calls themselves
+//! too: [`read`], [`open`], [`offer`], [`totals`], [`each`], [`build`] and [`worth`]. Each is proved to answer, and to leave in what
+//! it is lent, what its definitions say; one that is refused leaves all as it was.
+//!
+//! A slice that is too short is refused: one of the tables by 3 at 0 where they are opened or a worth is asked, else by 7;
+//! one of a certifier by 7 for what stands (its choices are read by no call, and not asked for), by 9 for what is to stand;
+//! one of an offered level, of points, of a level to be built or of answers by 9; a mixture, or several, by 17; one of a plan graph by 18; one that
+//! a file is read into by 100, and the place is then the length that it needs.
+
+#[cfg(feature = "linked")]
+pub use crate::ffi::{build, each, offer, open, read, totals, worth};
+
+/// Most states, actions, observations, vectors and points of a level, points to build at, nodes and steps of a plan graph,
+/// levels, and bytes of a file.
+pub const STATES: usize = 16;
+pub const ACTIONS: usize = 8;
+pub const OBSERVATIONS: usize = 8;
+pub const VECTORS: usize = 32;
+pub const POINTS: usize = 32;
+pub const BUILT_POINTS: usize = 16;
+pub const NODES: usize = 32;
+pub const STEPS: usize = 4;
+pub const LEVELS: usize = 100;
+pub const FILE_BYTES: usize = 32_768;
+
+/// Tables: a model in thousandths and ticks.
+#[derive(Clone, Debug, Default, PartialEq, Eq, Hash)]
+pub struct Tables {
+    /// 1 to 16.
+    pub states: usize,
+    /// 1 to 8.
+    pub actions: usize,
+    /// 1 to 8.
+    pub observations: usize,
+    /// In thousandths.
+    pub discount: u64,
+    /// T in thousandths, by action, state left and state reached: m × n × n.
+    pub transition: Vec<u16>,
+    /// O in thousandths, by action, state reached and observation: m × n × k.
+    pub observation: Vec<u16>,
+    /// R in ticks, by action and state: m × n.
+    pub reward: Vec<i64>,
+}
+
+impl Tables {
+    /// Room for the tables of any model.
+    pub fn roomy() -> Tables {
+        Tables {
+            transition: vec![0; ACTIONS * STATES * STATES],
+            observation: vec![0; ACTIONS * STATES * OBSERVATIONS],
+            reward: vec![0; ACTIONS * STATES],
+            ..Tables::default()
+        }
+    }
+
+    /// Whether the counts are within their limits.
+    pub fn counts_fit(&self) -> bool {
+        (1..=STATES).contains(&self.states)
+            && (1..=ACTIONS).contains(&self.actions)
+            && (1..=OBSERVATIONS).contains(&self.observations)
+    }
+}
+
+/// What a certifier keeps between calls: how many levels were accepted, and the last of them.
+#[derive(Clone, Debug, Default, PartialEq, Eq, Hash)]
+pub struct Certifier {
+    /// The number of accepted levels, and the vectors and points of the last of them: 3.
+    pub state: Vec<usize>,
+    /// By vector.
+    pub actions: Vec<u8>,
+    /// By vector and observation. They are kept, and read by no call.
+    pub choices: Vec<u16>,
+    /// In ticks, by vector and state.
+    pub entries: Vec<i64>,
+    /// In ticks, by state.
+    pub corners: Vec<i64>,
+    /// By point and state.
+    pub weights: Vec<u32>,
+    /// In ticks times the point's total weight, by point.
+    pub values: Vec<i64>,
+}
+
+impl Certifier {
+    /// Room for any level of models with so many states and observations.
+    pub fn roomy(states: usize, observations: usize) -> Certifier {
+        let level = Level::roomy(states, observations);
+        Certifier {
+            state: vec![0; 3],
+            actions: level.actions,
+            choices: level.choices,
+            entries: level.entries,
+            corners: level.corners,
+            weights: level.weights,
+            values: level.values,
+        }
+    }
+}
+
+/// A level: offered, or to be built.
+#[derive(Clone, Debug, Default, PartialEq, Eq, Hash)]
+pub struct Level {
+    /// 1 to 32.
+    pub vectors: usize,
+    /// 0 to 32.
+    pub points: usize,
+    /// By vector.
+    pub actions: Vec<u8>,
+    /// Vectors of the level below, by vector and observation.
+    pub choices: Vec<u16>,
+    /// In ticks, by vector and state.
+    pub entries: Vec<i64>,
+    /// In ticks, by state.
+    pub corners: Vec<i64>,
+    /// By point and state.
+    pub weights: Vec<u32>,
+    /// In ticks times the point's total weight, by point.
+    pub values: Vec<i64>,
+}
+
+impl Level {
+    /// Room for any level of models with so many states and observations.
+    pub fn roomy(states: usize, observations: usize) -> Level {
+        Level::zeros(states, observations, VECTORS, POINTS)
+    }
+
+    /// A level of zeros, without counts, with room for so many vectors and points.
+    pub fn zeros(states: usize, observations: usize, vectors: usize, points: usize) -> Level {
+        Level {
+            vectors: 0,
+            points: 0,
+            actions: vec![0; vectors],
+            choices: vec![0; vectors * observations],
+            entries: vec![0; vectors * states],
+            corners: vec![0; states],
+            weights: vec![0; points * states],
+            values: vec![0; points],
+        }
+    }
+}
+
+/// A plan graph.
+#[derive(Clone, Debug, Default, PartialEq, Eq, Hash)]
+pub struct Graph {
+    /// 1 to 32.
+    pub nodes: usize,
+    /// By node.
+    pub actions: Vec<u8>,
+    /// By node and observation.
+    pub next: Vec<u16>,
+}
+
+/// How a call ended: 0, or the number of a refusal with its place.
+#[repr(C)]
+#[derive(Clone, Copy, Debug, Default, PartialEq, Eq, Hash)]
+pub struct Refusal {
+    pub number: u64,
+    pub place: usize,
+}
+
+/// How reading a file ended, and the counts and discount that it read; these are 0 where it is refused.
+#[repr(C)]
+#[derive(Clone, Copy, Debug, Default, PartialEq, Eq, Hash)]
+pub struct Reading {
+    pub number: u64,
+    pub place: usize,
+    pub states: usize,
+    pub actions: usize,
+    pub observations: usize,
+    pub discount: u64,
+}
+
+/// How totals ended, and what they are, in ticks times the mixture's total weight; 0 where they are refused.
+#[repr(C)]
+#[derive(Clone, Copy, Debug, Default, PartialEq, Eq, Hash)]
+pub struct Totals {
+    pub number: u64,
+    pub place: usize,
+    pub lower: i64,
+    pub upper: i64,
+    pub gap: i64,
+    pub action: usize,
+}
+
+/// The answers at many mixtures, each at its mixture's number: what [`totals`] answers there.
+#[derive(Clone, Debug, Default, PartialEq, Eq, Hash)]
+pub struct Answers {
+    /// 0, or 17 for a mixture that is refused; the others are then 0.
+    pub numbers: Vec<u8>,
+    pub lower: Vec<i64>,
+    pub upper: Vec<i64>,
+    pub actions: Vec<u8>,
+}
+
+impl Answers {
+    /// Room for so many.
+    pub fn roomy(count: usize) -> Answers {
+        Answers { numbers: vec![0; count], lower: vec![0; count], upper: vec![0; count], actions: vec![0; count] }
+    }
+}
+
+/// How a worth ended, and what it is; 0 where it is refused.
+#[repr(C)]
+#[derive(Clone, Copy, Debug, Default, PartialEq, Eq, Hash)]
+pub struct Worth {
+    pub number: u64,
+    pub place: usize,
+    pub ticks: i64,
+}

@@ -1,0 +1,501 @@
+//! The library's calls by the reference, or by a copy of it with one deliberate mistake.
+//!
+//! A slice that is too short counts as one whose object breaks its first limit: tables without counts (3, or 7), a level
+//! without vectors (7 where it stands, 9 where it is offered or has no room), too many points (9), no weights (17), no nodes
+//! (18). What is written is written at the front of the slices; the rest stays.
+
+use crate::gen::{Question, DOCUMENT};
+use crate::lent::{narrowed, stored, Cell, Library};
+use biidhaqun::slices::{Answers, Certifier, Graph, Level, Reading, Refusal, Tables, Totals, Worth};
+use reference::{Rules, BUILT_POINTS, NODES, OBSERVATIONS, POINTS, STATES, VECTORS};
+
+/// Lists the slips with a sentence each.
+macro_rules! slips {
+    ($($name:ident: $text:literal,)*) => {
+        /// One deliberate mistake in the interface, so that the comparison can be shown to fail.
+        #[derive(Clone, Copy, Debug, PartialEq, Eq)]
+        pub enum Slip {
+            $(#[doc = $text] $name,)*
+        }
+
+        impl Slip {
+            pub const ALL: &'static [Slip] = &[$(Slip::$name,)*];
+
+            /// What is done wrong.
+            pub fn text(self) -> &'static str {
+                match self {
+                    $(Slip::$name => $text,)*
+                }
+            }
+        }
+    };
+}
+
+slips! {
+    ShortPasses: "a short slice passes, as if zeros followed",
+    OneShortPasses: "a slice that is one short passes",
+    OneMoreAsked: "a slice must have one cell more than is needed",
+    LongerRefused: "a slice that is longer than needed is refused",
+    StandingChoicesAsked: "7 asks for choices as many as what stands has, although no call reads them",
+    ReceivingAtTheEnd: "a certifier's room for an offered level is asked for after the level is judged",
+    BuiltRoomAtTheEnd: "a built level's room is asked for after the points are judged",
+    RoomFirst: "room for level 0 is asked for before the tables are judged",
+    RoomByHundred: "a slice too short for level 0 gets 100",
+    NoLength: "100 comes without the length that is needed",
+    LastShortSlice: "100 comes with the length of the last short slice",
+    ReadInParts: "what has room is read although a slice is too short",
+    RefusalClears: "a refusal clears what is lent to be written",
+    PastCleared: "what lies past what is written is cleared",
+    PastCopied: "an accepted level's slices are copied over whole",
+    NumberKept: "an acceptance is not counted",
+    CountsKept: "an accepted level's counts are not written",
+    OpeningClearsPoints: "opening clears the weights and values",
+    RefusedTotals: "refused totals carry numbers",
+    OneRefusesAll: "a refused mixture among many refuses them all",
+    LaterAnswersLeft: "what comes after a refused mixture is not answered",
+    RefusedReading: "a refused reading carries counts",
+    RefusedWorth: "a refused worth carries ticks",
+    RowsBySixteen: "entries and weights are packed by 16 states",
+    StateInOtherOrder: "a state is the levels, the points, the vectors",
+}
+
+/// The library's calls by the reference with these rules; by default they are the document's, and nothing slips.
+#[derive(Clone, Copy, Debug, Default)]
+pub struct Copied {
+    pub rules: Rules,
+    pub slip: Option<Slip>,
+}
+
+const NINE: reference::Refusal = reference::Refusal { number: 9, place: 0 };
+
+fn refused(refusal: reference::Refusal) -> Refusal {
+    Refusal { number: refusal.number.into(), place: refusal.place as usize }
+}
+
+/// How long the slices of a level are at least.
+struct Needed {
+    vectors: usize,
+    choices: usize,
+    entries: usize,
+    states: usize,
+    weights: usize,
+    points: usize,
+}
+
+impl Needed {
+    fn of(vectors: usize, points: usize, n: usize, k: usize) -> Needed {
+        Needed { vectors, choices: vectors * k, entries: vectors * n, states: n, weights: points * n, points }
+    }
+}
+
+impl Copied {
+    /// The copy with one slip.
+    pub fn slipping(slip: Slip) -> Copied {
+        Copied { slip: Some(slip), ..Copied::default() }
+    }
+
+    /// The copy with one trap.
+    pub fn trapped(trap: reference::Trap) -> Copied {
+        Copied { rules: Rules::broken(trap), ..Copied::default() }
+    }
+
+    fn has(&self, slip: Slip) -> bool {
+        self.slip == Some(slip)
+    }
+
+    /// Whether a slice is long enough.
+    fn long<Of>(&self, slice: &[Of], needed: usize) -> bool {
+        match self.slip {
+            Some(Slip::ShortPasses) => true,
+            Some(Slip::OneShortPasses) => slice.len() + 1 >= needed,
+            Some(Slip::OneMoreAsked) => slice.len() > needed,
+            Some(Slip::LongerRefused) => slice.len() == needed,
+            _ => slice.len() >= needed,
+        }
+    }
+
+    fn tables(&self, lent: &Tables) -> reference::Tables {
+        let mut tables = reference::Tables::zero();
+        if !lent.counts_fit() {
+            return tables;
+        }
+        tables.states = lent.states as u64;
+        tables.actions = lent.actions as u64;
+        tables.observations = lent.observations as u64;
+        tables.discount = lent.discount;
+        let (t, o, r) = tables.cells_used();
+        if !(self.long(&lent.transition, t) && self.long(&lent.observation, o) && self.long(&lent.reward, r)) {
+            return reference::Tables::zero();
+        }
+        tables.transitions = stored(&lent.transition, t, tables.transitions.len());
+        tables.sights = stored(&lent.observation, o, tables.sights.len());
+        tables.rewards = stored(&lent.reward, r, tables.rewards.len());
+        tables
+    }
+
+    /// A level in slices, or none where a count is outside its limit or a slice is too short.
+    fn level(&self, lent: &Level, n: usize, k: usize) -> reference::Level {
+        let none = reference::Level::zero();
+        if lent.vectors < 1 || lent.vectors > VECTORS || lent.points > POINTS {
+            return none;
+        }
+        let needed = Needed::of(lent.vectors, lent.points, n, k);
+        let long = self.long(&lent.actions, needed.vectors)
+            && self.long(&lent.choices, needed.choices)
+            && self.long(&lent.entries, needed.entries)
+            && self.long(&lent.corners, needed.states)
+            && self.long(&lent.weights, needed.weights)
+            && self.long(&lent.values, needed.points);
+        if !long {
+            return none;
+        }
+        let mut level = reference::Level {
+            vectors: lent.vectors as u64,
+            actions: stored(&lent.actions, needed.vectors, VECTORS),
+            choices: stored(&lent.choices, needed.choices, VECTORS * OBSERVATIONS),
+            entries: stored(&lent.entries, needed.entries, VECTORS * STATES),
+            corners: stored(&lent.corners, needed.states, STATES),
+            points: lent.points as u64,
+            weights: stored(&lent.weights, needed.weights, POINTS * STATES),
+            values: stored(&lent.values, needed.points, POINTS),
+        };
+        if self.has(Slip::RowsBySixteen) {
+            for v in 0..lent.vectors {
+                for s in 0..n {
+                    level.entries[v * n + s] = lent.entries.get(v * STATES + s).copied().unwrap_or(0);
+                }
+            }
+            for j in 0..lent.points {
+                for s in 0..n {
+                    level.weights[j * n + s] = lent.weights.get(j * STATES + s).copied().unwrap_or(0).into();
+                }
+            }
+        }
+        level
+    }
+
+    /// What stands. Its choices are not read, so they are not asked for.
+    fn standing(&self, tables: &Tables, lent: &Certifier) -> reference::Certifier {
+        let tables = self.tables(tables);
+        let (n, k) = (tables.states as usize, tables.observations as usize);
+        let at = |at: usize| lent.state.get(at).copied().unwrap_or(0);
+        let (vectors, points) = if self.has(Slip::StateInOtherOrder) { (at(2), at(1)) } else { (at(1), at(2)) };
+        let choices = stored(&lent.choices, vectors.min(VECTORS) * k, vectors.min(VECTORS) * k);
+        let level = Level {
+            vectors: if self.long(&lent.state, 3) { vectors } else { 0 },
+            points,
+            actions: lent.actions.clone(),
+            choices: if self.has(Slip::StandingChoicesAsked) { lent.choices.clone() } else { choices },
+            entries: lent.entries.clone(),
+            corners: lent.corners.clone(),
+            weights: lent.weights.clone(),
+            values: lent.values.clone(),
+        };
+        reference::Certifier { standing: self.level(&level, n, k), level: at(0) as u64, tables }
+    }
+
+    /// Whether a certifier's slices have room for a level.
+    fn receives(&self, lent: &Certifier, needed: &Needed) -> bool {
+        self.long(&lent.state, 3)
+            && self.long(&lent.actions, needed.vectors)
+            && self.long(&lent.choices, needed.choices)
+            && self.long(&lent.entries, needed.entries)
+            && self.long(&lent.corners, needed.states)
+            && self.long(&lent.weights, needed.weights)
+            && self.long(&lent.values, needed.points)
+    }
+
+    /// Writes cells at the front of a slice.
+    fn lay<Of: Cell>(&self, cells: &[Of], slice: &mut [Of]) {
+        let (front, past) = slice.split_at_mut(cells.len().min(slice.len()));
+        front.copy_from_slice(&cells[..front.len()]);
+        if self.has(Slip::PastCleared) {
+            past.fill(Of::default());
+        }
+    }
+
+    /// Writes a level that stands.
+    fn stand(&self, standing: &reference::Certifier, lent: &mut Certifier) {
+        let (n, k) = (standing.tables.states as usize, standing.tables.observations as usize);
+        let level = &standing.standing;
+        let needed = Needed::of(level.vectors as usize, level.points as usize, n, k);
+        let mut state = [standing.level as usize, level.vectors as usize, level.points as usize];
+        if self.has(Slip::CountsKept) && standing.level > 0 {
+            state[1..].copy_from_slice(&lent.state[1..3]);
+        }
+        if self.has(Slip::NumberKept) && standing.level > 0 {
+            state[0] -= 1;
+        }
+        self.lay(&state, &mut lent.state);
+        self.lay(&narrowed(&level.actions, needed.vectors), &mut lent.actions);
+        self.lay(&narrowed(&level.choices, needed.choices), &mut lent.choices);
+        self.lay(&level.entries[..needed.entries], &mut lent.entries);
+        self.lay(&level.corners[..needed.states], &mut lent.corners);
+        if standing.level > 0 {
+            self.lay(&narrowed(&level.weights, needed.weights), &mut lent.weights);
+            self.lay(&level.values[..needed.points], &mut lent.values);
+        }
+    }
+
+    /// How a call on a certifier ends.
+    fn ended(&self, answer: Result<(), reference::Refusal>, lent: &mut Certifier) -> Refusal {
+        if answer.is_err() && self.has(Slip::RefusalClears) {
+            lent.state.fill(0);
+            lent.entries.fill(0);
+        }
+        answer.err().map_or(Refusal::default(), refused)
+    }
+
+    fn opened(&self, tables: &Tables, lent: &mut Certifier) -> Result<(), reference::Refusal> {
+        let needed = Needed::of(1, 0, tables.states.min(STATES), tables.observations.min(OBSERVATIONS));
+        let room = || match self.receives(lent, &needed) {
+            true => Ok(()),
+            false if self.has(Slip::RoomByHundred) => Err(reference::Refusal::at(100, 0)),
+            false => Err(NINE),
+        };
+        if self.has(Slip::RoomFirst) {
+            room()?;
+        }
+        let opened = reference::open(&self.tables(tables), &self.rules)?;
+        room()?;
+        self.stand(&opened, lent);
+        if self.has(Slip::OpeningClearsPoints) {
+            lent.weights.fill(0);
+            lent.values.fill(0);
+        }
+        Ok(())
+    }
+
+    fn offered(&self, tables: &Tables, lent: &mut Certifier, level: &Level) -> Result<(), reference::Refusal> {
+        let mut standing = self.standing(tables, lent);
+        let (n, k) = (standing.tables.states as usize, standing.tables.observations as usize);
+        let mut offered = self.level(level, n, k);
+        let needed = Needed::of(offered.vectors as usize, offered.points as usize, n, k);
+        let receives = self.receives(lent, &needed);
+        if !receives && !self.has(Slip::ReceivingAtTheEnd) {
+            offered = reference::Level::zero();
+        }
+        let answer = reference::offer(&mut standing, &offered, &self.rules);
+        if answer.is_err() && standing != self.standing(tables, lent) {
+            // Only a trap changes a certifier that refuses.
+            self.stand(&standing, lent);
+        }
+        answer?;
+        if !receives && self.has(Slip::ReceivingAtTheEnd) {
+            return Err(NINE);
+        }
+        self.stand(&standing, lent);
+        if self.has(Slip::PastCopied) {
+            let whole = lent.entries.len().min(level.entries.len());
+            lent.entries[..whole].copy_from_slice(&level.entries[..whole]);
+        }
+        Ok(())
+    }
+
+    /// Totals one by one, where 7 and 16 pass: that is asked at a mixture that is not refused.
+    fn each_of(
+        &self,
+        tables: &Tables,
+        lent: &Certifier,
+        (count, mixtures): (usize, &[u32]),
+        answers: &mut Answers,
+    ) -> Result<(), reference::Refusal> {
+        let n = self.standing(tables, lent).tables.states as usize;
+        let ended = |at: Totals| match at.number {
+            0 => Ok(at),
+            number => Err(reference::Refusal::at(number as u8, at.place as u64)),
+        };
+        ended(self.totals(tables, lent, &[1; STATES]))?;
+        let enough = count.checked_mul(n).map_or(false, |needed| self.long(mixtures, needed));
+        if !enough {
+            return Err(reference::Refusal::at(17, 0));
+        }
+        let room = self.long(&answers.numbers, count)
+            && self.long(&answers.lower, count)
+            && self.long(&answers.upper, count)
+            && self.long(&answers.actions, count);
+        if !room {
+            return Err(NINE);
+        }
+        let mut all = Answers::default();
+        for mixture in (0..count).map(|at| mixtures.get(at * n..(at + 1) * n).unwrap_or(&[])) {
+            let at = self.totals(tables, lent, mixture);
+            if at.number != 0 && self.has(Slip::OneRefusesAll) {
+                ended(at)?;
+            }
+            all.numbers.push(at.number as u8);
+            all.lower.push(at.lower);
+            all.upper.push(at.upper);
+            all.actions.push(at.action as u8);
+            if at.number != 0 && self.has(Slip::LaterAnswersLeft) {
+                break;
+            }
+        }
+        self.lay(&all.numbers, &mut answers.numbers);
+        self.lay(&all.lower, &mut answers.lower);
+        self.lay(&all.upper, &mut answers.upper);
+        self.lay(&all.actions, &mut answers.actions);
+        Ok(())
+    }
+
+    fn built(
+        &self,
+        tables: &Tables,
+        lent: &Certifier,
+        (count, points): (usize, &[u32]),
+        level: &mut Level,
+    ) -> Result<(), reference::Refusal> {
+        let standing = self.standing(tables, lent);
+        let (n, k) = (standing.tables.states as usize, standing.tables.observations as usize);
+        let few = count.min(BUILT_POINTS + 1);
+        let needed = Needed::of(n + few, few, n, k);
+        let room = self.long(&level.actions, needed.vectors)
+            && self.long(&level.choices, needed.choices)
+            && self.long(&level.entries, needed.entries)
+            && self.long(&level.corners, needed.states)
+            && self.long(&level.values, needed.points);
+        let fits = self.long(points, needed.weights) && (room || self.has(Slip::BuiltRoomAtTheEnd));
+        let given = reference::Points {
+            count: if fits { few as u64 } else { BUILT_POINTS as u64 + 1 },
+            weights: stored(points, needed.weights, (BUILT_POINTS + 1) * STATES),
+        };
+        let built = reference::build(&standing, &given, &self.rules)?;
+        if !room {
+            return Err(NINE);
+        }
+        self.lay(&narrowed(&built.actions, needed.vectors), &mut level.actions);
+        self.lay(&narrowed(&built.choices, needed.choices), &mut level.choices);
+        self.lay(&built.entries[..needed.entries], &mut level.entries);
+        self.lay(&built.corners[..needed.states], &mut level.corners);
+        self.lay(&built.values[..needed.points], &mut level.values);
+        Ok(())
+    }
+
+    /// Asks for room in turn, and writes what was read.
+    fn laid(&self, read: &reference::Reading, lent: &mut Tables, start: &mut [u16]) -> Result<(), Refusal> {
+        let (t, o, r) = read.tables.cells_used();
+        let n = read.tables.states as usize;
+        let short = [
+            (self.long(&lent.transition, t), t),
+            (self.long(&lent.observation, o), o),
+            (self.long(&lent.reward, r), r),
+            (self.long(start, n), n),
+        ];
+        let mut short: Vec<usize> = short.iter().filter(|(long, _)| !long).map(|&(_, needed)| needed).collect();
+        if self.has(Slip::LastShortSlice) {
+            short.reverse();
+        }
+        if short.is_empty() || self.has(Slip::ReadInParts) {
+            self.lay(&narrowed(&read.tables.transitions, t), &mut lent.transition);
+            self.lay(&narrowed(&read.tables.sights, o), &mut lent.observation);
+            self.lay(&read.tables.rewards[..r], &mut lent.reward);
+            self.lay(&narrowed(&read.start, n), start);
+        }
+        match short.first() {
+            None => Ok(()),
+            Some(_) if self.has(Slip::NoLength) => Err(Refusal { number: 100, place: 0 }),
+            Some(&needed) => Err(Refusal { number: 100, place: needed }),
+        }
+    }
+}
+
+impl Library for Copied {
+    fn read(&self, file: &[u8], lent: &mut Tables, start: &mut [u16]) -> Reading {
+        let read = reference::read(file, &self.rules);
+        let laid = read.as_ref().map_err(|&refusal| refused(refusal)).and_then(|read| self.laid(read, lent, start));
+        let Refusal { number, place } = laid.err().unwrap_or_default();
+        match read {
+            Ok(read) if laid.is_ok() || self.has(Slip::RefusedReading) => Reading {
+                number,
+                place,
+                states: read.tables.states as usize,
+                actions: read.tables.actions as usize,
+                observations: read.tables.observations as usize,
+                discount: read.tables.discount,
+            },
+            _ => Reading { number, place, ..Reading::default() },
+        }
+    }
+
+    fn open(&self, tables: &Tables, certifier: &mut Certifier) -> Refusal {
+        let answer = self.opened(tables, certifier);
+        self.ended(answer, certifier)
+    }
+
+    fn offer(&self, tables: &Tables, certifier: &mut Certifier, level: &Level) -> Refusal {
+        let answer = self.offered(tables, certifier, level);
+        self.ended(answer, certifier)
+    }
+
+    fn totals(&self, tables: &Tables, certifier: &Certifier, mixture: &[u32]) -> Totals {
+        let standing = self.standing(tables, certifier);
+        let n = standing.tables.states as usize;
+        let count = if self.long(mixture, n) { n } else { 0 };
+        let ticks = |total: &num_bigint::BigInt| i64::try_from(total).unwrap_or(i64::MAX);
+        match reference::totals(&standing, &stored(mixture, count, STATES), &self.rules) {
+            Ok(totals) => Totals {
+                lower: ticks(&totals.lower),
+                upper: ticks(&totals.upper),
+                gap: ticks(&totals.gap),
+                action: totals.action as usize,
+                ..Totals::default()
+            },
+            Err(refusal) => {
+                let Refusal { number, place } = refused(refusal);
+                let left = i64::from(self.has(Slip::RefusedTotals));
+                Totals { number, place, lower: left, upper: left, ..Totals::default() }
+            }
+        }
+    }
+
+    fn each(
+        &self,
+        tables: &Tables,
+        certifier: &Certifier,
+        mixtures: &[u32],
+        count: usize,
+        answers: &mut Answers,
+    ) -> Refusal {
+        self.each_of(tables, certifier, (count, mixtures), answers).err().map_or(Refusal::default(), refused)
+    }
+
+    fn build(
+        &self,
+        tables: &Tables,
+        certifier: &Certifier,
+        count: usize,
+        points: &[u32],
+        level: &mut Level,
+    ) -> Refusal {
+        match self.built(tables, certifier, (count, points), level) {
+            Ok(()) => Refusal::default(),
+            Err(refusal) => {
+                if self.has(Slip::RefusalClears) {
+                    level.corners.fill(0);
+                }
+                refused(refusal)
+            }
+        }
+    }
+
+    fn worth(&self, tables: &Tables, graph: &Graph, asked: Question) -> Worth {
+        let tables = self.tables(tables);
+        let (nodes, k) = (graph.nodes.min(NODES), tables.observations as usize);
+        let long = self.long(&graph.actions, nodes) && self.long(&graph.next, nodes * k);
+        let graph = reference::Graph {
+            nodes: if long { graph.nodes as u64 } else { 0 },
+            actions: stored(&graph.actions, nodes, NODES),
+            next: stored(&graph.next, nodes * k, NODES * OBSERVATIONS),
+        };
+        match reference::worth(&tables, &graph, asked.node, asked.state, asked.steps, &self.rules) {
+            Ok(ticks) => Worth { ticks: i64::try_from(&ticks).unwrap_or(i64::MAX), ..Worth::default() },
+            Err(refusal) => {
+                let Refusal { number, place } = refused(refusal);
+                Worth { number, place, ticks: i64::from(self.has(Slip::RefusedWorth)) }
+            }
+        }
+    }
+}
+
+/// The document, through slices.
+pub const BY_THE_DOCUMENT: Copied = Copied { rules: DOCUMENT, slip: None };

@@ -1,0 +1,135 @@
+//! The linked library, lent copies that have something behind their ends.
+
+use crate::gen::Question;
+use crate::lent::{Cell, Library};
+use biidhaqun::slices::{self, Answers, Certifier, Graph, Level, Reading, Refusal, Tables, Totals, Worth};
+
+/// The number of a call that wrote past the end of a slice: none ends with it.
+const OUTSIDE: u64 = u64::MAX;
+/// What lies behind a slice, in as many cells.
+const EDGE: (u64, usize) = (0x5ee5_5ee5_5ee5_5ee5, 64);
+
+pub struct Linked;
+
+/// A copy with an edge behind it.
+fn edged<Of: Cell>(slice: &[Of]) -> Vec<Of> {
+    let mut copy = Vec::with_capacity(slice.len() + EDGE.1);
+    copy.extend_from_slice(slice);
+    for cell in copy.spare_capacity_mut() {
+        cell.write(Of::cut(EDGE.0));
+    }
+    copy
+}
+
+/// Whether the edge is as it was.
+fn kept<Of: Cell>(copy: &mut Vec<Of>) -> bool {
+    // Every cell of the edge was written when the copy was made, which has not grown since.
+    copy.spare_capacity_mut().iter().all(|cell| unsafe { cell.assume_init() } == Of::cut(EDGE.0))
+}
+
+fn edged_certifier(certifier: &Certifier) -> Certifier {
+    Certifier {
+        state: edged(&certifier.state),
+        actions: edged(&certifier.actions),
+        choices: edged(&certifier.choices),
+        entries: edged(&certifier.entries),
+        corners: edged(&certifier.corners),
+        weights: edged(&certifier.weights),
+        values: edged(&certifier.values),
+    }
+}
+
+fn kept_certifier(certifier: &mut Certifier) -> bool {
+    kept(&mut certifier.state)
+        && kept(&mut certifier.actions)
+        && kept(&mut certifier.choices)
+        && kept(&mut certifier.entries)
+        && kept(&mut certifier.corners)
+        && kept(&mut certifier.weights)
+        && kept(&mut certifier.values)
+}
+
+/// Makes a call on a copy of a certifier with edges.
+fn lend(certifier: &mut Certifier, call: impl FnOnce(&mut Certifier) -> Refusal) -> Refusal {
+    let mut copy = edged_certifier(certifier);
+    let ended = call(&mut copy);
+    let number = if kept_certifier(&mut copy) { ended.number } else { OUTSIDE };
+    *certifier = copy;
+    Refusal { number, ..ended }
+}
+
+impl Library for Linked {
+    fn read(&self, file: &[u8], tables: &mut Tables, start: &mut [u16]) -> Reading {
+        let mut transition = edged(&tables.transition);
+        let mut observation = edged(&tables.observation);
+        let mut reward = edged(&tables.reward);
+        let mut numbers = edged(start);
+        let read = slices::read(file, &mut transition, &mut observation, &mut reward, &mut numbers);
+        let all = kept(&mut transition) && kept(&mut observation) && kept(&mut reward) && kept(&mut numbers);
+        *tables = Tables { transition, observation, reward, ..*tables };
+        start.copy_from_slice(&numbers);
+        Reading { number: if all { read.number } else { OUTSIDE }, ..read }
+    }
+
+    fn open(&self, tables: &Tables, certifier: &mut Certifier) -> Refusal {
+        lend(certifier, |certifier| slices::open(tables, certifier))
+    }
+
+    fn offer(&self, tables: &Tables, certifier: &mut Certifier, level: &Level) -> Refusal {
+        lend(certifier, |certifier| slices::offer(tables, certifier, level))
+    }
+
+    fn totals(&self, tables: &Tables, certifier: &Certifier, mixture: &[u32]) -> Totals {
+        slices::totals(tables, certifier, mixture)
+    }
+
+    fn each(
+        &self,
+        tables: &Tables,
+        certifier: &Certifier,
+        mixtures: &[u32],
+        count: usize,
+        answers: &mut Answers,
+    ) -> Refusal {
+        let mut copy = Answers {
+            numbers: edged(&answers.numbers),
+            lower: edged(&answers.lower),
+            upper: edged(&answers.upper),
+            actions: edged(&answers.actions),
+        };
+        let ended = slices::each(tables, certifier, mixtures, count, &mut copy);
+        let all = kept(&mut copy.numbers) && kept(&mut copy.lower) && kept(&mut copy.upper) && kept(&mut copy.actions);
+        *answers = copy;
+        Refusal { number: if all { ended.number } else { OUTSIDE }, ..ended }
+    }
+
+    fn build(
+        &self,
+        tables: &Tables,
+        certifier: &Certifier,
+        count: usize,
+        points: &[u32],
+        level: &mut Level,
+    ) -> Refusal {
+        let mut copy = Level {
+            actions: edged(&level.actions),
+            choices: edged(&level.choices),
+            entries: edged(&level.entries),
+            corners: edged(&level.corners),
+            values: edged(&level.values),
+            ..level.clone()
+        };
+        let ended = slices::build(tables, certifier, count, points, &mut copy);
+        let all = kept(&mut copy.actions)
+            && kept(&mut copy.choices)
+            && kept(&mut copy.entries)
+            && kept(&mut copy.corners)
+            && kept(&mut copy.values);
+        *level = copy;
+        Refusal { number: if all { ended.number } else { OUTSIDE }, ..ended }
+    }
+
+    fn worth(&self, tables: &Tables, graph: &Graph, asked: Question) -> Worth {
+        slices::worth(tables, graph, asked.node as usize, asked.state as usize, asked.steps as usize)
+    }
+}

@@ -1,0 +1,185 @@
+//! Cases on storage, through lent slices.
+
+use crate::calls::{Calls, Case};
+use crate::gen::{List, Question, Step};
+use crate::lent::{self, stored, Call, Library};
+use crate::rng::Rng;
+use biidhaqun::slices::{Certifier, Level, Tables};
+use num_bigint::BigInt;
+use reference::{Graph, Points, Refusal, Totals, OBSERVATIONS, POINTS, STATES, VECTORS};
+
+/// The first call of a case in which the other's answer, or what it leaves in a slice, differs from the one's. The slices
+/// are handed from call to call as the one left them.
+pub fn difference(case: &Case, one: &dyn Library, other: &dyn Library, rng: &mut Rng) -> Option<String> {
+    let named = |name: &str, found: Option<String>| found.map(|found| format!("{}: {}", name, found));
+    match case {
+        Case::Open(tables) => named("open", opening(rng, tables).difference(one, other)),
+        Case::Worth(tables, graph, asked) => {
+            let (_, k) = lent::counts(tables);
+            let call = Call::Worth { tables: lent::tables(tables), graph: lent::graph(graph, k), asked: *asked };
+            named("worth", call.difference(one, other))
+        }
+        Case::Handed(certifier, steps) => {
+            let (n, k) = lent::counts(&certifier.tables);
+            let standing = lent::roomy(rng, lent::certifier(certifier));
+            Walk { tables: lent::tables(&certifier.tables), certifier: standing, n, k, one, other }.all(rng, steps)
+        }
+        Case::List(List { tables, steps }) => {
+            let open = opening(rng, tables);
+            if let Some(found) = named("open", open.difference(one, other)) {
+                return Some(found);
+            }
+            let (n, k) = lent::counts(tables);
+            match open.made(one) {
+                (answer, Call::Open { tables, certifier }) if answer[0] == 0 => {
+                    Walk { tables, certifier, n, k, one, other }.all(rng, steps)
+                }
+                _ => None,
+            }
+        }
+    }
+}
+
+fn opening(rng: &mut Rng, tables: &reference::Tables) -> Call {
+    Call::Open { tables: lent::tables(tables), certifier: lent::roomy(rng, Certifier::default()) }
+}
+
+/// Steps that are being made by two.
+struct Walk<'a> {
+    tables: Tables,
+    certifier: Certifier,
+    n: usize,
+    k: usize,
+    one: &'a dyn Library,
+    other: &'a dyn Library,
+}
+
+impl Walk<'_> {
+    fn all(mut self, rng: &mut Rng, steps: &[Step]) -> Option<String> {
+        for (at, step) in steps.iter().enumerate() {
+            let found = match step {
+                Step::Offer(level) => self.offer(lent::level(level, self.n, self.k)),
+                Step::Totals(mixture) => {
+                    let mixture = lent::mixture(mixture, self.n + rng.index(STATES - self.n + 1));
+                    let (tables, certifier) = (self.tables.clone(), self.certifier.clone());
+                    Call::Totals { tables, certifier, mixture }.difference(self.one, self.other)
+                }
+                Step::Build(points) => self.build(rng, points).err(),
+                Step::Raise(points) => match self.build(rng, points) {
+                    Ok(Some(level)) => self.offer(level),
+                    Ok(None) => None,
+                    Err(found) => Some(found),
+                },
+            };
+            if let Some(found) = found {
+                return Some(format!("step {}: {}", at, found));
+            }
+        }
+        None
+    }
+
+    fn offer(&mut self, level: Level) -> Option<String> {
+        let call = Call::Offer { tables: self.tables.clone(), certifier: self.certifier.clone(), level };
+        let found = call.difference(self.one, self.other);
+        if let (_, Call::Offer { certifier, .. }) = call.made(self.one) {
+            self.certifier = certifier;
+        }
+        found
+    }
+
+    /// The level that the one builds, if it is served.
+    fn build(&self, rng: &mut Rng, points: &Points) -> Result<Option<Level>, String> {
+        let (count, points) = lent::points(points, self.n);
+        let (tables, certifier) = (self.tables.clone(), self.certifier.clone());
+        let call = Call::Build { tables, certifier, count, points, level: lent::roomy_level(rng) };
+        if let Some(found) = call.difference(self.one, self.other) {
+            return Err(found);
+        }
+        Ok(match call.made(self.one) {
+            (answer, Call::Build { count, points, level, .. }) if answer[0] == 0 => {
+                Some(Level { vectors: self.n + count, points: count, weights: points, ..level })
+            }
+            _ => None,
+        })
+    }
+}
+
+/// The calls on storage, made through slices.
+pub struct Through<'a>(pub &'a dyn Library);
+
+fn served(number: u64, place: usize) -> Result<(), Refusal> {
+    match number {
+        0 => Ok(()),
+        _ => Err(Refusal::at(u8::try_from(number).unwrap_or(u8::MAX), place as u64)),
+    }
+}
+
+/// A level that the library wrote, in storage.
+fn storage(level: &Level, n: usize, k: usize) -> reference::Level {
+    let Level { vectors, points, .. } = *level;
+    reference::Level {
+        vectors: vectors as u64,
+        actions: stored(&level.actions, vectors, VECTORS),
+        choices: stored(&level.choices, vectors * k, VECTORS * OBSERVATIONS),
+        entries: stored(&level.entries, vectors * n, VECTORS * STATES),
+        corners: stored(&level.corners, n, STATES),
+        points: points as u64,
+        weights: stored(&level.weights, points * n, POINTS * STATES),
+        values: stored(&level.values, points, POINTS),
+    }
+}
+
+/// What stands, in storage.
+fn standing(lent: Certifier, n: usize, k: usize) -> (u64, reference::Level) {
+    let Certifier { state, actions, choices, entries, corners, weights, values } = lent;
+    let level = Level { vectors: state[1], points: state[2], actions, choices, entries, corners, weights, values };
+    (state[0] as u64, storage(&level, n, k))
+}
+
+impl Calls for Through<'_> {
+    fn open(&self, tables: &reference::Tables) -> Result<reference::Certifier, Refusal> {
+        let (n, k) = lent::counts(tables);
+        let mut certifier = Certifier::roomy(n, k);
+        let ended = self.0.open(&lent::tables(tables), &mut certifier);
+        served(ended.number, ended.place)?;
+        let (level, standing) = standing(certifier, n, k);
+        Ok(reference::Certifier { tables: tables.stored(), standing, level })
+    }
+
+    fn offer(&self, certifier: &mut reference::Certifier, level: &reference::Level) -> Result<(), Refusal> {
+        let (n, k) = lent::counts(&certifier.tables);
+        let mut slices = lent::roomy(&mut Rng::for_case(0, "room", 0), lent::certifier(certifier));
+        let ended = self.0.offer(&lent::tables(&certifier.tables), &mut slices, &lent::level(level, n, k));
+        served(ended.number, ended.place)?;
+        let (level, standing) = standing(slices, n, k);
+        certifier.standing = standing;
+        certifier.level = level;
+        Ok(())
+    }
+
+    fn totals(&self, certifier: &reference::Certifier, mixture: &[u64]) -> Result<Totals, Refusal> {
+        let (n, _) = lent::counts(&certifier.tables);
+        let (tables, slices) = (lent::tables(&certifier.tables), lent::certifier(certifier));
+        let at = self.0.totals(&tables, &slices, &lent::mixture(mixture, n));
+        served(at.number, at.place)?;
+        let whole = BigInt::from;
+        Ok(Totals { lower: whole(at.lower), upper: whole(at.upper), gap: whole(at.gap), action: at.action as u64 })
+    }
+
+    fn build(&self, certifier: &reference::Certifier, points: &Points) -> Result<reference::Level, Refusal> {
+        let (n, k) = lent::counts(&certifier.tables);
+        let (tables, slices) = (lent::tables(&certifier.tables), lent::certifier(certifier));
+        let (count, weights) = lent::points(points, n);
+        let mut level = Level::roomy(n, k);
+        let ended = self.0.build(&tables, &slices, count, &weights, &mut level);
+        served(ended.number, ended.place)?;
+        Ok(storage(&Level { vectors: n + count, points: count, weights, ..level }, n, k))
+    }
+
+    fn worth(&self, tables: &reference::Tables, graph: &Graph, asked: Question) -> Result<BigInt, Refusal> {
+        let (_, k) = lent::counts(tables);
+        let worth = self.0.worth(&lent::tables(tables), &lent::graph(graph, k), asked);
+        served(worth.number, worth.place)?;
+        Ok(BigInt::from(worth.ticks))
+    }
+}
