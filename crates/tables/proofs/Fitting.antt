@@ -10,8 +10,8 @@ use borrow.Author.Tests.{leb-true, le-leb}
 use Rattle.integers.proofs.Lists.{cell-below}
 use Rattle.integers.proofs.Searches.{and-true, and-is}
 use Rattle.tables.specs.declared.Tables.{Tables}
-use Rattle.tables.specs.Model.{Model, Valid}
-use Rattle.tables.specs.Storage.{rowPlace, cellPlace, countsOf, modelOf}
+use Rattle.tables.specs.Model.{Model}
+use Rattle.tables.specs.Storage.{rowPlace, cellPlace, countsOf}
 use Rattle.tables.specs.Steps.{rowsTo, cellsTo, Stored}
 use Rattle.tables.specs.Judged.{countWithin, countsWithin, limitsHold, tablesStored}
 
@@ -31,9 +31,9 @@ rows-stored w r rows l long = omega (arith, mul-le-mul-right w (let h : r + 1 �
 pub row-alone : (w x : ℕ) → rowPlace w 0 x ≡ x
 row-alone w x = omega arith
 
--- ---- tables by value
+-- ---- tables by value, as a model file is read into
 
--- what the type says of tables of any content
+-- what the type says of them
 pub record Long (m : Tables) : Type 0 where
   pub transition : length (m .transition) ≡ 2048
   pub observation : length (m .observation) ≡ 1024
@@ -80,16 +80,3 @@ stored-true m e =
 
 pub stored-is : (m : Tables) → Stored (countsOf m) (m .transition) (m .observation) (m .reward) → tablesStored m ≡ true
 stored-is m s = and-is (le-leb _ _ (s .transitions)) (and-is (le-leb _ _ (s .observed)) (le-leb _ _ (s .rewards)))
-
--- tables by value are long enough for counts within the limits
-pub stored-few : (m : Tables) → Long m → Few (m .actions) (m .states) (m .observations) → Stored (countsOf m) (m .transition) (m .observation) (m .reward)
-stored-few m long f =
-    let s = sizes f in
-    record { transitions = rw (long .transition) (s .transitions); observed = rw (long .observation) (s .observed); rewards = rw (long .reward) (s .rows) }
-
-pub stored-by : (m : Tables) → Long m → countsWithin (m .states) (m .actions) (m .observations) ≡ true
-    → Stored (countsOf m) (m .transition) (m .observation) (m .reward)
-stored-by m long e = stored-few m long (few (m .states) (m .actions) (m .observations) e)
-
-pub stored-valid : (m : Tables) → Long m → Valid (modelOf m) → Stored (countsOf m) (m .transition) (m .observation) (m .reward)
-stored-valid m long v = stored-few m long (record { actions = v .few-actions; states = v .few-states; observations = v .few-observations })

@@ -8,7 +8,7 @@ pub use Rattle.integers.proofs.Words.{answer, back}
 pub use Rattle.integers.specs.Cells.{padded}
 pub use Rattle.integers.specs.Search.{every}
 pub use Rattle.integers.specs.Whole.{_·_, sumTo, totalTo}
-pub use Rattle.tables.proofs.Fitting.{Few, Long, cell-stored, row-stored, rows-stored, sizes, stored-by}
+pub use Rattle.tables.proofs.Fitting.{Few, cell-stored, row-stored, rows-stored, sizes}
 pub use Rattle.tables.specs.Limits.{maxStates, maxWeight, one}
 pub use Rattle.tables.specs.Storage.{modelIn, modelOf, rewardIn, transitionIn, weightIn}
 pub use borrow.Author.Needs.{needs}
