@@ -138,7 +138,7 @@ impl<'a> Reader<'a> {
 
     /// The form of a word (2), then its limits (3).
     fn within(&self, word: &Word, value: Option<BigInt>, unit: i64, least: i64, most: i64) -> Result<i64, Refusal> {
-        let whole_part_large = whole_part(word.bytes).is_some_and(|whole| whole * unit > BigInt::from(most));
+        let whole_part_large = whole_part(word.bytes).map_or(false, |whole| whole * unit > BigInt::from(most));
         if self.rules.has(Trap::LimitBeforeForm) && whole_part_large {
             return Err(self.at(3, word));
         }
