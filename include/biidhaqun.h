@@ -11,11 +11,11 @@
  * examples/ladder.c is a whole program. The library is for x86-64. It keeps nothing between calls, allocates nothing, and
  * may be called from any thread, as long as no two calls at once are lent the same memory and one of them writes it.
  *
- * What is proved: whatever it is lent, a call ends without fault, answers, and leaves in every slice what the definitions in
- * crates/runs, crates/bounds and crates/exports (specs) say. Where a certifier was opened by biidhaqun_open, its slices were written by biidhaqun_offer
- * alone, whatever was offered, and each call was lent the same tables, its totals bracket every plan, and a level that is
- * built is accepted if the certifier's slices have room for it. The inline functions at the end, and what this file says,
- * are not proved.
+ * What is proved: whatever it is lent, a call ends without fault, answers, and leaves in every slice what the definitions
+ * say (specs/ of crates/runs, crates/bounds, crates/worth, crates/modelfile and crates/exports). Where a certifier was opened
+ * by biidhaqun_open, its slices were written by biidhaqun_offer alone, whatever was offered, and each call was lent the same
+ * tables, its totals bracket every plan, and a level that is built is accepted if the certifier's slices have room for it.
+ * The inline functions at the end, and what this file says, are not proved.
  *
  * SLICES. What a call is lent are slices: a pointer, and a length in elements. They are packed by the model's counts (n
  * states, m actions, k observations), the last index fastest, and may be longer: what lies behind is neither read nor
