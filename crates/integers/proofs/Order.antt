@@ -4,9 +4,10 @@ use Prim.Native.Nat.{ℕ, _+_, _*_, _<_}
 use native.Mathlib.Nat as NatL
 use native.Mathlib.Omega.{arith}
 use lib.IntN.{ℤ, pos, negℤ, _+ℤ_, _-ℤ_}
-use lib.Signed.{_≤ℤ_, _<ℤ_}
-use Rattle.integers.specs.Whole.{_·_}
-use Rattle.integers.proofs.Parts.{add-parts, sub-parts-ℤ, neg-parts, times-parts, eq-by, le-by, le-parts, lt-parts}
+use lib.Signed.{_≤ℤ_, _<ℤ_, leZ}
+use mathlib.Core.Bool.{Bool, true, false, cond}
+use Rattle.integers.specs.Whole.{_·_, lesser}
+use Rattle.integers.proofs.Parts.{add-parts, sub-parts-ℤ, neg-parts, times-parts, eq-by, le-by, le-parts, lt-parts, leZ-true, leZ-false, leZ-is}
 
 -- ---- order
 pub ≤-refl : (a : ℤ) → a ≤ℤ a
@@ -32,6 +33,30 @@ neg-mono {a} {b} h = le-by (negℤ b) (negℤ a) (omega (arith, le-parts h, neg-
 
 pub sub-≤ : (x : ℤ) (d : ℕ) → (x -ℤ pos d) ≤ℤ x
 sub-≤ x d = le-by (x -ℤ pos d) x (omega (arith, sub-parts-ℤ x (pos d)))
+
+-- ---- the smaller of two
+lesser-by : (P : ℤ → Type 0) (a b : ℤ) → (a ≤ℤ b → P a) → (b <ℤ a → P b) → P (lesser a b)
+unfolding lesser
+lesser-by P a b h k = by (leZ a b) refl
+  where
+    by : (c : Bool) → leZ a b ≡ c → P (cond c a b)
+    by true e = h (le-by a b (leZ-true a b e))
+    by false e = k (leZ-false a b e)
+
+pub lesser-left : (a b : ℤ) → lesser a b ≤ℤ a
+lesser-left a b = lesser-by (λ x. x ≤ℤ a) a b (λ h. ≤-refl a) (λ h. <-≤ h)
+
+pub lesser-right : (a b : ℤ) → lesser a b ≤ℤ b
+lesser-right a b = lesser-by (λ x. x ≤ℤ b) a b (λ h. h) (λ h. ≤-refl b)
+
+-- what is at most both is at most the smaller
+pub lesser-above : (a b : ℤ) {c : ℤ} → c ≤ℤ a → c ≤ℤ b → c ≤ℤ lesser a b
+lesser-above a b {c} h k = lesser-by (λ x. c ≤ℤ x) a b (λ _. h) (λ _. k)
+
+-- where the first is at most the second, it is the smaller
+pub lesser-is : (a b : ℤ) → a ≤ℤ b → lesser a b ≡ a
+unfolding lesser
+lesser-is a b h = rw (leZ-is a b h) refl
 
 -- ---- sums
 pub add-comm : (a b : ℤ) → a +ℤ b ≡ b +ℤ a

@@ -4,13 +4,16 @@
 --   sumTo n f        f 0 + f 1 + .. + f (n - 1), in ℤ
 --   totalTo n f      the same in ℕ
 --   largestTo n f    the largest of f 0, .., f (n - 1), or 0
+--   lesser a b       the smaller of two numbers
 --   floorDiv z k     z / k rounded towards minus infinity
 --   ceilDiv z k      z / k rounded towards plus infinity
 --   Below, Within    bounds on the first entries of a list
 use Prim.Native.Nat.{ℕ, zero, suc, _+_, _/_, _≤_, _<_, max}
+use mathlib.Core.Bool.{cond}
 use mathlib.Core.List.{List}
 use lib.ListN.{length, getD}
 use lib.IntN.{ℤ, pos, negsuc, negℤ, natAbs, _+ℤ_, _*ℤ_}
+use lib.Signed.{leZ}
 
 infixl 75 _·_
 unfoldable pub _·_ : ℕ → ℤ → ℤ
@@ -27,6 +30,9 @@ totalTo (suc n) f = totalTo n f + f n
 unfoldable pub largestTo : ℕ → (ℕ → ℕ) → ℕ
 largestTo zero f = 0
 largestTo (suc n) f = max (largestTo n f) (f n)
+
+unfoldable pub lesser : ℤ → ℤ → ℤ
+lesser a b = cond (leZ a b) a b
 
 -- - (a + 1) over k lies above - (a / k) - 1 and at most at - (a / k), so it is rounded down to the former
 unfoldable pub floorDiv : ℤ → ℕ → ℤ

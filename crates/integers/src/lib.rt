@@ -5,7 +5,7 @@ ghost use mathlib.Core.Path.{_≡_};
 ghost use Prim.Native.Nat.{_+_, _*_, _<_, _^_};
 ghost use lib.Dec.{leb};
 ghost use lib.IntN.{natAbs, _+ℤ_, _-ℤ_};
-ghost use Rattle.integers.specs.Whole.{_·_, floorDiv, ceilDiv};
+ghost use Rattle.integers.specs.Whole.{_·_, lesser, floorDiv, ceilDiv};
 
 // sum + k × a
 pub fn add_scaled(sum: i64, k: u64, a: i64) -> i64
@@ -39,6 +39,16 @@ pub fn minus(a: i64, b: i64) -> i64
     ensures { λ r. ⌜ r ≡ a -ℤ b ⌝ }
 {
     a - b
+}
+
+// The smaller of a and b.
+pub fn lesser(a: i64, b: i64) -> i64
+    ensures { λ r. ⌜ r ≡ lesser a b ⌝ }
+{
+    if a <= b {
+        return a;
+    }
+    b
 }
 
 // x over k, rounded towards minus infinity: the machine's quotient drops towards 0, so one less where a remainder is negative.
