@@ -2,6 +2,7 @@
 pub mod Limits
 pub mod Plan
 pub mod Level
+pub mod Rows
 pub mod Totals
 pub mod Build
 pub mod Named
