@@ -1,4 +1,3 @@
--- Laws of the totals, and of the answers at many mixtures.
+-- Laws of the totals.
 pub mod Bounds
-pub mod Answers
 pub mod Prelude

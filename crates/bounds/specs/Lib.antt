@@ -1,3 +1,2 @@
--- Totals over storage, and at many mixtures.
+-- Totals over storage.
 pub mod Steps
-pub mod Each

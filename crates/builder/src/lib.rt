@@ -190,13 +190,6 @@ fn seed_weights(weights: &[u32], n: usize, v: Vector) -> Weights
     shape::point_weights(weights, n, i - n)
 }
 
-fn number(a: Action) -> u8
-    requires { ⌜ a .0 < maxActions ⌝ }
-    ensures { λ r. ⌜ r ≡ a .0 ⌝ }
-{
-    a.0 as u8
-}
-
 // A vector at each corner, then at each point.
 fn build_vectors<'a>(
     transition: &'a [u16],
@@ -228,7 +221,7 @@ fn build_vectors<'a>(
         let made = best.candidate;
         let chosen = made.chosen;
         let row = made.entries;
-        actions[v] = number(best.action);
+        actions[v] = shape::number(best.action);
         cells::paste_u16(choices, read::start(v, k), &chosen, k);
         cells::paste_i64(entries, read::start(v, n), &row, n);
     }

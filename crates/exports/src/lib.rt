@@ -10,7 +10,7 @@ ghost use Rattle.levels.specs.Storage.{LentLevel, Lent, cells, lent, lentFor};
 ghost use Rattle.levels.specs.Judged.{offerVerdict};
 ghost use Rattle.modelfile.specs.ModelFile.{modelFile};
 ghost use Rattle.runs.specs.State.{left, openVerdict, opened, offered, mixtureHolds, totalsOf, buildVerdict, builtOf};
-ghost use Rattle.bounds.specs.Each.{answers, eachVerdict, eachOf};
+ghost use Rattle.mixtures.specs.Each.{answers, eachVerdict, eachOf};
 ghost use Rattle.runs.specs.Demand3.{ModelAccepted, after, steps, PointsHold};
 ghost use Rattle.worth.specs.Storage.{lentGraph};
 ghost use Rattle.worth.specs.Judged.{worthAnswer};
@@ -405,7 +405,7 @@ pub extern "C" fn biidhaqun_each<'a, 'b>(
         observations: k,
         discount: g,
     };
-    let verdict = bounds::each(
+    let verdict = mixtures::each(
         transition,
         observation,
         reward,

@@ -7,13 +7,14 @@ ghost use lib.ListN.{length, getD};
 ghost use lib.IntN.{pos};
 ghost use Rattle.integers.specs.Whole.{totalTo};
 ghost use Rattle.integers.specs.Cells.{padded};
-ghost use Rattle.tables.specs.Limits.{maxStates, maxObservations, maxVectors, maxEntry};
+ghost use Rattle.tables.specs.Limits.{maxStates, maxActions, maxObservations, maxVectors, maxEntry};
 ghost use Rattle.plans.specs.Limits.{maxPoints};
 ghost use Rattle.tables.specs.Steps.{rowsTo};
 ghost use Rattle.tables.specs.Storage.{rowPlace, choiceIn};
 ghost use Rattle.levels.specs.Storage.{pointIn, longEnough};
 ghost use Rattle.levels.specs.Judged.{countsHold, rowsWithin, totalHolds, valueHolds, valuesWithin, weightsVerdict, actionsExist, numbersIn};
 use super::Level;
+use tables::Action;
 use tables::Observation;
 use tables::Tables;
 use tables::Vector;
@@ -144,6 +145,14 @@ pub fn action(x: u8) -> usize
     ensures { λ r. ⌜ r ≡ x ⌝ }
 {
     x as usize
+}
+
+// And as it is stored again.
+pub fn number(a: Action) -> u8
+    requires { ⌜ a .0 < maxActions ⌝ }
+    ensures { λ r. ⌜ r ≡ a .0 ⌝ }
+{
+    a.0 as u8
 }
 
 pub fn actions_exist(actions: &[u8], vectors: usize, m: usize) -> bool

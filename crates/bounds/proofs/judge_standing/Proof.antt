@@ -1,5 +1,5 @@
-use Rattle.bounds.proofs.Prelude.{ℕ, _≡_, sym, _∙_, true, List, needs, arith, not-true, not-false}
-use Rattle.bounds.proofs.Prelude.{ap, [], Tables, tablesIn, Lent, cells, lent, standingAt, stands}
+use Rattle.bounds.proofs.Prelude.{ℕ, _≡_, sym, _∙_, true, List, needs, arith, not-true}
+use Rattle.bounds.proofs.Prelude.{not-false, ap, [], Tables, tablesIn, Lent, cells, lent, standingAt, stands}
 use borrow.Author.Tests.{lt-ltb}
 use lib.Dec.{ltb}
 use Rattle.tables.proofs.Refusals.{breaks, passes}

@@ -1,16 +1,25 @@
-use Rattle.bounds.proofs.Prelude.{ℕ, _*_, _<_, _≡_, sym, _∙_, true, List, leb, needs, not-true, not-false, []}
-use Rattle.bounds.proofs.Prelude.{length, Tables, Fine, tablesIn, Lent, cells, lent, standingAt, corners-fit, points-fit, values-fit, stands}
-use borrow.Author.Tests.{leb-true}
+use Prim.Native.Nat.{ℕ, _*_, _<_}
+use borrow.Author.Needs.{needs}
+use lib.Dec.{leb}
+use lib.ListN.{length}
+use mathlib.Core.Bool.{true}
+use mathlib.Core.List.{List, []}
+use mathlib.Core.Path.{_≡_, sym, _∙_}
+use Rattle.tables.specs.declared.Tables.{Tables}
+use Rattle.tables.specs.Storage.{tablesIn}
+use Rattle.levels.specs.Storage.{Lent, cells, lent, standingAt}
+use Rattle.checks.proofs.Roofs.{corners-fit, points-fit, values-fit}
+use borrow.Author.Tests.{not-true, not-false, leb-true}
 use Rattle.tables.specs.declared.Verdict.{Verdict}
-use Rattle.tables.specs.declared.Verdict.the-variants.{Refused}
+use Rattle.tables.specs.declared.Verdict.the-variants.{Fine, Refused}
 use Rattle.levels.specs.Judged.{holds}
 use Rattle.bounds.specs.Steps.{standingVerdict}
-use Rattle.bounds.specs.Each.{Answers, answers, mixtureAt, roomFor, eachVerdict}
+use Rattle.mixtures.specs.Each.{Answers, answers, mixtureAt, roomFor, eachVerdict}
 use Rattle.runs.specs.State.{totalsOf}
-use Rattle.bounds.proofs.Bounds.{Gained, roofed, asked, gains-long, standing-holds, answered}
-use Rattle.bounds.proofs.Answers.{enough, too-few, room-true, written-same, left-alone, refused-standing, refused-17, refused-9, given, all-written}
-use Rattle.bounds.proofs.each.Statement.{statement}
-use Rattle.bounds.proofs.each.Tie as tie
+use Rattle.bounds.proofs.Bounds.{stands, Gained, roofed, asked, gains-long, standing-holds, answered}
+use Rattle.mixtures.proofs.Answers.{enough, too-few, room-true, written-same, left-alone, refused-standing, refused-17, refused-9, given, all-written}
+use Rattle.mixtures.proofs.each.Statement.{statement}
+use Rattle.mixtures.proofs.each.Tie as tie
 
 -- from each place to the one before it
 abbrev start : tie.After-judge-standing → tie.Start

@@ -18,8 +18,8 @@ use Rattle.tables.proofs.Refusals.{stops, goes, breaks, passes}
 use Rattle.levels.specs.Storage.{Lent}
 use Rattle.runs.specs.declared.Bounds.{Bounds}
 use Rattle.runs.specs.State.{totalsOf}
 use Rattle.bounds.specs.Steps.{standingVerdict}
-use Rattle.bounds.specs.Each.{Answers, answers, mixtureAt, roomFor, refusalIn, written, eachVerdict, eachOf}
+use Rattle.mixtures.specs.Each.{Answers, answers, mixtureAt, roomFor, refusalIn, written, eachVerdict, eachOf}
 
 -- ---- the mixtures
 module _ {n : ℕ} (count long : ℕ) (some : 0 < n) where

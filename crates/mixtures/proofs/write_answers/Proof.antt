@@ -1,15 +1,19 @@
-use Rattle.bounds.proofs.Prelude.{ℕ, _+_, _*_, _-_, _≤_, _<_, _≡_, _∙_, List, arith, needs, ap, length}
-use Prim.Native.Nat.{_^_}
+use borrow.Author.Needs.{needs}
+use lib.ListN.{length}
+use mathlib.Core.List.{List}
+use mathlib.Core.Path.{_≡_, _∙_, ap}
+use native.Mathlib.Omega.{arith}
+use Prim.Native.Nat.{ℕ, _+_, _*_, _-_, _≤_, _<_, _^_}
 use mir.Syntax.{w64}
 use mir.Val.{toZ, ofZ}
 use Rattle.integers.proofs.Words.{back-small}
 use Rattle.runs.specs.declared.Bounds.{Bounds}
 use Rattle.bounds.specs.Steps.{answerIn}
-use Rattle.bounds.specs.Each.{Answers, answers, mixtureAt, refusalIn, written}
-use Rattle.bounds.proofs.Answers.{part-fits, part-is, Room, SameLengths, written-none, written-more, written-long}
+use Rattle.mixtures.specs.Each.{Answers, answers, mixtureAt, refusalIn, written}
+use Rattle.mixtures.proofs.Answers.{part-fits, part-is, Room, SameLengths, written-none, written-more, written-long}
 use Rattle.bounds.proofs.Bounds.{acts-within, sizes-within}
-use Rattle.bounds.proofs.write_answers.Statement.{statement}
-use Rattle.bounds.proofs.write_answers.Tie as tie
+use Rattle.mixtures.proofs.write_answers.Statement.{statement}
+use Rattle.mixtures.proofs.write_answers.Tie as tie
 
 abbrev Inv-loop : tie.InvT-loop
 Inv-loop actions entries corners weights gains n vectors points mixtures count verdicts₀ lower₀ upper₀ advice₀ i₀ verdicts lower upper advice i =

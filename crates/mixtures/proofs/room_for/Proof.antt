@@ -1,6 +1,6 @@
-use Rattle.bounds.proofs.Prelude.{le-leb, lt-leb}
-use Rattle.bounds.proofs.room_for.Statement.{statement}
-use Rattle.bounds.proofs.room_for.Tie as tie
+use borrow.Author.Tests.{le-leb, lt-leb}
+use Rattle.mixtures.proofs.room_for.Statement.{statement}
+use Rattle.mixtures.proofs.room_for.Tie as tie
 
 returns : tie.Need-returns
 returns c = rw (lt-leb _ _ (c .if1 .taken))

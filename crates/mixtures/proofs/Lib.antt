@@ -1,0 +1,2 @@
+-- Laws of the answers at many mixtures.
+pub mod Answers

@@ -1,0 +1,2 @@
+-- Totals at many mixtures.
+pub mod Each
