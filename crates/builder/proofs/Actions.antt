@@ -16,8 +16,9 @@ use Rattle.integers.proofs.Sums.{total-part}
 use Rattle.tables.specs.declared.Counts.{Counts}
 use Rattle.tables.specs.Limits.{maxStates, maxActions, maxObservations, one, maxEntry}
 use Rattle.tables.specs.Storage.{weightIn, modelIn}
-use Rattle.tables.specs.Steps.{movedIn, seenIn, TransitionsFit, ObservationsFit, RewardsFit, EntriesFit}
-use Rattle.tables.proofs.Regroup.{transitions-fit, observations-fit, rewards-fit}
+use Rattle.tables.specs.Steps.{EntriesFit}
+use Rattle.sums.specs.Steps.{movedIn, seenIn, TransitionsFit, ObservationsFit, RewardsFit}
+use Rattle.sums.proofs.Regroup.{transitions-fit, observations-fit, rewards-fit}
 use Rattle.plans.specs.Limits.{maxTotal, maxReached, range}
 use Rattle.plans.specs.Level.{product}
 use Rattle.plans.specs.Build.{entryFor, bestAction}

@@ -14,9 +14,10 @@ use Rattle.tables.specs.declared.Counts.{Counts}
 use Rattle.tables.specs.Limits.{maxStates, maxObservations, maxVectors, K}
 use Rattle.tables.specs.Model.{successor, backedUp}
 use Rattle.tables.specs.Storage.{weightIn, entryIn, choiceIn, modelIn}
-use Rattle.tables.specs.Steps.{movedIn, seenIn, foreseenIn, backupIn, EntriesFit, ChosenFit}
+use Rattle.tables.specs.Steps.{EntriesFit}
+use Rattle.sums.specs.Steps.{movedIn, seenIn, foreseenIn, backupIn, ChosenFit}
 use Rattle.tables.proofs.Fitting.{row-alone}
-use Rattle.tables.proofs.Regroup.{backup-regrouped}
+use Rattle.sums.proofs.Regroup.{backup-regrouped}
 use Rattle.plans.specs.Level.{product, follows}
 use Rattle.plans.specs.Build.{chosen, entryFor}
 use Rattle.plans.proofs.Agreement.{product-cong, backup-cong}

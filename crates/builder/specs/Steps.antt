@@ -11,7 +11,8 @@ use Rattle.tables.specs.declared.Counts.{Counts}
 use Rattle.tables.specs.Limits.{maxStates, maxObservations, maxLevels, K}
 use Rattle.tables.specs.Model.{Model, Valid}
 use Rattle.tables.specs.Storage.{weightIn, entryIn, modelIn}
-use Rattle.tables.specs.Steps.{foreseenIn, backupIn, Stored}
+use Rattle.tables.specs.Steps.{Stored}
+use Rattle.sums.specs.Steps.{foreseenIn, backupIn}
 use Rattle.plans.specs.Level.{Level, product, Shaped}
 use Rattle.plans.specs.Build.{chosen, entryFor, bestAction}
 use Rattle.levels.specs.Storage.{floorIn}

@@ -9,7 +9,8 @@ ghost use Rattle.integers.specs.Search.{firstLargest};
 ghost use Rattle.integers.specs.Cells.{padded, laid};
 ghost use Rattle.tables.specs.Limits.{maxStates, maxActions, maxObservations, one, K};
 ghost use Rattle.tables.specs.Storage.{weightIn, entryIn, modelIn, tablesIn};
-ghost use Rattle.tables.specs.Steps.{movedIn, seenIn, rowsTo, TransitionsFit, ObservationsFit, RewardsFit, EntriesFit, movedLimit};
+ghost use Rattle.tables.specs.Steps.{rowsTo, EntriesFit};
+ghost use Rattle.sums.specs.Steps.{movedIn, seenIn, TransitionsFit, ObservationsFit, RewardsFit, movedLimit};
 ghost use Rattle.plans.specs.Limits.{maxBuilt, maxTotal, maxReached};
 ghost use Rattle.plans.specs.Level.{product, corner-weight, IsPoint};
 ghost use Rattle.plans.specs.Build.{seed, leastValue, built};
@@ -28,7 +29,6 @@ use tables::Tables;
 use tables::Vector;
 use tables::Weights;
 use tables::read;
-use tables::sums;
 
 // What a vector chooses: a table of choices of one row.
 pub type Chosen = [u16; Tables::OBSERVATIONS];

@@ -16,9 +16,9 @@ use Rattle.tables.specs.declared.Verdict.the-variants.{Fine, Refused}
 use Rattle.tables.specs.Limits.{maxStates, maxActions, maxVectors, maxEntry, K}
 use Rattle.tables.specs.Model.{backup}
 use Rattle.tables.specs.Storage.{entryIn, modelIn}
-use Rattle.tables.specs.Steps.{chosenIn, foreseenIn, backupIn, TransitionsFit, ObservationsFit, RewardsFit, foreseenLimit}
+use Rattle.sums.specs.Steps.{chosenIn, foreseenIn, backupIn, TransitionsFit, ObservationsFit, RewardsFit, foreseenLimit}
 use Rattle.tables.specs.Verdicts.{unless, firstOf}
-use Rattle.tables.proofs.Regroup.{backup-regrouped, foreseen-limit, transitions-fit, observations-fit, rewards-fit}
+use Rattle.sums.proofs.Regroup.{backup-regrouped, foreseen-limit, transitions-fit, observations-fit, rewards-fit}
 use Rattle.plans.specs.Level.{follows}
 use Rattle.levels.specs.Storage.{floorIn}
 use Rattle.levels.specs.Judged.{floorsVerdict}

@@ -21,8 +21,8 @@ use Rattle.tables.specs.declared.Counts.{Counts}
 use Rattle.tables.specs.Limits.{maxStates, maxActions, maxWeight, maxReward, one, K, maxLevels}
 use Rattle.tables.specs.Model.{Model, successor, expectedReward}
 use Rattle.tables.specs.Storage.{weightIn, rewardIn, modelIn}
-use Rattle.tables.specs.Steps.{movedIn, seenIn, expectedIn, TransitionsFit, RewardsFit, movedLimit}
-use Rattle.tables.proofs.Regroup.{moved-successor, expected-is, moved-limit}
+use Rattle.sums.specs.Steps.{movedIn, seenIn, expectedIn, TransitionsFit, RewardsFit, movedLimit}
+use Rattle.sums.proofs.Regroup.{moved-successor, expected-is, moved-limit}
 use Rattle.plans.specs.Limits.{maxPoints, maxTotal, maxReached, range}
 use Rattle.plans.specs.Level.{Level as Ideal, Shaped, ceiling, backupAt, corner-weight, IsPoint}
 use Rattle.plans.proofs.Agreement.{ceiling-weights, backupAt-weights}

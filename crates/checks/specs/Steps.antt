@@ -9,7 +9,8 @@ use Rattle.tables.specs.declared.Counts.{Counts}
 use Rattle.tables.specs.Limits.{maxStates, maxEntry, K, maxLevels}
 use Rattle.tables.specs.Model.{Valid}
 use Rattle.tables.specs.Storage.{weightIn, modelIn}
-use Rattle.tables.specs.Steps.{movedIn, seenIn, expectedIn, Stored, EntriesFit, ChosenFit}
+use Rattle.tables.specs.Steps.{Stored, EntriesFit}
+use Rattle.sums.specs.Steps.{movedIn, seenIn, expectedIn, ChosenFit}
 use Rattle.plans.specs.Limits.{maxTotal, maxReached}
 use Rattle.plans.specs.Level.{Shaped}
 use Rattle.levels.specs.Storage.{roofIn}

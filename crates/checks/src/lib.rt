@@ -10,7 +10,7 @@ ghost use Rattle.integers.specs.Search.{every};
 ghost use Rattle.integers.specs.Cells.{padded};
 ghost use Rattle.tables.specs.Limits.{maxStates, maxActions, maxObservations, one, maxEntry, K};
 ghost use Rattle.tables.specs.Storage.{modelIn};
-ghost use Rattle.tables.specs.Steps.{seenIn, backupIn, TransitionsFit, ObservationsFit, RewardsFit, movedLimit, foreseenLimit};
+ghost use Rattle.sums.specs.Steps.{seenIn, backupIn, TransitionsFit, ObservationsFit, RewardsFit, movedLimit, foreseenLimit};
 ghost use Rattle.plans.specs.Limits.{maxTotal};
 ghost use Rattle.plans.specs.Level.{IsPoint};
 ghost use Rattle.levels.specs.Storage.{pointIn, floorIn, roofIn};
@@ -27,7 +27,6 @@ use tables::Vector;
 use tables::Verdict;
 use tables::Weights;
 use tables::read;
-use tables::sums;
 
 // What each action allows, at some weights.
 pub type Backups = [i64; Tables::ACTIONS];

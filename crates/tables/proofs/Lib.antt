@@ -2,6 +2,5 @@
 pub mod Refusals
 pub mod Fitting
 pub mod Accepted
-pub mod Regroup
 pub mod Same
 pub mod Prelude

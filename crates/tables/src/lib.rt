@@ -1,7 +1,6 @@
-// The model: its tables, what they are refused for, and the sums that backups are made of.
+// The model: its tables, and what they are refused for.
 pub mod judge; // refusals 3, 5 and 6
 pub mod read; // one cell of a table
-pub mod sums; // successor weights, expected rewards and vector backups
 
 // Numbers of four kinds, all from 0, side by side: none passes for another.
 pub struct State(pub usize);

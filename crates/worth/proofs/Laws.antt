@@ -22,12 +22,13 @@ use Rattle.tables.specs.declared.Verdict.the-variants.{Fine}
 use Rattle.tables.specs.Limits.{maxStates, maxActions, K}
 use Rattle.tables.specs.Model.{Model, backedUp}
 use Rattle.tables.specs.Storage.{entryIn, countsOf, modelIn, modelOf}
-use Rattle.tables.specs.Steps.{foreseenIn, backupIn, TransitionsFit, ObservationsFit, RewardsFit, EntriesFit, ChosenFit, foreseenLimit}
+use Rattle.tables.specs.Steps.{EntriesFit}
+use Rattle.sums.specs.Steps.{foreseenIn, backupIn, TransitionsFit, ObservationsFit, RewardsFit, ChosenFit, foreseenLimit}
 use Rattle.tables.specs.Judged.{countWithin}
 use Rattle.tables.proofs.Accepted.{tables-valid, tables-stored, count-true}
 use Rattle.tables.proofs.Fitting.{rows-stored}
 use Rattle.tables.proofs.Refusals.{before-fine, unless-fine}
-use Rattle.tables.proofs.Regroup.{backup-regrouped, foreseen-limit, transitions-fit, observations-fit, rewards-fit}
+use Rattle.sums.proofs.Regroup.{backup-regrouped, foreseen-limit, transitions-fit, observations-fit, rewards-fit}
 use Rattle.plans.specs.Limits.{range}
 use Rattle.plans.proofs.Agreement.{backup-cong}
 use Rattle.plans.proofs.Built.{K-positive, backup-within, range-limit}

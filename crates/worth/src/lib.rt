@@ -25,7 +25,6 @@ use tables::Vector;
 use tables::Verdict;
 use tables::judge;
 use tables::read;
-use tables::sums;
 
 pub struct Node(pub usize);
 

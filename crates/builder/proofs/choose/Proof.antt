@@ -5,7 +5,7 @@ use lib.ListN.{length, set}
 use Rattle.integers.specs.Cells.{padded}
 use Rattle.integers.proofs.Lists.{filled-below, padded-none, padded-turn, padded-length}
 use Rattle.tables.specs.Limits.{maxObservations}
-use Rattle.tables.specs.Steps.{seenIn}
+use Rattle.sums.specs.Steps.{seenIn}
 use Rattle.tables.proofs.Fitting.{row-alone}
 use Rattle.builder.proofs.Candidates.{picked, found-in, picked-from}
 use Rattle.builder.proofs.choose.Statement.{statement}

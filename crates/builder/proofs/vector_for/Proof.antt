@@ -1,8 +1,8 @@
 use Rattle.builder.proofs.Prelude.{sym, maxStates}
 use Rattle.integers.proofs.Lists.{filled-within, padded-length}
 use Rattle.tables.specs.Limits.{maxObservations}
-use Rattle.tables.specs.Steps.{foreseenIn, ChosenFit}
-use Rattle.tables.proofs.Regroup.{foreseen-limit}
+use Rattle.sums.specs.Steps.{foreseenIn, ChosenFit}
+use Rattle.sums.proofs.Regroup.{foreseen-limit}
 use Rattle.checks.proofs.Roofs.{weights-below, moved-below}
 use Rattle.builder.proofs.Candidates.{chosen-fit, candidate-made}
 use Rattle.builder.proofs.vector_for.Statement.{statement}

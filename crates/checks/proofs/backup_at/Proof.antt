@@ -1,5 +1,5 @@
 use Rattle.checks.proofs.Prelude.{sym, _≡_, _∙_, arith, lit<, w64, toZ, ofZ, _·_, sumTo, padded, answer, maxStates, K, ceilingIn, aheadAt}
-use Rattle.tables.specs.Steps.{movedIn, expectedIn}
+use Rattle.sums.specs.Steps.{movedIn, expectedIn}
 use Rattle.integers.proofs.Lists.{padded-length}
 use Rattle.checks.specs.Steps.{backupAtIn}
 use Rattle.checks.proofs.Roofs.{weights-below, moved-below, expected-fits, parts-fit}

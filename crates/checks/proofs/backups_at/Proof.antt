@@ -1,7 +1,7 @@
 use Rattle.checks.proofs.Prelude.{_<_, _≤_, _-_, _≡_, sym, arith, pos, padded, answer, ceilingIn}
 use Rattle.integers.proofs.Lists.{padded-none, padded-turn}
 use Rattle.tables.specs.Limits.{maxActions}
-use Rattle.tables.proofs.Regroup.{transitions-fit, observations-fit, rewards-fit}
+use Rattle.sums.proofs.Regroup.{transitions-fit, observations-fit, rewards-fit}
 use Rattle.checks.specs.Steps.{backupAtIn}
 use Rattle.checks.proofs.Roofs.{light-below}
 use Rattle.checks.proofs.backups_at.Statement.{statement}

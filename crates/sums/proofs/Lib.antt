@@ -1,0 +1,3 @@
+-- Laws of the partial sums.
+pub mod Regroup
+pub mod Prelude

@@ -1,0 +1,41 @@
+use Rattle.sums.proofs.Prelude.{_*_, _≤_, _-_, _≡_, sym, _∙_, arith, needs, totalTo, total-none, total-step, weightIn, transitionIn, movedIn}
+use Rattle.sums.proofs.Regroup.{moved-part}
+use Rattle.sums.proofs.moved_to.Statement.{statement}
+use Rattle.sums.proofs.moved_to.Tie as tie
+
+abbrev Inv-loop : tie.InvT-loop
+Inv-loop cells n p a to sum₀ s₀ sum s = (s ≤ n) × (sum ≡ totalTo s (λ i. weightIn p i * transitionIn n cells i (a .0) (to .0)))
+
+abbrev μ-loop : tie.MeasureT-loop
+μ-loop cells n p a to sum₀ s₀ sum s = n - s
+
+loop-holds : tie.Need-loop-holds Inv-loop μ-loop
+loop-holds c = (search needs, sym (total-none _))
+
+add-moved-requires : tie.Need-add-moved-requires Inv-loop μ-loop
+add-moved-requires c κs =
+    let a = c .before .before .before .before .before .before in
+    let s = c .before .before .before .loop .s in (
+      rw (c .before .before .before .loop .inv .1) (moved-part (a .pre .1 .1) (a .pre .1 .0) (a .pre .0 .1 .1) (a .pre .0 .0) s (omega arith)),
+      (
+        a .pre .1 .0 .below s (omega arith),
+        rw (c .before .transition-at .ensures) (a .pre .1 .1 .transition s (omega arith) (a .args .to .0) (a .pre .0 .1 .1)),
+      ),
+    )
+
+loop-again : tie.Need-loop-again Inv-loop μ-loop
+loop-again c = (
+  search needs,
+  c .add-moved .ensures ∙ rw (c .before .before .transition-at .ensures) (total-step _ _ (c .before .before .before .before .loop .inv .1)),
+)
+
+returns : tie.Need-returns Inv-loop μ-loop
+unfolding movedIn
+returns c =
+    let e : c .before .loop .s ≡ c .before .before .before .before .args .n = omega arith in
+    rw e at (c .before .loop .inv .1)
+
+pub moved-to-spec : {M : Type 1} → statement M
+moved-to-spec =
+    tie.close (tie.spec Inv-loop μ-loop loop-holds (λ c κs. search needs) (λ c. search needs) (λ c. search needs) add-moved-requires (λ c. search needs)
+    (λ c. search needs) loop-again returns)

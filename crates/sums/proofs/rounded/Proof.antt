@@ -1,0 +1,29 @@
+use Rattle.sums.proofs.Prelude.{_-_, _≤_, _≡_, sym, arith, needs, pos, padded, padded-none, padded-turn, answer, maxStates, K}
+use Rattle.integers.specs.Whole.{floorDiv}
+use Rattle.sums.specs.Steps.{backupIn}
+use Rattle.sums.proofs.rounded.Statement.{statement}
+use Rattle.sums.proofs.rounded.Tie as tie
+
+abbrev Inv-loop : tie.InvT-loop
+Inv-loop transition reward f n g a e₀ s₀ e s =
+    (s ≤ n) × (e ≡ padded (pos 0) maxStates s (λ j. floorDiv (backupIn n g transition reward f (a .0) j) K))
+
+abbrev μ-loop : tie.MeasureT-loop
+μ-loop transition reward f n g a e₀ s₀ e s = n - s
+
+loop-holds : tie.Need-loop-holds Inv-loop μ-loop
+loop-holds c = (search needs, sym (padded-none _ _ _))
+
+loop-again : tie.Need-loop-again Inv-loop μ-loop
+loop-again c = (
+  search needs,
+  padded-turn _ _ _ _ (c .before .before .loop .inv .1) (answer (c .backed-up .ok) (c .backed-up .ensures)) (omega arith),
+)
+
+returns : tie.Need-returns Inv-loop μ-loop
+returns c = let e : c .before .loop .s ≡ c .before .before .before .args .n = omega arith in rw e at (c .before .loop .inv .1)
+
+pub rounded-spec : {M : Type 1} → statement M
+rounded-spec =
+    tie.close (tie.spec Inv-loop μ-loop loop-holds (λ c κs. search needs) (λ c. search needs) (λ c. search needs) (λ c. search needs)
+    (λ c. search needs) loop-again returns)

@@ -1,0 +1,2 @@
+-- Partial sums over storage.
+pub mod Steps

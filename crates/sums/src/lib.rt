@@ -1,0 +1,228 @@
+// Successor weights, expected rewards and vector backups. The sums are regrouped so that each partial sum is worked out once:
+// Σ_s p(s) × T(s,a,s') for an action, Σ_o O(a,s',o) × (entry chosen for o) for a vector and a state reached.
+ghost use mathlib.Core.Path.{_≡_};
+ghost use Prim.Native.Nat.{_+_, _*_, _≤_, _<_};
+ghost use lib.IntN.{pos};
+ghost use Rattle.integers.specs.Whole.{floorDiv, Below, Within};
+ghost use Rattle.integers.specs.Cells.{padded};
+ghost use Rattle.tables.specs.Limits.{maxStates, maxActions, maxObservations, one, maxWeight, K};
+ghost use Rattle.sums.specs.Steps.{movedIn, seenIn, expectedIn, foreseenIn, onwardIn, backupIn, movedLimit, foreseenLimit};
+ghost use Rattle.sums.specs.Steps.{TransitionsFit, ObservationsFit, RewardsFit, ChosenFit};
+use tables::Action;
+use tables::Foreseen;
+use tables::Observation;
+use tables::State;
+use tables::Tables;
+use tables::Vector;
+use tables::Weights;
+use tables::read;
+
+// sum + p × t, of a weight and a transition
+fn add_moved(sum: u64, p: u64, t: u64) -> u64
+    requires { ⌜ (sum ≤ movedLimit) × ((p ≤ maxWeight) × (t ≤ one)) ⌝ }
+    ensures { λ r. ⌜ r ≡ sum + p * t ⌝ }
+{
+    sum + p * t
+}
+
+// The sum over s of p(s) × T(s,a,s').
+fn moved_to(cells: &[u16], n: usize, p: &[u64], a: Action, to: State) -> u64
+    requires { ⌜ (n ≤ maxStates) × ((a .0 < maxActions) × (to .0 < n)) ⌝ }
+    requires { ⌜ Below maxWeight n (now p) ⌝ }
+    requires { ⌜ TransitionsFit n (now cells) (a .0) ⌝ }
+    ensures { λ r. ⌜ r ≡ movedIn n (now (cells .entry)) (now (p .entry)) (a .0) (to .0) ⌝ }
+{
+    let mut sum: u64 = 0;
+    for s in 0..n {
+        let t = read::transition_at(cells, n, State(s), a, to);
+        sum = add_moved(sum, p[s], t);
+    }
+    sum
+}
+
+// The same at each state reached.
+pub fn moved(cells: &[u16], n: usize, p: &[u64], a: Action) -> Weights
+    requires { ⌜ (n ≤ maxStates) × (a .0 < maxActions) ⌝ }
+    requires { ⌜ Below maxWeight n (now p) ⌝ }
+    requires { ⌜ TransitionsFit n (now cells) (a .0) ⌝ }
+    ensures { λ r. ⌜ r ≡ padded 0 maxStates n (movedIn n (now (cells .entry)) (now (p .entry)) (a .0)) ⌝ }
+{
+    let mut u = [0u64; Tables::STATES];
+    for to in 0..n {
+        u[to] = moved_to(cells, n, p, a, State(to));
+    }
+    u
+}
+
+fn share(u: u64, o: u64) -> u64
+    requires { ⌜ (u ≤ movedLimit) × (o ≤ one) ⌝ }
+    ensures { λ r. ⌜ r ≡ u * o ⌝ }
+{
+    u * o
+}
+
+// The successor weights for an action and an observation, from what moved to each state.
+pub fn successors(
+    cells: &[u16],
+    n: usize,
+    k: usize,
+    u: &[u64],
+    a: Action,
+    o: Observation,
+) -> Weights
+    requires { ⌜ (n ≤ maxStates) × ((k ≤ maxObservations) × ((a .0 < maxActions) × (o .0 < k))) ⌝ }
+    requires { ⌜ Below movedLimit n (now u) ⌝ }
+    requires { ⌜ ObservationsFit n k (now cells) (a .0) ⌝ }
+    ensures { λ r. ⌜ r ≡ padded 0 maxStates n (seenIn n k (now (cells .entry)) (now (u .entry)) (a .0) (o .0)) ⌝ }
+{
+    let mut q = [0u64; Tables::STATES];
+    for to in 0..n {
+        q[to] = share(u[to], read::observation_at(cells, n, k, a, State(to), o));
+    }
+    q
+}
+
+// p · R(·,a)
+pub fn expected_reward(cells: &[i64], n: usize, p: &[u64], a: Action) -> i64
+    requires { ⌜ (n ≤ maxStates) × (a .0 < maxActions) ⌝ }
+    requires { ⌜ Below maxWeight n (now p) ⌝ }
+    requires { ⌜ RewardsFit n (now cells) (a .0) ⌝ }
+    ensures { λ r. ⌜ r ≡ expectedIn n (now (cells .entry)) (now (p .entry)) (a .0) ⌝ }
+{
+    let mut sum: i64 = 0;
+    for s in 0..n {
+        let r = read::reward_at(cells, n, State(s), a);
+        sum = integers::add_scaled(sum, p[s], r);
+    }
+    sum
+}
+
+// The sum over o of O(a,s',o) × (entry at s' of the vector that v chooses for o).
+fn foreseen_at(
+    cells: &[u16],
+    n: usize,
+    k: usize,
+    entries: &[i64],
+    choices: &[u16],
+    v: Vector,
+    a: Action,
+    to: State,
+) -> i64
+    requires { ⌜ (n ≤ maxStates) × ((k ≤ maxObservations) × ((a .0 < maxActions) × (to .0 < n))) ⌝ }
+    requires { ⌜ ObservationsFit n k (now cells) (a .0) ⌝ }
+    requires { ⌜ ChosenFit n k (now entries) (now choices) (v .0) ⌝ }
+    ensures { λ r. ⌜ r ≡ foreseenIn n k (now (cells .entry)) (now (entries .entry)) (now (choices .entry)) (v .0) (a .0) (to .0) ⌝ }
+{
+    let mut sum: i64 = 0;
+    for o in 0..k {
+        let w = read::observation_at(cells, n, k, a, to, Observation(o));
+        let e = read::entry_at(
+            entries,
+            n,
+            read::choice_at(choices, k, v, Observation(o)),
+            to,
+        );
+        sum = integers::add_scaled(sum, w, e);
+    }
+    sum
+}
+
+// The same at each state reached.
+pub fn foreseen(
+    cells: &[u16],
+    n: usize,
+    k: usize,
+    entries: &[i64],
+    choices: &[u16],
+    v: Vector,
+    a: Action,
+) -> Foreseen
+    requires { ⌜ (n ≤ maxStates) × ((k ≤ maxObservations) × (a .0 < maxActions)) ⌝ }
+    requires { ⌜ ObservationsFit n k (now cells) (a .0) ⌝ }
+    requires { ⌜ ChosenFit n k (now entries) (now choices) (v .0) ⌝ }
+    ensures { λ r. ⌜ r ≡ padded (pos 0) maxStates n (foreseenIn n k (now (cells .entry)) (now (entries .entry)) (now (choices .entry)) (v .0) (a .0)) ⌝ }
+{
+    let mut f = [0i64; Tables::STATES];
+    for to in 0..n {
+        f[to] = foreseen_at(cells, n, k, entries, choices, v, a, State(to));
+    }
+    f
+}
+
+// The sum over s' of T(s,a,s') × what is foreseen at s'.
+fn onward(cells: &[u16], n: usize, f: &[i64], s: State, a: Action) -> i64
+    requires { ⌜ (n ≤ maxStates) × ((a .0 < maxActions) × (s .0 < n)) ⌝ }
+    requires { ⌜ TransitionsFit n (now cells) (a .0) ⌝ }
+    requires { ⌜ Within foreseenLimit n (now f) ⌝ }
+    ensures { λ r. ⌜ r ≡ onwardIn n (now (cells .entry)) (now (f .entry)) (s .0) (a .0) ⌝ }
+{
+    let mut sum: i64 = 0;
+    for to in 0..n {
+        let t = read::transition_at(cells, n, s, a, State(to));
+        sum = integers::add_scaled(sum, t, f[to]);
+    }
+    sum
+}
+
+// The vector backup: K × R(s,a) + g × the sum onward.
+pub fn backup<'a>(
+    transition: &'a [u16],
+    reward: &'a [i64],
+    n: usize,
+    g: u64,
+    f: &[i64],
+    s: State,
+    a: Action,
+) -> i64
+    requires { ⌜ (n ≤ maxStates) × ((a .0 < maxActions) × ((s .0 < n) × (g ≤ one))) ⌝ }
+    requires { ⌜ TransitionsFit n (now transition) (a .0) ⌝ }
+    requires { ⌜ RewardsFit n (now reward) (a .0) ⌝ }
+    requires { ⌜ Within foreseenLimit n (now f) ⌝ }
+    ensures { λ r. ⌜ r ≡ backupIn n g (now (transition .entry)) (now (reward .entry)) (now (f .entry)) (a .0) (s .0) ⌝ }
+{
+    let now = integers::scaled(Tables::K, read::reward_at(reward, n, s, a));
+    let later = onward(transition, n, f, s, a);
+    integers::add_scaled(now, g, later)
+}
+
+// The backup over K, rounded towards minus infinity.
+pub fn backed_up<'a>(
+    transition: &'a [u16],
+    reward: &'a [i64],
+    n: usize,
+    g: u64,
+    f: &[i64],
+    s: State,
+    a: Action,
+) -> i64
+    requires { ⌜ (n ≤ maxStates) × ((a .0 < maxActions) × ((s .0 < n) × (g ≤ one))) ⌝ }
+    requires { ⌜ TransitionsFit n (now transition) (a .0) ⌝ }
+    requires { ⌜ RewardsFit n (now reward) (a .0) ⌝ }
+    requires { ⌜ Within foreseenLimit n (now f) ⌝ }
+    ensures { λ r. ⌜ r ≡ floorDiv (backupIn n g (now (transition .entry)) (now (reward .entry)) (now (f .entry)) (a .0) (s .0)) K ⌝ }
+{
+    integers::floor_div(backup(transition, reward, n, g, f, s, a), Tables::K)
+}
+
+// The same at each state.
+pub fn rounded<'a>(
+    transition: &'a [u16],
+    reward: &'a [i64],
+    f: &[i64],
+    n: usize,
+    g: u64,
+    a: Action,
+) -> Foreseen
+    requires { ⌜ (n ≤ maxStates) × ((a .0 < maxActions) × (g ≤ one)) ⌝ }
+    requires { ⌜ TransitionsFit n (now transition) (a .0) ⌝ }
+    requires { ⌜ RewardsFit n (now reward) (a .0) ⌝ }
+    requires { ⌜ Within foreseenLimit n (now f) ⌝ }
+    ensures { λ r. ⌜ r
+        ≡ padded (pos 0) maxStates n (λ s. floorDiv (backupIn n g (now (transition .entry)) (now (reward .entry)) (now (f .entry)) (a .0) s) K) ⌝ }
+{
+    let mut e = [0i64; Tables::STATES];
+    for s in 0..n {
+        e[s] = backed_up(transition, reward, n, g, f, State(s), a);
+    }
+    e
+}
