@@ -41,7 +41,7 @@ use Rattle.checks.proofs.Lent.{entries-lent, roof-lent}
 use Rattle.checks.proofs.Roofs.{corners-fit, points-fit, gains-below}
 use Rattle.runs.specs.declared.Bounds.{Bounds}
 use Rattle.runs.specs.State.{mixtureHolds, totalsVerdict, boundsBy, totalsOf}
-use Rattle.runs.proofs.Judged.{Standing, standing-true}
+use Rattle.runs.proofs.Judged.{Held, standing-true}
 use Rattle.bounds.specs.Steps.{standingVerdict, noBounds, bestIn, lowerIn, boundsIn, widened, unless17, answerIn, Asked}
 
 product-range : (n r : ℕ) (q : ℕ → ℕ) (e : ℕ → ℤ) → ((s : ℕ) → s < n → natAbs (e s) ≤ r) → natAbs (product n q e) ≤ totalTo n q * r
@@ -143,7 +143,7 @@ module _ (m : Tables) (x : Lent) (h : holds m x ≡ true) where
   abbrev L : Level
   L = levelOf m (standingIn x)
 
-  pub stands : Standing m x
+  pub stands : Held m x
   stands = standing-true m x h
 
   some-vectors : 0 < L .vectors

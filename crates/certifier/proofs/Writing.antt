@@ -22,7 +22,7 @@ use Rattle.levels.specs.Storage.{Cells, LentLevel, Lent, stateSize, cells, lent
 use Rattle.levels.specs.Judged.{offerVerdict}
 use Rattle.levels.proofs.Over.{cells-same}
 use Rattle.runs.specs.State.{openVerdict, opened, offered, answerFor, buildVerdict, builtFrom, builtOf}
-use Rattle.runs.proofs.Judged.{Standing, standing-true, weights-fine}
+use Rattle.runs.proofs.Judged.{Held, standing-true, weights-fine}
 use Rattle.certifier.specs.Steps.{laidBy}
 
 -- a row alone
@@ -84,7 +84,7 @@ weights-long n vectors points actions entries corners weights values e =
 
 -- what 7, 8, 9 and 12 leave known
 pub record Buildable (m : Tables) (x : Lent) (count : ℕ) (y : Cells) : Type 0 where
-  pub standing : Standing m x
+  pub standing : Held m x
   pub room : numberIn x < maxLevels
   pub few : count ≤ maxBuilt
   pub whole : complete m (answerFor m count y) ≡ true

@@ -1,5 +1,5 @@
 -- Cells that are marked one after the other, and what an index stands for. Assumes nothing.
-use Prim.Native.Nat.{ℕ, zero, suc, _+_, _*_, _≤_, _<_}
+use Prim.Native.Nat.{ℕ, zero, suc, _+_, _≤_, _<_}
 use mathlib.Core.Path.{_≡_, refl, sym, ap, _∙_}
 use mathlib.Core.Bool.{Bool, true, false, _||_, cond}
 use mathlib.Core.List.{List, [], _∷_}
@@ -10,6 +10,7 @@ use lib.Dec.{eqb}
 use lib.ListN.{length, getD, set}
 use lib.IntN.{ℤ}
 use Rattle.integers.specs.Search.{some}
+use Rattle.tables.specs.Storage.{rowPlace, cellPlace}
 use Rattle.drafts.specs.Drafts.{markedFrom, marked, lowest, spread, stated, rewarded}
 
 module _ {A : Type 0} where
@@ -104,12 +105,12 @@ stands-within n i e d h = rw (e, d) (star-within (eqb i n) n i (not-star n i h))
 -- what is marked for them is what is stated
 pub stated-by : (m n w a s x p : ℕ) (l : List ℕ) {b bs r rs y ys : ℕ}
     → b ≡ lowest m a → bs ≡ spread m a → r ≡ lowest n s → rs ≡ spread n s → y ≡ lowest w x → ys ≡ spread w x
-    → marked (λ i. some bs (λ b'. some rs (λ r'. some ys (λ j. eqb i (((b + b') * n + (r + r')) * w + (y + j)))))) p l ≡ stated m n w a s x p l
+    → marked (λ i. some bs (λ b'. some rs (λ r'. some ys (λ j. eqb i (cellPlace n w (b + b') (r + r') (y + j)))))) p l ≡ stated m n w a s x p l
 unfolding stated
 stated-by m n w a s x p l b bs r rs y ys = rw (b, bs, r, rs, y, ys) refl
 
 pub rewarded-by : (m n a s : ℕ) (v : ℤ) (l : List ℤ) {r rs y ys : ℕ}
     → r ≡ lowest m a → rs ≡ spread m a → y ≡ lowest n s → ys ≡ spread n s
-    → marked (λ i. some rs (λ r'. some ys (λ j. eqb i ((r + r') * n + (y + j))))) v l ≡ rewarded m n a s v l
+    → marked (λ i. some rs (λ r'. some ys (λ j. eqb i (rowPlace n (r + r') (y + j))))) v l ≡ rewarded m n a s v l
 unfolding rewarded
 rewarded-by m n a s v l r rs y ys = rw (r, rs, y, ys) refl

@@ -5,7 +5,9 @@ ghost use lib.Dec.{eqb};
 ghost use lib.ListN.{length};
 ghost use Rattle.integers.specs.Search.{some};
 ghost use Rattle.tables.specs.Limits.{maxStates, maxActions};
+ghost use Rattle.tables.specs.Storage.{rowPlace, cellPlace};
 ghost use Rattle.drafts.specs.Drafts.{marked, lowest, spread, stated, rewarded};
+use tables::read;
 
 // The first of those that i stands for: 0 where i is n, which stands for all of n.
 fn lowest_of(n: usize, i: usize) -> usize
@@ -59,10 +61,10 @@ fn mark_rows(
 )
     requires { ⌜ (block + (s + rows) ≤ maxActions * maxStates) × ((w ≤ maxStates) × (x + count ≤ w)) ⌝ }
     requires { ⌜ (block + (s + rows)) * w ≤ length (now cells) ⌝ }
-    ensures { λ _. ⌜ now (cells .exit) ≡ marked (λ i. some rows (λ r. some count (λ j. eqb i ((block + (s + r)) * w + (x + j))))) v (now (cells .entry)) ⌝ }
+    ensures { λ _. ⌜ now (cells .exit) ≡ marked (λ i. some rows (λ r. some count (λ j. eqb i (rowPlace w (block + (s + r)) (x + j))))) v (now (cells .entry)) ⌝ }
 {
     for r in 0..rows {
-        mark_u16(cells, (block + (s + r)) * w, x, count, v);
+        mark_u16(cells, read::start(block + (s + r), w), x, count, v);
     }
 }
 
@@ -82,11 +84,11 @@ fn mark_blocks(
     requires { ⌜ (a + blocks ≤ maxActions) × ((n ≤ maxStates) × (w ≤ maxStates)) ⌝ }
     requires { ⌜ (s + rows ≤ n) × (x + count ≤ w) ⌝ }
     requires { ⌜ (a + blocks) * n * w ≤ length (now cells) ⌝ }
-    ensures { λ _. ⌜ now (cells .exit) ≡ marked (λ i. some blocks (λ b. some rows (λ r. some count (λ j. eqb i (((a + b) * n + (s + r)) * w + (x + j))))))
+    ensures { λ _. ⌜ now (cells .exit) ≡ marked (λ i. some blocks (λ b. some rows (λ r. some count (λ j. eqb i (cellPlace n w (a + b) (s + r) (x + j))))))
         v (now (cells .entry)) ⌝ }
 {
     for b in 0..blocks {
-        mark_rows(cells, (a + b) * n, s, rows, w, x, count, v);
+        mark_rows(cells, read::start(a + b, n), s, rows, w, x, count, v);
     }
 }
 
@@ -110,10 +112,10 @@ pub fn state(cells: &mut [u16], m: usize, n: usize, w: usize, a: usize, s: usize
 fn mark_rewards(cells: &mut [i64], a: usize, rows: usize, n: usize, x: usize, count: usize, v: i64)
     requires { ⌜ (a + rows ≤ maxActions) × ((n ≤ maxStates) × (x + count ≤ n)) ⌝ }
     requires { ⌜ (a + rows) * n ≤ length (now cells) ⌝ }
-    ensures { λ _. ⌜ now (cells .exit) ≡ marked (λ i. some rows (λ r. some count (λ j. eqb i ((a + r) * n + (x + j))))) v (now (cells .entry)) ⌝ }
+    ensures { λ _. ⌜ now (cells .exit) ≡ marked (λ i. some rows (λ r. some count (λ j. eqb i (rowPlace n (a + r) (x + j))))) v (now (cells .entry)) ⌝ }
 {
     for r in 0..rows {
-        mark_i64(cells, (a + r) * n, x, count, v);
+        mark_i64(cells, read::start(a + r, n), x, count, v);
     }
 }
 

@@ -8,7 +8,6 @@ use Rattle.integers.specs.Whole.{_·_, sumTo, totalTo, largestTo}
 use Rattle.integers.proofs.Sums.{sum-cong, total-cong, largestTo-cong}
 use Rattle.integers.proofs.Searches.{largest-cong}
 use Rattle.tables.specs.Limits.{K}
-use Rattle.tables.proofs.Same.{Same, expected-same, successor-same, backup-same}
 use Rattle.tables.specs.Model.{Model, successor, expectedReward, backup}
 use Rattle.plans.specs.Level.{Level, product, smallest, orNone, drop, gain, ceiling, backupAt, corner-weight, follows, Meets, Shaped, IsPoint, Agree}
 use Rattle.plans.specs.Totals.{best, lower, advice, upper}
@@ -147,42 +146,29 @@ meets-agree M L W W' e m = record {
       rw (e .value-same i l, backupAt-weights M L (W' .weight i) (W .weight i) a (e .weight-same i l)) (m .point i l a b);
 }
 
--- ---- models that agree, and a level below that agrees
-module _ (M M' : Model) (e : Same M M') (L L' : Level) (g : Agree M L L') where
-  pub backupAt-same : (p : ℕ → ℕ) (a : ℕ) → a < M .actions → backupAt M' L' p a ≡ backupAt M L p a
+-- ---- a level below that agrees
+module _ (M : Model) (L L' : Level) (g : Agree M L L') where
+  pub backupAt-below : (p : ℕ → ℕ) (a : ℕ) → backupAt M L' p a ≡ backupAt M L p a
   unfolding backupAt
-  backupAt-same p a la = cc (expected-same M M' e a la p, e .discount-same, ahead)
-    where
-      ceiling-same : (o : ℕ) → o < M .observations → ceiling (M' .states) L' (successor M' p a o) ≡ ceiling (M .states) L (successor M p a o)
-      ceiling-same o l =
-          ap (λ (n : ℕ). ceiling n L' (successor M' p a o)) (e .states-same) ∙ ceiling-agree M L L' g (successor M' p a o)
-          ∙ ceiling-weights (M .states) L (successor M' p a o) (successor M p a o) (successor-same M M' e a la p o l)
+  backupAt-below p a =
+      ap (λ (x : ℤ). K · expectedReward M p a +ℤ M .discount · x) (sum-cong (M .observations) _ _ (λ o l. ceiling-agree M L L' g (successor M p a o)))
 
-      ahead : sumTo (M' .observations) (λ o. ceiling (M' .states) L' (successor M' p a o))
-          ≡ sumTo (M .observations) (λ o. ceiling (M .states) L (successor M p a o))
-      ahead =
-          ap (λ (k : ℕ). sumTo k (λ o. ceiling (M' .states) L' (successor M' p a o))) (e .observations-same)
-          ∙ sum-cong (M .observations) _ _ ceiling-same
-
-  -- A level that meets its inequalities over L', by the tables of M', meets them over L by those of M.
-  -- Backups read the tables and the level below within the counts: a vector's choices are vectors of the level below, and ceilings at the successor weights
-  -- are worked out over the states. What they read agrees, so each inequality is the same one. Qed.
-  pub meets-same : (W : Level) → Meets M' L' W → Meets M L W
+  -- A level that meets its inequalities over L' meets them over L.
+  -- Backups read the level below within its counts: a vector's choices are vectors of the level below, and ceilings are worked out over the states.
+  -- What they read agrees, so each inequality is the same one. Qed.
+  pub meets-below : (W : Level) → Meets M L' W → Meets M L W
   unfolding follows
-  meets-same W m = record {
+  meets-below W m = record {
     vector = λ v l.
         let h = m .vector v l in
-        let la : W .action v < M .actions = omega (arith, h .action-exists, e .actions-same) in
-        let choice : (o : ℕ) → o < M .observations → W .choice v o < L .vectors =
-        λ o b. rw (g .vectors-same) at (h .choice-exists o (omega (arith, e .observations-same))) in
+        let choice : (o : ℕ) → o < M .observations → W .choice v o < L .vectors = λ o b. rw (g .vectors-same) at (h .choice-exists o b) in
         record {
-          action-exists = la;
+          action-exists = h .action-exists;
           choice-exists = choice;
           entry-holds = λ s b.
-              rw (backup-same M M' e (W .action v) la (follows L (W .choice v)) (follows L' (W .choice v))
-              (λ o k. g .entry-same (W .choice v o) (choice o k)) s b) at (h .entry-holds s (omega (arith, e .states-same)));
+              rw (backup-cong M (W .action v) (follows L' (W .choice v)) (follows L (W .choice v)) s
+              (λ o k. g .entry-same (W .choice v o) (choice o k))) at (h .entry-holds s b);
         };
-    corner = λ s l a la.
-        rw (backupAt-same (corner-weight s) a la) at (m .corner s (omega (arith, e .states-same)) a (omega (arith, e .actions-same)));
-    point = λ i l a la. rw (backupAt-same (W .weight i) a la) at (m .point i l a (omega (arith, e .actions-same)));
+    corner = λ s l a la. rw (backupAt-below (corner-weight s) a) at (m .corner s l a la);
+    point = λ i l a la. rw (backupAt-below (W .weight i) a) at (m .point i l a la);
   }

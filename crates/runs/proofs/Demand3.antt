@@ -18,14 +18,13 @@ use Rattle.tables.specs.Storage.{weightIn, modelOf}
 use Rattle.tables.specs.Judged.{tablesVerdict}
 use Rattle.tables.proofs.Refusals.{before-fine, unless-fine}
 use Rattle.tables.proofs.Accepted.{tables-valid, tables-stored}
-use Rattle.tables.proofs.Same.{same-self}
 use Rattle.tables.specs.Limits.{maxLevels}
 use Rattle.plans.specs.Level.{Level, level0, Agree}
 use Rattle.plans.specs.Build.{built}
 use Rattle.plans.specs.Totals.{best, lower, upper, advice}
 use Rattle.plans.proofs.Certified.{Certified}
 use Rattle.plans.proofs.Bracket.{certified-0, certified-next, bracket}
-use Rattle.plans.proofs.Agreement.{shaped-agree, meets-agree, meets-same, lower-agree, upper-agree, advice-agree}
+use Rattle.plans.proofs.Agreement.{shaped-agree, meets-agree, meets-below, lower-agree, upper-agree, advice-agree}
 use Rattle.plans.proofs.Built.{built-shaped, built-meets, level0-shaped}
 use Rattle.plans.proofs.Rebuilt.{built-same}
 use Rattle.levels.specs.Storage.{Cells, LentLevel, Lent, stateSize, levelOf, pointIn, complete, over, numberIn, standingIn, lentFor}
@@ -37,14 +36,14 @@ use Rattle.runs.specs.State.{left, at, openVerdict, opened, verdictOn, o
 use Rattle.runs.specs.State.{answerFor, buildVerdict, builtFrom, builtOf}
 use Rattle.runs.specs.Demand3.{ModelAccepted, run, counted, acceptances, newer, lastOf, after, steps, last}
 use Rattle.runs.specs.Demand3.{StateHolds, TotalsHold, BuildHolds, PointsHold, Demand3}
-use Rattle.runs.proofs.Judged.{Standing, Accepted, standing-is, accepted, accepts, weights-is}
+use Rattle.runs.proofs.Judged.{Held, Accepted, standing-is, accepted, accepts, weights-is}
 
 -- what holds of slices x after t acceptances, the last of them of level L, of which the first had the cells x₀
 pub record Reached (m : Tables) (x₀ : Cells) (t : ℕ) (L : Level) (x : Lent) : Type 0 where
   pub number : numberIn x ≡ t
   pub certified : Certified (modelOf m) t L
   pub agrees : Agree (modelOf m) L (levelOf m (standingIn x))
-  pub stands : Standing m x
+  pub stands : Held m x
   pub as-lent : AsLong x₀ (x .cells)
 
 state-kept : (xs : List ℕ) (a b d : ℕ) → stateSize ≤ length xs → stateSize ≤ length (a ∷ b ∷ d ∷ drop stateSize xs)
@@ -95,7 +94,7 @@ module _ {m : Tables} {x₀ : Cells} {t : ℕ} {L : Level} {x : Lent} (r : Reach
       record {
         number = ap (λ (n : ℕ). n + 1) (r .number) ∙ add-one t;
         certified = certified-next (r .certified) (levelOf m l)
-            (meets-same (modelOf m) (modelOf m) (same-self (modelOf m)) L (levelOf m (standingIn x)) (r .agrees) (levelOf m l) (a .meets));
+            (meets-below (modelOf m) L (levelOf m (standingIn x)) (r .agrees) (levelOf m l) (a .meets));
         agrees = agree;
         stands = record {
           valid-tables = r .stands .valid-tables;
@@ -146,7 +145,7 @@ module _ {m : Tables} {x₀ : Cells} {t : ℕ} {L : Level} {x : Lent} (r : Reach
   pub level-built : (count : ℕ) (y : Cells) → over m (builtFrom m (levelOf m (standingIn x)) count y) y ≡ over m (builtFrom m L count y) y
   level-built count y =
       over-same m (builtFrom m L count y) y (builtFrom m (levelOf m (standingIn x)) count y)
-      (built-same (modelOf m) (modelOf m) (same-self (modelOf m)) L (levelOf m (standingIn x)) (r .agrees) some-vectors
+      (built-same (modelOf m) L (levelOf m (standingIn x)) (r .agrees) some-vectors
       (r .stands .valid-tables .some-actions) count (pointIn (m .states) (y .weights)))
 
   module _ (h : t < maxLevels) (count : ℕ) (y : Cells) where

@@ -132,7 +132,7 @@ module _ (M : Model) (t : ℕ) (W : Level) where
 
 -- ---- a certifier, and an offer to it
 -- what 7 tests
-pub record Standing (m : Tables) (x : Lent) : Type 0 where
+pub record Held (m : Tables) (x : Lent) : Type 0 where
   pub valid-tables : Valid (modelOf m)
   pub stored-tables : Stored (countsOf m) (m .transition) (m .observation) (m .reward)
   pub state-long : stateSize ≤ length (x .state)
@@ -142,7 +142,7 @@ pub record Standing (m : Tables) (x : Lent) : Type 0 where
 
 -- what 7 to 15 test
 pub record Accepted (m : Tables) (x : Lent) (l : LentLevel) : Type 0 where
-  pub standing : Standing m x
+  pub standing : Held m x
   pub room : numberIn x < maxLevels
   pub given : Complete m l
   pub held : Complete m (lentFor (l .vectors) (l .points) (x .cells))
@@ -151,7 +151,7 @@ pub record Accepted (m : Tables) (x : Lent) (l : LentLevel) : Type 0 where
 
 -- what 7 to 12 test
 pub record Fitting (m : Tables) (x : Lent) (l : LentLevel) : Type 0 where
-  pub standing : Standing m x
+  pub standing : Held m x
   pub room : numberIn x < maxLevels
   pub given : Complete m l
   pub held : Complete m (lentFor (l .vectors) (l .points) (x .cells))
@@ -159,7 +159,7 @@ pub record Fitting (m : Tables) (x : Lent) (l : LentLevel) : Type 0 where
   pub chosen : (v : ℕ) → v < l .vectors → (o : ℕ) → o < m .observations → levelOf m l .choice v o < standingIn x .vectors
 
 module _ (m : Tables) (x : Lent) where
-  pub standing-true : holds m x ≡ true → Standing m x
+  pub standing-true : holds m x ≡ true → Held m x
   unfolding holds
   standing-true e =
       let tables = and-true _ _ e in
@@ -184,7 +184,7 @@ module _ (m : Tables) (x : Lent) where
         };
       }
 
-  pub standing-is : Standing m x → holds m x ≡ true
+  pub standing-is : Held m x → holds m x ≡ true
   unfolding holds
   standing-is s =
       let e = shaped-tests (modelOf m) (numberIn x) (levelOf m (standingIn x)) (s .shaped) in

@@ -10,6 +10,7 @@ use borrow.Author.Tests.{leb-true, le-leb}
 use Rattle.integers.proofs.Lists.{cell-below}
 use Rattle.integers.proofs.Searches.{and-true, and-is}
 use Rattle.tables.specs.declared.Tables.{Tables}
+use Rattle.tables.specs.Limits.{maxStates, maxActions, maxObservations}
 use Rattle.tables.specs.Model.{Model}
 use Rattle.tables.specs.Storage.{rowPlace, cellPlace, countsOf}
 use Rattle.tables.specs.Steps.{rowsTo, cellsTo, Stored}
@@ -35,33 +36,33 @@ row-alone w x = omega arith
 
 -- what the type says of them
 pub record Long (m : Tables) : Type 0 where
-  pub transition : length (m .transition) ≡ 2048
-  pub observation : length (m .observation) ≡ 1024
-  pub reward : length (m .reward) ≡ 128
+  pub transition : length (m .transition) ≡ maxActions * maxStates * maxStates
+  pub observation : length (m .observation) ≡ maxActions * maxStates * maxObservations
+  pub reward : length (m .reward) ≡ maxActions * maxStates
 
 pub record Few (m n k : ℕ) : Type 0 where
-  pub actions : m ≤ 8
-  pub states : n ≤ 16
-  pub observations : k ≤ 8
+  pub actions : m ≤ maxActions
+  pub states : n ≤ maxStates
+  pub observations : k ≤ maxObservations
 
 pub record Sizes (m n k : ℕ) : Type 0 where
-  pub rows : m * n ≤ 128
-  pub transitions : m * n * n ≤ 2048
-  pub observed : m * n * k ≤ 1024
+  pub rows : m * n ≤ maxActions * maxStates
+  pub transitions : m * n * n ≤ maxActions * maxStates * maxStates
+  pub observed : m * n * k ≤ maxActions * maxStates * maxObservations
 
 pub sizes : {m n k : ℕ} → Few m n k → Sizes m n k
 sizes {m} {n} {k} f =
-    let r : m * n ≤ 8 * 16 = mul-le-mul (f .actions) (f .states) in
+    let r : m * n ≤ maxActions * maxStates = mul-le-mul (f .actions) (f .states) in
     record { rows = r; transitions = mul-le-mul r (f .states); observed = mul-le-mul r (f .observations) }
 
 pub few : (n m k : ℕ) → countsWithin n m k ≡ true → Few m n k
 few n m k e =
-    let h = and-true (countWithin 16 n) (countWithin 8 m && countWithin 8 k) e in
-    let l = and-true (countWithin 8 m) (countWithin 8 k) (h .1) in
+    let h = and-true (countWithin maxStates n) (countWithin maxActions m && countWithin maxObservations k) e in
+    let l = and-true (countWithin maxActions m) (countWithin maxObservations k) (h .1) in
     record {
-      actions = leb-true m 8 (and-true (leb 1 m) (leb m 8) (l .0) .1);
-      states = leb-true n 16 (and-true (leb 1 n) (leb n 16) (h .0) .1);
-      observations = leb-true k 8 (and-true (leb 1 k) (leb k 8) (l .1) .1);
+      actions = leb-true _ _ (and-true (leb 1 m) (leb m maxActions) (l .0) .1);
+      states = leb-true _ _ (and-true (leb 1 n) (leb n maxStates) (h .0) .1);
+      observations = leb-true _ _ (and-true (leb 1 k) (leb k maxObservations) (l .1) .1);
     }
 
 pub limits-counts : (M : Model) → limitsHold M ≡ true → countsWithin (M .states) (M .actions) (M .observations) ≡ true

@@ -2,5 +2,4 @@
 pub mod Refusals
 pub mod Fitting
 pub mod Accepted
-pub mod Same
 pub mod Prelude

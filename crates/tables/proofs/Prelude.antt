@@ -7,7 +7,7 @@ pub use Rattle.integers.proofs.Words.{back}
 pub use Rattle.integers.specs.Search.{every}
 pub use Rattle.integers.specs.Whole.{totalTo}
 pub use Rattle.tables.proofs.Fitting.{Few, cell-stored, row-stored, rows-stored, sizes}
-pub use Rattle.tables.specs.Limits.{maxStates}
+pub use Rattle.tables.specs.Limits.{maxStates, maxActions, one}
 pub use Rattle.tables.specs.Storage.{modelOf, rewardIn}
 pub use borrow.Author.Needs.{needs}
 pub use borrow.Author.Tests.{le-leb, lt-leb, not-false, not-true}

@@ -36,7 +36,7 @@ use Rattle.levels.proofs.Laws.{numbers-in}
 use Rattle.worth.specs.Limits.{maxNodes, maxSteps}
 use Rattle.worth.specs.Graph.{PlanGraph, worthOf, Sound, Accepted}
 use Rattle.worth.specs.Storage.{LentGraph, graphIn, graphOf, graphStored}
-use Rattle.worth.specs.Steps.{GraphStored, Lent, backedUpOf, worthsBy}
+use Rattle.worth.specs.Steps.{GraphStored, GraphHeld, backedUpOf, worthsBy}
 use Rattle.worth.specs.Judged.{worthVerdict}
 
 -- A worth with d steps left lies within the range of level d.
@@ -61,7 +61,7 @@ graph-stored k g e = let h = and-true _ _ e in record { actions-long = leb-true 
 pub worths-room : {n nodes : ℕ} → n ≤ maxStates → nodes ≤ maxNodes → nodes * n ≤ maxNodes * maxStates
 worths-room few some = mul-le-mul some few
 
-module _ {c : Counts} {nodes : ℕ} {T O : List ℕ} {R : List ℤ} {actions next : List ℕ} (h : Lent c nodes T O R actions next) where
+module _ {c : Counts} {nodes : ℕ} {T O : List ℕ} {R : List ℤ} {actions next : List ℕ} (h : GraphHeld c nodes T O R actions next) where
   abbrev model : Model
   model = modelIn c T O R
 
@@ -181,7 +181,7 @@ module _ (m : Tables) (g : LentGraph) (v s d : ℕ) (e : worthVerdict m g v s d 
         steps = leb-true _ _ (left .1);
       }
 
-  pub lent : Lent (countsOf m) (g .nodes) (m .transition) (m .observation) (m .reward) (g .actions) (g .next)
+  pub lent : GraphHeld (countsOf m) (g .nodes) (m .transition) (m .observation) (m .reward) (g .actions) (g .next)
   unfolding worthVerdict
   lent =
       let tested = before-fine _ _ e in

@@ -29,7 +29,7 @@ pub record GraphStored (k nodes : ℕ) (actions next : List ℕ) : Type 0 where
   pub next-stored : nodes * k ≤ length next
 
 -- lent tables and a lent graph that are not refused, long enough for their counts
-pub record Lent (c : Counts) (nodes : ℕ) (transition observation : List ℕ) (reward : List ℤ) (actions next : List ℕ) : Type 0 where
+pub record GraphHeld (c : Counts) (nodes : ℕ) (transition observation : List ℕ) (reward : List ℤ) (actions next : List ℕ) : Type 0 where
   pub sound : Sound (modelIn c transition observation reward) (graphIn (c .observations) nodes actions next)
   pub tables : Stored c transition observation reward
   pub graph : GraphStored (c .observations) nodes actions next

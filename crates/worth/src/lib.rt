@@ -12,7 +12,7 @@ ghost use Rattle.tables.specs.Judged.{countWithin};
 ghost use Rattle.worth.specs.Limits.{maxNodes, maxSteps};
 ghost use Rattle.worth.specs.Graph.{worthOf};
 ghost use Rattle.worth.specs.Storage.{lentGraph, graphIn, graphStored};
-ghost use Rattle.worth.specs.Steps.{Lent, backedUpOf, worthsBy};
+ghost use Rattle.worth.specs.Steps.{GraphHeld, backedUpOf, worthsBy};
 ghost use Rattle.worth.specs.Judged.{askedWithin, worthVerdict, worthAnswer};
 use integers::cells;
 use levels::shape;
@@ -66,7 +66,7 @@ fn worths_of<'a, 'b>(
     nodes: usize,
     v: Node,
 ) -> Foreseen
-    requires { ⌜ Lent c nodes (now transition) (now observation) (now reward) (now actions) (now next) ⌝ }
+    requires { ⌜ GraphHeld c nodes (now transition) (now observation) (now reward) (now actions) (now next) ⌝ }
     requires { ⌜ (EntriesFit (c .states) nodes (now before)) × (v .0 < nodes) ⌝ }
     ensures { λ r. ⌜ r
         ≡ padded (pos 0) maxStates (c .states) (backedUpOf c nodes (now (transition .entry)) (now (observation .entry)) (now (reward .entry))
@@ -90,7 +90,7 @@ fn step<'a, 'b>(
     c: Counts,
     nodes: usize,
 ) -> Worths
-    requires { ⌜ Lent c nodes (now transition) (now observation) (now reward) (now actions) (now next) ⌝ }
+    requires { ⌜ GraphHeld c nodes (now transition) (now observation) (now reward) (now actions) (now next) ⌝ }
     requires { ⌜ EntriesFit (c .states) nodes earlier ⌝ }
     ensures { λ r. ⌜ r
         ≡ worthsBy (c .states) nodes (backedUpOf c nodes (now (transition .entry)) (now (observation .entry)) (now (reward .entry))
@@ -126,7 +126,7 @@ fn worths<'a, 'b>(
     nodes: usize,
     d: usize,
 ) -> Worths
-    requires { ⌜ Lent c nodes (now transition) (now observation) (now reward) (now actions) (now next) ⌝ }
+    requires { ⌜ GraphHeld c nodes (now transition) (now observation) (now reward) (now actions) (now next) ⌝ }
     requires { ⌜ d ≤ maxSteps ⌝ }
     ensures { λ r. ⌜ r
         ≡ worthsBy (c .states) nodes (worthOf (modelIn c (now (transition .entry)) (now (observation .entry)) (now (reward .entry)))

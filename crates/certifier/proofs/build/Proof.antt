@@ -12,7 +12,6 @@ use Rattle.plans.proofs.Built.{shaped-mono}
 use Rattle.levels.specs.declared.Standing.{Standing}
 use Rattle.levels.specs.Storage.{Cells, Lent, cells, lent, levelIn, levelOf, pointIn, over, standingAt, standingIn, numberIn}
 use Rattle.runs.specs.State.{buildVerdict, builtFrom, builtOf}
-use Rattle.runs.proofs.Judged.{Standing as Stands}
 use Rattle.runs.proofs.Demand3.{build-demand}
 use Rattle.builder.specs.Steps.{topBuilt}
 use Rattle.builder.proofs.Levels.{upon-lent, roofed-lent, built-read}

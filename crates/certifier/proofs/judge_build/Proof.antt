@@ -18,7 +18,7 @@ use Rattle.plans.specs.Limits.{maxBuilt}
 use Rattle.levels.specs.declared.Standing.{Standing}
 use Rattle.levels.specs.Storage.{Lent, cells, lent, standingAt}
 use Rattle.levels.specs.Judged.{holds}
-use Rattle.runs.proofs.Judged.{Standing as Stands, standing-true}
+use Rattle.runs.proofs.Judged.{Held, standing-true}
 use Rattle.certifier.proofs.Writing.{weights-long}
 use Rattle.certifier.proofs.judge_build.Statement.{statement}
 use Rattle.certifier.proofs.judge_build.Tie as tie
@@ -51,7 +51,7 @@ certifier c choices =
 holds-here : (c : tie.Else1) (choices : List ℕ) → holds (tables (of-certifier c)) (certifier (of-certifier c) choices) ≡ true
 holds-here c choices = sym (c .before .standing-holds .ensures choices) ∙ not-false _ (c .if1 .left)
 
-known : (c : tie.Else1) → Stands (tables (of-certifier c)) (certifier (of-certifier c) [])
+known : (c : tie.Else1) → Held (tables (of-certifier c)) (certifier (of-certifier c) [])
 known c = standing-true (tables (of-certifier c)) (certifier (of-certifier c) []) (holds-here c [])
 
 number-is : (c : tie.After-standing-in) → c .standing-in .result .number ≡ standingAt (of-certifier (c .before) .args .state .now) .number

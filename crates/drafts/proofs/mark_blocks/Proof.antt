@@ -1,6 +1,7 @@
 use Rattle.drafts.proofs.Prelude.{_+_, _-_, _*_, _≤_, mul-le-mul, mul-le-mul-right, arith, needs, eqb, some, row-below, maxStates, maxActions}
 use Rattle.drafts.proofs.Prelude.{Marking, marking-start, marking-more, marking-end}
 use Prim.Native.Nat.{ℕ, _<_}
+use Rattle.tables.specs.Storage.{cellPlace}
 use Rattle.drafts.proofs.mark_blocks.Statement.{statement}
 use Rattle.drafts.proofs.mark_blocks.Tie as tie
 
@@ -11,7 +12,7 @@ below a blocks n s rows b h few m k = (omega (arith, row-below (a + b) (a + bloc
 
 abbrev Inv-loop : tie.InvT-loop
 Inv-loop cells₀ a blocks n s rows w x count v b₀ cells b =
-    (b ≤ blocks) × Marking (λ b i. some rows (λ r. some count (λ j. eqb i (((a + b) * n + (s + r)) * w + (x + j))))) v cells₀ b cells
+    (b ≤ blocks) × Marking (λ b i. some rows (λ r. some count (λ j. eqb i (cellPlace n w (a + b) (s + r) (x + j))))) v cells₀ b cells
 
 abbrev μ-loop : tie.MeasureT-loop
 μ-loop cells₀ a blocks n s rows w x count v b₀ cells b = blocks - b
@@ -19,28 +20,21 @@ abbrev μ-loop : tie.MeasureT-loop
 loop-holds : tie.Need-loop-holds Inv-loop μ-loop
 loop-holds c = (omega arith, marking-start _ _ _)
 
-mul-mark-rows : tie.Need-mul-mark-rows Inv-loop μ-loop
-mul-mark-rows c =
-    let a = c .before .before .before .before in
-    let g = a .args in
-    omega (
-      arith,
-      below (g .a) (g .blocks) (g .n) (g .s) (g .rows) (c .before .before .loop .b) (omega arith) (a .pre .1 .0 .0) (a .pre .0 .0)
-          (a .pre .0 .1 .0),
-    )
-
 mark-rows-requires : tie.Need-mark-rows-requires Inv-loop μ-loop
 mark-rows-requires c κs =
-    let a = c .before .before .before .before in
+    let a = c .before .before .before .before .before in
     let g = a .args in
-    let under = below (g .a) (g .blocks) (g .n) (g .s) (g .rows) (c .before .before .loop .b) (omega arith) (a .pre .1 .0 .0) (a .pre .0 .0)
-    (a .pre .0 .1 .0) in (
+    let under = below (g .a) (g .blocks) (g .n) (g .s) (g .rows) (c .before .before .before .loop .b) (omega arith) (a .pre .1 .0 .0) (a .pre .0 .0)
+    (a .pre .0 .1 .0) in
+    rw (c .start .ensures) (
       (omega (arith, under), (a .pre .0 .1 .1, a .pre .1 .0 .1)),
-      omega (arith, c .before .before .loop .inv .1 .long, a .pre .1 .1, mul-le-mul-right (a .args .w) (under .0)),
+      omega (arith, c .before .before .before .loop .inv .1 .long, a .pre .1 .1, mul-le-mul-right (a .args .w) (under .0)),
     )
 
 loop-again : tie.Need-loop-again Inv-loop μ-loop
-loop-again c = (omega arith, marking-more (c .before .before .before .before .before .loop .inv .1) (c .before .before .mark-rows .ensures))
+loop-again c =
+    let m = c .before .before in
+    (omega arith, marking-more (m .before .before .before .before .loop .inv .1) (rw (m .before .start .ensures) at (m .mark-rows .ensures)))
 
 same-length : tie.Need-same-length Inv-loop μ-loop
 same-length c = c .before .loop .inv .1 .long
@@ -50,5 +44,5 @@ returns c = marking-end _ (c .before .loop .inv .1) (omega arith)
 
 pub mark-blocks-spec : {M : Type 1} → statement M
 mark-blocks-spec =
-    tie.close (tie.spec Inv-loop μ-loop loop-holds (λ c. omega arith) mul-mark-rows mark-rows-requires (λ c. search needs) (λ c. search needs)
+    tie.close (tie.spec Inv-loop μ-loop loop-holds (λ c. omega arith) (λ c κs. omega arith) mark-rows-requires (λ c. search needs) (λ c. search needs)
     loop-again same-length returns)

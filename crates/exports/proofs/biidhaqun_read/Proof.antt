@@ -6,6 +6,7 @@ use lib.IntN.{pos}
 use borrow.Author.Needs.{needs}
 use Rattle.integers.proofs.Lists.{paste-laid}
 use Rattle.tables.specs.declared.Verdict.the-variants.{Fine}
+use Rattle.tables.specs.Limits.{maxStates}
 use Rattle.tables.specs.Storage.{modelOf}
 use Rattle.tables.specs.Model.{Valid}
 use Rattle.tables.proofs.Fitting.{Long, Sizes, sizes}
@@ -47,7 +48,7 @@ of-start c = c .before .before .before .before .before .before
 long : (c : tie.After-read) → Long (c .read .result .tables)
 long c = record { transition = search (needs, c .read .ok); observation = search (needs, c .read .ok); reward = search (needs, c .read .ok) }
 
-start-long : (c : tie.After-read) → length (c .read .result .start) ≡ 16
+start-long : (c : tie.After-read) → length (c .read .result .start) ≡ maxStates
 start-long c = search (needs, c .read .ok)
 
 valid : (c : tie.After-enum-told) → Valid (modelOf (of-file c .read .result .tables))

@@ -12,7 +12,7 @@ use Rattle.levels.specs.declared.Standing.{Standing}
 use Rattle.levels.specs.Storage.{LentLevel, Lent, lentFor, standingAt, complete}
 use Rattle.levels.specs.Judged.{countsHold, fits, holds, levelVerdict, shapeVerdict}
 use Rattle.levels.proofs.Over.{Complete, complete-true}
-use Rattle.runs.proofs.Judged.{Standing as Stands, standing-true}
+use Rattle.runs.proofs.Judged.{Held, standing-true}
 use Rattle.judging.proofs.judge_shape.Statement.{statement}
 use Rattle.judging.proofs.judge_shape.Tie as tie
 
@@ -57,7 +57,7 @@ said-7 c = c .standing-holds .ensures (start c .args .choices .now)
 holds-here : (c : tie.Else1) → holds (tables (of-certifier c)) (certifier (of-certifier c)) ≡ true
 holds-here c = sym (said-7 (c .before)) ∙ not-false _ (c .if1 .left)
 
-known : (c : tie.Else1) → Stands (tables (of-certifier c)) (certifier (of-certifier c))
+known : (c : tie.Else1) → Held (tables (of-certifier c)) (certifier (of-certifier c))
 known c = standing-true (tables (of-certifier c)) (certifier (of-certifier c)) (holds-here c)
 
 stands : (c : tie.After-standing-in) → c .standing-in .result ≡ standingAt (of-certifier (c .before) .args .state .now)

@@ -3,6 +3,7 @@ use Rattle.modelfile.proofs.Prelude.{goes-back, goes-on, sizes}
 use Prim.Native.Nat.{_*_}
 use lib.ListN.{length-replicate}
 use lib.IntN.{pos}
+use Rattle.tables.specs.Limits.{maxObservations}
 use Rattle.words.specs.Words.{Words}
 use Rattle.drafts.specs.Drafts.{stated}
 use Rattle.grammar.specs.Grammar.{Answer, got}
@@ -89,11 +90,10 @@ statements-at-requires c κs =
     let f = sizes (record { actions = p .1 .0 .1; states = p .0 .1; observations = p .1 .1 .1 }) in (
       leaves-next _ _ (c .before .before .before .before .before .before .before .row-at .ensures) (c .before .before .before .before .y .given .1) .1 .1,
       (
-        fits 0 2048 (p .1 .0) (p .0) (p .0) (f .transitions),
+        fits 0 (maxActions * maxStates * maxStates) (p .1 .0) (p .0) (p .0) (f .transitions),
         (
-          fits 0 1024 (p .1 .0) (p .0) (p .1 .1 .0, omega (arith, p .1 .1)) (f .observed),
-          fits (pos 0)
-              128 (p .1 .0) (p .0) (omega arith, omega arith) (omega (arith, f .rows)),
+          fits 0 (maxActions * maxStates * maxObservations) (p .1 .0) (p .0) (p .1 .1 .0, omega (arith, p .1 .1)) (f .observed),
+          fits (pos 0) (maxActions * maxStates) (p .1 .0) (p .0) (omega arith, omega arith) (omega (arith, f .rows)),
         ),
       ),
     )

@@ -6,7 +6,7 @@ use Rattle.tables.specs.Storage.{tablesIn}
 use Rattle.tables.proofs.Fitting.{rows-stored}
 use Rattle.worth.specs.Graph.{Accepted}
 use Rattle.worth.specs.Storage.{LentGraph, lentGraph, graphOf}
-use Rattle.worth.specs.Steps.{Lent}
+use Rattle.worth.specs.Steps.{GraphHeld}
 use Rattle.worth.specs.Judged.{worthAnswer}
 use Rattle.worth.proofs.Laws.{accepted, lent, few-states, room, worths-long, worth-at}
 use Rattle.worth.proofs.worth.Statement.{statement}
@@ -31,7 +31,7 @@ taken : (c : tie.After-enum-told)
 taken c = accepted _ _ _ _ _ (fine-here c)
 
 lent-here : (c : tie.After-enum-told)
-    → let a = start c .args in Lent (a .c) (a .nodes) (a .transition .now) (a .observation .now) (a .reward .now) (a .actions .now) (a .next .now)
+    → let a = start c .args in GraphHeld (a .c) (a .nodes) (a .transition .now) (a .observation .now) (a .reward .now) (a .actions .now) (a .next .now)
 lent-here c = lent (tables (start c)) (graph (start c)) _ _ _ (fine-here c)
 
 worths-requires : tie.Need-worths-requires

@@ -1,11 +1,11 @@
-use Rattle.tables.proofs.Prelude.{ℕ, _+_, _*_, _≤_, _<_, _-_, _≡_, sym, ap, _∙_, arith, Bool, true, leb, List, length, getD, not-true}
+use Rattle.tables.proofs.Prelude.{ℕ, _+_, _*_, _≤_, _<_, _-_, _≡_, sym, ap, _∙_, arith, Bool, true, leb, List, length, getD, not-true, one}
 use Rattle.tables.proofs.Prelude.{not-false, every, every-none, every-more, every-not, cell-below, row-below}
 use Rattle.tables.proofs.judge.cells_within.Statement.{statement}
 use Rattle.tables.proofs.judge.cells_within.Tie as tie
 
 -- row r is within its limit
 abbrev rowOk : List ℕ → ℕ → ℕ → Bool
-rowOk cells w r = every w (λ x. leb (getD cells (r * w + x) 0) 1000)
+rowOk cells w r = every w (λ x. leb (getD cells (r * w + x) 0) one)
 
 abbrev Inv-loop2 : tie.InvT-loop2
 Inv-loop2 cells m n w a s₀ s = (s ≤ n) × (every s (λ t. rowOk cells w (a * n + t)) ≡ true)
@@ -51,7 +51,7 @@ said : (c : tie.After-row-within Inv-loop2 μ-loop2 Inv-loop μ-loop)
     (c .before .before .before .before .before .before .loop .a * a .n + c .before .before .before .before .loop2 .s)
 said c =
     let a = c .before .before .before .before .before .before .before .before .args in
-    c .row-within .ensures ∙ ap (λ (z : ℕ). every (a .w) (λ x. leb (getD (a .cells .now) (z + x) 0) 1000)) (at-is (c .before))
+    c .row-within .ensures ∙ ap (λ (z : ℕ). every (a .w) (λ x. leb (getD (a .cells .now) (z + x) 0) one)) (at-is (c .before))
 
 row-within-requires : tie.Need-row-within-requires Inv-loop2 μ-loop2 Inv-loop μ-loop
 row-within-requires c κs = rw (c .start .ensures) (omega (arith, row-here (c .before)))

@@ -1,4 +1,4 @@
-use Rattle.tables.proofs.Prelude.{_≡_, sym, _∙_, true, le-leb, lt-leb, not-true, not-false, limitsHold, modelOf, Few, arith, needs}
+use Rattle.tables.proofs.Prelude.{_≡_, sym, _∙_, true, le-leb, lt-leb, not-true, not-false, limitsHold, modelOf, Few, one, arith, needs}
 use Rattle.integers.proofs.Searches.{and-false, and-true-right}
 use Rattle.tables.specs.declared.Tables.{Tables}
 use Rattle.tables.specs.Steps.{Stored}
@@ -38,7 +38,7 @@ returns-2 c =
 
 returns-3 : tie.Need-returns-3
 unfolding limitsHold
-returns-3 c = rw (counts (c .before .before .before .before), lt-leb _ 1000 (c .if3 .taken))
+returns-3 c = rw (counts (c .before .before .before .before), lt-leb _ one (c .if3 .taken))
 
 -- the tests before a place
 record Passed (a : tie.Start) : Type 0 where
@@ -59,7 +59,7 @@ unfolding limitsHold
 returns-4 c =
     rw (
       passed (c .before .before .before .before) .counted,
-      le-leb _ 1000 (c .before .before .if3 .left),
+      le-leb _ one (c .before .before .if3 .left),
       sym (c .before .cells-within .ensures) ∙ not-true _ (c .if4 .taken),
     )
 
@@ -72,7 +72,7 @@ unfolding limitsHold
 returns-5 c =
     rw (
       passed (c .before .before .before .before .before .before) .counted,
-      le-leb _ 1000 (c .before .before .before .before .if3 .left),
+      le-leb _ one (c .before .before .before .before .if3 .left),
       sym (c .before .before .before .cells-within .ensures) ∙ not-false _ (c .before .before .if4 .left),
       sym (c .before .cells-within2 .ensures) ∙ not-true _ (c .if5 .taken),
     )
@@ -87,7 +87,7 @@ returns-6 c =
     let p = passed (c .before .before .before .before .before .before .before) in
     rw (
       p .counted,
-      le-leb _ 1000 (c .before .before .before .before .before .if3 .left),
+      le-leb _ one (c .before .before .before .before .before .if3 .left),
       sym (c .before .before .before .before .cells-within .ensures) ∙ not-false _ (c .before .before .before .if4 .left),
       sym (c .before .before .cells-within2 .ensures) ∙ not-false _ (c .before .if5 .left),
     ) (c .rewards-within .ensures ∙ sym (and-true-right _ _ (p .long)))

@@ -1,10 +1,10 @@
-use Rattle.tables.proofs.Prelude.{le-leb, lt-leb, _+_, _≤_, _-_, _≡_, sym, arith, needs, true, leb, getD, every, every-none, every-more}
+use Rattle.tables.proofs.Prelude.{le-leb, lt-leb, _+_, _≤_, _-_, _≡_, sym, arith, needs, true, leb, getD, every, every-none, every-more, one}
 use Rattle.tables.proofs.Prelude.{every-not}
 use Rattle.tables.proofs.judge.row_within.Statement.{statement}
 use Rattle.tables.proofs.judge.row_within.Tie as tie
 
 abbrev Inv-loop : tie.InvT-loop
-Inv-loop cells at w x₀ x = (x ≤ w) × (every x (λ y. leb (getD cells (at + y) 0) 1000) ≡ true)
+Inv-loop cells at w x₀ x = (x ≤ w) × (every x (λ y. leb (getD cells (at + y) 0) one) ≡ true)
 
 abbrev μ-loop : tie.MeasureT-loop
 μ-loop cells at w x₀ x = w - x
@@ -13,10 +13,10 @@ loop-holds : tie.Need-loop-holds Inv-loop μ-loop
 loop-holds c = (omega arith, every-none _)
 
 returns : tie.Need-returns Inv-loop μ-loop
-returns c = sym (every-not _ _ (c .before .before .before .before .loop .x) (omega arith) (lt-leb _ 1000 (rw (c .before .wide .ensures) at (c .if1 .taken))))
+returns c = sym (every-not _ _ (c .before .before .before .before .loop .x) (omega arith) (lt-leb _ one (rw (c .before .wide .ensures) at (c .if1 .taken))))
 
 loop-again : tie.Need-loop-again Inv-loop μ-loop
-loop-again c = (omega arith, every-more _ _ (c .before .before .before .before .loop .inv .1) (le-leb _ 1000 (rw (c .before .wide .ensures) at (c .if1 .left))))
+loop-again c = (omega arith, every-more _ _ (c .before .before .before .before .loop .inv .1) (le-leb _ one (rw (c .before .wide .ensures) at (c .if1 .left))))
 
 returns-2 : tie.Need-returns-2 Inv-loop μ-loop
 returns-2 c = let e : c .before .loop .x ≡ c .before .before .before .args .w = omega arith in sym (rw e at (c .before .loop .inv .1))

@@ -1,4 +1,4 @@
-use Rattle.tables.proofs.Prelude.{ℕ, _+_, _*_, _≤_, _<_, _-_, _≡_, refl, sym, ap, _∙_, arith, Bool, List, length, getD, totalTo, cell-below}
+use Rattle.tables.proofs.Prelude.{ℕ, _+_, _*_, _≤_, _<_, _-_, _≡_, refl, sym, ap, _∙_, arith, Bool, List, length, getD, totalTo, cell-below, one}
 use Rattle.tables.proofs.Prelude.{row-below}
 use lib.Dec.{eqb}
 use borrow.Author.Tests.{eq-eqb, ne-eqb}
@@ -12,7 +12,7 @@ use Rattle.tables.proofs.judge.rows_total.Tie as tie
 
 -- the verdict on row r
 abbrev rowVerdict : List ℕ → ℕ → ℕ → ℕ → Verdict
-rowVerdict cells w number r = unless (eqb (totalTo w (λ x. getD cells (r * w + x) 0)) 1000) number r
+rowVerdict cells w number r = unless (eqb (totalTo w (λ x. getD cells (r * w + x) 0)) one) number r
 
 abbrev Inv-loop : tie.InvT-loop
 Inv-loop cells m n w number found₀ a s₀ found s = (s ≤ n) × ((found ≡ Fine) × (firstOf s (λ t. rowVerdict cells w number (a * n + t)) ≡ Fine))
@@ -72,7 +72,7 @@ loop-again c = (
         (c .before .before .before .before .before .loop .inv .1 .1)
         (ap (λ (b : Bool). unless b (c .before .before .before .before .before .before .before .before .before .args .number)
         (c .before .before .before .before .before .before .before .rows .a * c .before .before .before .before .before .before .before .before .before .args .n
-        + c .before .before .before .before .before .loop .s)) (eq-eqb _ 1000 (sym (said (c .before)) ∙ c .if1 .left))),
+        + c .before .before .before .before .before .loop .s)) (eq-eqb _ one (sym (said (c .before)) ∙ c .if1 .left))),
   ),
 )
 
@@ -96,7 +96,7 @@ returns-2 c =
     (first-here _ _ (c .before .before .before .before .before .loop .s) (omega arith) (c .before .before .before .before .before .loop .inv .1 .1)
     (ap (λ (b : Bool). unless b (c .before .before .before .before .before .before .before .before .before .args .number)
     (c .before .before .before .before .before .before .before .rows .a * c .before .before .before .before .before .before .before .before .before .args .n
-    + c .before .before .before .before .before .loop .s)) (ne-eqb _ 1000 (λ e. c .if1 .taken (said (c .before) ∙ e))))))
+    + c .before .before .before .before .before .loop .s)) (ne-eqb _ one (λ e. c .if1 .taken (said (c .before) ∙ e))))))
 
 pub rows-total-spec : {M : Type 1} → statement M
 rows-total-spec =

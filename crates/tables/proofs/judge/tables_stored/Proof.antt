@@ -1,4 +1,4 @@
-use Rattle.tables.proofs.Prelude.{_≡_, arith, le-leb, lt-leb, Few, sizes}
+use Rattle.tables.proofs.Prelude.{arith, le-leb, lt-leb, sizes}
 use Rattle.tables.proofs.Fitting.{Sizes}
 use Rattle.tables.proofs.judge.tables_stored.Statement.{statement}
 use Rattle.tables.proofs.judge.tables_stored.Tie as tie
