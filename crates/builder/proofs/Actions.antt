@@ -1,12 +1,5 @@
 -- Laws of the search for the best candidate: what an action's vector is handed, how large it is, and the best of the actions so far. Assumes nothing.
-use mathlib.Core.Path.{_≡_, refl, sym, _∙_}
-use mathlib.Core.Bool.{true, false}
-use mathlib.Core.List.{List}
-use Prim.Native.Nat.{ℕ, _+_, _≤_, _<_}
-use native.Mathlib.Omega.{arith}
-use lib.ListN.{getD, length}
-use lib.IntN.{ℤ, pos, natAbs}
-use lib.Signed.{ltZ}
+use Rattle.integers.proofs.Kit.{_≡_, _∙_, refl, sym, true, false, List, ℕ, _≤_, _<_, _+_, arith, length, getD, ℤ, pos, natAbs, ltZ}
 use Rattle.integers.specs.Whole.{Below}
 use Rattle.integers.specs.Search.{firstLargest}
 use Rattle.integers.specs.Cells.{padded}

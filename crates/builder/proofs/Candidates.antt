@@ -1,10 +1,5 @@
 -- Laws of the builder's steps: the candidates over storage are the model's, and what the steps are handed is within the limits. Assumes nothing.
-use mathlib.Core.Path.{_≡_, refl, _∙_, ap}
-use mathlib.Core.List.{List}
-use Prim.Native.Nat.{ℕ, _≤_, _<_}
-use native.Mathlib.Omega.{arith}
-use lib.ListN.{getD}
-use lib.IntN.{ℤ, pos}
+use Rattle.integers.proofs.Kit.{_≡_, _∙_, refl, ap, List, ℕ, _≤_, _<_, arith, getD, ℤ, pos}
 use Rattle.integers.specs.Whole.{floorDiv}
 use Rattle.integers.specs.Search.{firstLargest}
 use Rattle.integers.specs.Cells.{padded}
@@ -12,7 +7,7 @@ use Rattle.integers.proofs.Lists.{padded-at, padded-length, padded-cong}
 use Rattle.integers.proofs.Searches.{largest-in, largest-cong}
 use Rattle.tables.specs.declared.Counts.{Counts}
 use Rattle.tables.specs.Limits.{maxStates, maxObservations, maxVectors, K}
-use Rattle.tables.specs.Model.{successor, backedUp}
+use Rattle.tables.specs.Model.{backedUp}
 use Rattle.tables.specs.Storage.{weightIn, entryIn, choiceIn, modelIn}
 use Rattle.tables.specs.Steps.{EntriesFit}
 use Rattle.sums.specs.Steps.{movedIn, seenIn, foreseenIn, backupIn, ChosenFit}

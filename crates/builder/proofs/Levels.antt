@@ -1,19 +1,8 @@
 -- Laws of the builder's level: the least values, the weights that vectors are made at, and the rows of vectors. Assumes nothing.
-use mathlib.Core.Path.{_≡_, refl, sym, _∙_, ap}
-use mathlib.Core.List.{List, []}
-use mathlib.Core.Bool.{true, false}
-use Prim.Native.Nat.{ℕ, _+_, _*_, _-_, _^_, _≤_, _<_}
-use native.Mathlib.Decide.{decLt}
-use native.Mathlib.Nat.{mul-le-mul-right}
-use native.Mathlib.Omega.{arith}
-use lib.ListN.{length, getD, set}
-use lib.Seq.{paste}
+use Rattle.integers.proofs.Kit.{_≡_, _∙_, refl, ap, sym, true, false, List, [], ℕ, _≤_, _<_, _+_, _*_, _-_, _^_, arith, mul-le-mul-right, decLt, ltb}
+use Rattle.integers.proofs.Kit.{length, getD, set, paste, ℤ, pos, ltZ, mag, w64, toZ, ofZ}
 use lib.Arith.{le→nltb}
-use lib.Dec.{ltb, lt→ltb}
-use lib.IntN.{ℤ, pos}
-use lib.Signed.{mag, ltZ}
-use mir.Syntax.{w64}
-use mir.Val.{toZ, ofZ}
+use lib.Dec.{lt→ltb}
 use Rattle.integers.specs.Whole.{totalTo, floorDiv, ceilDiv}
 use Rattle.integers.specs.Search.{firstLargest}
 use Rattle.integers.specs.Cells.{laid}

@@ -1,12 +1,5 @@
 -- The test of an offered level's vectors as the loop over them makes it: every number is within its limit, and the test is the model's. Assumes nothing.
-use mathlib.Core.Path.{_≡_, refl, sym, _∙_}
-use mathlib.Core.List.{List, []}
-use mathlib.Core.Bool.{Bool, true, false}
-use Prim.Native.Nat.{ℕ, _≤_, _<_}
-use native.Mathlib.Omega.{arith}
-use lib.ListN.{getD}
-use lib.IntN.{ℤ, pos, natAbs}
-use lib.Signed.{leZ}
+use Rattle.integers.proofs.Kit.{_≡_, _∙_, refl, sym, true, false, Bool, List, [], ℕ, _≤_, _<_, arith, getD, ℤ, pos, natAbs, leZ}
 use Rattle.integers.specs.Whole.{_·_, Within}
 use Rattle.integers.specs.Cells.{padded}
 use Rattle.integers.proofs.Lists.{padded-at, filled-within}

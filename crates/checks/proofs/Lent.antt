@@ -1,7 +1,5 @@
 -- What tables and a level lend to the tests: parts that are stored, and within the limits if the whole is. Assumes nothing.
-use Prim.Native.Nat.{ℕ, _<_}
-use mathlib.Core.List.{[]}
-use native.Mathlib.Omega.{arith}
+use Rattle.integers.proofs.Kit.{[], ℕ, _<_, arith}
 use Rattle.tables.specs.declared.Tables.{Tables}
 use Rattle.tables.specs.Limits.{maxLevels}
 use Rattle.tables.specs.Model.{Valid}

@@ -1,13 +1,8 @@
 -- The backup at weights over storage: it is the backup of the level that is stored, and nothing overflows on the way. Assumes nothing.
-use mathlib.Core.Path.{_≡_, refl, _∙_, ap}
-use mathlib.Core.List.{List}
-use mathlib.Core.Bool.{Bool, true, false}
-use Prim.Native.Nat.{ℕ, zero, suc, _+_, _*_, _^_, _≤_, _<_}
+use Rattle.integers.proofs.Kit.{_≡_, _∙_, refl, ap, true, false, Bool, List, ℕ, _≤_, _<_, _+_, _*_, suc, zero, _^_, arith, length, getD, replicate}
+use Rattle.integers.proofs.Kit.{set, length-replicate, ℤ, pos, natAbs, _+ℤ_, negsuc, ltZ, leZ}
 use native.Mathlib.Nat as NatL
-use native.Mathlib.Omega.{arith}
-use lib.ListN.{length, getD, set, replicate, length-set, length-replicate}
-use lib.IntN.{ℤ, pos, negsuc, natAbs, _+ℤ_}
-use lib.Signed.{leZ, ltZ}
+use lib.ListN.{length-set}
 use Rattle.integers.specs.Whole.{_·_, sumTo, totalTo, Below}
 use Rattle.integers.specs.Search.{every}
 use Rattle.integers.specs.Cells.{padded}
@@ -24,7 +19,7 @@ use Rattle.tables.specs.Storage.{weightIn, rewardIn, modelIn}
 use Rattle.sums.specs.Steps.{movedIn, seenIn, expectedIn, TransitionsFit, RewardsFit, movedLimit}
 use Rattle.sums.proofs.Regroup.{moved-successor, expected-is, moved-limit}
 use Rattle.plans.specs.Limits.{maxPoints, maxTotal, maxReached, range}
-use Rattle.plans.specs.Level.{Level as Ideal, Shaped, ceiling, backupAt, corner-weight, IsPoint}
+use Rattle.plans.specs.Level.{Level as Ideal, ceiling, backupAt, corner-weight, IsPoint}
 use Rattle.plans.proofs.Agreement.{ceiling-weights, backupAt-weights}
 use Rattle.plans.proofs.Ceiling.{corner-total}
 use Rattle.plans.proofs.Built.{successor-total, successor-limit, ceiling-range}

@@ -1,14 +1,7 @@
 -- Cells that are marked one after the other, and what an index stands for. Assumes nothing.
-use Prim.Native.Nat.{ℕ, zero, suc, _+_, _≤_, _<_}
-use mathlib.Core.Path.{_≡_, refl, sym, ap, _∙_}
-use mathlib.Core.Bool.{Bool, true, false, _||_, cond}
-use mathlib.Core.List.{List, [], _∷_}
-use native.Mathlib.Omega.{arith}
-use native.Mathlib.Numerals.{add-one}
-use borrow.Author.Tests.{eq-eqb, ne-eqb, eqb-false}
-use lib.Dec.{eqb}
-use lib.ListN.{length, getD, set}
-use lib.IntN.{ℤ}
+use Rattle.integers.proofs.Kit.{_≡_, _∙_, refl, ap, sym, true, false, Bool, cond, _||_, List, [], _∷_, ℕ, _≤_, _<_, _+_, suc, zero, arith, add-one}
+use Rattle.integers.proofs.Kit.{ne-eqb, eq-eqb, eqb, length, getD, set, ℤ}
+use borrow.Author.Tests.{eqb-false}
 use Rattle.integers.specs.Search.{some}
 use Rattle.tables.specs.Storage.{rowPlace, cellPlace}
 use Rattle.drafts.specs.Drafts.{markedFrom, marked, lowest, spread, stated, rewarded}

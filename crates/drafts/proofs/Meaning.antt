@@ -1,14 +1,7 @@
 -- What a statement says of each cell: the one number stated where the cell is meant, and what was there elsewhere. Assumes nothing.
-use Prim.Native.Nat.{ℕ, zero, suc, _+_, _*_, _≤_, _<_}
-use mathlib.Core.Path.{_≡_, refl, sym, ap, _∙_}
-use mathlib.Core.Bool.{Bool, true, false, _&&_, _||_, cond}
-use mathlib.Core.List.{List, [], _∷_}
-use native.Mathlib.Decide.{decLt}
-use native.Mathlib.Omega.{arith}
-use borrow.Author.Tests.{eq-eqb, ne-eqb, eqb-true, eqb-false}
-use lib.Dec.{eqb}
-use lib.IntN.{ℤ, pos}
-use lib.ListN.{length, getD}
+use Rattle.integers.proofs.Kit.{_≡_, _∙_, refl, ap, sym, true, false, Bool, cond, _&&_, _||_, List, [], _∷_, ℕ, _≤_, _<_, _+_, _*_, suc, zero, arith}
+use Rattle.integers.proofs.Kit.{decLt, ne-eqb, eq-eqb, eqb-true, eqb, length, getD, ℤ, pos}
+use borrow.Author.Tests.{eqb-false}
 use Rattle.integers.specs.Search.{some}
 use Rattle.integers.proofs.Lists.{cell-below, row-below}
 use Rattle.tables.specs.Storage.{rowPlace, cellPlace, cellIn, rewardIn}

@@ -61,7 +61,8 @@ fn mark_rows(
 )
     requires { ⌜ (block + (s + rows) ≤ maxActions * maxStates) × ((w ≤ maxStates) × (x + count ≤ w)) ⌝ }
     requires { ⌜ (block + (s + rows)) * w ≤ length (now cells) ⌝ }
-    ensures { λ _. ⌜ now (cells .exit) ≡ marked (λ i. some rows (λ r. some count (λ j. eqb i (rowPlace w (block + (s + r)) (x + j))))) v (now (cells .entry)) ⌝ }
+    ensures { λ _. ⌜ now (cells .exit) ≡ marked (λ i. some rows (λ r. some count (λ j. eqb i (rowPlace w (block + (s + r)) (x + j)))))
+        v (now (cells .entry)) ⌝ }
 {
     for r in 0..rows {
         mark_u16(cells, read::start(block + (s + r), w), x, count, v);

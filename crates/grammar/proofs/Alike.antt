@@ -1,7 +1,5 @@
 -- What one form of number reads, a wider one reads alike. Assumes nothing.
-use Prim.Native.Nat.{ℕ}
-use mathlib.Core.Path.{_≡_, refl, subst⁻¹}
-use mathlib.Core.List.{List}
+use Rattle.integers.proofs.Kit.{_≡_, refl, subst⁻¹, List, ℕ}
 use Rattle.words.specs.Words.{Words, word, end}
 use Rattle.numerals.specs.declared.Amount.{Amount}
 use Rattle.numerals.specs.declared.Amount.the-variants.{Is, Not}

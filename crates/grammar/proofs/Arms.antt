@@ -1,10 +1,6 @@
 -- What the refusing arms of a let .. else say. Assumes nothing.
-use Prim.Native.Nat.{ℕ}
-use mathlib.Core.Path.{_≡_, refl, ap, _∙_}
-use mathlib.Core.List.{List}
-use native.Mathlib.Omega.{arith}
+use Rattle.integers.proofs.Kit.{_≡_, refl, ap, List, ℕ, arith, length}
 use denote.Enum.Declared.{tagOf}
-use lib.ListN.{length}
 use Rattle.words.specs.declared.Word.{Word}
 use Rattle.words.specs.declared.Word.the-variants.{At, End}
 use Rattle.words.specs.Words.{Words, end, wordsIn, between}

@@ -1,7 +1,5 @@
 -- What holds of the value that is read, if one is. Assumes nothing.
-use Prim.Native.Nat.{ℕ, _≤_}
-use mathlib.Core.Path.{_≡_, sym, subst}
-use mathlib.Core.List.{List}
+use Rattle.integers.proofs.Kit.{_≡_, sym, subst, List, ℕ, _≤_}
 use Rattle.words.specs.Words.{Words, word, end}
 use Rattle.numerals.specs.declared.Form.{Form}
 use Rattle.numerals.specs.Numeral.{amountOf, unsigned}

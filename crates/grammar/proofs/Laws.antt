@@ -1,15 +1,8 @@
 -- One word, and several after each other. Assumes nothing.
-use Prim.Native.Nat.{ℕ, suc, _+_, _≤_, _<_}
-use mathlib.Core.Path.{_≡_, refl, sym, ap, subst, subst⁻¹, _∙_}
-use mathlib.Core.Bool.{Bool, true, false, _&&_, cond}
-use mathlib.Core.List.{List, [], _∷_}
-use native.Mathlib.Omega.{arith}
-use native.Mathlib.Numerals.{add-one}
-use borrow.Author.Tests.{leb-true, le-leb, lt-leb}
+use Rattle.integers.proofs.Kit.{_≡_, _∙_, refl, ap, sym, subst, subst⁻¹, true, false, Bool, cond, _&&_, List, [], _∷_, ℕ, _≤_, _<_, _+_, suc, arith}
+use Rattle.integers.proofs.Kit.{add-one, le-leb, leb-true, lt-leb, leb, eqb, length, getD, drop}
 use denote.Enum.Declared.{tagOf}
-use lib.ListN.{length, getD, drop}
 use lib.Seq.{drop-cons, drop-length}
-use lib.Dec.{eqb, leb}
 use Rattle.integers.proofs.Searches.{and-true}
 use Rattle.words.specs.declared.Word.{Word}
 use Rattle.words.specs.declared.Word.the-variants.{At, End}
@@ -22,7 +15,7 @@ use Rattle.numerals.specs.declared.Amount.{Amount}
 use Rattle.numerals.specs.declared.Amount.the-variants.{Is, Not}
 use Rattle.grammar.specs.declared.Read.{Read}
 use Rattle.grammar.specs.declared.Read.the-variants.{Value, Refused}
-use Rattle.grammar.specs.Grammar.{Answer, got, refused, _then_, choose, Finding, fits, unfit, outside, answered, oneWord, limited, same}
+use Rattle.grammar.specs.Grammar.{Answer, got, _then_, choose, Finding, fits, unfit, outside, answered, oneWord, limited, same}
 use Rattle.grammar.proofs.Read as read-type
 use Rattle.grammar.specs.Steps.{answerOf, Onward, Tells, Reads, Follows, Takes, found, bytesOf}
 

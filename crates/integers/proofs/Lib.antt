@@ -1,4 +1,5 @@
 -- Laws of the definitions in specs/, for this crate's proofs and those above it.
+pub mod Kit
 pub mod Parts
 pub mod Order
 pub mod Sums

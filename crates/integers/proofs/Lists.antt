@@ -1,16 +1,13 @@
 -- Laws of arrays of which the first cells count. Assumes nothing.
-use mathlib.Core.Path.{_≡_, refl, sym, _∙_, ap}
-use mathlib.Core.List.{List, [], _∷_, _++_, append-assoc, append-nil}
-use Prim.Native.Nat.{ℕ, zero, suc, _+_, _*_, _-_, _/_, _%_, _≤_, _<_}
+use Rattle.integers.proofs.Kit.{_≡_, _∙_, refl, ap, sym, List, [], _∷_, ℕ, _≤_, _<_, _+_, _*_, suc, _-_, zero, _/_, _%_, arith, add-zero}
+use Rattle.integers.proofs.Kit.{zero-add, add-one, decLt, length, getD, drop, replicate, set, length-replicate, take, paste, drop-drop, ℤ, pos}
+use Rattle.integers.proofs.Kit.{natAbs}
+use mathlib.Core.List.{_++_, append-assoc, append-nil}
 use native.Mathlib.Nat as NatL
-use native.Mathlib.Nat.{add-zero, zero-add, add-suc}
-use native.Mathlib.Omega.{arith}
-use native.Mathlib.Numerals.{add-one}
-use native.Mathlib.Decide.{decLt}
-use lib.ListN.{length, getD, take, drop, set, replicate, length-append, length-replicate, length-set, length-drop, List·getD-append}
+use native.Mathlib.Nat.{add-suc}
+use lib.ListN.{length-append, length-set, length-drop, List·getD-append}
 use lib.ListN.{replicate-append-replicate, take-append-drop}
-use lib.Seq.{paste, paste-zero, paste-suc, ext-getD, take-at, drop-append-add, drop-drop, drop-cons, set-at, getD-append-seam, getD-take, length-take-le}
-use lib.IntN.{ℤ, pos, natAbs}
+use lib.Seq.{paste-zero, paste-suc, ext-getD, take-at, drop-append-add, drop-cons, set-at, getD-append-seam, getD-take, length-take-le}
 use lib.Arith.{digits-div, digits-mod}
 use Rattle.integers.specs.Whole.{Below, Within}
 use Rattle.integers.specs.Cells.{listed, padded, laid, laidRows, grid}
@@ -93,6 +90,9 @@ module _ {A : Type 0} where
     same = rw (p .same, e, add-one) (paste-suc xs at row x d l h);
     long = length-set ys _ _ ∙ p .long;
   }
+
+  pub pasting-end : {at x : ℕ} {row xs ys : List A} (w : ℕ) → Pasting at x row xs ys → x ≡ w → ys ≡ paste xs at row w
+  pasting-end w p e = rw e at (p .same)
 
   listed-add : (n m : ℕ) (f : ℕ → A) → listed (n + m) f ≡ listed n f ++ listed m (λ i. f (n + i))
   unfolding listed

@@ -1,12 +1,11 @@
 -- A whole number is its positive part less its negative part, one of which is 0. Each operation has a law that is linear in the parts, so that omega
 -- proves what is to be shown of ℤ: list the laws of the operations at hand, and go back by `le-by`, `lt-by` or `eq-by`. Assumes nothing.
-use mathlib.Core.Path.{_≡_, refl, ap, _∙_, subst, sym}
-use mathlib.Core.Bool.{Bool, true, false, not, cond}
-use Prim.Native.Nat.{ℕ, zero, suc, _+_, _*_, _-_, _≤_, _<_}
-use native.Mathlib.Omega.{arith}
-use lib.Dec.{T, leb, ltb, leb→le, le→leb, ltb→lt, lt→ltb, nltb→le}
-use lib.IntN.{ℤ, pos, negsuc, negℤ, natAbs, _+ℤ_, _-ℤ_, subℕ}
-use lib.Signed.{_≤ℤ_, _<ℤ_, leZ, ltZ, ltZ-yes, ltZ-no, leZ-yes}
+use Rattle.integers.proofs.Kit.{_≡_, _∙_, refl, ap, sym, subst, true, false, Bool, cond, ℕ, _≤_, _<_, _+_, _*_, suc, _-_, zero, arith, leb}
+use Rattle.integers.proofs.Kit.{ltb, T, ℤ, pos, natAbs, _+ℤ_, negsuc, _-ℤ_, negℤ, _≤ℤ_, ltZ, leZ, _<ℤ_}
+use mathlib.Core.Bool.{not}
+use lib.Dec.{leb→le, le→leb, ltb→lt, lt→ltb, nltb→le}
+use lib.IntN.{subℕ}
+use lib.Signed.{ltZ-yes, ltZ-no, leZ-yes}
 use Rattle.integers.specs.Whole.{_·_}
 
 abbrev pub up : ℤ → ℕ

@@ -1,17 +1,11 @@
 -- The machine's quotient drops towards 0; corrected by the remainder's sign it is the quotient rounded down or up. Assumes nothing.
-use mathlib.Core.Path.{_≡_, refl, sym, _∙_, ap}
-use mathlib.Core.Bool.{true, false}
-use Prim.Native.Nat.{ℕ, zero, suc, _+_, _*_, _/_, _%_, _≤_, _<_, _^_}
+use Rattle.integers.proofs.Kit.{_≡_, _∙_, refl, ap, sym, true, false, ℕ, _≤_, _<_, _+_, _*_, suc, zero, _^_, _/_, _%_, arith, ℤ, pos, _+ℤ_}
+use Rattle.integers.proofs.Kit.{negsuc, _-ℤ_, negℤ, ltZ, mag, w64, toZ, ofZ, SFits, toZ-ofZ, toZ-pos}
 use native.Mathlib.Nat as NatL
-use native.Mathlib.Omega.{arith}
-use lib.IntN.{ℤ, pos, negsuc, negℤ, _+ℤ_, _-ℤ_}
-use lib.Signed.{mag-rem, mag, ltZ, quotZ, remZ}
-use mir.Syntax.{w64}
-use mir.Val.{SFits, toZ, ofZ}
-use mir.Facts.{toZ-ofZ, toZ-pos}
+use lib.Signed.{mag-rem, quotZ, remZ}
 use mir.ValLaws.{sfits-le}
 use Rattle.integers.specs.Whole.{floorDiv, ceilDiv}
-use Rattle.integers.proofs.Parts.{up, add-parts, sub-parts-ℤ, neg-parts, eq-by, ltZ-true, ltZ-false}
+use Rattle.integers.proofs.Parts.{add-parts, sub-parts-ℤ, neg-parts, eq-by, ltZ-true, ltZ-false}
 
 module _ (k : ℕ) (p : 0 < k) where
   -- the quotient of the next number: the same, or one more where nothing remains

@@ -1,9 +1,7 @@
 -- Division rounded towards minus and plus infinity: what characterizes it, and that it keeps a range whose ends are whole. Assumes nothing.
-use Prim.Native.Nat.{ℕ, suc, _*_, _/_, _≤_, _<_}
+use Rattle.integers.proofs.Kit.{ℕ, _≤_, _<_, _*_, suc, _/_, arith, ℤ, pos, natAbs, negsuc, negℤ, _≤ℤ_}
 use native.Mathlib.Nat as NatL
-use native.Mathlib.Omega.{arith}
-use lib.IntN.{ℤ, pos, negsuc, negℤ, natAbs, negℤ-negℤ}
-use lib.Signed.{_≤ℤ_}
+use lib.IntN.{negℤ-negℤ}
 use Rattle.integers.specs.Whole.{_·_, floorDiv, ceilDiv}
 use Rattle.integers.proofs.Parts.{times-parts, le-by, le-parts}
 use Rattle.integers.proofs.Order.{≤-trans, neg-mono, ·-neg, ·-cancel}

@@ -1,13 +1,8 @@
 -- Laws of the searches: as a loop makes them, and what their answers say. Assumes nothing.
-use mathlib.Core.Path.{_≡_, refl, sym, _∙_}
-use mathlib.Core.Bool.{Bool, true, false, not, _&&_, cond}
-use Prim.Native.Nat.{ℕ, zero, suc, _+_, _<_}
-use native.Mathlib.Omega.{arith}
-use native.Mathlib.Numerals.{add-one}
-use native.Mathlib.Decide.{decLt}
-use lib.Dec.{T}
-use lib.IntN.{ℤ}
-use lib.Signed.{_≤ℤ_, _<ℤ_, ltZ, ltZ-yes, ltZ-no}
+use Rattle.integers.proofs.Kit.{_≡_, _∙_, refl, sym, true, false, Bool, cond, _&&_, ℕ, _<_, _+_, suc, zero, arith, add-one, decLt, T, ℤ, _≤ℤ_}
+use Rattle.integers.proofs.Kit.{ltZ, _<ℤ_}
+use mathlib.Core.Bool.{not}
+use lib.Signed.{ltZ-yes, ltZ-no}
 use Rattle.integers.specs.Search.{every, firstLargest}
 use Rattle.integers.proofs.Parts.{is-T}
 use Rattle.integers.proofs.Order.{≤-refl, ≤-trans, <-≤}

@@ -1,13 +1,7 @@
 -- How large whole numbers are: bounds on either side that rule out overflow. Assumes nothing.
-use mathlib.Core.Path.{_≡_, refl, sym, ap}
-use mathlib.Core.Bool.{true, false}
-use Prim.Native.Nat.{ℕ, zero, suc, _+_, _*_, _≤_, _<_}
+use Rattle.integers.proofs.Kit.{_≡_, refl, ap, sym, true, false, ℕ, _≤_, _<_, _+_, _*_, suc, zero, arith, le-leb, lt-leb, leb, ℤ, pos, natAbs}
+use Rattle.integers.proofs.Kit.{_+ℤ_, negsuc, _-ℤ_, negℤ, _≤ℤ_, ltZ, leZ}
 use native.Mathlib.Nat as NatL
-use native.Mathlib.Omega.{arith}
-use lib.IntN.{ℤ, pos, negsuc, negℤ, natAbs, _+ℤ_, _-ℤ_}
-use lib.Dec.{leb}
-use lib.Signed.{_≤ℤ_, leZ, ltZ}
-use borrow.Author.Tests.{le-leb, lt-leb}
 use Rattle.integers.specs.Whole.{_·_, sumTo, totalTo}
 use Rattle.integers.proofs.Order.{≤-of, ≤-trans, ·-neg}
 use Rattle.integers.proofs.Parts.{up, dn, add-parts, neg-parts, times-parts, abs-parts, le-by, le-parts, ltZ-true, ltZ-false}

@@ -1,12 +1,8 @@
 -- The algebra of sums over an index: none, one more, term by term, split, scaled, swapped. Assumes nothing.
-use mathlib.Core.Path.{_≡_, refl, sym, _∙_, ap}
-use Prim.Native.Nat.{ℕ, zero, suc, _+_, _*_, _≤_, _<_, max}
+use Rattle.integers.proofs.Kit.{_≡_, _∙_, refl, ap, sym, ℕ, _≤_, _<_, _+_, _*_, suc, zero, arith, add-one, decLt, ℤ, pos, _+ℤ_, _≤ℤ_}
+use Prim.Native.Nat.{max}
 use native.Mathlib.Nat as NatL
-use native.Mathlib.Numerals.{add-one}
-use native.Mathlib.Omega.{arith}
-use native.Mathlib.Decide.{decLe, decLt}
-use lib.IntN.{ℤ, pos, _+ℤ_}
-use lib.Signed.{_≤ℤ_}
+use native.Mathlib.Decide.{decLe}
 use Rattle.integers.specs.Whole.{_·_, sumTo, totalTo, largestTo}
 use Rattle.integers.proofs.Order.{≤-refl, add-mono, add-comm, add-assoc, add-left-comm, ·-add, add-·, ·-zero, zero-·}
 

@@ -1,12 +1,7 @@
 -- A product and sums of products: from the machine's words to whole numbers, how large they are, and how a loop makes them. Assumes nothing.
-use mathlib.Core.Path.{_≡_, ap, _∙_}
-use Prim.Native.Nat.{ℕ, suc, _+_, _*_, _^_, _≤_, _<_}
-use native.Mathlib.Nat.{mul-le-mul, mul-le-mul-right}
-use native.Mathlib.Omega.{arith}
-use lib.IntN.{ℤ, natAbs, _+ℤ_, _*ℤ_}
-use mir.Syntax.{w64}
-use mir.Val.{toZ, ofZ, SFits}
-use mir.Facts.{toZ-pos, toZ-ofZ}
+use Rattle.integers.proofs.Kit.{_≡_, _∙_, ap, ℕ, _≤_, _<_, _+_, _*_, suc, _^_, arith, mul-le-mul, mul-le-mul-right, ℤ, natAbs, _+ℤ_, w64, toZ}
+use Rattle.integers.proofs.Kit.{ofZ, SFits, toZ-ofZ, toZ-pos}
+use lib.IntN.{_*ℤ_}
 use Rattle.integers.specs.Whole.{_·_, sumTo}
 use Rattle.integers.proofs.Sizes.{abs-add, abs-times, times-bound, sum-bound}
 use Rattle.integers.proofs.Sums.{sum-step}

@@ -1,12 +1,5 @@
 -- Whole numbers in the machine's 64 bits. A signed local of the code is known by its bits; `back` turns them into the number. Assumes nothing.
-use mathlib.Core.Path.{_≡_, _∙_}
-use Prim.Native.Nat.{ℕ, _^_, _<_}
-use native.Mathlib.Omega.{arith}
-use lib.IntN.{ℤ, pos, negsuc, natAbs}
-use lib.Signed.{mag}
-use mir.Syntax.{w64}
-use mir.Val.{SFits, toZ, ofZ}
-use mir.Facts.{toZ-ofZ}
+use Rattle.integers.proofs.Kit.{_≡_, _∙_, ℕ, _<_, _^_, arith, ℤ, pos, natAbs, negsuc, mag, w64, toZ, ofZ, SFits, toZ-ofZ}
 
 abs-mag : (z : ℤ) {H : ℕ} → natAbs z < H → mag z < H
 abs-mag (pos n) h = h

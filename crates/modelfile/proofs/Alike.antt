@@ -1,10 +1,5 @@
 -- Files that read before read alike. Assumes nothing.
-use Prim.Native.Nat.{ℕ, _+_}
-use mathlib.Core.Path.{_≡_, refl, ap}
-use mathlib.Core.Bool.{Bool, true, false, cond}
-use mathlib.Core.List.{List}
-use lib.Dec.{leb}
-use lib.ListN.{length, replicate}
+use Rattle.integers.proofs.Kit.{_≡_, refl, ap, true, false, Bool, cond, List, ℕ, _+_, leb, length, replicate}
 use Rattle.tables.specs.declared.Verdict.the-variants.{Fine}
 use Rattle.tables.specs.Limits.{maxStates, maxActions, maxObservations, one}
 use Rattle.tables.proofs.Refusals.{never}

@@ -1,9 +1,5 @@
 -- A file is refused at its first word that is, or goes on to the next. Assumes nothing.
-use Prim.Native.Nat.{ℕ, _≤_, _<_}
-use mathlib.Core.Path.{_≡_, refl, sym, ap, subst, _∙_}
-use mathlib.Core.List.{List, []}
-use native.Mathlib.Omega.{arith}
-use lib.ListN.{length}
+use Rattle.integers.proofs.Kit.{_≡_, _∙_, refl, ap, sym, subst, List, [], ℕ, _≤_, _<_, arith, length}
 use denote.Enum.Declared.{tagOf}
 use Rattle.tables.specs.Judged.{noTables}
 use Rattle.words.specs.Words.{Words, wordsIn, between}

@@ -1,13 +1,6 @@
 -- A file that is read opens: its tables are not refused, and its start numbers are the weights of a point. Assumes nothing.
-use Prim.Native.Nat.{ℕ, zero, suc, _+_, _*_, _≤_}
-use mathlib.Core.Path.{_≡_, refl, sym, ap, subst, _∙_}
-use mathlib.Core.Bool.{Bool, true, false, cond}
-use mathlib.Core.List.{List}
-use native.Mathlib.Omega.{arith}
-use borrow.Author.Tests.{le-leb, eqb-true}
-use lib.Dec.{leb}
-use lib.ListN.{length, getD, replicate}
-use lib.IntN.{pos, natAbs}
+use Rattle.integers.proofs.Kit.{_≡_, _∙_, refl, ap, sym, subst, true, false, Bool, cond, List, ℕ, _≤_, _+_, _*_, suc, zero, arith, le-leb, eqb-true}
+use Rattle.integers.proofs.Kit.{leb, length, getD, replicate, pos, natAbs}
 use Rattle.integers.specs.Whole.{totalTo}
 use Rattle.integers.proofs.Searches.{and-is, at-every}
 use Rattle.tables.specs.declared.Verdict.{Verdict}

@@ -1,13 +1,6 @@
 -- What a refused file is answered: its number is 1 to 6, and where its place lies. Assumes nothing.
-use Prim.Native.Nat.{ℕ, zero, suc, _+_, _*_, _≤_}
-use mathlib.Core.Path.{_≡_, refl, sym, ap, subst, _∙_}
-use mathlib.Core.Bool.{Bool, true, false, cond}
-use mathlib.Core.List.{List, [], _∷_}
-use native.Mathlib.Omega.{arith}
-use native.Mathlib.Numerals.{add-one}
-use lib.Dec.{eqb, leb}
-use lib.ListN.{length, getD, replicate}
-use lib.IntN.{ℤ}
+use Rattle.integers.proofs.Kit.{_≡_, refl, sym, subst, true, false, Bool, cond, List, [], _∷_, ℕ, _≤_, _+_, _*_, suc, zero, arith, add-one}
+use Rattle.integers.proofs.Kit.{leb, eqb, length, getD, replicate, ℤ}
 use Rattle.integers.specs.Whole.{totalTo}
 use Rattle.tables.specs.declared.Verdict.{Verdict}
 use Rattle.tables.specs.declared.Verdict.the-variants.{Fine, Refused}
@@ -16,15 +9,15 @@ use Rattle.tables.specs.Storage.{cellIn}
 use Rattle.tables.specs.Verdicts.{_before_, unless, firstOf}
 use Rattle.tables.specs.Judged.{rowsTotal}
 use Rattle.words.specs.Class.{classOf}
-use Rattle.words.specs.Words.{Role, parts, alone, opens, belongs, roleOf, Words, word, end, run, Mode, between, inside, comment, step, wordsOf, wordsIn}
+use Rattle.words.specs.Words.{Role, parts, alone, opens, belongs, roleOf, Words, word, end, Mode, between, inside, comment, step, wordsOf, wordsIn}
 use Rattle.drafts.specs.Drafts.{stated}
 use Rattle.numerals.specs.declared.Form.{Form}
-use Rattle.numerals.specs.Numeral.{countForm, probabilityForm, startForm, rewardForm, amountOf, unsigned}
-use Rattle.grammar.specs.Grammar.{Answer, got, refused, _then_, choose, Finding, fits, unfit, outside, answered, oneWord, limited, number, magnitude, minus}
+use Rattle.numerals.specs.Numeral.{countForm, probabilityForm, startForm, rewardForm}
+use Rattle.grammar.specs.Grammar.{Answer, got, refused, _then_, choose, Finding, fits, unfit, outside, answered, oneWord, number, magnitude}
 use Rattle.grammar.specs.Grammar.{signedNumber, key, keys, colon, star, named, field, index}
 use Rattle.statements.specs.Statements.{Outcome, filled, stopped, upon, further, within, wholly, probability, startTotal, startNumber, rewardNumber, indexed}
-use Rattle.statements.specs.Statements.{starred, row, entry, table, reward, rewards, Draft, draft, rewardStatement, observationOrReward, oneStatement}
-use Rattle.statements.specs.Statements.{unlessEnd, statements}
+use Rattle.statements.specs.Statements.{starred, row, entry, table, reward, rewards, Draft, oneStatement}
+use Rattle.statements.specs.Statements.{statements}
 use Rattle.modelfile.specs.ModelFile.{maxBytes, startName, Text, noCells, body, counted, headed, placed, sumsVerdict, refusedFile, judgedFile, ended}
 use Rattle.modelfile.specs.ModelFile.{modelFile}
 use Rattle.statements.specs.Statements.{entryBy, observationOrRewardBy, oneStatementBy, rewardBy, rewardStatementBy, rewardsBy, statementsBy, tableBy}

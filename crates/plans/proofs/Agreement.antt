@@ -1,9 +1,6 @@
 -- Only the parts below the counts are read: levels that agree there meet the same inequalities, have the same limits, ceilings and totals, and weights
 -- that agree there have the same ceilings and backups. Assumes nothing.
-use mathlib.Core.Path.{_≡_, refl, _∙_, ap}
-use Prim.Native.Nat.{ℕ, zero, suc, _<_}
-use native.Mathlib.Omega.{arith}
-use lib.IntN.{ℤ, pos, negsuc, _+ℤ_, _-ℤ_}
+use Rattle.integers.proofs.Kit.{_≡_, _∙_, refl, ap, ℕ, _<_, suc, zero, arith, ℤ, pos, _+ℤ_, negsuc, _-ℤ_}
 use Rattle.integers.specs.Whole.{_·_, sumTo, totalTo, largestTo}
 use Rattle.integers.proofs.Sums.{sum-cong, total-cong, largestTo-cong}
 use Rattle.integers.proofs.Searches.{largest-cong}

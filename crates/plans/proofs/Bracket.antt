@@ -1,6 +1,5 @@
 -- Accepted levels are certified, and the totals of a certified level bracket what plans earn. Assumes nothing.
-use Prim.Native.Nat.{ℕ, suc, _<_}
-use native.Mathlib.Omega.{arith}
+use Rattle.integers.proofs.Kit.{ℕ, _<_, suc, arith}
 use Rattle.integers.proofs.Searches.{largest-in}
 use Rattle.tables.specs.Model.{Model}
 use Rattle.plans.specs.Level.{Level, level0, Meets}

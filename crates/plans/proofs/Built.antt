@@ -1,11 +1,7 @@
 -- The builder's level lies within the limits of its level and meets its inequalities. The laws of how large successor weights, backups and ceilings grow,
 -- of which that is made, also rule out overflow in code. Assumes nothing.
-use mathlib.Core.Path.{_≡_, _∙_, ap}
-use Prim.Native.Nat.{ℕ, suc, _+_, _*_, _≤_, _<_}
+use Rattle.integers.proofs.Kit.{_≡_, _∙_, ap, ℕ, _≤_, _<_, _*_, suc, arith, ℤ, pos, natAbs, _+ℤ_, negℤ, _≤ℤ_}
 use native.Mathlib.Nat as NatL
-use native.Mathlib.Omega.{arith}
-use lib.IntN.{ℤ, pos, negℤ, natAbs, _+ℤ_}
-use lib.Signed.{_≤ℤ_}
 use Rattle.integers.specs.Whole.{_·_, sumTo, totalTo, largestTo}
 use Rattle.integers.proofs.Order.{≤-trans, sub-≤, one-·, ·-mono}
 use Rattle.integers.proofs.Sums.{sum-mono, total-cong, total-mul, total-mul-right, total-swap, total-part}

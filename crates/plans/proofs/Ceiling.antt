@@ -1,11 +1,8 @@
 -- The ceiling: no plan that fits the model earns more than the sawtooth ceiling of a certified level. Assumes nothing.
-use mathlib.Core.Path.{_≡_, refl, sym, _∙_, ap}
-use Prim.Native.Nat.{ℕ, zero, suc, _+_, _*_, _-_, _^_, _/_, _≤_, _<_}
+use Rattle.integers.proofs.Kit.{_≡_, _∙_, refl, ap, sym, ℕ, _≤_, _<_, _+_, _*_, suc, _-_, zero, _^_, _/_, arith, decLt, ℤ, pos, _+ℤ_, negsuc, _-ℤ_}
+use Rattle.integers.proofs.Kit.{_≤ℤ_}
 use native.Mathlib.Nat as NatL
-use native.Mathlib.Omega.{arith}
-use native.Mathlib.Decide.{decLt}
-use lib.IntN.{ℤ, pos, negsuc, _+ℤ_, _-ℤ_, +ℤ-idl, +ℤ-idr}
-use lib.Signed.{_≤ℤ_}
+use lib.IntN.{+ℤ-idl, +ℤ-idr}
 use Rattle.integers.specs.Whole.{_·_, sumTo, totalTo}
 use Rattle.integers.proofs.Parts.{up, times-parts}
 use Rattle.integers.proofs.Order.{≤-of, ≤-trans, add-mono, sub-zero, sub-gap, add-sub-cancel}

@@ -2,9 +2,7 @@
 --
 --   Earned      some t-step plan opens with an action and earns a vector's entries
 --   Certified   every vector is earned, and no t-step plan earns more than the corners and points say
-use Prim.Native.Nat.{ℕ, _^_, _<_}
-use lib.IntN.{ℤ}
-use lib.Signed.{_≤ℤ_}
+use Rattle.integers.proofs.Kit.{ℕ, _<_, _^_, ℤ, _≤ℤ_}
 use Rattle.integers.specs.Whole.{_·_}
 use Rattle.tables.specs.Limits.{K}
 use Rattle.tables.specs.Model.{Model}

@@ -1,9 +1,7 @@
 -- Laws for evaluating the largest drop fast: the drop of a point is the greatest number that times its weights stays below the gain times q, so one state
--- caps it, all states together beat a cap, and where one state has the least quotient q / p the drop is read off there. Assumes nothing.
-use mathlib.Core.Path.{_≡_}
-use Prim.Native.Nat.{ℕ, zero, suc, _+_, _*_, _/_, _≤_, _<_}
+-- caps it, and where one state has the least quotient q / p the drop is read off there. Assumes nothing.
+use Rattle.integers.proofs.Kit.{_≡_, ℕ, _≤_, _<_, _+_, _*_, suc, zero, _/_, arith}
 use native.Mathlib.Nat as NatL
-use native.Mathlib.Omega.{arith}
 use Rattle.plans.specs.Level.{Ratio, none, ratio, joined, smallest, orNone}
 use Rattle.plans.proofs.Ceiling.{Safe, smallest-safe, drop-below}
 
@@ -35,11 +33,6 @@ drop-greatest c n p q G h s l k = by (smallest n p q G) (smallest-reaches c n p 
     by : (r : Ratio) → Reaches c r → Safe r (p s) (q s * G) → c ≤ orNone r
     by none f g = absurd (omega arith)
     by (ratio d) f g = f
-
--- a cap that is passed at every state is passed by the drop
-pub drop-beats : (n : ℕ) (p q : ℕ → ℕ) (G cap : ℕ) → ((s : ℕ) → s < n → (cap + 1) * p s ≤ q s * G) → (s : ℕ) → s < n → 0 < p s
-    → cap < orNone (smallest n p q G)
-drop-beats n p q G cap h s l k = omega (arith, drop-greatest (cap + 1) n p q G h s l k)
 
 -- a state at which one more than the cap is too much caps the drop
 pub drop-capped : (n : ℕ) (p q : ℕ → ℕ) (G cap s : ℕ) → s < n → q s * G < (cap + 1) * p s → orNone (smallest n p q G) ≤ cap

@@ -1,11 +1,7 @@
 -- The floor: each vector of an accepted level has a plan that fits the model, opens with the vector's action, and earns at least the vector's entries.
 -- Assumes nothing.
-use mathlib.Core.Path.{_≡_, refl}
-use Prim.Native.Nat.{ℕ, zero, suc, _^_, _<_}
+use Rattle.integers.proofs.Kit.{_≡_, refl, ℕ, _<_, suc, zero, _^_, decLt, ℤ, _≤ℤ_}
 use native.Mathlib.Nat.{pow-suc}
-use native.Mathlib.Decide.{decLt}
-use lib.IntN.{ℤ}
-use lib.Signed.{_≤ℤ_}
 use Rattle.integers.specs.Whole.{_·_}
 use Rattle.integers.proofs.Order.{≤-of, ≤-trans, add-mono, ·-add, ·-·, ·-swap, ·-zero, ·-mono}
 use Rattle.integers.proofs.Sums.{·-sum-≤}

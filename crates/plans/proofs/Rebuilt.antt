@@ -1,7 +1,5 @@
 -- What is built over levels that agree agrees. Assumes nothing.
-use mathlib.Core.Path.{_≡_, refl, _∙_, ap}
-use Prim.Native.Nat.{ℕ, _<_}
-use lib.IntN.{ℤ}
+use Rattle.integers.proofs.Kit.{_≡_, _∙_, refl, ap, ℕ, _<_, ℤ}
 use Rattle.integers.specs.Whole.{floorDiv, ceilDiv}
 use Rattle.integers.specs.Search.{firstLargest}
 use Rattle.integers.proofs.Searches.{largest-cong}

@@ -1,14 +1,8 @@
 -- How much rounding costs: an entry that is its backup over K rounded down lies less than a tick further below what its plan earns than the entries that it
 -- was backed up from. Assumes nothing.
-use mathlib.Core.Path.{_≡_, refl, sym, _∙_, ap}
-use mathlib.Core.Bool.{Bool, true, false}
-use mathlib.Core.List.{List, _∷_}
-use Prim.Native.Nat.{ℕ, suc, _*_, _^_, _<_}
+use Rattle.integers.proofs.Kit.{_≡_, _∙_, refl, ap, sym, true, false, Bool, List, _∷_, ℕ, _<_, _*_, suc, _^_, arith, length, ℤ, pos, _+ℤ_, _≤ℤ_, leZ}
+use Rattle.integers.proofs.Kit.{_<ℤ_}
 use native.Mathlib.Nat as NatL
-use native.Mathlib.Omega.{arith}
-use lib.ListN.{length}
-use lib.IntN.{ℤ, pos, _+ℤ_}
-use lib.Signed.{_≤ℤ_, _<ℤ_, leZ}
 use Rattle.integers.specs.Whole.{_·_, sumTo, totalTo, floorDiv}
 use Rattle.integers.proofs.Parts.{add-parts, times-parts, eq-by, le-parts, le-by, lt-parts, lt-by, le-true, leZ-false}
 use Rattle.integers.proofs.Order.{≤-refl, ≤-of, ≤-trans, add-mono, add-assoc, ·-add, ·-·, ·-swap, ·-pos, ·-mono}

@@ -1,6 +1,6 @@
 -- A level: alpha vectors for the floor, corner and point values for the sawtooth ceiling, and the backup inequalities that they meet over the level before.
 use mathlib.Core.Path.{_≡_}
-use Prim.Native.Nat.{ℕ, zero, suc, _+_, _*_, _/_, _≤_, _<_, min}
+use Prim.Native.Nat.{ℕ, zero, suc, _*_, _/_, _≤_, _<_, min}
 use lib.IntN.{ℤ, pos, negsuc, natAbs, _+ℤ_, _-ℤ_}
 use lib.Signed.{_≤ℤ_}
 use Rattle.integers.specs.Whole.{_·_, sumTo, totalTo, largestTo}

@@ -1,11 +1,6 @@
 -- Laws for callers: the ceiling over storage is the ceiling of the level that is stored, and the gains of a level within its limits are small enough for it.
 -- Assumes nothing.
-use mathlib.Core.Path.{_≡_, refl, sym, ap}
-use mathlib.Core.List.{List}
-use Prim.Native.Nat.{ℕ, zero, suc, _≤_, _<_}
-use native.Mathlib.Omega.{arith}
-use lib.ListN.{getD}
-use lib.IntN.{ℤ, pos, negsuc, _-ℤ_}
+use Rattle.integers.proofs.Kit.{_≡_, refl, ap, sym, List, ℕ, _≤_, _<_, suc, zero, arith, getD, ℤ, pos, negsuc, _-ℤ_}
 use Rattle.integers.proofs.Sums.{largestTo-cong}
 use Rattle.tables.specs.Limits.{maxStates}
 use Rattle.tables.specs.Storage.{weightIn}

@@ -1,17 +1,11 @@
 -- Laws for the sawtooth's loops: the least quotient q / p found by cross products and the drop read off it, points that cannot beat the largest drop so
 -- far, and how large drops and gains are. Assumes nothing.
-use mathlib.Core.Path.{_≡_, refl, sym, _∙_, ap}
-use mathlib.Core.Bool.{Bool, true, false, _&&_}
-use Prim.Native.Nat.{ℕ, zero, suc, _+_, _*_, _/_, _≤_, _<_}
+use Rattle.integers.proofs.Kit.{_≡_, _∙_, refl, ap, sym, true, false, Bool, _&&_, List, ℕ, _≤_, _<_, _+_, _*_, suc, zero, _/_, arith, leb, T, length}
+use Rattle.integers.proofs.Kit.{getD, ℤ, pos, natAbs, negsuc, _-ℤ_, ltZ}
 use native.Mathlib.Nat as NatL
-use native.Mathlib.Omega.{arith}
 use borrow.Author.Count.{below-more}
 use borrow.Author.Tests.{leb-false}
-use mathlib.Core.List.{List}
-use lib.Dec.{T, leb}
-use lib.ListN.{length, getD}
-use lib.IntN.{ℤ, pos, negsuc, natAbs, _-ℤ_}
-use lib.Signed.{ltZ, nonNeg}
+use lib.Signed.{nonNeg}
 use Rattle.integers.specs.Whole.{largestTo, Below}
 use Rattle.integers.specs.Search.{every}
 use Rattle.integers.specs.Cells.{padded}

@@ -1,8 +1,5 @@
 -- Statements whose numbers fit narrower forms are read alike by wider ones. Assumes nothing.
-use Prim.Native.Nat.{ℕ, zero, suc, _+_}
-use mathlib.Core.Path.{_≡_, refl, subst⁻¹}
-use mathlib.Core.List.{List}
-use lib.IntN.{ℤ}
+use Rattle.integers.proofs.Kit.{_≡_, refl, subst⁻¹, List, ℕ, _+_, suc, zero, ℤ}
 use Rattle.words.specs.Words.{Words, word, end}
 use Rattle.tables.specs.Limits.{one, maxReward}
 use Rattle.drafts.specs.Drafts.{stated, rewarded}

@@ -1,11 +1,6 @@
 -- Rows number by number, a reward by its sign, and statements one after the other. Assumes nothing.
-use Prim.Native.Nat.{ℕ, zero, suc, _+_, _-_, _≤_, _<_}
-use mathlib.Core.Path.{_≡_, refl, sym, ap, subst, _∙_}
-use mathlib.Core.List.{List}
-use native.Mathlib.Omega.{arith}
+use Rattle.integers.proofs.Kit.{_≡_, _∙_, refl, ap, sym, subst, List, ℕ, _≤_, _<_, _+_, suc, _-_, zero, arith, length, drop, take, ℤ}
 use denote.Enum.Declared.{tagOf}
-use lib.ListN.{length, take, drop}
-use lib.IntN.{ℤ}
 use Rattle.words.specs.declared.Word.{Word}
 use Rattle.words.specs.declared.Word.the-variants.{At, End}
 use Rattle.words.specs.Words.{Words, word, end, wordsIn, between, told}
@@ -17,7 +12,7 @@ use Rattle.numerals.specs.Numeral.{rewardForm, signed}
 use Rattle.grammar.specs.declared.Read.{Read}
 use Rattle.grammar.specs.declared.Read.the-variants.{Value, Refused}
 use Rattle.grammar.specs.Grammar.{Answer, got, refused, _then_, choose, magnitude, minus, signedNumber}
-use Rattle.grammar.specs.Steps.{answerOf, Onward, Tells, Reads, Follows, Takes}
+use Rattle.grammar.specs.Steps.{answerOf, Onward, Tells, Reads, Takes}
 use Rattle.grammar.proofs.Read as read-type
 use Rattle.grammar.proofs.Laws.{value-is, value-next, onward, onward-earlier, other-is}
 use Rattle.grammar.proofs.Arms.{no-word, back-onward}

@@ -1,10 +1,5 @@
 -- What is read into cells keeps the limits of its words. Assumes nothing.
-use Prim.Native.Nat.{ℕ, zero, suc, _+_, _≤_}
-use mathlib.Core.List.{List}
-use native.Mathlib.Omega.{arith}
-use lib.ListN.{getD}
-use lib.IntN.{ℤ, pos, natAbs}
-use mathlib.Core.Bool.{Bool, true, false}
+use Rattle.integers.proofs.Kit.{true, false, Bool, List, ℕ, _≤_, _+_, suc, zero, arith, getD, ℤ, pos, natAbs}
 use Rattle.words.specs.Words.{Words, word, end}
 use Rattle.tables.specs.Limits.{one, maxReward}
 use Rattle.drafts.specs.Drafts.{stated, rewarded}

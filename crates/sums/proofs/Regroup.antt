@@ -1,11 +1,6 @@
 -- The partial sums of storage: how they join to the model's sums, and how large they are. Assumes nothing.
-use mathlib.Core.Path.{_≡_, refl, sym, _∙_, ap}
-use mathlib.Core.List.{List}
-use Prim.Native.Nat.{ℕ, _+_, _*_, _^_, _≤_, _<_}
-use native.Mathlib.Nat.{mul-le-mul, mul-le-mul-right}
-use native.Mathlib.Omega.{arith}
-use lib.ListN.{getD}
-use lib.IntN.{ℤ, pos, natAbs, _+ℤ_}
+use Rattle.integers.proofs.Kit.{_≡_, _∙_, refl, ap, sym, List, ℕ, _≤_, _<_, _+_, _*_, _^_, arith, mul-le-mul, mul-le-mul-right, getD, ℤ, pos, natAbs}
+use Rattle.integers.proofs.Kit.{_+ℤ_}
 use Rattle.integers.specs.Whole.{_·_, sumTo, totalTo, Below, Within}
 use Rattle.integers.proofs.Order.{·-·}
 use Rattle.integers.proofs.Sums.{sum-cong, sum-·, total-bound, total-mul-right}

@@ -1,10 +1,5 @@
 -- Tables that are not refused are valid and long enough, and the other way round. Assumes nothing.
-use mathlib.Core.Path.{_≡_}
-use mathlib.Core.Bool.{true}
-use Prim.Native.Nat.{ℕ, _≤_, _<_}
-use native.Mathlib.Omega.{arith}
-use lib.Dec.{leb}
-use borrow.Author.Tests.{leb-true, le-leb, eqb-true, eq-eqb}
+use Rattle.integers.proofs.Kit.{_≡_, true, ℕ, _≤_, _<_, arith, le-leb, leb-true, eq-eqb, eqb-true, leb}
 use Rattle.integers.specs.Whole.{totalTo}
 use Rattle.integers.proofs.Searches.{and-true, and-is, every-at, at-every}
 use Rattle.tables.specs.declared.Verdict.the-variants.{Fine}

@@ -1,12 +1,5 @@
 -- Tables whose counts are within the limits do not reach past their arrays. Assumes nothing.
-use Prim.Native.Nat.{ℕ, _+_, _*_, _≤_, _<_}
-use mathlib.Core.Path.{_≡_}
-use mathlib.Core.Bool.{true, _&&_}
-use native.Mathlib.Nat.{mul-le-mul, mul-le-mul-right}
-use native.Mathlib.Omega.{arith}
-use lib.Dec.{leb}
-use lib.ListN.{length}
-use borrow.Author.Tests.{leb-true, le-leb}
+use Rattle.integers.proofs.Kit.{_≡_, true, _&&_, ℕ, _≤_, _<_, _+_, _*_, arith, mul-le-mul, mul-le-mul-right, le-leb, leb-true, leb, length}
 use Rattle.integers.proofs.Lists.{cell-below}
 use Rattle.integers.proofs.Searches.{and-true, and-is}
 use Rattle.tables.specs.declared.Tables.{Tables}

@@ -1,10 +1,5 @@
 -- Laws of refusals: the first that is found, as a loop finds it, and what it says that none is. Assumes nothing.
-use mathlib.Core.Path.{_≡_, refl, sym}
-use mathlib.Core.Bool.{Bool, true, false}
-use Prim.Native.Nat.{ℕ, zero, suc, _+_, _<_}
-use native.Mathlib.Omega.{arith}
-use native.Mathlib.Numerals.{add-one}
-use native.Mathlib.Decide.{decLt}
+use Rattle.integers.proofs.Kit.{_≡_, refl, sym, true, false, Bool, ℕ, _<_, _+_, suc, zero, arith, add-one, decLt}
 use Rattle.integers.proofs.Searches.{below-suc}
 use Rattle.tables.specs.declared.Verdict.{Verdict}
 use Rattle.tables.specs.declared.Verdict.the-variants.{Fine, Refused}

@@ -1,15 +1,6 @@
 -- How large worths are, how one step makes them of those with a step less, and what a graph that is not refused has. Assumes nothing.
-use mathlib.Core.Path.{_≡_, refl, sym, _∙_, ap}
-use mathlib.Core.Bool.{true}
-use mathlib.Core.List.{List}
-use Prim.Native.Nat.{ℕ, zero, suc, _+_, _*_, _≤_, _<_}
-use native.Mathlib.Nat.{mul-le-mul}
-use native.Mathlib.Omega.{arith}
-use native.Mathlib.Numerals.{add-one}
-use lib.ListN.{length, getD, replicate, length-replicate}
-use lib.Seq.{paste}
-use lib.IntN.{ℤ, pos, natAbs}
-use borrow.Author.Tests.{ltb-true, leb-true}
+use Rattle.integers.proofs.Kit.{_≡_, _∙_, refl, ap, sym, true, List, ℕ, _≤_, _<_, _+_, _*_, suc, zero, arith, mul-le-mul, add-one, leb-true, ltb-true}
+use Rattle.integers.proofs.Kit.{length, getD, replicate, length-replicate, paste, ℤ, pos, natAbs}
 use Rattle.integers.specs.Whole.{floorDiv, Within}
 use Rattle.integers.specs.Cells.{padded}
 use Rattle.integers.proofs.Lists.{padded-at, padded-cong, padded-length, laidRows-none, laidRows-at, laidRows-cong, laidRows-more}

@@ -56,9 +56,6 @@ loop-again c =
           (c .if1 .came),
     )
 
-returns : tie.Need-returns Inv-loop μ-loop
-returns c = best-found (c .before .loop .inv .1) (omega arith)
-
 pub best-candidate-spec : {M : Type 1} → statement M
 best-candidate-spec =
     tie.close (tie.spec Inv-loop μ-loop vector-for-requires first-long product-requires loop-holds vector-for-requires-2 next-long product-requires-2
@@ -67,4 +64,5 @@ best-candidate-spec =
       c .before .before .before .before .before .loop-test .taken,
       c .before .before .before .before .before .before .before .before .before .before .before .before .before .before .pre .0 .valid .few-actions,
     ))
-    (λ c. omega (arith, c .before .before .before .before .before .loop-test .taken)) loop-again returns)
+    (λ c. omega (arith, c .before .before .before .before .before .loop-test .taken)) loop-again
+    (λ c. best-found (c .before .loop .inv .1) (omega arith)))

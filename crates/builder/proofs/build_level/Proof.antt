@@ -1,5 +1,4 @@
-use Prim.Native.Nat.{_+_}
-use borrow.Author.Needs.{needs}
+use Rattle.integers.proofs.Kit.{_+_, needs}
 use Rattle.tables.specs.declared.Tables.{Tables}
 use Rattle.tables.specs.Storage.{tablesIn}
 use Rattle.levels.specs.Storage.{Cells, cells, lentFor}

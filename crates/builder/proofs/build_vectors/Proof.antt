@@ -1,7 +1,5 @@
 use Rattle.builder.proofs.Prelude.{_-_, _≤_, _<_, _≡_, sym, arith, modelIn, pointIn}
-use Prim.Native.Nat.{ℕ, _+_}
-use mathlib.Core.List.{List}
-use lib.IntN.{ℤ}
+use Rattle.integers.proofs.Kit.{List, ℕ, _+_, ℤ}
 use Rattle.integers.proofs.Sums.{total-cong}
 use Rattle.tables.specs.declared.Counts.{Counts}
 use Rattle.tables.specs.Limits.{maxVectors}
@@ -28,9 +26,6 @@ abbrev μ-loop : tie.MeasureT-loop
 add-count : tie.Need-add-count Inv-loop μ-loop
 add-count c = let p = c .before .before .before .before .before .pre in omega (arith, p .0 .valid .few-states, p .1 .0 .0)
 
-loop-holds : tie.Need-loop-holds Inv-loop μ-loop
-loop-holds c = (omega arith, filled-none _ _ _)
-
 below : (c : tie.In-loop Inv-loop μ-loop) → c .before .loop .v < maxVectors
 below c = let p = c .before .before .before .before .before .before .before .pre in omega (arith, c .loop-test .taken, p .0 .valid .few-states, p .1 .0 .0)
 
@@ -41,9 +36,6 @@ seed-weights-requires c κs =
       (s .pre .0 .valid .few-states, omega (arith, c .loop-test .taken, s .pre .1 .0 .0)),
       λ h. rows-stored (a .c .states) (c .before .loop .v - a .c .states) (a .points) (omega (arith, c .loop-test .taken)) (s .pre .1 .0 .1),
     )
-
-weights-long : tie.Need-slice-aggregate-best-candidate Inv-loop μ-loop
-weights-long c = sym (c .before .seed-weights .ensures .1)
 
 best-candidate-requires : tie.Need-best-candidate-requires Inv-loop μ-loop
 best-candidate-requires c κs =
@@ -92,20 +84,11 @@ room c =
     rows-room _ _ _ (c .before .before .before .before .before .before .before .before .before .before .pre .1 .1 .1) (l .loop .inv .1)
     (c .before .before .before .loop-test .taken)
 
-number-requires : tie.Need-number-requires Inv-loop μ-loop
-number-requires c κs = made (of-row c) .action-in
-
-slice-write-actions : tie.Need-slice-write-actions Inv-loop μ-loop
-slice-write-actions c = room (of-row (c .before)) .actions-fit
-
 start-requires : tie.Need-start-requires Inv-loop μ-loop
 start-requires c κs = let b = of-choices c in (
   omega (arith, below (b .before .before .before)),
   omega (arith, b .before .before .before .before .before .before .before .before .before .before .pre .0 .valid .few-observations),
 )
-
-chosen-long : tie.Need-slice-aggregate-paste-u16 Inv-loop μ-loop
-chosen-long c = sym (made (of-choices (c .before .before)) .chosen-long)
 
 paste-u16-requires : tie.Need-paste-u16-requires Inv-loop μ-loop
 paste-u16-requires c κs =
@@ -120,21 +103,12 @@ start-requires-2 c κs = let b = of-entries c in (
   b .before .before .before .before .before .before .before .before .before .before .pre .0 .valid .few-states,
 )
 
-row-long : tie.Need-slice-aggregate-paste-i64 Inv-loop μ-loop
-row-long c = sym (made (of-entries (c .before .before)) .entries-long)
-
 paste-i64-requires : tie.Need-paste-i64-requires Inv-loop μ-loop
 paste-i64-requires c κs =
     let b = of-entries (c .before .before) in (
       rw (c .before .start2 .ensures) (room b .entries-fit),
       omega (arith, made b .entries-long, b .before .before .before .before .before .before .before .before .before .before .pre .0 .valid .few-states),
     )
-
-add-v : tie.Need-add-v Inv-loop μ-loop
-add-v c = omega (arith, below (of-entries (c .before .before .before .before) .before .before .before))
-
-loop-less : tie.Need-loop-less Inv-loop μ-loop
-loop-less c = omega (arith, of-entries (c .before .before .before .before) .before .before .before .loop-test .taken)
 
 loop-again : tie.Need-loop-again Inv-loop μ-loop
 loop-again c =
@@ -165,6 +139,10 @@ returns c =
 
 pub build-vectors-spec : {M : Type 1} → statement M
 build-vectors-spec =
-    tie.close (tie.spec Inv-loop μ-loop add-count loop-holds seed-weights-requires weights-long best-candidate-requires number-requires
-    slice-write-actions start-requires chosen-long paste-u16-requires start-requires-2 row-long paste-i64-requires add-v
-    loop-less loop-again (λ c. long c .actions-long) (λ c. long c .choices-long) (λ c. long c .entries-long) returns)
+    tie.close (tie.spec Inv-loop μ-loop add-count (λ c. (omega arith, filled-none _ _ _)) seed-weights-requires
+    (λ c. sym (c .before .seed-weights .ensures .1)) best-candidate-requires (λ c κs. made (of-row c) .action-in)
+    (λ c. room (of-row (c .before)) .actions-fit) start-requires (λ c. sym (made (of-choices (c .before .before)) .chosen-long)) paste-u16-requires
+    start-requires-2 (λ c. sym (made (of-entries (c .before .before)) .entries-long)) paste-i64-requires
+    (λ c. omega (arith, below (of-entries (c .before .before .before .before) .before .before .before)))
+    (λ c. omega (arith, of-entries (c .before .before .before .before) .before .before .before .loop-test .taken)) loop-again
+    (λ c. long c .actions-long) (λ c. long c .choices-long) (λ c. long c .entries-long) returns)

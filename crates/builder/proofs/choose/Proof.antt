@@ -1,7 +1,5 @@
 use Rattle.builder.proofs.Prelude.{_-_, _≤_, _≡_, sym, ap, arith, needs, maxStates}
-use Prim.Native.Nat.{ℕ}
-use mathlib.Core.Path.{_∙_}
-use lib.ListN.{length, set}
+use Rattle.integers.proofs.Kit.{_∙_, ℕ, length, set}
 use Rattle.integers.specs.Cells.{padded}
 use Rattle.integers.proofs.Lists.{filled-below, padded-none, padded-turn, padded-length}
 use Rattle.tables.specs.Limits.{maxObservations}
@@ -17,9 +15,6 @@ Inv-loop observation entries u n k count a chosen₀ o₀ chosen o =
 
 abbrev μ-loop : tie.MeasureT-loop
 μ-loop observation entries u n k count a chosen₀ o₀ chosen o = k - o
-
-loop-holds : tie.Need-loop-holds Inv-loop μ-loop
-loop-holds c = (search needs, sym (padded-none _ _ _))
 
 weights-long : tie.Need-slice-aggregate-best-vector Inv-loop μ-loop
 weights-long c = sym (rw (c .before .successors .ensures) (padded-length 0 maxStates _ _ (c .before .before .before .before .before .before .pre .0 .0)))
@@ -40,9 +35,6 @@ best-vector-requires c κs =
 -- the choices so far fill the row
 long : (c : tie.In-loop Inv-loop μ-loop) → length (c .before .loop .chosen) ≡ maxObservations
 long c = rw (c .before .loop .inv .1) (padded-length 0 maxObservations _ _ (omega (arith, c .before .before .before .before .pre .0 .1 .0)))
-
-chosen-long : tie.Need-slice-aggregate-put-choice Inv-loop μ-loop
-chosen-long c = sym (long (c .before .before .before .before))
 
 put-choice-requires : tie.Need-put-choice-requires Inv-loop μ-loop
 put-choice-requires c κs =
@@ -73,5 +65,5 @@ returns c = let e : c .before .loop .o ≡ c .before .before .before .before .ar
 
 pub choose-spec : {M : Type 1} → statement M
 choose-spec =
-    tie.close (tie.spec Inv-loop μ-loop loop-holds (λ c κs. search needs) weights-long best-vector-requires chosen-long put-choice-requires
-    (λ c. search needs) (λ c. search needs) loop-again returns)
+    tie.close (tie.spec Inv-loop μ-loop (λ c. (search needs, sym (padded-none _ _ _))) (λ c κs. search needs) weights-long best-vector-requires
+    (λ c. sym (long (c .before .before .before .before))) put-choice-requires (λ c. search needs) (λ c. search needs) loop-again returns)

@@ -1,8 +1,5 @@
 use Rattle.builder.proofs.Prelude.{_-_, _≤_, ⊎-elim, _≡_, sym, ap, arith, needs, w64, toZ, K}
-use mathlib.Core.Path.{_∙_}
-use lib.Dec.{lit<}
-use lib.IntN.{ℤ}
-use mir.Val.{ofZ}
+use Rattle.integers.proofs.Kit.{_∙_, lit<, ℤ, ofZ}
 use Rattle.integers.specs.Whole.{ceilDiv}
 use Rattle.integers.specs.Search.{firstLargest}
 use Rattle.integers.proofs.Searches.{largest-first}

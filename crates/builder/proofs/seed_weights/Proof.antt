@@ -26,5 +26,4 @@ returns-2 c =
     )
 
 pub seed-weights-spec : {M : Type 1} → statement M
-seed-weights-spec =
-    tie.close (tie.spec (λ c κs. search needs) returns point-weights-requires returns-2)
+seed-weights-spec = tie.close (tie.spec (λ c κs. search needs) returns point-weights-requires returns-2)

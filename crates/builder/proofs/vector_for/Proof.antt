@@ -70,5 +70,4 @@ returns c =
     (c .before .before .foreseen .ensures) (c .rounded .ensures)
 
 pub vector-for-spec : {M : Type 1} → statement M
-vector-for-spec =
-    tie.close (tie.spec moved-requires moved-long choose-requires chosen-long foreseen-requires foreseen-long rounded-requires returns)
+vector-for-spec = tie.close (tie.spec moved-requires moved-long choose-requires chosen-long foreseen-requires foreseen-long rounded-requires returns)

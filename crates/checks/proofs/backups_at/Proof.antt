@@ -14,9 +14,6 @@ Inv-loop T O R corners weights gains p c points actions backups₀ a₀ backups 
 abbrev μ-loop : tie.MeasureT-loop
 μ-loop T O R corners weights gains p c points actions backups₀ a₀ backups a = c .actions - a
 
-loop-holds : tie.Need-loop-holds Inv-loop μ-loop
-loop-holds c = (omega arith, sym (padded-none _ _ _))
-
 backup-at-requires : tie.Need-backup-at-requires Inv-loop μ-loop
 backup-at-requires c κs =
     let s = c .before .before .before .before .before .before .before in
@@ -53,5 +50,5 @@ returns c = let e : c .before .loop .a ≡ c .before .before .before .before .be
 
 pub backups-at-spec : {M : Type 1} → statement M
 backups-at-spec =
-    tie.close (tie.spec Inv-loop μ-loop loop-holds backup-at-requires (λ c. omega (arith, few (c .before))) (λ c. few (c .before))
-    (λ c. omega (arith, few (c .before))) (λ c. omega (arith, c .before .loop-test .taken)) loop-again returns)
+    tie.close (tie.spec Inv-loop μ-loop (λ c. (omega arith, sym (padded-none _ _ _))) backup-at-requires (λ c. omega (arith, few (c .before)))
+    (λ c. few (c .before)) (λ c. omega (arith, few (c .before))) (λ c. omega (arith, c .before .loop-test .taken)) loop-again returns)

@@ -12,9 +12,6 @@ Inv-loop observation u corners weights gains n k points a sum₀ o₀ sum o =
 abbrev μ-loop : tie.MeasureT-loop
 μ-loop observation u corners weights gains n k points a sum₀ o₀ sum o = k - o
 
-loop-holds : tie.Need-loop-holds Inv-loop μ-loop
-loop-holds c = (search needs, sym (sum-none _))
-
 successors-requires : tie.Need-successors-requires Inv-loop μ-loop
 successors-requires c κs =
     let pre = c .before .before .before .before .before .before .pre in
@@ -59,6 +56,5 @@ returns c = let e : c .before .loop .o ≡ c .before .before .before .before .be
 
 pub ceilings-spec : {M : Type 1} → statement M
 ceilings-spec =
-    tie.close (tie.spec Inv-loop μ-loop loop-holds successors-requires slice-aggregate-ceiling ceiling-requires plus-requires (λ c. search needs)
-    (λ c. search needs)
-    loop-again returns)
+    tie.close (tie.spec Inv-loop μ-loop (λ c. (search needs, sym (sum-none _))) successors-requires slice-aggregate-ceiling ceiling-requires
+    plus-requires (λ c. search needs) (λ c. search needs) loop-again returns)

@@ -1,7 +1,6 @@
 use Rattle.checks.proofs.Prelude.{ℕ, _≤_, _<_, _-_, _≡_, sym, _∙_, List, arith, not-true, not-false, ℤ, pos, getD, back, Counts, Verdict, Fine}
 use Rattle.checks.proofs.Prelude.{maxStates, modelIn, unless, firstOf, first-none, first-more, first-here, roofIn, coversBackups, passed, failed}
 use Rattle.checks.proofs.Prelude.{covers-by}
-use Rattle.checks.proofs.Prelude.{padded}
 use Rattle.integers.proofs.Lists.{padded-length}
 use Rattle.plans.specs.Limits.{maxPoints}
 use Rattle.plans.specs.Level.{corner-weight}
@@ -23,84 +22,72 @@ Inv-loop T O R corners weights values offered c points n gains s₀ s =
 abbrev μ-loop : tie.MeasureT-loop
 μ-loop T O R corners weights values offered c points n gains s₀ s = c .states - s
 
+-- from each place to the one before it
+abbrev start : tie.In-loop Inv-loop μ-loop → tie.Start Inv-loop μ-loop
+start k = k .before .before .before .before .before .before
+
+abbrev of-covers : tie.After-covers Inv-loop μ-loop → tie.In-loop Inv-loop μ-loop
+of-covers c = c .before .before .before .before .before .before .before
+
 gains-requires : tie.Need-gains-requires Inv-loop μ-loop
 gains-requires c κs = let h = c .before .before .before .pre .0 in (h .valid .few-states, (corners-fit h, (points-fit h, values-fit h)))
 
-loop-holds : tie.Need-loop-holds Inv-loop μ-loop
-loop-holds c = (omega arith, first-none _)
-
-below : (c : tie.In-loop Inv-loop μ-loop) → c .before .loop .s < maxStates
-below c = omega (arith, c .loop-test .taken, c .before .before .before .before .before .before .pre .0 .valid .few-states)
+below : (k : tie.In-loop Inv-loop μ-loop) → k .before .loop .s < maxStates
+below k = omega (arith, k .loop-test .taken, start k .pre .0 .valid .few-states)
 
 gains-long : tie.Need-slice-aggregate-backups-at Inv-loop μ-loop
-gains-long c = sym (rw (c .before .before .before .before .gains .ensures)
-    (padded-length 0 maxPoints _ _ (c .before .before .before .before .before .before .before .before .pre .0 .shaped .few-points)))
+gains-long c =
+    let k = c .before .before in
+    sym (rw (k .before .before .gains .ensures) (padded-length 0 maxPoints _ _ (start k .pre .0 .shaped .few-points)))
 
 weights-long : tie.Need-slice-aggregate-backups-at-2 Inv-loop μ-loop
 weights-long c = sym (corner-long (c .before .before .before .before .loop .s) (c .before .before .corner-weights .ensures))
 
 backups-at-requires : tie.Need-backups-at-requires Inv-loop μ-loop
 backups-at-requires c κs =
-    let h = c .before .before .before .before .before .before .before .before .before .pre .0 in (
-      roof-holds h (c .before .before .before .before .before .gains .ensures),
-      corner-light (c .before .before .corner-weights .ensures)
-          (c .before .before .before .loop-test .taken) (h .valid .few-states),
-    )
+    let k = c .before .before .before in
+    let h = start k .pre .0 in
+    (roof-holds h (k .before .before .gains .ensures), corner-light (c .before .before .corner-weights .ensures) (k .loop-test .taken) (h .valid .few-states))
 
 long : tie.Need-slice-aggregate-covers Inv-loop μ-loop
-long c = sym (backups-long (c .before .before .before .before .before .before .before .before .before .before .before .pre .0)
-    (c .before .before .before .before .before .before .before .gains .ensures) _ (c .before .backups-at .ensures))
+long c =
+    let k = c .before .before .before .before .before in
+    sym (backups-long (start k .pre .0) (k .before .before .gains .ensures) _ (c .before .backups-at .ensures))
 
 stored : tie.Need-shared-slice-copy-out-covers Inv-loop μ-loop
-stored c = omega (
-  arith,
-  c .before .before .before .before .before .loop-test .taken,
-  c .before .before .before .before .before .before .before .before .before .before .before .pre .1 .long,
-)
+stored c = let k = c .before .before .before .before .before in omega (arith, k .loop-test .taken, start k .pre .1 .long)
 
 covers-requires : tie.Need-covers-requires Inv-loop μ-loop
 covers-requires c κs =
-    let a = c .before .before .before .before .before .before .before .before .before .before .before .before in
-    let s = c .before .before .before .before .before .before .before .loop .s in (
-      omega (
-        arith,
-        a .pre .0 .valid .few-actions,
-        backups-long (a .pre .0)
-            (c .before .before .before .before .before .before .before .before .gains .ensures) _ (c .before .before .backups-at .ensures),
-      ),
-      rw (back (getD (a .args .offered .now) s (pos 0)) (c .covers-arg .given))
-          (omega (arith, a .pre .1 .corner s (c .before .before .before .before .before .before .loop-test .taken))),
+    let k = c .before .before .before .before .before .before in
+    let a = start k in (
+      omega (arith, a .pre .0 .valid .few-actions, backups-long (a .pre .0) (k .before .before .gains .ensures) _ (c .before .before .backups-at .ensures)),
+      rw (back (getD (a .args .offered .now) (k .before .loop .s) (pos 0)) (c .covers-arg .given))
+          (omega (arith, a .pre .1 .corner (k .before .loop .s) (k .loop-test .taken))),
     )
 
 -- the answer, by the corner's own weights and value
-said : (c : tie.After-covers Inv-loop μ-loop)
-    → let a = c .before .before .before .before .before .before .before .before .before .before .before .before .before .args in
-    let s = c .before .before .before .before .before .before .before .before .loop .s in
+said : (c : tie.After-covers Inv-loop μ-loop) → let a = start (of-covers c) .args in
+    let s = of-covers c .before .loop .s in
     c .covers .result
     ≡ coversBackups (modelIn (a .c) (a .transition .now) (a .observation .now) (a .reward .now))
     (roofIn (a .c .states) (a .corners .now) (a .points) (a .weights .now) (a .values .now)) (corner-weight s) (cornerIn (a .offered .now) s)
 said c =
-    covers-by _ _ (λ i b. corner-at (c .before .before .before .before .before .before .corner-weights .ensures)
-    (below (c .before .before .before .before .before .before .before)) i) (back _ (c .before .covers-arg .given))
-    (covers-said (c .before .before .before .before .before .before .before .before .before .before .before .before .before .pre .0)
-    (c .before .before .before .before .before .before .before .before .before .gains .ensures) _ (c .before .before .before .backups-at .ensures) _
-    (c .covers .ensures))
+    let k = of-covers c in
+    covers-by _ _ (λ i b. corner-at (c .before .before .before .before .before .before .corner-weights .ensures) (below k) i)
+    (back _ (c .before .covers-arg .given))
+    (covers-said (start k .pre .0) (k .before .before .gains .ensures) _ (c .before .before .before .backups-at .ensures) _ (c .covers .ensures))
 
 returns : tie.Need-returns Inv-loop μ-loop
 unfolding cornersVerdict
 returns c =
-    sym
-    (first-here _ _ (c .before .before .before .before .before .before .before .before .before .loop .s)
-    (c .before .before .before .before .before .before .before .before .loop-test .taken)
-    (c .before .before .before .before .before .before .before .before .before .loop .inv .1)
-    (failed _ _ (sym (said (c .before)) ∙ not-true _ (c .if1 .taken))))
+    let k = of-covers (c .before) in
+    sym (first-here _ _ (k .before .loop .s) (k .loop-test .taken) (k .before .loop .inv .1) (failed _ _ (sym (said (c .before)) ∙ not-true _ (c .if1 .taken))))
 
 loop-again : tie.Need-loop-again Inv-loop μ-loop
-loop-again c = (
-  omega (arith, c .before .before .before .before .before .before .before .before .loop-test .taken),
-  first-more _ _ (c .before .before .before .before .before .before .before .before .before .loop .inv .1)
-      (passed _ _ (sym (said (c .before)) ∙ not-false _ (c .if1 .left))),
-)
+loop-again c =
+    let k = of-covers (c .before) in
+    (omega (arith, k .loop-test .taken), first-more _ _ (k .before .loop .inv .1) (passed _ _ (sym (said (c .before)) ∙ not-false _ (c .if1 .left))))
 
 returns-2 : tie.Need-returns-2 Inv-loop μ-loop
 unfolding cornersVerdict
@@ -109,7 +96,7 @@ returns-2 c = let e : c .before .loop .s ≡ c .before .before .before .before .
 
 pub corners-hold-spec : {M : Type 1} → statement M
 corners-hold-spec =
-    tie.close (tie.spec Inv-loop μ-loop gains-requires loop-holds (λ c κs. below c) gains-long weights-long backups-at-requires long
-    (λ c. omega (arith, below (c .before .before .before .before .before))) stored covers-requires returns
-    (λ c. omega (arith, below (c .before .before .before .before .before .before .before .before)))
-    (λ c. omega (arith, c .before .before .before .before .before .before .before .before .loop-test .taken)) loop-again returns-2)
+    tie.close (tie.spec Inv-loop μ-loop gains-requires (λ c. (omega arith, first-none _)) (λ c κs. below c) gains-long weights-long
+    backups-at-requires long (λ c. omega (arith, below (c .before .before .before .before .before))) stored covers-requires returns
+    (λ c. omega (arith, below (of-covers (c .before))))
+    (λ c. omega (arith, of-covers (c .before) .loop-test .taken)) loop-again returns-2)

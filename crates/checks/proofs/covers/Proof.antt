@@ -1,6 +1,5 @@
 use Rattle.checks.proofs.Prelude.{_≤_, _-_, _≡_, refl, sym, _∙_, arith, needs, lit<, w64, toZ, ofZ, toZ-ofZ, getD, pos, _·_, answer, back, K}
-use mathlib.Core.Bool.{true}
-use lib.Signed.{leZ}
+use Rattle.integers.proofs.Kit.{true, leZ}
 use Rattle.integers.specs.Search.{every}
 use Rattle.integers.proofs.Searches.{every-none, every-more, every-not}
 use Rattle.checks.proofs.Roofs.{not-below, is-below}
@@ -13,16 +12,10 @@ Inv-loop backups actions w most a₀ a = (a ≤ actions) × (every a (λ i. leZ 
 abbrev μ-loop : tie.MeasureT-loop
 μ-loop backups actions w most a₀ a = actions - a
 
-scaled-requires : tie.Need-scaled-requires Inv-loop μ-loop
-scaled-requires c κs = (lit< tt, rw (toZ-ofZ (c .fits .w)) (omega (arith, c .pre .1)))
-
 -- K × the value
 most : (c : tie.After-scaled Inv-loop μ-loop) → toZ w64 (ofZ w64 (c .scaled .result)) ≡ K · c .before .args .w
 unfolding K
 most c = answer (c .scaled .ok) (c .scaled .ensures ∙ rw (toZ-ofZ (c .before .fits .w)))
-
-loop-holds : tie.Need-loop-holds Inv-loop μ-loop
-loop-holds c = (omega arith, every-none _)
 
 -- the action's backup as it was read
 here : (c : tie.After-if12 Inv-loop μ-loop) → toZ w64 (ofZ w64
@@ -48,5 +41,5 @@ returns-2 c =
 
 pub covers-spec : {M : Type 1} → statement M
 covers-spec =
-    tie.close (tie.spec Inv-loop μ-loop scaled-requires loop-holds (λ c. search needs) (λ c. search needs) returns (λ c. search needs)
-    (λ c. search needs) loop-again returns-2)
+    tie.close (tie.spec Inv-loop μ-loop (λ c κs. (lit< tt, rw (toZ-ofZ (c .fits .w)) (omega (arith, c .pre .1)))) (λ c. (omega arith, every-none _))
+    (λ c. search needs) (λ c. search needs) returns (λ c. search needs) (λ c. search needs) loop-again returns-2)

@@ -6,17 +6,12 @@ use Rattle.checks.proofs.entry_holds.Tie as tie
 entry : (c : tie.Start) → toZ w64 (ofZ w64 (c .args .entry)) ≡ c .args .entry
 entry c = toZ-ofZ (c .fits .entry)
 
-scaled-requires : tie.Need-scaled-requires
-scaled-requires c κs = (lit< tt, rw (entry (c .before .before)) (omega (arith, c .before .before .pre)))
-
 -- K times the entry
 times : (c : tie.After-scaled) → toZ w64 (ofZ w64 (c .scaled .result)) ≡ K · c .before .before .before .args .entry
 unfolding K
 times c = answer (c .scaled .ok) (c .scaled .ensures ∙ rw (entry (c .before .before .before)))
 
-returns : tie.Need-returns
-returns c = rw (times c, answer (c .before .backup .ok) (c .before .backup .ensures))
-
 pub entry-holds-spec : {M : Type 1} → statement M
 entry-holds-spec =
-    tie.close (tie.spec (λ c κs. search needs) scaled-requires returns)
+    tie.close (tie.spec (λ c κs. search needs) (λ c κs. (lit< tt, rw (entry (c .before .before)) (omega (arith, c .before .before .pre))))
+    (λ c. rw (times c, answer (c .before .backup .ok) (c .before .backup .ensures))))

@@ -33,9 +33,6 @@ start-of-else1 c = start-of-f (c .before .before)
 abbrev start-of-then1 : tie.Then1 Inv-loop μ-loop Inv-vectors μ-vectors → tie.Start Inv-loop μ-loop Inv-vectors μ-vectors
 start-of-then1 c = start-of-f (c .before .before)
 
-vectors-holds : tie.Need-vectors-holds Inv-loop μ-loop Inv-vectors μ-vectors
-vectors-holds c = (omega arith, (refl, first-none _))
-
 action-stored : tie.Need-shared-slice-read-action Inv-loop μ-loop Inv-vectors μ-vectors
 action-stored c = omega (arith, c .before .vectors-test .taken, c .before .before .before .before .before .before .before .pre .actions-long)
 
@@ -45,9 +42,6 @@ foreseen-requires c κs =
     let l = c .before .before .vectors-test .taken in
     let a = c .action .ensures in
     ((j .valid .few-states, (j .valid .few-observations, action-below j l a)), (observations-here j l a, j .chosen (c .before .before .before .vectors .v) l))
-
-loop-holds : tie.Need-loop-holds Inv-loop μ-loop Inv-vectors μ-vectors
-loop-holds c = (omega arith, (c .before .before .before .before .vectors .inv .1 .0, first-none _))
 
 -- the vector with its action and what it foresees
 taken : (c : tie.After-foreseen Inv-loop μ-loop Inv-vectors μ-vectors) → Ready
@@ -134,8 +128,9 @@ returns-2 c =
 
 pub floors-hold-spec : {M : Type 1} → statement M
 floors-hold-spec =
-    tie.close (tie.spec Inv-loop μ-loop Inv-vectors μ-vectors vectors-holds action-stored (λ c κs. tt) foreseen-requires loop-holds entry-at-requires
-    foreseen-long entry-holds-requires (λ c. omega (arith, c .before .before .before .before .loop-test .taken))
+    tie.close (tie.spec Inv-loop μ-loop Inv-vectors μ-vectors (λ c. (omega arith, (refl, first-none _))) action-stored (λ c κs. tt) foreseen-requires
+    (λ c. (omega arith, (c .before .before .before .before .vectors .inv .1 .0, first-none _))) entry-at-requires foreseen-long entry-holds-requires
+    (λ c. omega (arith, c .before .before .before .before .loop-test .taken))
     (λ c. omega (arith, c .before .before .before .before .loop-test .taken)) loop-again
     (λ c. omega (arith, c .before .before .before .before .before .vectors-test .taken))
     (λ c. omega (arith, c .before .before .before .before .before .vectors-test .taken)) vectors-again returns returns-2)

@@ -17,9 +17,6 @@ Inv-loop cells₀ a blocks n s rows w x count v b₀ cells b =
 abbrev μ-loop : tie.MeasureT-loop
 μ-loop cells₀ a blocks n s rows w x count v b₀ cells b = blocks - b
 
-loop-holds : tie.Need-loop-holds Inv-loop μ-loop
-loop-holds c = (omega arith, marking-start _ _ _)
-
 mark-rows-requires : tie.Need-mark-rows-requires Inv-loop μ-loop
 mark-rows-requires c κs =
     let a = c .before .before .before .before .before in
@@ -36,13 +33,8 @@ loop-again c =
     let m = c .before .before in
     (omega arith, marking-more (m .before .before .before .before .loop .inv .1) (rw (m .before .start .ensures) at (m .mark-rows .ensures)))
 
-same-length : tie.Need-same-length Inv-loop μ-loop
-same-length c = c .before .loop .inv .1 .long
-
-returns : tie.Need-returns Inv-loop μ-loop
-returns c = marking-end _ (c .before .loop .inv .1) (omega arith)
-
 pub mark-blocks-spec : {M : Type 1} → statement M
 mark-blocks-spec =
-    tie.close (tie.spec Inv-loop μ-loop loop-holds (λ c. omega arith) (λ c κs. omega arith) mark-rows-requires (λ c. search needs) (λ c. search needs)
-    loop-again same-length returns)
+    tie.close (tie.spec Inv-loop μ-loop (λ c. (omega arith, marking-start _ _ _)) (λ c. omega arith) (λ c κs. omega arith) mark-rows-requires
+    (λ c. search needs) (λ c. search needs) loop-again (λ c. c .before .loop .inv .1 .long)
+    (λ c. marking-end _ (c .before .loop .inv .1) (omega arith)))

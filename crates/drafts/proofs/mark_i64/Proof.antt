@@ -9,31 +9,11 @@ Inv-loop cells₀ row x count v j₀ cells j = (j ≤ count) × Marking (λ j i.
 abbrev μ-loop : tie.MeasureT-loop
 μ-loop cells₀ row x count v j₀ cells j = count - j
 
-loop-holds : tie.Need-loop-holds Inv-loop μ-loop
-loop-holds c = (omega arith, marking-start _ _ _)
-
-add-v : tie.Need-add-v Inv-loop μ-loop
-add-v c = omega (arith, c .before .loop .inv .1 .long)
-
-add-v-2 : tie.Need-add-v-2 Inv-loop μ-loop
-add-v-2 c = omega (arith, c .before .loop .inv .1 .long)
-
-mul-v : tie.Need-mul-v Inv-loop μ-loop
-mul-v c = omega (arith, c .before .loop .inv .1 .long)
-
-slice-set-from-v : tie.Need-slice-set-from-v Inv-loop μ-loop
-slice-set-from-v c = omega (arith, c .before .loop .inv .1 .long)
-
-loop-again : tie.Need-loop-again Inv-loop μ-loop
-loop-again c = (omega arith, marking-more (c .before .loop .inv .1) (write-marks _ _ _))
-
-same-length : tie.Need-same-length Inv-loop μ-loop
-same-length c = c .before .loop .inv .1 .long
-
 returns : tie.Need-returns Inv-loop μ-loop
 returns c = rw (toZ-ofZ (c .before .before .fits .v)) at (marking-end (c .before .before .args .count) (c .before .loop .inv .1) (omega arith))
 
 pub mark-i64-spec : {M : Type 1} → statement M
-mark-i64-spec =
-    tie.close (tie.spec Inv-loop μ-loop loop-holds add-v add-v-2 mul-v slice-set-from-v (λ c. search needs) (λ c. search needs) loop-again same-length
-    returns)
+mark-i64-spec = tie.close (tie.spec Inv-loop μ-loop (λ c. (omega arith, marking-start _ _ _)) (λ c. omega (arith, c .before .loop .inv .1 .long))
+    (λ c. omega (arith, c .before .loop .inv .1 .long)) (λ c. omega (arith, c .before .loop .inv .1 .long))
+    (λ c. omega (arith, c .before .loop .inv .1 .long)) (λ c. search needs) (λ c. search needs)
+    (λ c. (omega arith, marking-more (c .before .loop .inv .1) (write-marks _ _ _))) (λ c. c .before .loop .inv .1 .long) returns)

@@ -11,9 +11,6 @@ Inv-loop cells₀ a rows n x count v r₀ cells r =
 abbrev μ-loop : tie.MeasureT-loop
 μ-loop cells₀ a rows n x count v r₀ cells r = rows - r
 
-loop-holds : tie.Need-loop-holds Inv-loop μ-loop
-loop-holds c = (omega arith, marking-start _ _ _)
-
 mark-i64-requires : tie.Need-mark-i64-requires Inv-loop μ-loop
 mark-i64-requires c κs =
     let a = c .before .before .before .before .args in
@@ -25,13 +22,10 @@ loop-again c =
     let m = c .before in
     (omega arith, marking-more (m .before .before .before .before .loop .inv .1) (rw (m .before .start .ensures) at (m .mark-i64 .ensures)))
 
-same-length : tie.Need-same-length Inv-loop μ-loop
-same-length c = c .before .loop .inv .1 .long
-
 returns : tie.Need-returns Inv-loop μ-loop
 returns c = rw (toZ-ofZ (c .before .before .fits .v)) at (marking-end (c .before .before .args .rows) (c .before .loop .inv .1) (omega arith))
 
 pub mark-rewards-spec : {M : Type 1} → statement M
 mark-rewards-spec =
-    tie.close (tie.spec Inv-loop μ-loop loop-holds (λ c. omega arith) (λ c κs. omega arith) mark-i64-requires (λ c. search needs) (λ c. search needs)
-    loop-again same-length returns)
+    tie.close (tie.spec Inv-loop μ-loop (λ c. (omega arith, marking-start _ _ _)) (λ c. omega arith) (λ c κs. omega arith) mark-i64-requires
+    (λ c. search needs) (λ c. search needs) loop-again (λ c. c .before .loop .inv .1 .long) returns)

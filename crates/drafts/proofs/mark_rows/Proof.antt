@@ -11,9 +11,6 @@ Inv-loop cells₀ block s rows w x count v r₀ cells r =
 abbrev μ-loop : tie.MeasureT-loop
 μ-loop cells₀ block s rows w x count v r₀ cells r = rows - r
 
-loop-holds : tie.Need-loop-holds Inv-loop μ-loop
-loop-holds c = (omega arith, marking-start _ _ _)
-
 mark-u16-requires : tie.Need-mark-u16-requires Inv-loop μ-loop
 mark-u16-requires c κs =
     let a = c .before .before .before .before .before .args in
@@ -25,13 +22,8 @@ loop-again c =
     let m = c .before .before in
     (omega arith, marking-more (m .before .before .before .before .loop .inv .1) (rw (m .before .start .ensures) at (m .mark-u16 .ensures)))
 
-same-length : tie.Need-same-length Inv-loop μ-loop
-same-length c = c .before .loop .inv .1 .long
-
-returns : tie.Need-returns Inv-loop μ-loop
-returns c = marking-end _ (c .before .loop .inv .1) (omega arith)
-
 pub mark-rows-spec : {M : Type 1} → statement M
 mark-rows-spec =
-    tie.close (tie.spec Inv-loop μ-loop loop-holds (λ c. omega arith) (λ c. omega arith) (λ c κs. omega arith) mark-u16-requires (λ c. search needs)
-    (λ c. search needs) loop-again same-length returns)
+    tie.close (tie.spec Inv-loop μ-loop (λ c. (omega arith, marking-start _ _ _)) (λ c. omega arith) (λ c. omega arith) (λ c κs. omega arith)
+    mark-u16-requires (λ c. search needs) (λ c. search needs) loop-again (λ c. c .before .loop .inv .1 .long)
+    (λ c. marking-end _ (c .before .loop .inv .1) (omega arith)))

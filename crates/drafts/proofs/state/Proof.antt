@@ -26,6 +26,5 @@ returns c =
     (c .before .before .before .before .before .lowest-of3 .ensures) (c .before .before .before .before .spread-of3 .ensures)
 
 pub state-spec : {M : Type 1} → statement M
-state-spec =
-    tie.close (tie.spec (λ c κs. search needs) (λ c κs. search needs) (λ c κs. search needs) (λ c κs. search needs) (λ c κs. search needs)
+state-spec = tie.close (tie.spec (λ c κs. search needs) (λ c κs. search needs) (λ c κs. search needs) (λ c κs. search needs) (λ c κs. search needs)
     (λ c κs. search needs) mark-blocks-requires (λ c. search needs) returns)

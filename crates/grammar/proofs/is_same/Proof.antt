@@ -1,8 +1,5 @@
 use Rattle.grammar.proofs.Prelude.{_-_, _≤_, _≡_, refl, sym, ap, _∙_, Bool, arith, drop, same}
-use Prim.Native.Nat.{_+_}
-use mathlib.Core.Bool.{_&&_}
-use borrow.Author.Tests.{eq-eqb, ne-eqb}
-use lib.ListN.{length}
+use Rattle.integers.proofs.Kit.{_&&_, _+_, ne-eqb, eq-eqb, length}
 use Rattle.grammar.proofs.Laws.{same-length, same-end, same-in}
 use Rattle.grammar.proofs.is_same.Statement.{statement}
 use Rattle.grammar.proofs.is_same.Tie as tie
@@ -15,9 +12,6 @@ abbrev μ-loop : tie.MeasureT-loop
 
 returns : tie.Need-returns Inv-loop μ-loop
 returns c = sym (same-length (c .before .args .a .now) (c .before .args .b .now) (c .if1 .taken))
-
-loop-holds : tie.Need-loop-holds Inv-loop μ-loop
-loop-holds c = (omega arith, (omega arith, refl))
 
 returns-2 : tie.Need-returns-2 Inv-loop μ-loop
 returns-2 c =
@@ -48,5 +42,5 @@ returns-3 c =
 
 pub is-same-spec : {M : Type 1} → statement M
 is-same-spec =
-    tie.close (tie.spec Inv-loop μ-loop returns loop-holds (λ c. omega arith) (λ c. omega arith) returns-2 (λ c. omega arith) (λ c. omega arith)
-    loop-again returns-3)
+    tie.close (tie.spec Inv-loop μ-loop returns (λ c. (omega arith, (omega arith, refl))) (λ c. omega arith) (λ c. omega arith) returns-2
+    (λ c. omega arith) (λ c. omega arith) loop-again returns-3)

@@ -31,5 +31,4 @@ returns-2 c =
     (c .before .before .before .key-of .ensures) (g .1)) (c .key-of2 .ensures))
 
 pub keys-at-spec : {M : Type 1} → statement M
-keys-at-spec =
-    tie.close (tie.spec (λ c κs. search needs) key-of-requires (λ c. search needs) (λ c. search needs) returns key-of-requires-2 returns-2)
+keys-at-spec = tie.close (tie.spec (λ c κs. search needs) key-of-requires (λ c. search needs) (λ c. search needs) returns key-of-requires-2 returns-2)

@@ -1,4 +1,4 @@
-use Rattle.grammar.proofs.Prelude.{arith, number, inside, takes-reads, needs}
+use Rattle.grammar.proofs.Prelude.{number, inside, takes-reads, needs}
 use Rattle.grammar.proofs.number_at.Statement.{statement}
 use Rattle.grammar.proofs.number_at.Tie as tie
 
@@ -10,5 +10,4 @@ returns c = takes-reads (number (c .before .before .before .args .form) (c .befo
     (c .before .word-from .ensures .within (c .before .before .before .pre .0)) (c .number-of .ensures)
 
 pub number-at-spec : {M : Type 1} → statement M
-number-at-spec =
-    tie.close (tie.spec (λ c κs. search needs) number-of-requires returns)
+number-at-spec = tie.close (tie.spec (λ c κs. search needs) number-of-requires returns)

@@ -22,5 +22,4 @@ returns-2 c =
     (limited-below (a .least) (a .most) (amountOf (a .form) (bytesOf (a .file .now) (g .0 .0) (g .0 .1 .0)))) (c .amount-in .ensures)
 
 pub number-of-spec : {M : Type 1} → statement M
-number-of-spec =
-    tie.close (tie.spec (λ c. search needs) (λ c. search needs) returns amount-in-requires returns-2)
+number-of-spec = tie.close (tie.spec (λ c. search needs) (λ c. search needs) returns amount-in-requires returns-2)

@@ -17,5 +17,4 @@ returns c =
     (toZ-ofZ (sum-fits (c .args .k) (c .args .a) (c .pre .0) (c .fits .a) (c .args .sum) (c .fits .sum) (c .pre .1)))
 
 pub add-scaled-spec : {M : Type 1} → statement M
-add-scaled-spec =
-    tie.close (tie.spec (λ c. search needs) mul-result add-result returns)
+add-scaled-spec = tie.close (tie.spec (λ c. search needs) mul-result add-result returns)

@@ -15,9 +15,6 @@ rounded c =
 div-q : tie.Need-div-q
 div-q c = (c .pre .0, quotient-fits (c .args .x) (c .args .k) (c .fits .x) (c .pre .0) (c .pre .1))
 
-rem-if1 : tie.Need-rem-if1
-rem-if1 c = div-q c
-
 sub-result : tie.Need-sub-result
 sub-result c =
     let s = c .before in
@@ -35,5 +32,4 @@ returns-2 c =
     (floor-same (s .args .k) (s .pre .0) (s .args .x) (rw (remainder (s .args .x) (s .args .k) (s .fits .x) (s .pre .0) (s .pre .1)) at (c .if1 .left)))
 
 pub floor-div-spec : {M : Type 1} → statement M
-floor-div-spec =
-    tie.close (tie.spec (λ c. search needs) div-q rem-if1 sub-result returns returns-2)
+floor-div-spec = tie.close (tie.spec (λ c. search needs) div-q (λ c. div-q c) sub-result returns returns-2)

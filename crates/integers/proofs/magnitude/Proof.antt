@@ -1,10 +1,6 @@
 use Rattle.integers.proofs.Prelude.{_≡_, _-_, _≤_, arith, ℤ, pos, negℤ, _+ℤ_, _-ℤ_, w64, SFits, toZ, toZ-ofZ, neg-parts, abs-parts, fits}
-use mathlib.Core.Bool.{true}
-use Prim.Native.Nat.{suc, _^_, _<_}
-use lib.Dec.{T}
-use lib.IntN.{negsuc, natAbs}
-use lib.Signed.{ltZ, nonNeg, natAbs-le, yes-nonNeg}
-use mir.Val.{ofZ}
+use Rattle.integers.proofs.Kit.{true, _<_, suc, _^_, T, natAbs, negsuc, ltZ, ofZ}
+use lib.Signed.{nonNeg, natAbs-le, yes-nonNeg}
 use Rattle.integers.proofs.Parts.{add-parts, sub-parts-ℤ, eq-by, le-by, ltZ-true, ltZ-false}
 use Rattle.integers.proofs.magnitude.Statement.{statement}
 use Rattle.integers.proofs.magnitude.Tie as tie
@@ -67,9 +63,5 @@ left c =
 cast-result-2 : tie.Need-cast-result-2
 cast-result-2 c = let l = left c in rw (toZ-ofZ (c .before .fits .x)) (l .0, record { fits = omega arith })
 
-returns-2 : tie.Need-returns-2
-returns-2 c = rw (toZ-ofZ (c .before .fits .x))
-
 pub magnitude-spec : {M : Type 1} → statement M
-magnitude-spec =
-    tie.close (tie.spec add-above sub-result cast-result add-result returns cast-result-2 returns-2)
+magnitude-spec = tie.close (tie.spec add-above sub-result cast-result add-result returns cast-result-2 (λ c. rw (toZ-ofZ (c .before .fits .x))))

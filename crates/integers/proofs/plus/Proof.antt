@@ -1,4 +1,4 @@
-use Rattle.integers.proofs.Prelude.{arith, ℤ, _+ℤ_, w64, SFits, toZ-ofZ, fits}
+use Rattle.integers.proofs.Prelude.{arith, _+ℤ_, w64, SFits, toZ-ofZ, fits}
 use Rattle.integers.proofs.Sizes.{abs-add}
 use Rattle.integers.proofs.plus.Statement.{statement}
 use Rattle.integers.proofs.plus.Tie as tie
@@ -6,12 +6,6 @@ use Rattle.integers.proofs.plus.Tie as tie
 result-fits : (c : tie.Start) → SFits w64 (c .args .a +ℤ c .args .b)
 result-fits c = fits (c .args .a +ℤ c .args .b) (omega (arith, abs-add (c .args .a) (c .args .b)))
 
-add-result : tie.Need-add-result
-add-result c = rw (toZ-ofZ (c .fits .a), toZ-ofZ (c .fits .b)) (result-fits c)
-
-returns : tie.Need-returns
-returns c = rw (toZ-ofZ (c .fits .a), toZ-ofZ (c .fits .b)) (toZ-ofZ (result-fits c))
-
 pub plus-spec : {M : Type 1} → statement M
-plus-spec =
-    tie.close (tie.spec add-result returns)
+plus-spec = tie.close (tie.spec (λ c. rw (toZ-ofZ (c .fits .a), toZ-ofZ (c .fits .b)) (result-fits c))
+    (λ c. rw (toZ-ofZ (c .fits .a), toZ-ofZ (c .fits .b)) (toZ-ofZ (result-fits c))))

@@ -10,5 +10,4 @@ returns c =
     rw (product (c .args .k) (c .args .a) (c .pre .0) (c .fits .a)) (toZ-ofZ (product-fits (c .args .k) (c .args .a) (c .pre .0) (c .fits .a) (c .pre .1)))
 
 pub scaled-spec : {M : Type 1} → statement M
-scaled-spec =
-    tie.close (tie.spec (λ c. search needs) mul-result returns)
+scaled-spec = tie.close (tie.spec (λ c. search needs) mul-result returns)

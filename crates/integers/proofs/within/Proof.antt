@@ -1,7 +1,6 @@
 use Rattle.integers.proofs.Prelude.{_≡_, arith, needs, pos, negℤ, w64, SFits, toZ, toZ-ofZ, neg-parts, abs-parts, fits}
-use mathlib.Core.Path.{sym}
+use Rattle.integers.proofs.Kit.{sym, toZ-pos}
 use lib.IntN.{+ℤ-idl}
-use mir.Facts.{toZ-pos}
 use Rattle.integers.proofs.Sizes.{abs-under, abs-test}
 use Rattle.integers.proofs.within.Statement.{statement}
 use Rattle.integers.proofs.within.Tie as tie
@@ -12,9 +11,6 @@ module _ (c : tie.Start) where
 
   least-fits : SFits w64 (negℤ (pos (c .args .limit)))
   least-fits = fits (negℤ (pos (c .args .limit))) (omega (arith, abs-parts (negℤ (pos (c .args .limit))), neg-parts (pos (c .args .limit))))
-
-sub-if1 : tie.Need-sub-if1
-sub-if1 c = rw (most c, +ℤ-idl) (least-fits c)
 
 returns : tie.Need-returns
 returns c =
@@ -29,5 +25,4 @@ returns-2 c =
     rw (toZ-ofZ (s .fits .x), most s) (abs-test (s .args .limit) (s .args .x) t)
 
 pub within-spec : {M : Type 1} → statement M
-within-spec =
-    tie.close (tie.spec (λ c. search needs) sub-if1 returns returns-2)
+within-spec = tie.close (tie.spec (λ c. search needs) (λ c. rw (most c, +ℤ-idl) (least-fits c)) returns returns-2)

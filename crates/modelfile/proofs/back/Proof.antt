@@ -4,12 +4,9 @@ use Rattle.modelfile.proofs.Laws.{hands-none}
 use Rattle.modelfile.proofs.back.Statement.{statement}
 use Rattle.modelfile.proofs.back.Tie as tie
 
-returns : tie.Need-returns
-returns c = c .refusal .ensures ∙ sym (ap handed (c .before .before .x .given .1))
-
 returns-2 : tie.Need-returns-2
 returns-2 c = c .refusal2 .ensures ∙ hands-none (c .before .before .before .args .x) (c .before .before .match .keys2)
 
 pub back-spec : {M : Type 1} → statement M
-back-spec =
-    tie.close (tie.spec (λ c. search needs) (λ c κs. search needs) (λ c. search needs) (λ c κs. search needs) returns returns-2)
+back-spec = tie.close (tie.spec (λ c. search needs) (λ c κs. search needs) (λ c. search needs) (λ c κs. search needs)
+    (λ c. c .refusal .ensures ∙ sym (ap handed (c .before .before .x .given .1))) returns-2)

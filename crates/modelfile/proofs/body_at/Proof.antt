@@ -1,8 +1,6 @@
 use Rattle.modelfile.proofs.Prelude.{ℕ, _+_, _≤_, _∙_, List, arith, needs, length, replicate, maxStates, maxActions, _then_, value-next, bodyBy}
 use Rattle.modelfile.proofs.Prelude.{goes-back, goes-on, sizes}
-use Prim.Native.Nat.{_*_}
-use lib.ListN.{length-replicate}
-use lib.IntN.{pos}
+use Rattle.integers.proofs.Kit.{_*_, length-replicate, pos}
 use Rattle.tables.specs.Limits.{maxObservations}
 use Rattle.words.specs.Words.{Words}
 use Rattle.drafts.specs.Drafts.{stated}
@@ -59,17 +57,9 @@ row-at-requires c κs =
     let p = before-keys-at (c .before .before .before .before) .pre .1 .0 in (
       (
         value-next _ _ (c .before .before .before .before .keys-at .ensures) (c .before .before .x .given .1) .1 .1,
-        record {
-          some-blocks = omega arith;
-          few-blocks = omega arith;
-          some-rows = omega arith;
-          few-rows = omega arith;
-          some-places = p .0;
-          few-places = p .1;
-          long = omega (arith, p .1);
-        },
+        omega (arith, p),
       ),
-      (omega arith, (omega arith, (record { few-digits = omega arith; few-places = omega arith }, omega arith))),
+      (omega arith, (omega arith, (omega arith, omega arith))),
     )
 
 returns-2 : tie.Need-returns-2

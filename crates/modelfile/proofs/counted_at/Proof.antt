@@ -38,11 +38,7 @@ returns c =
     then λ k ws. body (size + 1) d n m k ws) (c .before .before .before .field-at .ensures) (c .before .before .match .keys2)
 
 field-at-requires-2 : tie.Need-field-at-requires-2
-field-at-requires-2 c κs = (
-  value-next _ _ (c .before .before .before .before .field-at .ensures) (c .before .before .x .given .1) .1 .1,
-  record
-      { few-digits = omega arith; few-places = omega arith },
-)
+field-at-requires-2 c κs = (value-next _ _ (c .before .before .before .before .field-at .ensures) (c .before .before .x .given .1) .1 .1, omega arith)
 
 returns-2 : tie.Need-returns-2
 unfolding countedBy
@@ -56,11 +52,7 @@ returns-2 c =
     (size + 1) d n m k ws) (before-field-at2 (c .before .before .before) .field-at .ensures) (g .0 .0) (g .0 .1 .0) (g .1)
 
 field-at-requires-3 : tie.Need-field-at-requires-3
-field-at-requires-3 c κs = (
-  value-next _ _ (c .before .before .before .before .field-at2 .ensures) (c .before .before .y .given .1) .1 .1,
-  record
-      { few-digits = omega arith; few-places = omega arith },
-)
+field-at-requires-3 c κs = (value-next _ _ (c .before .before .before .before .field-at2 .ensures) (c .before .before .y .given .1) .1 .1, omega arith)
 
 returns-3 : tie.Need-returns-3
 unfolding countedBy

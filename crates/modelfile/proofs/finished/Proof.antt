@@ -14,5 +14,4 @@ returns-2 c = c .refusal .ensures ∙ sym (ap (λ (v : Verdict). judgedFile v
     (sym (c .before .before .before .before .totals-of .ensures) ∙ c .before .before .number .given .1))
 
 pub finished-spec : {M : Type 1} → statement M
-finished-spec =
-    tie.close (tie.spec (λ c κs. search needs) (λ c. search needs) (λ c. search needs) (λ c κs. search needs) returns returns-2)
+finished-spec = tie.close (tie.spec (λ c κs. search needs) (λ c. search needs) (λ c. search needs) (λ c κs. search needs) returns returns-2)

@@ -2,9 +2,6 @@ use Rattle.modelfile.proofs.Prelude.{sym, ap, needs, placed}
 use Rattle.modelfile.proofs.placed_at.Statement.{statement}
 use Rattle.modelfile.proofs.placed_at.Tie as tie
 
-returns-2 : tie.Need-returns-2
-returns-2 c = sym (ap (placed (c .before .before .before .args .size)) (c .before .v .given .1))
-
 pub placed-at-spec : {M : Type 1} → statement M
-placed-at-spec =
-    tie.close (tie.spec (λ c. search needs) (λ c. search needs) (λ c. search needs) returns-2)
+placed-at-spec = tie.close (tie.spec (λ c. search needs) (λ c. search needs) (λ c. search needs)
+    (λ c. sym (ap (placed (c .before .before .before .args .size)) (c .before .v .given .1))))

@@ -1,6 +1,5 @@
 use Rattle.modelfile.proofs.Prelude.{ℕ, _+_, sym, ap, _∙_, List, needs, length, wordsIn, between, headed}
-use mathlib.Core.Bool.{Bool, cond}
-use borrow.Author.Tests.{le-leb, lt-leb}
+use Rattle.integers.proofs.Kit.{Bool, cond, le-leb, lt-leb}
 use Rattle.modelfile.specs.declared.ModelFile.{ModelFile}
 use Rattle.modelfile.specs.ModelFile.{maxBytes, refusedFile, ended, modelFileBy}
 use Rattle.modelfile.proofs.read.Statement.{statement}
@@ -19,5 +18,4 @@ unfolding modelFileBy
 returns-2 c = c .refusal .ensures ∙ sym (ap (chosen (c .before .before .before .args .file .now)) (lt-leb _ maxBytes (c .before .if1 .left)))
 
 pub read-spec : {M : Type 1} → statement M
-read-spec =
-    tie.close (tie.spec (λ c κs. search needs) returns (λ c κs. search needs) returns-2)
+read-spec = tie.close (tie.spec (λ c κs. search needs) returns (λ c κs. search needs) returns-2)

@@ -9,5 +9,4 @@ returns c = ap (λ (t : Tables). record { verdict = Refused (c .before .args .nu
     (c .none .ensures)
 
 pub refusal-spec : {M : Type 1} → statement M
-refusal-spec =
-    tie.close (tie.spec (λ c κs. search needs) returns)
+refusal-spec = tie.close (tie.spec (λ c κs. search needs) returns)

@@ -1,8 +1,7 @@
 use Rattle.modelfile.proofs.Prelude.{ℕ, _+_, _≡_, sym, ap, _∙_, List, arith, needs, placed, sizes}
-use borrow.Author.Tests.{eq-eqb, ne-eqb}
+use Rattle.integers.proofs.Kit.{ne-eqb, eq-eqb, getD}
 use Rattle.statements.specs.Statements.{startTotal}
 use Rattle.modelfile.specs.ModelFile.{sumsVerdict}
-use lib.ListN.{getD}
 use Rattle.integers.specs.Whole.{totalTo}
 use Rattle.integers.proofs.Sums.{total-cong}
 use Rattle.tables.proofs.Refusals.{stops, goes, breaks, passes}
@@ -66,6 +65,5 @@ returns-3 c =
     (c .placed-at2 .ensures ∙ ap (placed size) (c .before .rows-total2 .ensures)))
 
 pub totals-of-spec : {M : Type 1} → statement M
-totals-of-spec =
-    tie.close (tie.spec (λ c. search needs) (λ c κs. search needs) returns rows-total-requires (λ c. search needs) (λ c. search needs)
+totals-of-spec = tie.close (tie.spec (λ c. search needs) (λ c κs. search needs) returns rows-total-requires (λ c. search needs) (λ c. search needs)
     (λ c κs. search needs) returns-2 rows-total-requires-2 (λ c κs. search needs) returns-3)

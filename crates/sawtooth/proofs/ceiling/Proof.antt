@@ -24,9 +24,6 @@ at-corners : (c : tie.After-product)
     toZ w64 (ofZ w64 (c .product .result)) ≡ product (a .n) (weightIn (a .q .now)) (cornerIn (a .corners .now))
 at-corners c = answer (c .product .ok) (c .product .ensures ∙ first-cells _ _ (c .before .before .before .before .before .args .corners .now))
 
-cast-minus : tie.Need-cast-minus
-cast-minus c = fits (pos (c .before .largest-drop .result)) (omega (arith, small (c .before)))
-
 minus-requires : tie.Need-minus-requires
 minus-requires c κs =
     let a = c .before .before .before .before .before in
@@ -41,4 +38,5 @@ returns c =
 
 pub ceiling-spec : {M : Type 1} → statement M
 ceiling-spec =
-    tie.close (tie.spec (λ c κs. search needs) product-requires cast-minus minus-requires returns)
+    tie.close (tie.spec (λ c κs. search needs) product-requires (λ c. fits (pos (c .before .largest-drop .result)) (omega (arith, small (c .before))))
+    minus-requires returns)

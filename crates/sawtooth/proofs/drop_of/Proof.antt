@@ -14,9 +14,6 @@ abbrev μ-loop : tie.MeasureT-loop
 limits : (c : tie.At-loop Inv-loop μ-loop) → (c .loop .top ≤ maxReached) × (c .loop .under ≤ maxTotal)
 limits c = let a = c .before .before .before in least-limits _ _ (c .loop .inv .1) (c .loop .inv .0) (a .pre .1 .1) (a .pre .1 .0 .below) (lit≤ tt)
 
-loop-holds : tie.Need-loop-holds Inv-loop μ-loop
-loop-holds c = (omega arith, least-start _ _)
-
 cross-requires : tie.Need-cross-requires Inv-loop μ-loop
 cross-requires c κs =
     let l = c .before .before .before .before in (l .before .before .before .pre .1 .0 .below (l .loop .s) (omega arith), limits l .1)
@@ -44,9 +41,6 @@ returns c =
     let e : l .loop .s ≡ l .before .before .before .args .n = omega arith in
     sym (least-none _ _ (l .before .before .before .args .gain) (rw e at (l .loop .inv .1)) (c .if2 .taken))
 
-reach-requires : tie.Need-reach-requires Inv-loop μ-loop
-reach-requires c κs = (limits (c .before .before) .0, c .before .before .before .before .before .pre .0 .1 .1)
-
 returns-2 : tie.Need-returns-2 Inv-loop μ-loop
 returns-2 c =
     let l = c .before .before .before in
@@ -54,7 +48,6 @@ returns-2 c =
     rw (c .reach .ensures) (sym (least-drop _ _ (l .before .before .before .args .gain) (rw e at (l .loop .inv .1)) (c .before .if2 .left)))
 
 pub drop-of-spec : {M : Type 1} → statement M
-drop-of-spec =
-    tie.close (tie.spec Inv-loop μ-loop loop-holds (λ c. search needs) (λ c. search needs) (λ c. search needs) (λ c κs. search needs) (λ c. search needs)
-    (λ c. search needs) cross-requires cross-requires-2 (λ c. search needs) (λ c. search needs) loop-again returns reach-requires (λ c. omega arith)
-    returns-2)
+drop-of-spec = tie.close (tie.spec Inv-loop μ-loop (λ c. (omega arith, least-start _ _)) (λ c. search needs) (λ c. search needs) (λ c. search needs)
+    (λ c κs. search needs) (λ c. search needs) (λ c. search needs) cross-requires cross-requires-2 (λ c. search needs) (λ c. search needs) loop-again
+    returns (λ c κs. (limits (c .before .before) .0, c .before .before .before .before .before .pre .0 .1 .1)) (λ c. omega arith) returns-2)

@@ -1,6 +1,5 @@
 use Rattle.sawtooth.proofs.Prelude.{_≡_, _∙_, arith, needs, w64, toZ, ofZ, answer, weightIn, product, cornerIn, first-cells, first-fit}
-use lib.IntN.{ℤ, _-ℤ_}
-use mir.Facts.{toZ-ofZ}
+use Rattle.integers.proofs.Kit.{ℤ, _-ℤ_, toZ-ofZ}
 use Rattle.sawtooth.proofs.Laws.{gain-parts, gain-limit, positive-below, positive-from}
 use Rattle.sawtooth.proofs.gain_of.Statement.{statement}
 use Rattle.sawtooth.proofs.gain_of.Tie as tie
@@ -33,9 +32,6 @@ minus-requires c κs =
 gain : (c : tie.After-minus) → toZ w64 (ofZ w64 (c .minus .result)) ≡ gained (c .before .before .before)
 gain c = answer (c .minus .ok) (c .minus .ensures ∙ rw (at-corners (c .before), toZ-ofZ (c .before .before .before .fits .value)))
 
-returns : tie.Need-returns
-returns c = positive-below (gained (c .before .before .before .before)) (rw (gain (c .before)) at (c .if1 .taken))
-
 cast-result : tie.Need-cast-result
 cast-result c =
     let a = c .before .before .before .before in
@@ -51,4 +47,5 @@ returns-2 c =
 
 pub gain-of-spec : {M : Type 1} → statement M
 gain-of-spec =
-    tie.close (tie.spec product-requires minus-requires returns cast-result returns-2)
+    tie.close (tie.spec product-requires minus-requires
+    (λ c. positive-below (gained (c .before .before .before .before)) (rw (gain (c .before)) at (c .if1 .taken))) cast-result returns-2)

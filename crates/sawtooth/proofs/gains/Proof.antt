@@ -23,9 +23,6 @@ slice-aggregate-gain-of : tie.Need-slice-aggregate-gain-of Inv-loop μ-loop
 slice-aggregate-gain-of c = let few : c .before .before .before .before .before .args .n ≤ maxStates = c .before .before .before .before .before .pre .0 in
     sym (rw (c .before .point-weights .ensures) (padded-length 0 maxStates _ _ few))
 
-loop-holds : tie.Need-loop-holds Inv-loop μ-loop
-loop-holds c = (search needs, sym (padded-none _ _ _))
-
 gain-of-requires : tie.Need-gain-of-requires Inv-loop μ-loop
 gain-of-requires c κs =
     let a = c .before .before .before .before .before .before in
@@ -56,5 +53,6 @@ returns c = let e : c .before .loop .i ≡ c .before .before .before .args .poin
 
 pub gains-spec : {M : Type 1} → statement M
 gains-spec =
-    tie.close (tie.spec Inv-loop μ-loop loop-holds point-weights-requires slice-aggregate-gain-of (λ c. search needs) (λ c. search needs) gain-of-requires
-    (λ c. search needs) (λ c. search needs) (λ c. search needs) (λ c. search needs) loop-again returns)
+    tie.close (tie.spec Inv-loop μ-loop (λ c. (search needs, sym (padded-none _ _ _))) point-weights-requires slice-aggregate-gain-of
+    (λ c. search needs) (λ c. search needs) gain-of-requires (λ c. search needs) (λ c. search needs) (λ c. search needs) (λ c. search needs)
+    loop-again returns)

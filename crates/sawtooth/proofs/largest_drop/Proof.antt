@@ -13,9 +13,6 @@ Inv-loop q weights gains points n best₀ i₀ best i = (i ≤ points) × (best 
 abbrev μ-loop : tie.MeasureT-loop
 μ-loop q weights gains points n best₀ i₀ best i = points - i
 
-loop-holds : tie.Need-loop-holds Inv-loop μ-loop
-loop-holds c = (search needs, sym (largest-none _))
-
 reaches-requires : tie.Need-reaches-requires Inv-loop μ-loop
 reaches-requires c κs =
     let a = c .before .before .before .before .before .before .before .before in
@@ -74,5 +71,5 @@ returns c = let e : c .before .loop .i ≡ c .before .before .before .before .be
 
 pub largest-drop-spec : {M : Type 1} → statement M
 largest-drop-spec =
-    tie.close (tie.spec Inv-loop μ-loop loop-holds (λ c κs. search needs) (λ c. search needs) (λ c. search needs) (λ c κs. search needs) reaches-requires
-    drop-of-requires (λ c. search needs) (λ c. search needs) loop-again returns)
+    tie.close (tie.spec Inv-loop μ-loop (λ c. (search needs, sym (largest-none _))) (λ c κs. search needs) (λ c. search needs) (λ c. search needs)
+    (λ c κs. search needs) reaches-requires drop-of-requires (λ c. search needs) (λ c. search needs) loop-again returns)

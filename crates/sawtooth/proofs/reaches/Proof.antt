@@ -1,7 +1,5 @@
 use Rattle.sawtooth.proofs.Prelude.{_+_, _*_, _-_, _≤_, _≡_, sym, arith, needs, getD}
-use mathlib.Core.Bool.{true}
-use borrow.Author.Tests.{le-leb, lt-leb}
-use lib.Dec.{leb}
+use Rattle.integers.proofs.Kit.{true, le-leb, lt-leb, leb}
 use Rattle.integers.specs.Search.{every}
 use Rattle.integers.proofs.Searches.{every-none, every-more, every-not}
 use Rattle.sawtooth.proofs.reaches.Statement.{statement}
@@ -13,9 +11,6 @@ Inv-loop q weights at gain n least s₀ s =
 
 abbrev μ-loop : tie.MeasureT-loop
 μ-loop q weights at gain n least s₀ s = n - s
-
-loop-holds : tie.Need-loop-holds Inv-loop μ-loop
-loop-holds c = (omega arith, every-none _)
 
 reach-requires : tie.Need-reach-requires Inv-loop μ-loop
 reach-requires c κs =
@@ -41,6 +36,6 @@ returns-2 : tie.Need-returns-2 Inv-loop μ-loop
 returns-2 c = let e : c .before .loop .s ≡ c .before .before .before .before .args .n = omega arith in sym (rw e at (c .before .loop .inv .1))
 
 pub reaches-spec : {M : Type 1} → statement M
-reaches-spec =
-    tie.close (tie.spec Inv-loop μ-loop loop-holds (λ c. search needs) (λ c. search needs) (λ c. search needs) (λ c κs. search needs) (λ c. search needs)
-    (λ c. search needs) reach-requires wanted-requires returns (λ c. search needs) (λ c. search needs) loop-again returns-2)
+reaches-spec = tie.close (tie.spec Inv-loop μ-loop (λ c. (omega arith, every-none _)) (λ c. search needs) (λ c. search needs) (λ c. search needs)
+    (λ c κs. search needs) (λ c. search needs) (λ c. search needs) reach-requires wanted-requires returns (λ c. search needs) (λ c. search needs)
+    loop-again returns-2)

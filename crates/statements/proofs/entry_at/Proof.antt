@@ -1,4 +1,4 @@
-use Rattle.statements.proofs.Prelude.{ℕ, List, arith, needs, stated, index, inside, takes-reads, second-word, value-next, probability, entryBy}
+use Rattle.statements.proofs.Prelude.{arith, needs, stated, index, inside, takes-reads, second-word, value-next, probability, entryBy}
 use Rattle.statements.proofs.Prelude.{upon, filled, leaves-back, leaves-on, leaves-done}
 use Rattle.statements.proofs.entry_at.Statement.{statement}
 use Rattle.statements.proofs.entry_at.Tie as tie
@@ -31,7 +31,7 @@ number-of-requires : tie.Need-number-of-requires
 number-of-requires c κs = (
   inside (second-word _ _ (before-index-of (c .before .before .before) .pair-from .ensures)
       (before-pair-from (before-index-of (c .before .before .before)) .pre .0 .0) (c .before .before .before .index-of .ensures) (c .before .i .given .1)),
-  record { few-digits = omega arith; few-places = omega arith },
+  omega arith,
 )
 
 returns-2 : tie.Need-returns-2

@@ -1,7 +1,5 @@
 use Rattle.statements.proofs.Prelude.{ℤ, _∙_, arith, needs, wordsIn, between, inside, takes-reads, value-next, filled, leaves-back, leaves-done}
-use mathlib.Core.Path.{sym, ap}
-use mathlib.Core.Bool.{Bool}
-use Rattle.words.specs.Words.{Words}
+use Rattle.integers.proofs.Kit.{ap, sym, Bool}
 use Rattle.drafts.specs.Drafts.{rewarded}
 use Rattle.tables.specs.Limits.{maxReward}
 use Rattle.numerals.specs.Numeral.{rewardForm, signed}
@@ -12,11 +10,7 @@ use Rattle.statements.proofs.reward_at.Statement.{statement}
 use Rattle.statements.proofs.reward_at.Tie as tie
 
 magnitude-of-requires : tie.Need-magnitude-of-requires
-magnitude-of-requires c κs = (
-  inside (c .word-from .ensures .within (c .before .before .pre .0 .0)),
-  record
-      { few-digits = omega arith; few-places = omega arith },
-)
+magnitude-of-requires c κs = (inside (c .word-from .ensures .within (c .before .before .pre .0 .0)), omega arith)
 
 returns : tie.Need-returns
 returns c =

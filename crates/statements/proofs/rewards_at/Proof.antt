@@ -113,8 +113,7 @@ returns-5 c =
     (c .before .before .before .before .before .before .keys-at2 .ensures) (f .1) (c .before .reward-at .ensures))))
 
 pub rewards-at-spec : {M : Type 1} → statement M
-rewards-at-spec =
-    tie.close (tie.spec (λ c κs. search needs) (λ c. search needs) (λ c. search needs) returns indexed-at-requires-2 (λ c. search needs)
+rewards-at-spec = tie.close (tie.spec (λ c κs. search needs) (λ c. search needs) (λ c. search needs) returns indexed-at-requires-2 (λ c. search needs)
     (λ c. search needs) returns-2 (λ c. search needs) (λ c. search needs) keys-at-requires (λ c. search needs) (λ c. search needs) returns-3
     (λ c. search needs) (λ c. search needs) keys-at-requires-2 (λ c. search needs) (λ c. search needs) returns-4 reward-at-requires
     (λ c. search needs) returns-5)

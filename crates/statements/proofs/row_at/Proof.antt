@@ -12,14 +12,8 @@ Inv-loop file from cells₀ m n w a s form most at₀ x₀ cells at x =
 abbrev μ-loop : tie.MeasureT-loop
 μ-loop file from cells₀ m n w a s form most at₀ x₀ cells at x = w - x
 
-loop-holds : tie.Need-loop-holds Inv-loop μ-loop
-loop-holds c = (omega arith, row-start _ _ _ _ _ _ (c .before .before .pre .0 .0))
-
 number-at-requires : tie.Need-number-at-requires Inv-loop μ-loop
 number-at-requires c κs = (c .before .loop .inv .1 .inside, c .before .before .before .before .pre .1 .1 .1 .0)
-
-same-length : tie.Need-same-length Inv-loop μ-loop
-same-length c = c .before .before .before .before .loop .inv .1 .long
 
 returns : tie.Need-returns Inv-loop μ-loop
 returns c = row-back _ _ _ _ _ _ (c .before .before .before .before .loop .inv .1) (omega arith) (c .before .before .number-at .ensures)
@@ -56,13 +50,11 @@ loop-again c =
           (c .before .before .state .kept .0),
     )
 
-same-length-2 : tie.Need-same-length-2 Inv-loop μ-loop
-same-length-2 c = c .before .loop .inv .1 .long
-
 returns-2 : tie.Need-returns-2 Inv-loop μ-loop
 returns-2 c = row-end _ _ _ _ _ _ (c .before .loop .inv .1) (omega arith) (c .before .before .before .before .pre .0 .1 .some-places)
 
 pub row-at-spec : {M : Type 1} → statement M
 row-at-spec =
-    tie.close (tie.spec Inv-loop μ-loop loop-holds number-at-requires (λ c. search needs) (λ c. search needs) same-length returns cast-state
-    state-requires (λ c. search needs) (λ c. search needs) loop-again same-length-2 returns-2)
+    tie.close (tie.spec Inv-loop μ-loop (λ c. (omega arith, row-start _ _ _ _ _ _ (c .before .before .pre .0 .0))) number-at-requires
+    (λ c. search needs) (λ c. search needs) (λ c. c .before .before .before .before .loop .inv .1 .long) returns cast-state state-requires
+    (λ c. search needs) (λ c. search needs) loop-again (λ c. c .before .loop .inv .1 .long) returns-2)

@@ -1,6 +1,5 @@
 use Rattle.statements.proofs.Prelude.{ℕ, _-_, _∙_, List, arith, needs, ℤ, reward, draft, inside}
-use mathlib.Core.Path.{_≡_, refl}
-use lib.ListN.{length}
+use Rattle.integers.proofs.Kit.{_≡_, refl, length}
 use Rattle.statements.proofs.Laws.{fit-kept, Left, left-start, left-end, left-back, left-next, left-on}
 use Rattle.statements.specs.Steps.{CellsFit}
 use Rattle.statements.proofs.statements_at.Statement.{statement}
@@ -35,15 +34,6 @@ loop-holds c =
       reward-long = refl;
       left = left-start _ _ _ _ _ _ (c .before .before .before .pre .0);
     }
-
-same-length : tie.Need-same-length Inv-loop μ-loop
-same-length c = c .before .before .before .loop .inv .transition-long
-
-same-length-2 : tie.Need-same-length-2 Inv-loop μ-loop
-same-length-2 c = c .before .before .before .loop .inv .observation-long
-
-same-length-3 : tie.Need-same-length-3 Inv-loop μ-loop
-same-length-3 c = c .before .before .before .loop .inv .reward-long
 
 returns : tie.Need-returns Inv-loop μ-loop
 returns c =
@@ -112,7 +102,7 @@ loop-again c =
     }
 
 pub statements-at-spec : {M : Type 1} → statement M
-statements-at-spec =
-    tie.close (tie.spec Inv-loop μ-loop loop-holds (λ c κs. search needs) (λ c. search needs) (λ c. search needs) same-length same-length-2
-    same-length-3 returns statement-at-requires (λ c. search needs) (λ c. search needs) same-length-4 same-length-5 same-length-6 returns-2 loop-less
-    loop-again)
+statements-at-spec = tie.close (tie.spec Inv-loop μ-loop loop-holds (λ c κs. search needs) (λ c. search needs) (λ c. search needs)
+    (λ c. c .before .before .before .loop .inv .transition-long) (λ c. c .before .before .before .loop .inv .observation-long)
+    (λ c. c .before .before .before .loop .inv .reward-long) returns statement-at-requires (λ c. search needs) (λ c. search needs) same-length-4
+    same-length-5 same-length-6 returns-2 loop-less loop-again)

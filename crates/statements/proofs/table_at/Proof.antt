@@ -55,7 +55,7 @@ row-at-requires c κs =
     let h = c .before .before .before .before .before .before .j .given in
     let j = value-next (h .0 .0) (h .0 .1 .0) (before-key-at (c .before .before .before) .indexed-at2 .ensures) (h .1) in (
       (j .1 .1, before-indexed-at (before-indexed-at2 (before-key-at (c .before .before .before))) .pre .1),
-      (i .0, (j .0, (record { few-digits = omega arith; few-places = omega arith }, omega arith))),
+      (i .0, (j .0, (omega arith, omega arith))),
     )
 
 returns-3 : tie.Need-returns-3
@@ -102,7 +102,6 @@ returns-4 c =
     (e .0 .0) (e .0 .1 .0) (c .before .before .before .before .before .before .before .key-at .ensures) (e .1) (c .before .before .entry-at .ensures)))
 
 pub table-at-spec : {M : Type 1} → statement M
-table-at-spec =
-    tie.close (tie.spec (λ c κs. search needs) (λ c. search needs) (λ c. search needs) returns indexed-at-requires-2 (λ c. search needs)
+table-at-spec = tie.close (tie.spec (λ c κs. search needs) (λ c. search needs) (λ c. search needs) returns indexed-at-requires-2 (λ c. search needs)
     (λ c. search needs) returns-2 (λ c. search needs) key-at-requires (λ c. search needs) (λ c. search needs) row-at-requires (λ c. search needs)
     returns-3 entry-at-requires (λ c. search needs) returns-4)

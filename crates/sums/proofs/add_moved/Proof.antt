@@ -5,12 +5,5 @@ use Rattle.sums.proofs.add_moved.Tie as tie
 product : (c : tie.Start) → c .args .p * c .args .t ≤ maxWeight * one
 product c = mul-le-mul (c .pre .1 .0) (c .pre .1 .1)
 
-mul-result : tie.Need-mul-result
-mul-result c = omega (arith, product c)
-
-add-result : tie.Need-add-result
-add-result c = omega (arith, product c)
-
 pub add-moved-spec : {M : Type 1} → statement M
-add-moved-spec =
-    tie.close (tie.spec mul-result add-result (λ c. refl))
+add-moved-spec = tie.close (tie.spec (λ c. omega (arith, product c)) (λ c. omega (arith, product c)) (λ c. refl))

@@ -7,5 +7,4 @@ unfolding K
 returns c = answer (c .floor-div .ok) (c .floor-div .ensures ∙ rw (answer (c .before .backup .ok) (c .before .backup .ensures)))
 
 pub backed-up-spec : {M : Type 1} → statement M
-backed-up-spec =
-    tie.close (tie.spec (λ c κs. search needs) (λ c κs. search needs) returns)
+backed-up-spec = tie.close (tie.spec (λ c κs. search needs) (λ c κs. search needs) returns)

@@ -33,5 +33,4 @@ unfolding backupIn
 returns c = answer (c .add-scaled .ok) (c .add-scaled .ensures ∙ rw (now (c .before .before), later (c .before)))
 
 pub backup-spec : {M : Type 1} → statement M
-backup-spec =
-    tie.close (tie.spec (λ c κs. search needs) scaled-requires (λ c κs. search needs) add-scaled-requires returns)
+backup-spec = tie.close (tie.spec (λ c κs. search needs) scaled-requires (λ c κs. search needs) add-scaled-requires returns)

@@ -15,9 +15,6 @@ terms : (c : tie.Start Inv-loop μ-loop)
     → Terms (c .args .n) maxWeight maxReward (weightIn (c .args .p .now)) (λ s. rewardIn (c .args .n) (c .args .cells .now) s (c .args .a .0))
 terms c = record { weights = c .pre .1 .0 .below; values = c .pre .1 .1 .reward }
 
-loop-holds : tie.Need-loop-holds Inv-loop μ-loop
-loop-holds c = (search needs, sym (sum-none _))
-
 add-scaled-requires : tie.Need-add-scaled-requires Inv-loop μ-loop
 add-scaled-requires c κs =
     term-fits (terms (c .before .before .before .before .before)) _ (c .before .before .before .loop .inv .1) refl
@@ -38,5 +35,5 @@ returns c =
 
 pub expected-reward-spec : {M : Type 1} → statement M
 expected-reward-spec =
-    tie.close (tie.spec Inv-loop μ-loop loop-holds (λ c κs. search needs) (λ c. search needs) (λ c. search needs) add-scaled-requires (λ c. search needs)
-    (λ c. search needs) loop-again returns)
+    tie.close (tie.spec Inv-loop μ-loop (λ c. (search needs, sym (sum-none _))) (λ c κs. search needs) (λ c. search needs) (λ c. search needs)
+    add-scaled-requires (λ c. search needs) (λ c. search needs) loop-again returns)

@@ -8,9 +8,6 @@ Inv-loop cells n k entries choices v a f₀ to₀ f to = (to ≤ n) × (f ≡ pa
 abbrev μ-loop : tie.MeasureT-loop
 μ-loop cells n k entries choices v a f₀ to₀ f to = n - to
 
-loop-holds : tie.Need-loop-holds Inv-loop μ-loop
-loop-holds c = (search needs, sym (padded-none _ _ _))
-
 loop-again : tie.Need-loop-again Inv-loop μ-loop
 loop-again c = (
   search needs,
@@ -24,5 +21,5 @@ returns c =
 
 pub foreseen-spec : {M : Type 1} → statement M
 foreseen-spec =
-    tie.close (tie.spec Inv-loop μ-loop loop-holds (λ c κs. search needs) (λ c. search needs) (λ c. search needs) (λ c. search needs)
-    (λ c. search needs) loop-again returns)
+    tie.close (tie.spec Inv-loop μ-loop (λ c. (search needs, sym (padded-none _ _ _))) (λ c κs. search needs) (λ c. search needs) (λ c. search needs)
+    (λ c. search needs) (λ c. search needs) loop-again returns)

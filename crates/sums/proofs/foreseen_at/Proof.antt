@@ -19,9 +19,6 @@ terms : (c : tie.Start Inv-loop μ-loop)
     (λ o. chosenIn (c .args .n) (c .args .k) (c .args .entries .now) (c .args .choices .now) (c .args .v .0) o (c .args .to .0))
 terms c = foreseen-terms (c .pre .1 .0) (c .pre .1 .1) (c .pre .0 .1 .1 .1)
 
-loop-holds : tie.Need-loop-holds Inv-loop μ-loop
-loop-holds c = (search needs, sym (sum-none _))
-
 choice-at-requires : tie.Need-choice-at-requires Inv-loop μ-loop
 choice-at-requires c κs = let pre = c .before .before .before .before .before .pre in ((pre .0 .1 .0, (pre .1 .1 .row, omega arith)), pre .1 .1 .stored)
 
@@ -59,5 +56,5 @@ returns c =
 
 pub foreseen-at-spec : {M : Type 1} → statement M
 foreseen-at-spec =
-    tie.close (tie.spec Inv-loop μ-loop loop-holds (λ c κs. search needs) choice-at-requires entry-at-requires add-scaled-requires (λ c. search needs)
-    (λ c. search needs) loop-again returns)
+    tie.close (tie.spec Inv-loop μ-loop (λ c. (search needs, sym (sum-none _))) (λ c κs. search needs) choice-at-requires entry-at-requires
+    add-scaled-requires (λ c. search needs) (λ c. search needs) loop-again returns)

@@ -8,9 +8,6 @@ Inv-loop cells n p a u₀ to₀ u to = (to ≤ n) × (u ≡ padded 0 maxStates t
 abbrev μ-loop : tie.MeasureT-loop
 μ-loop cells n p a u₀ to₀ u to = n - to
 
-loop-holds : tie.Need-loop-holds Inv-loop μ-loop
-loop-holds c = (search needs, sym (padded-none _ _ _))
-
 loop-again : tie.Need-loop-again Inv-loop μ-loop
 loop-again c = (search needs, padded-turn _ _ _ _ (c .before .before .loop .inv .1) (c .moved-to .ensures) (omega arith))
 
@@ -21,5 +18,5 @@ returns c =
 
 pub moved-spec : {M : Type 1} → statement M
 moved-spec =
-    tie.close (tie.spec Inv-loop μ-loop loop-holds (λ c κs. search needs) (λ c. search needs) (λ c. search needs) (λ c. search needs)
-    (λ c. search needs) loop-again returns)
+    tie.close (tie.spec Inv-loop μ-loop (λ c. (search needs, sym (padded-none _ _ _))) (λ c κs. search needs) (λ c. search needs) (λ c. search needs)
+    (λ c. search needs) (λ c. search needs) loop-again returns)

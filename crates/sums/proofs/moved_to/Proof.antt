@@ -9,9 +9,6 @@ Inv-loop cells n p a to sum₀ s₀ sum s = (s ≤ n) × (sum ≡ totalTo s (λ 
 abbrev μ-loop : tie.MeasureT-loop
 μ-loop cells n p a to sum₀ s₀ sum s = n - s
 
-loop-holds : tie.Need-loop-holds Inv-loop μ-loop
-loop-holds c = (search needs, sym (total-none _))
-
 add-moved-requires : tie.Need-add-moved-requires Inv-loop μ-loop
 add-moved-requires c κs =
     let a = c .before .before .before .before .before .before in
@@ -37,5 +34,5 @@ returns c =
 
 pub moved-to-spec : {M : Type 1} → statement M
 moved-to-spec =
-    tie.close (tie.spec Inv-loop μ-loop loop-holds (λ c κs. search needs) (λ c. search needs) (λ c. search needs) add-moved-requires (λ c. search needs)
-    (λ c. search needs) loop-again returns)
+    tie.close (tie.spec Inv-loop μ-loop (λ c. (search needs, sym (total-none _))) (λ c κs. search needs) (λ c. search needs) (λ c. search needs)
+    add-moved-requires (λ c. search needs) (λ c. search needs) loop-again returns)

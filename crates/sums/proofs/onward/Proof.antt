@@ -16,9 +16,6 @@ terms : (c : tie.Start Inv-loop μ-loop)
     (λ i. getD (c .args .f .now) i (pos 0))
 terms c = onward-terms (c .pre .1 .0) (c .pre .1 .1) (c .pre .0 .1 .1)
 
-loop-holds : tie.Need-loop-holds Inv-loop μ-loop
-loop-holds c = (search needs, sym (sum-none _))
-
 add-scaled-requires : tie.Need-add-scaled-requires Inv-loop μ-loop
 add-scaled-requires c κs =
     term-fits (terms (c .before .before .before .before .before)) _ (c .before .before .before .loop .inv .1)
@@ -39,5 +36,5 @@ returns c =
 
 pub onward-spec : {M : Type 1} → statement M
 onward-spec =
-    tie.close (tie.spec Inv-loop μ-loop loop-holds (λ c κs. search needs) (λ c. search needs) (λ c. search needs) add-scaled-requires (λ c. search needs)
-    (λ c. search needs) loop-again returns)
+    tie.close (tie.spec Inv-loop μ-loop (λ c. (search needs, sym (sum-none _))) (λ c κs. search needs) (λ c. search needs) (λ c. search needs)
+    add-scaled-requires (λ c. search needs) (λ c. search needs) loop-again returns)

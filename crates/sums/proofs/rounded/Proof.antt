@@ -11,9 +11,6 @@ Inv-loop transition reward f n g a e₀ s₀ e s =
 abbrev μ-loop : tie.MeasureT-loop
 μ-loop transition reward f n g a e₀ s₀ e s = n - s
 
-loop-holds : tie.Need-loop-holds Inv-loop μ-loop
-loop-holds c = (search needs, sym (padded-none _ _ _))
-
 loop-again : tie.Need-loop-again Inv-loop μ-loop
 loop-again c = (
   search needs,
@@ -25,5 +22,5 @@ returns c = let e : c .before .loop .s ≡ c .before .before .before .args .n = 
 
 pub rounded-spec : {M : Type 1} → statement M
 rounded-spec =
-    tie.close (tie.spec Inv-loop μ-loop loop-holds (λ c κs. search needs) (λ c. search needs) (λ c. search needs) (λ c. search needs)
-    (λ c. search needs) loop-again returns)
+    tie.close (tie.spec Inv-loop μ-loop (λ c. (search needs, sym (padded-none _ _ _))) (λ c κs. search needs) (λ c. search needs) (λ c. search needs)
+    (λ c. search needs) (λ c. search needs) loop-again returns)

@@ -9,9 +9,6 @@ Inv-loop cells n k u a o q₀ to₀ q to = (to ≤ n) × (q ≡ padded 0 maxStat
 abbrev μ-loop : tie.MeasureT-loop
 μ-loop cells n k u a o q₀ to₀ q to = n - to
 
-loop-holds : tie.Need-loop-holds Inv-loop μ-loop
-loop-holds c = (search needs, sym (padded-none _ _ _))
-
 share-requires : tie.Need-share-requires Inv-loop μ-loop
 share-requires c κs =
     let a = c .before .before .before .before .before .before in
@@ -33,5 +30,5 @@ returns c =
 
 pub successors-spec : {M : Type 1} → statement M
 successors-spec =
-    tie.close (tie.spec Inv-loop μ-loop loop-holds (λ c. search needs) (λ c. search needs) (λ c κs. search needs) share-requires (λ c. search needs)
-    (λ c. search needs) (λ c. search needs) (λ c. search needs) loop-again returns)
+    tie.close (tie.spec Inv-loop μ-loop (λ c. (search needs, sym (padded-none _ _ _))) (λ c. search needs) (λ c. search needs) (λ c κs. search needs)
+    share-requires (λ c. search needs) (λ c. search needs) (λ c. search needs) (λ c. search needs) loop-again returns)

@@ -52,26 +52,10 @@ digit b h k =
       ne-eqb b 13 (omega arith),
       ne-eqb b 32 (omega arith),
       ne-eqb b 35 (omega arith),
-      ne-eqb b
-          58 (omega arith),
+      ne-eqb b 58 (omega arith),
       le-leb 48 b h,
       le-leb b 57 l,
     ))
-
-returns : tie.Need-returns
-returns c = sym (ap classOf (c .match .keys1))
-
-returns-2 : tie.Need-returns-2
-returns-2 c = sym (ap classOf (c .match .keys2))
-
-returns-3 : tie.Need-returns-3
-returns-3 c = sym (ap classOf (c .match .keys3))
-
-returns-4 : tie.Need-returns-4
-returns-4 c = sym (ap classOf (c .match .keys4))
-
-returns-5 : tie.Need-returns-5
-returns-5 c = sym (ap classOf (c .match .keys5))
 
 returns-6 : tie.Need-returns-6
 returns-6 c =
@@ -81,49 +65,20 @@ returns-6 c =
 returns-7 : tie.Need-returns-7
 returns-7 c =
     let b = c .before .before .before .before .before .args .b in
-    let r = c .before .before .match2 .rest in
-    rest b
-    (record {
-      tab = omega arith;
-      line = omega arith;
-      return = λ e. r .1 (inl e);
-      space = λ e. r .1 (inr e);
-      hash = omega arith;
-      star = omega arith;
-      minus = omega arith;
-      point = omega arith;
-      colon = omega arith;
-    })
-    (below b (omega arith))
-
-returns-8 : tie.Need-returns-8
-returns-8 c = ⊎-elim (λ e. sym (ap classOf e)) (λ e. sym (ap classOf e)) (c .match2 .keys1)
+    let no-return : b ≡ 13 → ⊥ = λ e. c .before .before .match2 .rest .1 (inl e) in
+    let no-space : b ≡ 32 → ⊥ = λ e. c .before .before .match2 .rest .1 (inr e) in
+    rest b (omega arith) (below b (omega arith))
 
 returns-9 : tie.Need-returns-9
 returns-9 c =
     let b = c .before .before .before .before .before .args .b in
     elim (decLe b 9) [ yes l ↦ let e : b ≡ 9 = omega arith in sym (ap classOf e) | no n ↦ let e : b ≡ 10 = omega arith in sym (ap classOf e) ]
 
-returns-10 : tie.Need-returns-10
-returns-10 c = digit (c .before .before .before .before .args .b) (omega arith) (omega arith)
-
 returns-11 : tie.Need-returns-11
 returns-11 c =
     let b = c .before .before .before .args .b in
     let r = c .before .before .match .rest in
-    rest b
-    (record {
-      tab = omega arith;
-      line = omega arith;
-      return = omega arith;
-      space = omega arith;
-      hash = r .0 .0 .0 .1;
-      star = r .1;
-      minus = r .0 .1;
-      point = r .0 .0 .1;
-      colon = omega arith;
-    })
-    (below b (omega arith))
+    rest b (omega (arith, r .0 .0 .0 .1, r .0 .0 .1, r .0 .1, r .1)) (below b (omega arith))
 
 returns-12 : tie.Need-returns-12
 returns-12 c =
@@ -133,4 +88,7 @@ returns-12 c =
 
 pub class-of-spec : {M : Type 1} → statement M
 class-of-spec =
-    tie.close (tie.spec returns returns-2 returns-3 returns-4 returns-5 returns-6 returns-7 returns-8 returns-9 returns-10 returns-11 returns-12)
+    tie.close (tie.spec (λ c. sym (ap classOf (c .match .keys1))) (λ c. sym (ap classOf (c .match .keys2))) (λ c. sym (ap classOf (c .match .keys3)))
+    (λ c. sym (ap classOf (c .match .keys4))) (λ c. sym (ap classOf (c .match .keys5))) returns-6 returns-7
+    (λ c. ⊎-elim (λ e. sym (ap classOf e)) (λ e. sym (ap classOf e)) (c .match2 .keys1)) returns-9
+    (λ c. digit (c .before .before .before .before .args .b) (omega arith) (omega arith)) returns-11 returns-12)

@@ -1,6 +1,5 @@
 use Rattle.worth.proofs.Prelude.{_≡_, sym, _∙_, needs, maxNodes, modelOf, worthVerdict}
-use mathlib.Core.Bool.{Bool, true, _&&_}
-use borrow.Author.Tests.{not-true, not-false}
+use Rattle.integers.proofs.Kit.{true, Bool, _&&_, not-false, not-true}
 use Rattle.integers.proofs.Searches.{and-true}
 use Rattle.tables.specs.declared.Verdict.the-variants.{Fine}
 use Rattle.tables.specs.declared.Tables.{Tables}
@@ -46,9 +45,6 @@ returns : tie.Need-returns
 unfolding worthVerdict
 returns c = rw (sym (c .before .before .judge-tables .ensures) ∙ c .enum-told2 .given .1, c .enum-told2 .given .1)
 
-nodes-within-requires : tie.Need-nodes-within-requires
-nodes-within-requires c κs = valid-tables c .few-observations
-
 returns-2 : tie.Need-returns-2
 unfolding worthVerdict
 returns-2 c = rw (fine-tables (c .before .before), sym (c .before .nodes-within .ensures) ∙ not-true _ (c .if1 .taken))
@@ -92,5 +88,5 @@ returns-5 c =
 
 pub judge-worth-spec : {M : Type 1} → statement M
 judge-worth-spec =
-    tie.close (tie.spec (λ c κs. search needs) (λ c. search needs) (λ c. search needs) returns nodes-within-requires returns-2 numbers-exist-requires
-    (λ c. search needs) (λ c. search needs) returns-3 (λ c κs. search needs) returns-4 returns-5)
+    tie.close (tie.spec (λ c κs. search needs) (λ c. search needs) (λ c. search needs) returns (λ c κs. valid-tables c .few-observations) returns-2
+    numbers-exist-requires (λ c. search needs) (λ c. search needs) returns-3 (λ c κs. search needs) returns-4 returns-5)

@@ -1,7 +1,5 @@
 use Rattle.worth.proofs.Prelude.{_≤_, _≡_, sym, arith, needs}
-use Prim.Native.Nat.{_-_}
-use lib.ListN.{length}
-use lib.IntN.{pos}
+use Rattle.integers.proofs.Kit.{_-_, length, pos}
 use Rattle.integers.proofs.Lists.{padded-length, row-below}
 use Rattle.tables.specs.Limits.{maxStates}
 use Rattle.worth.specs.Steps.{backedUpOf, worthsBy}
@@ -16,18 +14,12 @@ Inv-loop T O R actions next c nodes earlier n worths₀ v₀ worths v =
 abbrev μ-loop : tie.MeasureT-loop
 μ-loop T O R actions next c nodes earlier n worths₀ v₀ worths v = nodes - v
 
-loop-holds : tie.Need-loop-holds Inv-loop μ-loop
-loop-holds c = (search needs, worths-none-yet _ _)
-
 -- the turn: from the place where a node's worths were made
 abbrev turn : tie.After-worths-of Inv-loop μ-loop → tie.In-loop Inv-loop μ-loop
 turn c = c .before .before
 
 abbrev begun : tie.In-loop Inv-loop μ-loop → tie.Start Inv-loop μ-loop
 begun c = c .before .before .before .before .before .before
-
-earlier-slice : tie.Need-slice-aggregate-worths-of Inv-loop μ-loop
-earlier-slice c = search (needs, begun (c .before) .good)
 
 worths-of-requires : tie.Need-worths-of-requires Inv-loop μ-loop
 worths-of-requires c κs = let t = c .before in let p = begun t .pre in (p .0, (p .1, t .loop-test .taken))
@@ -47,9 +39,6 @@ start-requires c κs =
 -- a node's row is as long as its array
 row-long : (c : tie.After-worths-of Inv-loop μ-loop) → length (c .worths-of .result) ≡ maxStates
 row-long c = rw (c .worths-of .ensures) (padded-length (pos 0) maxStates _ _ (few-states (begun (turn c) .pre .0)))
-
-row-slice : tie.Need-slice-aggregate-paste-i64-2 Inv-loop μ-loop
-row-slice c = sym (row-long (c .before .before .before))
 
 paste-requires : tie.Need-paste-i64-requires Inv-loop μ-loop
 paste-requires c κs =
@@ -72,9 +61,6 @@ add-v c =
     let t = turn (c .before .before .before .before .before) in
     omega (arith, t .loop-test .taken, begun t .pre .0 .sound .few-nodes)
 
-loop-less : tie.Need-loop-less Inv-loop μ-loop
-loop-less c = omega (arith, turn (c .before .before .before .before .before) .loop-test .taken)
-
 loop-again : tie.Need-loop-again Inv-loop μ-loop
 loop-again c =
     let m = c .before .before .before .before .before in
@@ -93,6 +79,6 @@ returns c =
 
 pub step-spec : {M : Type 1} → statement M
 step-spec =
-    tie.close (tie.spec Inv-loop μ-loop loop-holds earlier-slice worths-of-requires worths-slice start-requires row-slice paste-requires add-v loop-less
-    loop-again
-    returns)
+    tie.close (tie.spec Inv-loop μ-loop (λ c. (search needs, worths-none-yet _ _)) (λ c. search (needs, begun (c .before) .good)) worths-of-requires
+    worths-slice start-requires (λ c. sym (row-long (c .before .before .before))) paste-requires add-v
+    (λ c. omega (arith, turn (c .before .before .before .before .before) .loop-test .taken)) loop-again returns)

@@ -34,9 +34,6 @@ lent-here : (c : tie.After-enum-told)
     → let a = start c .args in GraphHeld (a .c) (a .nodes) (a .transition .now) (a .observation .now) (a .reward .now) (a .actions .now) (a .next .now)
 lent-here c = lent (tables (start c)) (graph (start c)) _ _ _ (fine-here c)
 
-worths-requires : tie.Need-worths-requires
-worths-requires c κs = (lent-here c, taken c .steps)
-
 worths-slice : tie.Need-slice-aggregate-entry-at
 worths-slice c = let w = c .before in sym (worths-long (lent-here (w .before)) _ (omega arith) (w .worths .ensures))
 
@@ -72,4 +69,5 @@ returns-2 c = rw (sym (c .before .before .before .judge-worth .ensures) ∙ c .b
 
 pub worth-spec : {M : Type 1} → statement M
 worth-spec =
-    tie.close (tie.spec (λ c κs. search needs) (λ c. search needs) worths-requires worths-slice entry-at-requires (λ c. search needs) returns returns-2)
+    tie.close (tie.spec (λ c κs. search needs) (λ c. search needs) (λ c κs. (lent-here c, taken c .steps)) worths-slice entry-at-requires
+    (λ c. search needs) returns returns-2)

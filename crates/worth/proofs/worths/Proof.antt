@@ -15,9 +15,6 @@ Inv-loop T O R actions next c nodes d worths₀ i₀ worths i =
 abbrev μ-loop : tie.MeasureT-loop
 μ-loop T O R actions next c nodes d worths₀ i₀ worths i = d - i
 
-loop-holds : tie.Need-loop-holds Inv-loop μ-loop
-loop-holds c = (search needs, worths-none (c .before .before .before .before .pre .0))
-
 abbrev begun : tie.In-loop Inv-loop μ-loop → tie.Start Inv-loop μ-loop
 begun c = c .before .before .before .before .before .before
 
@@ -39,4 +36,5 @@ returns c =
 
 pub worths-spec : {M : Type 1} → statement M
 worths-spec =
-    tie.close (tie.spec Inv-loop μ-loop loop-holds step-requires (λ c. search needs) (λ c. search needs) loop-again returns)
+    tie.close (tie.spec Inv-loop μ-loop (λ c. (search needs, worths-none (c .before .before .before .before .pre .0))) step-requires
+    (λ c. search needs) (λ c. search needs) loop-again returns)

@@ -33,12 +33,6 @@ row-here c =
       c .before .before .before .before .before .before .pre .1,
     ))
 
-loop-holds : tie.Need-loop-holds Inv-loop2 μ-loop2 Inv-loop μ-loop
-loop-holds c = (omega arith, every-none _)
-
-loop2-holds : tie.Need-loop2-holds Inv-loop2 μ-loop2 Inv-loop μ-loop
-loop2-holds c = (omega arith, every-none _)
-
 -- where the row starts, by its own number
 at-is : (c : tie.After-start Inv-loop2 μ-loop2 Inv-loop μ-loop)
     → let a = c .before .before .before .before .before .before .before .args in c .start .result ≡
@@ -52,9 +46,6 @@ said : (c : tie.After-row-within Inv-loop2 μ-loop2 Inv-loop μ-loop)
 said c =
     let a = c .before .before .before .before .before .before .before .before .args in
     c .row-within .ensures ∙ ap (λ (z : ℕ). every (a .w) (λ x. leb (getD (a .cells .now) (z + x) 0) one)) (at-is (c .before))
-
-row-within-requires : tie.Need-row-within-requires Inv-loop2 μ-loop2 Inv-loop μ-loop
-row-within-requires c κs = rw (c .start .ensures) (omega (arith, row-here (c .before)))
 
 returns : tie.Need-returns Inv-loop2 μ-loop2 Inv-loop μ-loop
 returns c =
@@ -73,5 +64,6 @@ returns-2 c = let e : c .before .loop .a ≡ c .before .before .before .args .m 
 
 pub cells-within-spec : {M : Type 1} → statement M
 cells-within-spec =
-    tie.close (tie.spec Inv-loop2 μ-loop2 Inv-loop μ-loop loop-holds loop2-holds (λ c κs. omega arith) (λ c κs. omega arith) row-within-requires returns
-    (λ c. omega arith) (λ c. omega arith) loop2-again (λ c. omega arith) (λ c. omega arith) loop-again returns-2)
+    tie.close (tie.spec Inv-loop2 μ-loop2 Inv-loop μ-loop (λ c. (omega arith, every-none _)) (λ c. (omega arith, every-none _)) (λ c κs. omega arith)
+    (λ c κs. omega arith) (λ c κs. rw (c .start .ensures) (omega (arith, row-here (c .before)))) returns (λ c. omega arith) (λ c. omega arith)
+    loop2-again (λ c. omega arith) (λ c. omega arith) loop-again returns-2)

@@ -2,9 +2,6 @@ use Rattle.tables.proofs.Prelude.{sym, _∙_, not-true, not-false, need
 use Rattle.tables.proofs.judge.counts_within.Statement.{statement}
 use Rattle.tables.proofs.judge.counts_within.Tie as tie
 
-returns : tie.Need-returns
-returns c = rw (sym (c .before .count-within .ensures) ∙ not-true _ (c .if1 .taken))
-
 returns-2 : tie.Need-returns-2
 returns-2 c =
     rw (
@@ -20,4 +17,5 @@ returns-3 c = rw (
 
 pub counts-within-spec : {M : Type 1} → statement M
 counts-within-spec =
-    tie.close (tie.spec (λ c κs. search needs) returns (λ c κs. search needs) returns-2 (λ c κs. search needs) returns-3)
+    tie.close (tie.spec (λ c κs. search needs) (λ c. rw (sym (c .before .count-within .ensures) ∙ not-true _ (c .if1 .taken))) (λ c κs. search needs)
+    returns-2 (λ c κs. search needs) returns-3)

@@ -21,12 +21,6 @@ said : (c : tie.After-within Inv-loop2 μ-loop2 Inv-loop μ-loop) → c .within 
     (c .before .before .before .loop2 .s) (c .before .before .before .before .before .loop .a))) 100000
 said c = c .within .ensures ∙ ap (λ (z : ℤ). leb (natAbs z) 100000) (back _ (c .before .reward-at .ok) ∙ c .before .reward-at .ensures)
 
-loop-holds : tie.Need-loop-holds Inv-loop2 μ-loop2 Inv-loop μ-loop
-loop-holds c = (omega arith, every-none _)
-
-loop2-holds : tie.Need-loop2-holds Inv-loop2 μ-loop2 Inv-loop μ-loop
-loop2-holds c = (omega arith, every-none _)
-
 reward-at-requires : tie.Need-reward-at-requires Inv-loop2 μ-loop2 Inv-loop μ-loop
 reward-at-requires c κs =
     let a = c .before .before .before .before in
@@ -48,5 +42,5 @@ returns-2 c = let e : c .before .loop .a ≡ c .before .before .args .m = omega 
 
 pub rewards-within-spec : {M : Type 1} → statement M
 rewards-within-spec =
-    tie.close (tie.spec Inv-loop2 μ-loop2 Inv-loop μ-loop loop-holds loop2-holds reward-at-requires (λ c κs. omega arith) returns (λ c. omega arith)
-    (λ c. omega arith) loop2-again (λ c. omega arith) (λ c. omega arith) loop-again returns-2)
+    tie.close (tie.spec Inv-loop2 μ-loop2 Inv-loop μ-loop (λ c. (omega arith, every-none _)) (λ c. (omega arith, every-none _)) reward-at-requires
+    (λ c κs. omega arith) returns (λ c. omega arith) (λ c. omega arith) loop2-again (λ c. omega arith) (λ c. omega arith) loop-again returns-2)

@@ -8,17 +8,11 @@ Inv-loop cells at w sum₀ x₀ sum x = (x ≤ w) × ((sum ≡ totalTo x (λ y. 
 abbrev μ-loop : tie.MeasureT-loop
 μ-loop cells at w sum₀ x₀ sum x = w - x
 
-loop-holds : tie.Need-loop-holds Inv-loop μ-loop
-loop-holds c = (omega arith, (sym (total-none _), omega arith))
-
 -- a cell is a 16-bit number
 narrow : (c : tie.After-wide Inv-loop μ-loop) → c .wide .result ≤ 65535
 narrow c =
     let l = c .before .before .before in
     omega (arith, c .wide .ensures, c .before .shared-slice-known2 .given (l .before .before .args .at + l .loop .x))
-
-add-sum : tie.Need-add-sum Inv-loop μ-loop
-add-sum c = omega (arith, narrow c)
 
 loop-again : tie.Need-loop-again Inv-loop μ-loop
 loop-again c = (omega arith, (rw (c .wide .ensures) (total-step _ _ (c .before .before .before .loop .inv .1 .0)), omega (arith, narrow c)))
@@ -27,6 +21,5 @@ returns : tie.Need-returns Inv-loop μ-loop
 returns c = let e : c .before .loop .x ≡ c .before .before .before .args .w = omega arith in rw e at (c .before .loop .inv .1 .0)
 
 pub row-total-spec : {M : Type 1} → statement M
-row-total-spec =
-    tie.close (tie.spec Inv-loop μ-loop loop-holds (λ c. search needs) (λ c. search needs) (λ c. search needs) (λ c κs. search needs) add-sum
-    (λ c. search needs) (λ c. search needs) loop-again returns)
+row-total-spec = tie.close (tie.spec Inv-loop μ-loop (λ c. (omega arith, (sym (total-none _), omega arith))) (λ c. search needs) (λ c. search needs)
+    (λ c. search needs) (λ c κs. search needs) (λ c. omega (arith, narrow c)) (λ c. search needs) (λ c. search needs) loop-again returns)

@@ -9,9 +9,6 @@ Inv-loop cells at w x₀ x = (x ≤ w) × (every x (λ y. leb (getD cells (at + 
 abbrev μ-loop : tie.MeasureT-loop
 μ-loop cells at w x₀ x = w - x
 
-loop-holds : tie.Need-loop-holds Inv-loop μ-loop
-loop-holds c = (omega arith, every-none _)
-
 returns : tie.Need-returns Inv-loop μ-loop
 returns c = sym (every-not _ _ (c .before .before .before .before .loop .x) (omega arith) (lt-leb _ one (rw (c .before .wide .ensures) at (c .if1 .taken))))
 
@@ -22,6 +19,5 @@ returns-2 : tie.Need-returns-2 Inv-loop μ-loop
 returns-2 c = let e : c .before .loop .x ≡ c .before .before .before .args .w = omega arith in sym (rw e at (c .before .loop .inv .1))
 
 pub row-within-spec : {M : Type 1} → statement M
-row-within-spec =
-    tie.close (tie.spec Inv-loop μ-loop loop-holds (λ c. search needs) (λ c. search needs) (λ c. search needs) (λ c κs. search needs) returns
-    (λ c. search needs) (λ c. search needs) loop-again returns-2)
+row-within-spec = tie.close (tie.spec Inv-loop μ-loop (λ c. (omega arith, every-none _)) (λ c. search needs) (λ c. search needs) (λ c. search needs)
+    (λ c κs. search needs) returns (λ c. search needs) (λ c. search needs) loop-again returns-2)

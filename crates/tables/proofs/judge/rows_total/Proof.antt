@@ -1,7 +1,6 @@
 use Rattle.tables.proofs.Prelude.{ℕ, _+_, _*_, _≤_, _<_, _-_, _≡_, refl, sym, ap, _∙_, arith, Bool, List, length, getD, totalTo, cell-below, one}
 use Rattle.tables.proofs.Prelude.{row-below}
-use lib.Dec.{eqb}
-use borrow.Author.Tests.{eq-eqb, ne-eqb}
+use Rattle.integers.proofs.Kit.{ne-eqb, eq-eqb, eqb}
 use Rattle.tables.specs.declared.Verdict.{Verdict}
 use Rattle.tables.specs.declared.Verdict.the-variants.{Fine, Refused}
 use Rattle.tables.specs.Verdicts.{unless, firstOf}
@@ -54,15 +53,6 @@ said c =
     let a = c .before .before .before .before .before .before .before .before .args in
     c .row-total .ensures ∙ ap (λ (z : ℕ). totalTo (a .w) (λ x. getD (a .cells .now) (z + x) 0)) (at-is (c .before))
 
-rows-holds : tie.Need-rows-holds Inv-loop μ-loop Inv-rows μ-rows
-rows-holds c = (omega arith, (refl, first-none _))
-
-loop-holds : tie.Need-loop-holds Inv-loop μ-loop Inv-rows μ-rows
-loop-holds c = (omega arith, (c .before .rows .inv .1 .0, first-none _))
-
-row-total-requires : tie.Need-row-total-requires Inv-loop μ-loop Inv-rows μ-rows
-row-total-requires c κs = rw (c .start .ensures) (omega (arith, row-here (c .before)))
-
 loop-again : tie.Need-loop-again Inv-loop μ-loop Inv-rows μ-rows
 loop-again c = (
   omega arith,
@@ -99,6 +89,7 @@ returns-2 c =
     + c .before .before .before .before .before .loop .s)) (ne-eqb _ one (λ e. c .if1 .taken (said (c .before) ∙ e))))))
 
 pub rows-total-spec : {M : Type 1} → statement M
-rows-total-spec =
-    tie.close (tie.spec Inv-loop μ-loop Inv-rows μ-rows rows-holds loop-holds (λ c κs. omega arith) (λ c κs. omega arith) row-total-requires (λ c. omega arith)
-    (λ c. omega arith) loop-again (λ c. omega arith) (λ c. omega arith) rows-again returns returns-2)
+rows-total-spec = tie.close (tie.spec Inv-loop μ-loop Inv-rows μ-rows (λ c. (omega arith, (refl, first-none _)))
+    (λ c. (omega arith, (c .before .rows .inv .1 .0, first-none _))) (λ c κs. omega arith) (λ c κs. omega arith)
+    (λ c κs. rw (c .start .ensures) (omega (arith, row-here (c .before)))) (λ c. omega arith) (λ c. omega arith) loop-again (λ c. omega arith)
+    (λ c. omega arith) rows-again returns returns-2)

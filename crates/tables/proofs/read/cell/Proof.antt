@@ -6,12 +6,6 @@ use Rattle.tables.proofs.read.cell.Tie as tie
 in-table : (c : tie.Start) → c .args .row * c .args .w + c .args .x < maxActions * maxStates * c .args .w
 in-table c = cell-below (c .args .row) (maxActions * maxStates) (c .args .x) (c .args .w) (c .pre .0) (c .pre .1 .1)
 
-add-result : tie.Need-add-result
-add-result c = omega (arith, c .start .ensures, in-table (c .before), c .before .pre)
-
-returns : tie.Need-returns
-returns c = (rw (c .start .ensures), rw (c .start .ensures) (in-table (c .before)))
-
 pub cell-spec : {M : Type 1} → statement M
-cell-spec =
-    tie.close (tie.spec (λ c κs. search needs) add-result returns)
+cell-spec = tie.close (tie.spec (λ c κs. search needs) (λ c. omega (arith, c .start .ensures, in-table (c .before), c .before .pre))
+    (λ c. (rw (c .start .ensures), rw (c .start .ensures) (in-table (c .before)))))

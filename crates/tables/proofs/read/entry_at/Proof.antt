@@ -7,9 +7,6 @@ stored c =
     let a = c .before in
     rw (c .row .ensures .0) (row-stored (a .args .n) (a .args .v .0) (a .args .s .0) (a .pre .1 .0) (a .pre .1 .1))
 
-returns : tie.Need-returns
-returns c = rw (back _ (c .result .given), c .before .row .ensures .0)
-
 pub entry-at-spec : {M : Type 1} → statement M
 entry-at-spec =
-    tie.close (tie.spec (λ c κs. search needs) (λ c. search needs) stored returns)
+    tie.close (tie.spec (λ c κs. search needs) (λ c. search needs) stored (λ c. rw (back _ (c .result .given), c .before .row .ensures .0)))

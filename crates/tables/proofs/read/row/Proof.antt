@@ -8,12 +8,6 @@ in-block c =
     let h : c .args .r < c .args .r + 1 = omega arith in
     omega (arith, cell-below (c .args .r) (c .args .r + 1) (c .args .x) (c .args .w) h (c .pre .1 .1), mul-le-mul-left (c .args .r + 1) (c .pre .1 .0))
 
-add-result : tie.Need-add-result
-add-result c = omega (arith, c .start .ensures, in-block (c .before))
-
-returns : tie.Need-returns
-returns c = (rw (c .start .ensures), rw (c .start .ensures) (in-block (c .before)))
-
 pub row-spec : {M : Type 1} → statement M
-row-spec =
-    tie.close (tie.spec (λ c κs. omega arith) add-result returns)
+row-spec = tie.close (tie.spec (λ c κs. omega arith) (λ c. omega (arith, c .start .ensures, in-block (c .before)))
+    (λ c. (rw (c .start .ensures), rw (c .start .ensures) (in-block (c .before)))))

@@ -6,5 +6,4 @@ mul-result : tie.Need-mul-result
 mul-result c = let h : c .args .r ≤ maxActions * maxStates = omega arith in omega (arith, mul-le-mul h (c .pre .1))
 
 pub start-spec : {M : Type 1} → statement M
-start-spec =
-    tie.close (tie.spec mul-result (λ c. refl))
+start-spec = tie.close (tie.spec mul-result (λ c. refl))
