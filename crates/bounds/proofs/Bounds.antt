@@ -10,9 +10,10 @@ use borrow.Author.Tests.{leb-true}
 use lib.Dec.{leb, ltb}
 use lib.ListN.{length, getD}
 use lib.IntN.{ℤ, natAbs, _-ℤ_}
-use Rattle.integers.specs.Whole.{totalTo, Below}
+use Rattle.integers.specs.Whole.{totalTo, lesser, Below}
 use Rattle.integers.specs.Search.{every}
 use Rattle.integers.specs.Cells.{padded}
+use Rattle.integers.proofs.Order.{lesser-by}
 use Rattle.integers.proofs.Lists.{padded-at, padded-length}
 use Rattle.integers.proofs.Searches.{and-true, every-at, largest-cong, largest-in}
 use Rattle.integers.proofs.Sizes.{times-bound, sum-weighed}
@@ -24,15 +25,17 @@ use Rattle.tables.specs.Limits.{maxStates, maxActions, maxWeight, maxEntry, max
 use Rattle.tables.specs.Model.{Model}
 use Rattle.tables.specs.Storage.{weightIn, countsOf, modelOf}
 use Rattle.tables.specs.Verdicts.{_before_, unless}
+use Rattle.tables.specs.Steps.{EntriesFit}
 use Rattle.tables.proofs.Fitting.{row-alone}
 use Rattle.tables.proofs.Refusals.{before-fine, unless-fine}
 use Rattle.plans.specs.Limits.{maxPoints, range, maxReached}
 use Rattle.plans.specs.Level.{Level, product, gain, ceiling, Shaped}
+use Rattle.plans.specs.Rows.{bestRow}
 use Rattle.plans.specs.Totals.{best, lower, upper, advice}
-use Rattle.plans.proofs.Agreement.{product-cong, ceiling-weights}
-use Rattle.plans.proofs.Bracket.{best-exists}
+use Rattle.plans.proofs.Agreement.{product-cong, ceiling-weights, best-exists}
+use Rattle.plans.proofs.Rows.{highest-cong, bestRow-range}
 use Rattle.plans.proofs.Built.{ceiling-range, range-limit, shaped-mono}
-use Rattle.levels.specs.Storage.{Lent, levelOf, pointIn, numberIn, standingIn}
+use Rattle.levels.specs.Storage.{Lent, levelOf, pointIn, numberIn, standingIn, informedIn}
 use Rattle.levels.specs.Judged.{holds}
 use Rattle.sawtooth.specs.Steps.{positive, gainIn, ceilingIn}
 use Rattle.sawtooth.proofs.Joined.{ceiling-is}
@@ -42,7 +45,7 @@ use Rattle.checks.proofs.Roofs.{corners-fit, points-fit, gains-below}
 use Rattle.runs.specs.declared.Bounds.{Bounds}
 use Rattle.runs.specs.State.{mixtureHolds, totalsVerdict, boundsBy, totalsOf}
 use Rattle.runs.proofs.Judged.{Held, standing-true}
-use Rattle.bounds.specs.Steps.{standingVerdict, noBounds, bestIn, lowerIn, boundsIn, widened, unless17, answerIn, Asked}
+use Rattle.bounds.specs.Steps.{standingVerdict, noBounds, bestIn, lowerIn, rowIn, upperIn, boundsIn, widened, unless17, answerIn, Asked}
 
 product-range : (n r : ℕ) (q : ℕ → ℕ) (e : ℕ → ℤ) → ((s : ℕ) → s < n → natAbs (e s) ≤ r) → natAbs (product n q e) ≤ totalTo n q * r
 unfolding product
@@ -53,18 +56,22 @@ pub best-below : {vectors i : ℕ} (n : ℕ) (entries : List ℤ) (q : List ℕ)
 best-below n entries q some e = rw e (largest-in _ _ some)
 
 -- by its parts
-pub bounds-by : (n vectors points : ℕ) (actions : List ℕ) (entries corners : List ℤ) (weights gains q : List ℕ) {i a : ℕ} {x y z : ℤ}
-    → i ≡ bestIn n vectors entries q → x ≡ lowerIn n vectors entries q → y ≡ ceilingIn n corners weights gains points q → z ≡ y -ℤ x
-    → a ≡ getD actions i 0
-    → _≡_ {A = Bounds} record { verdict = Fine; lower = x; upper = y; gap = z; action = record { 0 = a } }
-    (boundsIn n vectors points actions entries corners weights gains q)
-bounds-by n vectors points actions entries corners weights gains q e low high gap action = rw (action, gap, low, high, e)
+pub bounds-by : (n m vectors points : ℕ) (actions : List ℕ) (entries corners : List ℤ) (weights : List ℕ) (informed : List ℤ) (gains q : List ℕ)
+    {i a : ℕ} {x y z saw row : ℤ} → i ≡ bestIn n vectors entries q → x ≡ lowerIn n vectors entries q → saw ≡ ceilingIn n corners weights gains points q
+    → row ≡ rowIn n m informed q → y ≡ lesser saw row → z ≡ y -ℤ x → a ≡ getD actions i 0
+    → _≡_ {A = Bounds} record { verdict = Fine; lower = x; upper = y; gap = z; action = record { 0 = a }; sawtooth = saw; informed = row }
+    (boundsIn n m vectors points actions entries corners weights informed gains q)
+bounds-by n m vectors points actions entries corners weights informed gains q e low high best both gap action = rw (action, gap, both, low, high, best, e)
 
 -- ---- the totals read weights of states only
 module _ (M : Model) (L : Level) (b b' : ℕ → ℕ) (same : (s : ℕ) → s < M .states → b s ≡ b' s) where
-  upper-weights : upper M L b ≡ upper M L b'
+  row-weights : 0 < M .actions → (F : ℕ → ℕ → ℤ) → bestRow M F b ≡ bestRow M F b'
+  unfolding bestRow
+  row-weights some F = highest-cong (M .actions) _ _ some (λ a l. product-cong (M .states) b b' (F a) (F a) same (λ s k. refl))
+
+  upper-weights : 0 < M .actions → (F : ℕ → ℕ → ℤ) → upper M L F b ≡ upper M L F b'
   unfolding upper
-  upper-weights = ceiling-weights (M .states) L b b' same
+  upper-weights some F = rw (ceiling-weights (M .states) L b b' same, row-weights some F)
 
   module _ (some : 0 < L .vectors) where
     best-weights : best M L b ≡ best M L b'
@@ -107,13 +114,13 @@ pub below-reached : {n : ℕ} {q : List ℕ} → Below maxWeight n q → Below m
 below-reached b = record { long = b .long; below = λ s l. omega (arith, b .below s l) }
 
 -- ---- an answer: its action exists or is 0, and its totals fit 64 bits
-module _ {n vectors points : ℕ} {actions : List ℕ} {entries corners : List ℤ} {weights gains : List ℕ}
-    (h : Asked n vectors points actions entries corners weights gains) (b : List ℕ) where
+module _ {n m vectors points : ℕ} {actions : List ℕ} {entries corners : List ℤ} {weights : List ℕ} {informed : List ℤ} {gains : List ℕ}
+    (h : Asked n m vectors points actions entries corners weights informed gains) (b : List ℕ) where
   abbrev r : Bounds
-  r = answerIn n vectors points actions entries corners weights gains b
+  r = answerIn n m vectors points actions entries corners weights informed gains b
 
   abbrev by-17 : Bool → Bounds
-  by-17 held = unless17 held (boundsIn n vectors points actions entries corners weights gains (widened n b))
+  by-17 held = unless17 held (boundsIn n m vectors points actions entries corners weights informed gains (widened n b))
 
   pub acts-within : r .action .0 < maxActions
   acts-within = by (mixtureHolds n b)
@@ -143,6 +150,9 @@ module _ (m : Tables) (x : Lent) (h : holds m x ≡ true) where
   abbrev L : Level
   L = levelOf m (standingIn x)
 
+  abbrev F : ℕ → ℕ → ℤ
+  F = informedIn m x
+
   pub stands : Held m x
   stands = standing-true m x h
 
@@ -166,14 +176,21 @@ module _ (m : Tables) (x : Lent) (h : holds m x ≡ true) where
     size-limit : totalTo (m .states) (weightIn q) * range (numberIn x) ≤ maxStates * maxWeight * maxEntry
     size-limit = NatL.mul-le-mul total-limit (range-limit (numberIn x) (stands .few-levels))
 
-    totals-fit : natAbs (upper M L (weightIn q)) + natAbs (lower M L (weightIn q)) < 2 ^ 63
-    unfolding upper lower
+    upper-fit : natAbs (upper M L F (weightIn q)) ≤ maxStates * maxWeight * maxEntry
+    unfolding upper
+    upper-fit =
+        lesser-by (λ z. natAbs z ≤ maxStates * maxWeight * maxEntry) _ _
+        (λ _. omega (arith, size-limit, ceiling-range M L (numberIn x) (stands .shaped) (weightIn q)))
+        (λ _. omega (arith, size-limit, bestRow-range M (range (numberIn x)) F (stands .valid-tables .some-actions) (stands .informed .entry) (weightIn q)))
+
+    totals-fit : natAbs (upper M L F (weightIn q)) + natAbs (lower M L (weightIn q)) < 2 ^ 63
+    unfolding lower
     totals-fit =
         let v = best M L (weightIn q) in
         omega (
           arith,
           size-limit,
-          ceiling-range M L (numberIn x) (stands .shaped) (weightIn q),
+          upper-fit,
           product-range (m .states) (range (numberIn x)) (weightIn q) (L .entry v)
               (stands .shaped .entry-in v (best-exists M L (weightIn q) some-vectors)),
         )
@@ -186,19 +203,38 @@ module _ (m : Tables) (x : Lent) (h : holds m x ≡ true) where
     pub gains-long : length gains ≡ maxPoints
     gains-long = rw e (padded-length 0 maxPoints _ _ (full .few-points))
 
-    upper-is : (q : List ℕ) → ceilingIn (m .states) (x .cells .corners) (x .cells .weights) gains (standingIn x .points) q ≡ upper M L (weightIn q)
-    unfolding upper ceiling gain
-    upper-is q = ceiling-is (m .states) (x .cells .corners) (standingIn x .points) (x .cells .weights) (x .cells .values) gains q gains-at
+    sawtooth-is : (q : List ℕ)
+        → ceilingIn (m .states) (x .cells .corners) (x .cells .weights) gains (standingIn x .points) q ≡ ceiling (m .states) L (weightIn q)
+    unfolding ceiling gain
+    sawtooth-is q = ceiling-is (m .states) (x .cells .corners) (standingIn x .points) (x .cells .weights) (x .cells .values) gains q gains-at
 
     lower-is : (q : List ℕ) → lowerIn (m .states) (standingIn x .vectors) (x .cells .entries) q ≡ lower M L (weightIn q)
     unfolding lower best
     lower-is q = refl
 
+    row-is : (q : List ℕ) → rowIn (m .states) (m .actions) (x .rows .informed) q ≡ bestRow M F (weightIn q)
+    unfolding bestRow
+    row-is q = refl
+
+    upper-is : (q : List ℕ) → upperIn (m .states) (m .actions) (standingIn x .points) (x .cells .corners) (x .cells .weights) (x .rows .informed) gains q
+        ≡ upper M L F (weightIn q)
+    unfolding upper
+    upper-is q = rw (sawtooth-is q, row-is q)
+
+    rows-fit : EntriesFit (m .states) (m .actions) (x .rows .informed)
+    rows-fit = record {
+      few = omega (arith, stands .valid-tables .few-actions);
+      stored = stands .informed .long;
+      entry = λ a l s b. NatL.le-trans (stands .informed .entry a l s b) (range-limit (numberIn x) (stands .few-levels));
+    }
+
     -- what is lent to an answer
-    pub asked : Asked (m .states) (standingIn x .vectors) (standingIn x .points) (x .cells .actions) (x .cells .entries) (x .cells .corners)
-        (x .cells .weights) gains
+    pub asked : Asked (m .states) (m .actions) (standingIn x .vectors) (standingIn x .points) (x .cells .actions) (x .cells .entries) (x .cells .corners)
+        (x .cells .weights) (x .rows .informed) gains
     asked = record {
       few-states = stands .valid-tables .few-states;
+      some-actions = stands .valid-tables .some-actions;
+      rows-fit = rows-fit;
       some-vectors = some-vectors;
       actions-long = stands .read .actions;
       acts = λ v l. omega (arith, full .action-in v l, stands .valid-tables .few-actions);
@@ -210,18 +246,21 @@ module _ (m : Tables) (x : Lent) (h : holds m x ≡ true) where
     }
 
     -- the answer is that of the standing level
-    bounds-are : (q : List ℕ) → boundsIn (m .states) (standingIn x .vectors) (standingIn x .points) (x .cells .actions) (x .cells .entries)
-        (x .cells .corners) (x .cells .weights) gains q ≡ boundsBy Fine m L q
+    bounds-are : (q : List ℕ) → boundsIn (m .states) (m .actions) (standingIn x .vectors) (standingIn x .points) (x .cells .actions) (x .cells .entries)
+        (x .cells .corners) (x .cells .weights) (x .rows .informed) gains q ≡ boundsBy Fine M L F (weightIn q)
     unfolding lower advice best
-    bounds-are q = rw (upper-is q)
+    bounds-are q = rw (upper-is q, sawtooth-is q, row-is q)
 
-    bounds-widened : (b : List ℕ) → boundsBy Fine m L (widened (m .states) b) ≡ boundsBy Fine m L b
+    bounds-widened : (b : List ℕ) → boundsBy Fine M L F (weightIn (widened (m .states) b)) ≡ boundsBy Fine M L F (weightIn b)
     bounds-widened b =
         let same = widened-at b in
+        let some = stands .valid-tables .some-actions in
         let q = weightIn (widened (m .states) b) in
         rw (
           lower-weights M L q (weightIn b) same some-vectors,
-          upper-weights M L q (weightIn b) same,
+          upper-weights M L q (weightIn b) same some F,
+          ceiling-weights (m .states) L q (weightIn b) same,
+          row-weights M L q (weightIn b) same some F,
           advice-weights M L q (weightIn b) same some-vectors,
         )
 
@@ -246,14 +285,14 @@ module _ (m : Tables) (x : Lent) where
 
     -- 17, or the totals
     at-mixture : (held : Bool) → mixtureHolds (m .states) b ≡ held → standingVerdict m x ≡ Fine
-        → unless17 held (boundsBy Fine m (levelOf m (standingIn x)) b) ≡ totalsOf m x b
+        → unless17 held (boundsBy Fine (modelOf m) (levelOf m (standingIn x)) (informedIn m x) (weightIn b)) ≡ totalsOf m x b
     unfolding totalsOf
     at-mixture true f s = rw (totals-verdict, s, f)
     at-mixture false f s = rw (totals-verdict, s, f)
 
     pub answered : {gains : List ℕ} → standingVerdict m x ≡ Fine → Gained m x gains
-        → answerIn (m .states) (standingIn x .vectors) (standingIn x .points) (x .cells .actions) (x .cells .entries) (x .cells .corners)
-        (x .cells .weights) gains b
+        → answerIn (m .states) (m .actions) (standingIn x .vectors) (standingIn x .points) (x .cells .actions) (x .cells .entries) (x .cells .corners)
+        (x .cells .weights) (x .rows .informed) gains b
         ≡ totalsOf m x b
     answered s g =
         let h = standing-holds s in

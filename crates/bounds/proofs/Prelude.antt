@@ -8,5 +8,5 @@ pub use mathlib.Core.Path.{_∙_, _≡_, sym, ap}
 pub use native.Mathlib.Omega.{arith}
 pub use Rattle.tables.specs.declared.Tables.{Tables}
 pub use Rattle.tables.specs.Storage.{weightIn, tablesIn}
-pub use Rattle.levels.specs.Storage.{Lent, cells, lent, standingAt}
+pub use Rattle.levels.specs.Storage.{Lent, cells, rows, lent, standingAt}
 pub use Rattle.bounds.proofs.Bounds.{stands}

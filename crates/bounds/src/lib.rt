@@ -1,4 +1,4 @@
-// Totals at a mixture: the floor, the ceiling, and the action to open with. Tables and the standing level are lent.
+// Totals at a mixture: the floor, the lower of two ceilings, and the action to open with. Tables, the standing level and its rows are lent.
 ghost use mathlib.Core.Path.{_≡_};
 ghost use mathlib.Core.Bool.{true};
 ghost use mathlib.Core.List.{List};
@@ -6,7 +6,7 @@ ghost use Prim.Native.Nat.{ℕ, _≤_, _<_};
 ghost use Rattle.integers.specs.Whole.{Below};
 ghost use Rattle.tables.specs.Limits.{maxStates, maxWeight};
 ghost use Rattle.tables.specs.Storage.{tablesIn};
-ghost use Rattle.levels.specs.Storage.{LentLevel, Lent, cells, lent};
+ghost use Rattle.levels.specs.Storage.{LentLevel, Lent, cells, rows, lent};
 ghost use Rattle.runs.specs.State.{mixtureHolds, totalsOf};
 ghost use Rattle.runs.specs.Demand3.{ModelAccepted, after, steps, TotalsHold};
 ghost use Rattle.bounds.specs.Steps.{standingVerdict, noBounds, boundsIn, answerIn, Asked};
@@ -48,6 +48,8 @@ fn no_bounds(v: Verdict) -> Bounds
         upper: 0,
         gap: 0,
         action: Action(0),
+        sawtooth: 0,
+        informed: 0,
     }
 }
 
@@ -57,27 +59,33 @@ fn bounds_at<'b>(
     entries: &'b [i64],
     corners: &'b [i64],
     weights: &'b [u32],
+    informed: &'b [i64],
     gains: &[u64],
     n: usize,
+    m: usize,
     vectors: usize,
     points: usize,
     q: &[u64],
 ) -> Bounds
-    requires { ⌜ Asked n vectors points (now actions) (now entries) (now corners) (now weights) (now gains) ⌝ }
+    requires { ⌜ Asked n m vectors points (now actions) (now entries) (now corners) (now weights) (now informed) (now gains) ⌝ }
     requires { ⌜ Below maxWeight n (now q) ⌝ }
-    ensures { λ r. ⌜ r ≡ boundsIn n vectors points (now (actions .entry)) (now (entries .entry)) (now (corners .entry)) (now (weights .entry))
-        (now (gains .entry)) (now (q .entry)) ⌝ }
+    ensures { λ r. ⌜ r ≡ boundsIn n m vectors points (now (actions .entry)) (now (entries .entry)) (now (corners .entry)) (now (weights .entry))
+        (now (informed .entry)) (now (gains .entry)) (now (q .entry)) ⌝ }
 {
     let v = vectors::best_vector(q, entries, n, vectors);
     let i = v.0;
     let lower = vectors::product(q, entries, read::start(i, n), n);
-    let upper = sawtooth::ceiling(q, corners, weights, gains, points, n);
+    let saw = sawtooth::ceiling(q, corners, weights, gains, points, n);
+    let row = vectors::largest_product(q, informed, n, m);
+    let upper = integers::lesser(saw, row);
     Bounds {
         verdict: Verdict::Fine,
         lower: lower,
         upper: upper,
         gap: integers::minus(upper, lower),
         action: Action(shape::action(actions[i])),
+        sawtooth: saw,
+        informed: row,
     }
 }
 
@@ -87,15 +95,17 @@ pub fn answer<'b>(
     entries: &'b [i64],
     corners: &'b [i64],
     weights: &'b [u32],
+    informed: &'b [i64],
     gains: &[u64],
     n: usize,
+    m: usize,
     vectors: usize,
     points: usize,
     mixture: &[u32],
 ) -> Bounds
-    requires { ⌜ Asked n vectors points (now actions) (now entries) (now corners) (now weights) (now gains) ⌝ }
-    ensures { λ r. ⌜ r ≡ answerIn n vectors points (now (actions .entry)) (now (entries .entry)) (now (corners .entry)) (now (weights .entry))
-        (now (gains .entry)) (now (mixture .entry)) ⌝ }
+    requires { ⌜ Asked n m vectors points (now actions) (now entries) (now corners) (now weights) (now informed) (now gains) ⌝ }
+    ensures { λ r. ⌜ r ≡ answerIn n m vectors points (now (actions .entry)) (now (entries .entry)) (now (corners .entry)) (now (weights .entry))
+        (now (informed .entry)) (now (gains .entry)) (now (mixture .entry)) ⌝ }
 {
     if !mixture_holds(mixture, n) {
         return no_bounds(Verdict::Refused(17, 0));
@@ -106,8 +116,10 @@ pub fn answer<'b>(
         entries,
         corners,
         weights,
+        informed,
         gains,
         n,
+        m,
         vectors,
         points,
         &q,
@@ -126,10 +138,12 @@ pub fn judge_standing<'a, 'b>(
     corners: &'b [i64],
     weights: &'b [u32],
     values: &'b [i64],
+    informed: &'b [i64],
+    qmdp: &'b [i64],
 ) -> Verdict
     ensures { λ r. ⌜ ((choices : List ℕ) → r ≡ standingVerdict (tablesIn c (now (transition .entry)) (now (observation .entry)) (now (reward .entry)))
         (lent (now (state .entry)) (cells (now (actions .entry)) choices (now (entries .entry)) (now (corners .entry)) (now (weights .entry))
-        (now (values .entry))))) ⌝ }
+        (now (values .entry))) (rows (now (informed .entry)) (now (qmdp .entry))))) ⌝ }
 {
     if !judging::standing_holds(
         transition,
@@ -142,6 +156,8 @@ pub fn judge_standing<'a, 'b>(
         corners,
         weights,
         values,
+        informed,
+        qmdp,
     ) {
         return Verdict::Refused(7, 0);
     }
@@ -164,15 +180,18 @@ pub fn totals<'a, 'b>(
     corners: &'b [i64],
     weights: &'b [u32],
     values: &'b [i64],
+    informed: &'b [i64],
+    qmdp: &'b [i64],
     mixture: &[u32],
 ) -> Bounds
     ensures { λ r. ⌜ ((choices : List ℕ) → r ≡ totalsOf (tablesIn c (now (transition .entry)) (now (observation .entry)) (now (reward .entry)))
         (lent (now (state .entry)) (cells (now (actions .entry)) choices (now (entries .entry)) (now (corners .entry)) (now (weights .entry))
-        (now (values .entry)))) (now (mixture .entry))) ⌝ }
+        (now (values .entry))) (rows (now (informed .entry)) (now (qmdp .entry)))) (now (mixture .entry))) ⌝ }
     ensures { λ r. ⌜ (let m = tablesIn c (now (transition .entry)) (now (observation .entry)) (now (reward .entry)) in
         (choices : List ℕ) (x : Lent) (ls : List LentLevel) → ModelAccepted m x
         → lent (now (state .entry)) (cells (now (actions .entry)) choices (now (entries .entry)) (now (corners .entry)) (now (weights .entry))
-        (now (values .entry))) ≡ after m x ls → 0 < steps m x ls → mixtureHolds (m .states) (now (mixture .entry)) ≡ true
+        (now (values .entry))) (rows (now (informed .entry)) (now (qmdp .entry))) ≡ after m x ls → 0 < steps m x ls
+        → mixtureHolds (m .states) (now (mixture .entry)) ≡ true
         → TotalsHold m x ls (now (mixture .entry)) r) ⌝ }
 {
     let standing = judge_standing(
@@ -186,6 +205,8 @@ pub fn totals<'a, 'b>(
         corners,
         weights,
         values,
+        informed,
+        qmdp,
     );
     let Verdict::Fine = standing else {
         return no_bounds(standing);
@@ -197,8 +218,10 @@ pub fn totals<'a, 'b>(
         entries,
         corners,
         weights,
+        informed,
         &gains,
         c.states,
+        c.actions,
         s.vectors,
         s.points,
         mixture,

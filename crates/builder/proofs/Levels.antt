@@ -1,16 +1,15 @@
 -- Laws of the builder's level: the least values, the weights that vectors are made at, and the rows of vectors. Assumes nothing.
-use Rattle.integers.proofs.Kit.{_≡_, _∙_, refl, ap, sym, true, false, List, [], ℕ, _≤_, _<_, _+_, _*_, _-_, _^_, arith, mul-le-mul-right, decLt, ltb}
-use Rattle.integers.proofs.Kit.{length, getD, set, paste, ℤ, pos, ltZ, mag, w64, toZ, ofZ}
+use Rattle.integers.proofs.Kit.{_≡_, _∙_, refl, ap, sym, List, [], ℕ, _≤_, _<_, _+_, _*_, _-_, _^_, arith, mul-le-mul-right, decLt, ltb}
+use Rattle.integers.proofs.Kit.{length, getD, set, paste, ℤ, pos, mag, w64, toZ, ofZ}
 use lib.Arith.{le→nltb}
 use lib.Dec.{lt→ltb}
 use Rattle.integers.specs.Whole.{totalTo, floorDiv, ceilDiv}
-use Rattle.integers.specs.Search.{firstLargest}
 use Rattle.integers.specs.Cells.{laid}
 use Rattle.integers.proofs.Lists.{row-below, padded-at, padded-length, laid-none, laid-turn, laid-length, laid-self}
 use Rattle.integers.proofs.Lists.{laidRows-none, laidRows-more, laidRows-length, laidRows-flat}
 use Rattle.integers.proofs.Words.{answer}
 use Rattle.integers.proofs.Parts.{T-true, T-false}
-use Rattle.integers.proofs.Searches.{largest-later, largest-same, largest-cong, largest-in}
+use Rattle.integers.proofs.Searches.{largest-cong, largest-in}
 use Rattle.tables.specs.declared.Counts.{Counts}
 use Rattle.tables.specs.declared.Tables.{Tables}
 use Rattle.tables.specs.Limits.{maxStates, maxActions, maxObservations, K, maxLevels}
@@ -30,14 +29,6 @@ use Rattle.checks.proofs.Lent.{floor-shaped, roof-lent}
 use Rattle.builder.specs.declared.Best.{Best}
 use Rattle.builder.specs.Steps.{topBuilt, candidateOf, bestOf, leastFrom, leastOf, uponIn, Upon, RowsFit, Filled}
 
--- ---- the largest so far, as a loop takes it
-module _ (f : ℕ → ℤ) (n : ℕ) {most here : ℤ} (so-far : most ≡ f (firstLargest n f)) (next : here ≡ f n) where
-  pub more-here : ltZ most here ≡ true → here ≡ f (firstLargest (n + 1) f)
-  more-here t = next ∙ ap f (sym (largest-later n f (rw (← so-far, ← next) t)))
-
-  pub no-more-here : ltZ most here ≡ false → most ≡ f (firstLargest (n + 1) f)
-  no-more-here t = so-far ∙ ap f (sym (largest-same n f (rw (← so-far, ← next) t)))
-
 -- ---- the least value, from what each action allows
 pub least-is : (M : Model) (L : Level) (p : ℕ → ℕ) (backups : List ℤ) → ((a : ℕ) → a < M .actions → getD backups a (pos 0) ≡ backupAt M L p a)
     → 0 < M .actions → leastOf (M .actions) backups ≡ leastValue M L p
@@ -45,10 +36,6 @@ unfolding leastValue leastFor
 least-is M L p backups h some =
     let same = largest-cong (M .actions) (leastFrom backups) (λ a. ceilDiv (backupAt M L p a) K) some (λ a l. ap (λ (z : ℤ). ceilDiv z K) (h a l)) in
     ap (λ (z : ℤ). ceilDiv z K) (h _ (largest-in (M .actions) (leastFrom backups) some)) ∙ ap (λ (a : ℕ). ceilDiv (backupAt M L p a) K) same
-
--- slices over which least values are laid are as long as they were
-pub laid-long : (i : ℕ) (f : ℕ → ℤ) (xs : List ℤ) {ys : List ℤ} → ys ≡ laid i f xs → i ≤ length xs → length ys ≡ length xs
-laid-long i f xs e b = rw e (laid-length i f xs b)
 
 -- ---- weights are read below the number of states only
 module _ (M : Model) (L : Level) (p p' : ℕ → ℕ) (h : (s : ℕ) → s < M .states → p s ≡ p' s) (some : 0 < M .actions) where

@@ -15,10 +15,13 @@ use Rattle.tables.specs.declared.Tables.{Tables}
 use Rattle.tables.specs.declared.Verdict.{Verdict}
 use Rattle.tables.specs.declared.Verdict.the-variants.{Fine, Refused}
 use Rattle.tables.specs.Limits.{maxLevels}
+use Rattle.tables.specs.Storage.{modelOf}
 use Rattle.tables.proofs.Refusals.{before-fine, unless-fine}
 use Rattle.plans.specs.Limits.{maxBuilt}
 use Rattle.plans.specs.Level.{level0, IsPoint}
-use Rattle.levels.specs.Storage.{Cells, LentLevel, Lent, stateSize, cells, lent, levelOf, pointIn, longEnough, complete, over, numberIn, standingIn}
+use Rattle.plans.specs.Rows.{informedNext, informed, qmdpNext, qmdp}
+use Rattle.levels.specs.Storage.{Cells, LentLevel, Rows, rows, Lent, stateSize, cells, lent, levelOf, pointIn, longEnough, complete, over, numberIn}
+use Rattle.levels.specs.Storage.{standingIn, informedIn, qmdpIn}
 use Rattle.levels.specs.Judged.{offerVerdict}
 use Rattle.levels.proofs.Over.{cells-same}
 use Rattle.runs.specs.State.{openVerdict, opened, offered, answerFor, buildVerdict, builtFrom, builtOf}
@@ -30,28 +33,30 @@ row-alone : {A : Type 0} (z : A) (w : ℕ) (xs : List A) → laid w (λ i. z) xs
 unfolding laidRows
 row-alone z w xs = let e : w ≡ 1 * w = omega arith in ap (λ (k : ℕ). laid k (λ i. z) xs) e
 
-lent-same : {s s' : List ℕ} {x x' : Cells} → s ≡ s' → x ≡ x' → lent s x ≡ lent s' x'
-lent-same e f = rw (e, f)
+lent-same : {s s' : List ℕ} {x x' : Cells} {f f' q q' : List ℤ} → s ≡ s' → x ≡ x' → f ≡ f' → q ≡ q' → lent s x (rows f q) ≡ lent s' x' (rows f' q')
+lent-same e c f q = rw (e, c, f, q)
 
 module _ (m : Tables) (x : Lent) where
   pub opened-refused : {k i : ℕ} {v : Verdict} → v ≡ openVerdict m x → v ≡ Refused k i → x ≡ opened m x
   unfolding opened
   opened-refused e f = rw (sym e ∙ f)
 
-  -- level 0 over the slices
+  -- level 0 and its rows over the slices
   pub opened-fine : {v : Verdict} → v ≡ openVerdict m x → v ≡ Fine
-      → {state actions choices : List ℕ} {entries corners : List ℤ}
+      → {state actions choices : List ℕ} {entries corners f q : List ℤ}
       → state ≡ 0 ∷ 1 ∷ 0 ∷ drop stateSize (x .state)
       → actions ≡ laid 1 (λ v. 0) (x .cells .actions)
       → choices ≡ laid (m .observations) (λ o. 0) (x .cells .choices)
       → entries ≡ laid (m .states) (λ s. pos 0) (x .cells .entries)
       → corners ≡ laid (m .states) (λ s. pos 0) (x .cells .corners)
-      → lent state (cells actions choices entries corners (x .cells .weights) (x .cells .values)) ≡ opened m x
-  unfolding opened over level0
-  opened-fine e f s a b c d =
-      rw (sym e ∙ f)
+      → f ≡ laid (m .actions * m .states) (λ i. pos 0) (x .rows .informed)
+      → q ≡ laid (m .actions * m .states) (λ i. pos 0) (x .rows .qmdp)
+      → lent state (cells actions choices entries corners (x .cells .weights) (x .cells .values)) (rows f q) ≡ opened m x
+  unfolding opened over level0 informed qmdp laidRows
+  opened-fine e fine s a b c d f q =
+      rw (sym e ∙ fine)
       (lent-same s (cells-same a (b ∙ row-alone 0 (m .observations) (x .cells .choices)) (c ∙ row-alone (pos 0) (m .states) (x .cells .entries)) d
-      (sym (laidRows-none (m .states) _ (x .cells .weights))) (sym (laid-none _ (x .cells .values)))))
+      (sym (laidRows-none (m .states) (level0 .weight) (x .cells .weights))) (sym (laid-none _ (x .cells .values)))) f q)
 
   module _ (l : LentLevel) where
     pub offered-refused : {k i : ℕ} {v : Verdict} → v ≡ offerVerdict m x l → v ≡ Refused k i → x ≡ offered m x l
@@ -66,11 +71,14 @@ module _ (m : Tables) (x : Lent) where
         (sym (laidRows-flat (l .vectors) (m .states) (l .cells .entries) (x .cells .entries) (pos 0))) refl
         (sym (laidRows-flat (l .points) (m .states) (l .cells .weights) (x .cells .weights) 0)) refl
 
-    pub offered-fine : {v : Verdict} → v ≡ offerVerdict m x l → v ≡ Fine → {state : List ℕ} {y : Cells}
+    pub offered-fine : {v : Verdict} → v ≡ offerVerdict m x l → v ≡ Fine → {state : List ℕ} {y : Cells} {f q : List ℤ}
         → state ≡ (numberIn x + 1) ∷ l .vectors ∷ l .points ∷ drop stateSize (x .state)
-        → y ≡ laidBy (m .states) (m .observations) (l .vectors) (l .points) (l .cells) (x .cells) → lent state y ≡ offered m x l
+        → y ≡ laidBy (m .states) (m .observations) (l .vectors) (l .points) (l .cells) (x .cells)
+        → f ≡ laidRows (m .actions) (m .states) (informedNext (modelOf m) (informedIn m x)) (x .rows .informed)
+        → q ≡ laidRows (m .actions) (m .states) (qmdpNext (modelOf m) (qmdpIn m x)) (x .rows .qmdp)
+        → lent state y (rows f q) ≡ offered m x l
     unfolding offered
-    offered-fine e f s c = rw (sym e ∙ f) (lent-same s (c ∙ laid-over))
+    offered-fine e fine s c f q = rw (sym e ∙ fine) (lent-same s (c ∙ laid-over) f q)
 
 -- ---- building
 -- slices that are long enough have room for the points' weights

@@ -13,7 +13,7 @@ ghost use Rattle.tables.specs.Storage.{tablesIn};
 ghost use Rattle.tables.specs.Verdicts.{_before_, unless};
 ghost use Rattle.tables.specs.Judged.{tablesVerdict};
 ghost use Rattle.plans.specs.Limits.{maxBuilt};
-ghost use Rattle.levels.specs.Storage.{LentLevel, Lent, stateSize, cells, lent, lentFor, standingAt, pointIn, longEnough};
+ghost use Rattle.levels.specs.Storage.{LentLevel, Lent, stateSize, cells, rows, lent, lentFor, standingAt, pointIn, longEnough, longRows};
 ghost use Rattle.levels.specs.Judged.{holds, weightsVerdict, offerVerdict};
 ghost use Rattle.runs.specs.State.{openVerdict, opened, offered, buildVerdict, builtOf};
 ghost use Rattle.certifier.specs.Steps.{Lays, laidBy};
@@ -42,9 +42,12 @@ fn judge_open<'a>(
     corners: usize,
     weights: usize,
     values: usize,
+    informed: usize,
+    qmdp: usize,
 ) -> Verdict
     ensures { λ r. ⌜ r ≡ (tablesVerdict (tablesIn c (now (transition .entry)) (now (observation .entry)) (now (reward .entry))) before
-        unless (leb stateSize state && (leb (1 * c .observations) choices && longEnough (c .states) 1 0 actions entries corners weights values)) 9 0) ⌝ }
+        unless (leb stateSize state && ((leb (1 * c .observations) choices && longEnough (c .states) 1 0 actions entries corners weights values)
+        && longRows (c .actions) (c .states) informed qmdp)) 9 0) ⌝ }
 {
     let tables = judge::judge_tables(transition, observation, reward, c);
     let Verdict::Fine = tables else {
@@ -66,6 +69,13 @@ fn judge_open<'a>(
         weights,
         values,
     ) {
+        return Verdict::Refused(9, 0);
+    }
+    let cells = c.actions * c.states;
+    if informed < cells {
+        return Verdict::Refused(9, 0);
+    }
+    if qmdp < cells {
         return Verdict::Refused(9, 0);
     }
     Verdict::Fine
@@ -106,16 +116,18 @@ pub fn open<'a>(
     corners: &mut [i64],
     weights: &[u32],
     values: &[i64],
+    informed: &mut [i64],
+    qmdp: &mut [i64],
 ) -> Verdict
     ensures { λ r. ⌜ (let m = tablesIn c (now (transition .entry)) (now (observation .entry)) (now (reward .entry)) in
         let x = lent (now (state .entry)) (cells (now (actions .entry)) (now (choices .entry)) (now (entries .entry)) (now (corners .entry))
-        (now (weights .entry)) (now (values .entry))) in
+        (now (weights .entry)) (now (values .entry))) (rows (now (informed .entry)) (now (qmdp .entry))) in
         r ≡ openVerdict m x) ⌝ }
     ensures { λ _. ⌜ (let m = tablesIn c (now (transition .entry)) (now (observation .entry)) (now (reward .entry)) in
         let x = lent (now (state .entry)) (cells (now (actions .entry)) (now (choices .entry)) (now (entries .entry)) (now (corners .entry))
-        (now (weights .entry)) (now (values .entry))) in
+        (now (weights .entry)) (now (values .entry))) (rows (now (informed .entry)) (now (qmdp .entry))) in
         lent (now (state .exit)) (cells (now (actions .exit)) (now (choices .exit)) (now (entries .exit)) (now (corners .exit))
-        (now (weights .entry)) (now (values .entry)))
+        (now (weights .entry)) (now (values .entry))) (rows (now (informed .exit)) (now (qmdp .exit)))
         ≡ opened m x) ⌝ }
 {
     let verdict = judge_open(
@@ -130,12 +142,16 @@ pub fn open<'a>(
         corners.len(),
         weights.len(),
         values.len(),
+        informed.len(),
+        qmdp.len(),
     );
     let Verdict::Fine = verdict else {
         return verdict;
     };
     levels::put_standing(state, Standing::fresh());
     lay_level_0(c.states, c.observations, actions, choices, entries, corners);
+    rows::clear(informed, c.actions * c.states);
+    rows::clear(qmdp, c.actions * c.states);
     Verdict::Fine
 }
 
@@ -190,6 +206,8 @@ pub fn offer<'a, 'b>(
     corners: &mut [i64],
     weights: &mut [u32],
     values: &mut [i64],
+    informed: &mut [i64],
+    qmdp: &mut [i64],
     vectors: usize,
     points: usize,
     newactions: &'b [u8],
@@ -201,17 +219,17 @@ pub fn offer<'a, 'b>(
 ) -> Verdict
     ensures { λ r. ⌜ (let m = tablesIn c (now (transition .entry)) (now (observation .entry)) (now (reward .entry)) in
         let x = lent (now (state .entry)) (cells (now (actions .entry)) (now (choices .entry)) (now (entries .entry)) (now (corners .entry))
-        (now (weights .entry)) (now (values .entry))) in
+        (now (weights .entry)) (now (values .entry))) (rows (now (informed .entry)) (now (qmdp .entry))) in
         let l = lentFor vectors points (cells (now (newactions .entry)) (now (newchoices .entry)) (now (newentries .entry))
         (now (newcorners .entry)) (now (newweights .entry)) (now (newvalues .entry))) in
         r ≡ offerVerdict m x l) ⌝ }
     ensures { λ _. ⌜ (let m = tablesIn c (now (transition .entry)) (now (observation .entry)) (now (reward .entry)) in
         let x = lent (now (state .entry)) (cells (now (actions .entry)) (now (choices .entry)) (now (entries .entry)) (now (corners .entry))
-        (now (weights .entry)) (now (values .entry))) in
+        (now (weights .entry)) (now (values .entry))) (rows (now (informed .entry)) (now (qmdp .entry))) in
         let l = lentFor vectors points (cells (now (newactions .entry)) (now (newchoices .entry)) (now (newentries .entry))
         (now (newcorners .entry)) (now (newweights .entry)) (now (newvalues .entry))) in
         lent (now (state .exit)) (cells (now (actions .exit)) (now (choices .exit)) (now (entries .exit)) (now (corners .exit))
-        (now (weights .exit)) (now (values .exit)))
+        (now (weights .exit)) (now (values .exit))) (rows (now (informed .exit)) (now (qmdp .exit)))
         ≡ offered m x l) ⌝ }
 {
     let verdict = judging::judge_offer(
@@ -226,6 +244,8 @@ pub fn offer<'a, 'b>(
         &corners[..],
         &weights[..],
         &values[..],
+        &informed[..],
+        &qmdp[..],
         vectors,
         points,
         newactions,
@@ -265,6 +285,7 @@ pub fn offer<'a, 'b>(
         newweights,
         newvalues,
     );
+    rows::step(transition, observation, reward, c, informed, qmdp);
     Verdict::Fine
 }
 
@@ -282,6 +303,8 @@ fn judge_build<'a, 'b>(
     corners: &'b [i64],
     weights: &'b [u32],
     values: &'b [i64],
+    informed: &'b [i64],
+    qmdp: &'b [i64],
     given: &[u32],
     count: usize,
     newactions: usize,
@@ -293,7 +316,7 @@ fn judge_build<'a, 'b>(
     ensures { λ r. ⌜ ((choices : List ℕ) →
         let m = tablesIn c (now (transition .entry)) (now (observation .entry)) (now (reward .entry)) in
         let standing = lent (now (state .entry)) (cells (now (actions .entry)) choices (now (entries .entry)) (now (corners .entry))
-        (now (weights .entry)) (now (values .entry))) in
+        (now (weights .entry)) (now (values .entry))) (rows (now (informed .entry)) (now (qmdp .entry))) in
         r ≡ (unless (holds m standing) 7 0
         before unless (ltb (standingAt (now (state .entry)) .number) maxLevels) 8 0
         before unless (leb count maxBuilt && (leb ((c .states + count) * c .observations) newchoices
@@ -311,6 +334,8 @@ fn judge_build<'a, 'b>(
         corners,
         weights,
         values,
+        informed,
+        qmdp,
     ) {
         return Verdict::Refused(7, 0);
     }
@@ -351,6 +376,8 @@ pub fn build<'a, 'b>(
     corners: &'b [i64],
     weights: &'b [u32],
     values: &'b [i64],
+    informed: &'b [i64],
+    qmdp: &'b [i64],
     given: &[u32],
     count: usize,
     newactions: &mut [u8],
@@ -362,14 +389,14 @@ pub fn build<'a, 'b>(
     ensures { λ r. ⌜ ((choices : List ℕ) →
         let m = tablesIn c (now (transition .entry)) (now (observation .entry)) (now (reward .entry)) in
         let standing = lent (now (state .entry)) (cells (now (actions .entry)) choices (now (entries .entry)) (now (corners .entry))
-        (now (weights .entry)) (now (values .entry))) in
+        (now (weights .entry)) (now (values .entry))) (rows (now (informed .entry)) (now (qmdp .entry))) in
         let y = cells (now (newactions .entry)) (now (newchoices .entry)) (now (newentries .entry)) (now (newcorners .entry)) (now (given .entry))
         (now (newvalues .entry)) in
         r ≡ buildVerdict m standing count y) ⌝ }
     ensures { λ _. ⌜ ((choices : List ℕ) →
         let m = tablesIn c (now (transition .entry)) (now (observation .entry)) (now (reward .entry)) in
         let standing = lent (now (state .entry)) (cells (now (actions .entry)) choices (now (entries .entry)) (now (corners .entry))
-        (now (weights .entry)) (now (values .entry))) in
+        (now (weights .entry)) (now (values .entry))) (rows (now (informed .entry)) (now (qmdp .entry))) in
         let y = cells (now (newactions .entry)) (now (newchoices .entry)) (now (newentries .entry)) (now (newcorners .entry)) (now (given .entry))
         (now (newvalues .entry)) in
         let made = cells (now (newactions .exit)) (now (newchoices .exit)) (now (newentries .exit)) (now (newcorners .exit)) (now (given .entry))
@@ -378,7 +405,7 @@ pub fn build<'a, 'b>(
     ensures { λ r. ⌜ ((choices : List ℕ) (x : Lent) (ls : List LentLevel) →
         let m = tablesIn c (now (transition .entry)) (now (observation .entry)) (now (reward .entry)) in
         let standing = lent (now (state .entry)) (cells (now (actions .entry)) choices (now (entries .entry)) (now (corners .entry))
-        (now (weights .entry)) (now (values .entry))) in
+        (now (weights .entry)) (now (values .entry))) (rows (now (informed .entry)) (now (qmdp .entry))) in
         let y = cells (now (newactions .entry)) (now (newchoices .entry)) (now (newentries .entry)) (now (newcorners .entry)) (now (given .entry))
         (now (newvalues .entry)) in
         let made = cells (now (newactions .exit)) (now (newchoices .exit)) (now (newentries .exit)) (now (newcorners .exit)) (now (given .entry))
@@ -396,6 +423,8 @@ pub fn build<'a, 'b>(
         corners,
         weights,
         values,
+        informed,
+        qmdp,
         given,
         count,
         newactions.len(),

@@ -14,6 +14,10 @@ use Rattle.exports.specs.declared.Refusal.{Refusal}
 use Rattle.exports.specs.declared.Totals.{Totals}
 use Rattle.exports.specs.declared.Worth.{Worth}
 
+-- the version of the calls' names, parameters and answers
+abbrev pub layoutVersion : ℕ
+layoutVersion = 3
+
 -- tables that are handed in: states, actions, observations, discount, T, O, R
 abbrev pub model : ℕ → ℕ → ℕ → ℕ → List ℕ → List ℕ → List ℤ → Tables
 model n m k g transition observation reward = record {
@@ -39,6 +43,8 @@ totalsBy b = record {
   upper = b .upper;
   gap = b .gap;
   action = b .action .0;
+  sawtooth = b .sawtooth;
+  informed = b .informed;
 }
 
 abbrev pub worthBy : Valued → Worth

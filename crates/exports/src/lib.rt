@@ -6,7 +6,7 @@ ghost use mathlib.Core.List.{List};
 ghost use Prim.Native.Nat.{ℕ, _*_, _≤_, _<_};
 ghost use lib.ListN.{length};
 ghost use Rattle.tables.specs.Limits.{maxStates, maxActions, maxObservations, maxLevels};
-ghost use Rattle.levels.specs.Storage.{LentLevel, Lent, cells, lent, lentFor};
+ghost use Rattle.levels.specs.Storage.{LentLevel, Lent, cells, rows, lent, lentFor};
 ghost use Rattle.levels.specs.Judged.{offerVerdict};
 ghost use Rattle.modelfile.specs.ModelFile.{modelFile};
 ghost use Rattle.runs.specs.State.{left, openVerdict, opened, offered, mixtureHolds, totalsOf, buildVerdict, builtOf};
@@ -14,13 +14,21 @@ ghost use Rattle.mixtures.specs.Each.{answers, eachVerdict, eachOf};
 ghost use Rattle.runs.specs.Demand3.{ModelAccepted, after, steps, PointsHold};
 ghost use Rattle.worth.specs.Storage.{lentGraph};
 ghost use Rattle.worth.specs.Judged.{worthAnswer};
-ghost use Rattle.exports.specs.Calls.{model, refusalOf, totalsBy, worthBy, Brackets, Builds};
+ghost use Rattle.exports.specs.Calls.{layoutVersion, model, refusalOf, totalsBy, worthBy, Brackets, Builds};
 ghost use Rattle.exports.specs.Reading.{roomVerdict, readVerdict, readingBy, readingOf, laidTransitions, laidObservations, laidRewards, laidStart};
 use integers::cells;
 use tables::Counts;
 use tables::State;
 use tables::Verdict;
 use worth::Node;
+
+// The version of what follows: it rises where slices, their order or an answer's parts change.
+#[no_mangle]
+pub extern "C" fn biidhaqun_version() -> u64
+    ensures { λ r. ⌜ r ≡ layoutVersion ⌝ }
+{
+    3
+}
 
 // Document 01's number and place; 0 and 0 where a call is served.
 #[repr(C)]
@@ -52,6 +60,8 @@ pub struct Totals {
     pub upper: i64,
     pub gap: i64,
     pub action: usize,
+    pub sawtooth: i64,
+    pub informed: i64,
 }
 
 #[repr(C)]
@@ -195,16 +205,18 @@ pub extern "C" fn biidhaqun_open<'a>(
     corners: &mut [i64],
     weights: &[u32],
     values: &[i64],
+    informed: &mut [i64],
+    qmdp: &mut [i64],
 ) -> Refusal
     ensures { λ r. ⌜ (let tables = model n m k g (now (transition .entry)) (now (observation .entry)) (now (reward .entry)) in
         let x = lent (now (state .entry)) (cells (now (actions .entry)) (now (choices .entry)) (now (entries .entry)) (now (corners .entry))
-        (now (weights .entry)) (now (values .entry))) in
+        (now (weights .entry)) (now (values .entry))) (rows (now (informed .entry)) (now (qmdp .entry))) in
         r ≡ refusalOf (openVerdict tables x)) ⌝ }
     ensures { λ _. ⌜ (let tables = model n m k g (now (transition .entry)) (now (observation .entry)) (now (reward .entry)) in
         let x = lent (now (state .entry)) (cells (now (actions .entry)) (now (choices .entry)) (now (entries .entry)) (now (corners .entry))
-        (now (weights .entry)) (now (values .entry))) in
+        (now (weights .entry)) (now (values .entry))) (rows (now (informed .entry)) (now (qmdp .entry))) in
         lent (now (state .exit)) (cells (now (actions .exit)) (now (choices .exit)) (now (entries .exit)) (now (corners .exit))
-        (now (weights .entry)) (now (values .entry)))
+        (now (weights .entry)) (now (values .entry))) (rows (now (informed .exit)) (now (qmdp .exit)))
         ≡ opened tables x) ⌝ }
 {
     let c = Counts {
@@ -225,6 +237,8 @@ pub extern "C" fn biidhaqun_open<'a>(
         corners,
         weights,
         values,
+        informed,
+        qmdp,
     );
     refusal_of(verdict)
 }
@@ -246,6 +260,8 @@ pub extern "C" fn biidhaqun_offer<'a, 'b>(
     corners: &mut [i64],
     weights: &mut [u32],
     values: &mut [i64],
+    informed: &mut [i64],
+    qmdp: &mut [i64],
     vectors: usize,
     points: usize,
     newactions: &'b [u8],
@@ -257,17 +273,17 @@ pub extern "C" fn biidhaqun_offer<'a, 'b>(
 ) -> Refusal
     ensures { λ r. ⌜ (let tables = model n m k g (now (transition .entry)) (now (observation .entry)) (now (reward .entry)) in
         let x = lent (now (state .entry)) (cells (now (actions .entry)) (now (choices .entry)) (now (entries .entry)) (now (corners .entry))
-        (now (weights .entry)) (now (values .entry))) in
+        (now (weights .entry)) (now (values .entry))) (rows (now (informed .entry)) (now (qmdp .entry))) in
         let l = lentFor vectors points (cells (now (newactions .entry)) (now (newchoices .entry)) (now (newentries .entry))
         (now (newcorners .entry)) (now (newweights .entry)) (now (newvalues .entry))) in
         r ≡ refusalOf (offerVerdict tables x l)) ⌝ }
     ensures { λ _. ⌜ (let tables = model n m k g (now (transition .entry)) (now (observation .entry)) (now (reward .entry)) in
         let x = lent (now (state .entry)) (cells (now (actions .entry)) (now (choices .entry)) (now (entries .entry)) (now (corners .entry))
-        (now (weights .entry)) (now (values .entry))) in
+        (now (weights .entry)) (now (values .entry))) (rows (now (informed .entry)) (now (qmdp .entry))) in
         let l = lentFor vectors points (cells (now (newactions .entry)) (now (newchoices .entry)) (now (newentries .entry))
         (now (newcorners .entry)) (now (newweights .entry)) (now (newvalues .entry))) in
         lent (now (state .exit)) (cells (now (actions .exit)) (now (choices .exit)) (now (entries .exit)) (now (corners .exit))
-        (now (weights .exit)) (now (values .exit)))
+        (now (weights .exit)) (now (values .exit))) (rows (now (informed .exit)) (now (qmdp .exit)))
         ≡ offered tables x l) ⌝ }
 {
     let c = Counts {
@@ -288,6 +304,8 @@ pub extern "C" fn biidhaqun_offer<'a, 'b>(
         corners,
         weights,
         values,
+        informed,
+        qmdp,
         vectors,
         points,
         newactions,
@@ -316,17 +334,19 @@ pub extern "C" fn biidhaqun_totals<'a, 'b>(
     corners: &'b [i64],
     weights: &'b [u32],
     values: &'b [i64],
+    informed: &'b [i64],
+    qmdp: &'b [i64],
     mixture: &[u32],
 ) -> Totals
     ensures { λ r. ⌜ ((choices : List ℕ) →
         let tables = model n m k g (now (transition .entry)) (now (observation .entry)) (now (reward .entry)) in
         let standing = lent (now (state .entry)) (cells (now (actions .entry)) choices (now (entries .entry)) (now (corners .entry))
-        (now (weights .entry)) (now (values .entry))) in
+        (now (weights .entry)) (now (values .entry))) (rows (now (informed .entry)) (now (qmdp .entry))) in
         r ≡ totalsBy (totalsOf tables standing (now (mixture .entry)))) ⌝ }
     ensures { λ r. ⌜ ((choices : List ℕ) (x : Lent) (ls : List LentLevel) →
         let tables = model n m k g (now (transition .entry)) (now (observation .entry)) (now (reward .entry)) in
         let standing = lent (now (state .entry)) (cells (now (actions .entry)) choices (now (entries .entry)) (now (corners .entry))
-        (now (weights .entry)) (now (values .entry))) in
+        (now (weights .entry)) (now (values .entry))) (rows (now (informed .entry)) (now (qmdp .entry))) in
         ModelAccepted tables x → standing ≡ after tables x ls → 0 < steps tables x ls → mixtureHolds n (now (mixture .entry)) ≡ true →
         Brackets tables x ls (now (mixture .entry)) r) ⌝ }
 {
@@ -347,6 +367,8 @@ pub extern "C" fn biidhaqun_totals<'a, 'b>(
         corners,
         weights,
         values,
+        informed,
+        qmdp,
         mixture,
     );
     let verdict = bounds.verdict;
@@ -359,6 +381,8 @@ pub extern "C" fn biidhaqun_totals<'a, 'b>(
         upper: bounds.upper,
         gap: bounds.gap,
         action: action.0,
+        sawtooth: bounds.sawtooth,
+        informed: bounds.informed,
     }
 }
 
@@ -378,6 +402,8 @@ pub extern "C" fn biidhaqun_each<'a, 'b>(
     corners: &'b [i64],
     weights: &'b [u32],
     values: &'b [i64],
+    informed: &'b [i64],
+    qmdp: &'b [i64],
     mixtures: &[u32],
     count: usize,
     verdicts: &mut [u8],
@@ -388,13 +414,13 @@ pub extern "C" fn biidhaqun_each<'a, 'b>(
     ensures { λ r. ⌜ ((choices : List ℕ) →
         let tables = model n m k g (now (transition .entry)) (now (observation .entry)) (now (reward .entry)) in
         let standing = lent (now (state .entry)) (cells (now (actions .entry)) choices (now (entries .entry)) (now (corners .entry))
-        (now (weights .entry)) (now (values .entry))) in
+        (now (weights .entry)) (now (values .entry))) (rows (now (informed .entry)) (now (qmdp .entry))) in
         r ≡ refusalOf (eachVerdict tables standing (now (mixtures .entry)) count
         (answers (now (verdicts .entry)) (now (lower .entry)) (now (upper .entry)) (now (advice .entry))))) ⌝ }
     ensures { λ _. ⌜ ((choices : List ℕ) →
         let tables = model n m k g (now (transition .entry)) (now (observation .entry)) (now (reward .entry)) in
         let standing = lent (now (state .entry)) (cells (now (actions .entry)) choices (now (entries .entry)) (now (corners .entry))
-        (now (weights .entry)) (now (values .entry))) in
+        (now (weights .entry)) (now (values .entry))) (rows (now (informed .entry)) (now (qmdp .entry))) in
         answers (now (verdicts .exit)) (now (lower .exit)) (now (upper .exit)) (now (advice .exit))
         ≡ eachOf tables standing (now (mixtures .entry)) count
         (answers (now (verdicts .entry)) (now (lower .entry)) (now (upper .entry)) (now (advice .entry)))) ⌝ }
@@ -416,6 +442,8 @@ pub extern "C" fn biidhaqun_each<'a, 'b>(
         corners,
         weights,
         values,
+        informed,
+        qmdp,
         mixtures,
         count,
         verdicts,
@@ -442,6 +470,8 @@ pub extern "C" fn biidhaqun_build<'a, 'b>(
     corners: &'b [i64],
     weights: &'b [u32],
     values: &'b [i64],
+    informed: &'b [i64],
+    qmdp: &'b [i64],
     count: usize,
     given: &[u32],
     newactions: &mut [u8],
@@ -453,14 +483,14 @@ pub extern "C" fn biidhaqun_build<'a, 'b>(
     ensures { λ r. ⌜ ((choices : List ℕ) →
         let tables = model n m k g (now (transition .entry)) (now (observation .entry)) (now (reward .entry)) in
         let standing = lent (now (state .entry)) (cells (now (actions .entry)) choices (now (entries .entry)) (now (corners .entry))
-        (now (weights .entry)) (now (values .entry))) in
+        (now (weights .entry)) (now (values .entry))) (rows (now (informed .entry)) (now (qmdp .entry))) in
         let y = cells (now (newactions .entry)) (now (newchoices .entry)) (now (newentries .entry)) (now (newcorners .entry)) (now (given .entry))
         (now (newvalues .entry)) in
         r ≡ refusalOf (buildVerdict tables standing count y)) ⌝ }
     ensures { λ _. ⌜ ((choices : List ℕ) →
         let tables = model n m k g (now (transition .entry)) (now (observation .entry)) (now (reward .entry)) in
         let standing = lent (now (state .entry)) (cells (now (actions .entry)) choices (now (entries .entry)) (now (corners .entry))
-        (now (weights .entry)) (now (values .entry))) in
+        (now (weights .entry)) (now (values .entry))) (rows (now (informed .entry)) (now (qmdp .entry))) in
         let y = cells (now (newactions .entry)) (now (newchoices .entry)) (now (newentries .entry)) (now (newcorners .entry)) (now (given .entry))
         (now (newvalues .entry)) in
         let made = cells (now (newactions .exit)) (now (newchoices .exit)) (now (newentries .exit)) (now (newcorners .exit)) (now (given .entry))
@@ -469,7 +499,7 @@ pub extern "C" fn biidhaqun_build<'a, 'b>(
     ensures { λ r. ⌜ ((choices : List ℕ) (x : Lent) (ls : List LentLevel) →
         let tables = model n m k g (now (transition .entry)) (now (observation .entry)) (now (reward .entry)) in
         let standing = lent (now (state .entry)) (cells (now (actions .entry)) choices (now (entries .entry)) (now (corners .entry))
-        (now (weights .entry)) (now (values .entry))) in
+        (now (weights .entry)) (now (values .entry))) (rows (now (informed .entry)) (now (qmdp .entry))) in
         let y = cells (now (newactions .entry)) (now (newchoices .entry)) (now (newentries .entry)) (now (newcorners .entry)) (now (given .entry))
         (now (newvalues .entry)) in
         let made = cells (now (newactions .exit)) (now (newchoices .exit)) (now (newentries .exit)) (now (newcorners .exit)) (now (given .entry))
@@ -494,6 +524,8 @@ pub extern "C" fn biidhaqun_build<'a, 'b>(
         corners,
         weights,
         values,
+        informed,
+        qmdp,
         given,
         count,
         newactions,

@@ -133,6 +133,10 @@ module _ {A : Type 0} where
   unfolding laid
   laid-length n f xs h = length-append (listed n f) (drop n xs) ∙ omega (arith, length-listed n f, length-drop n xs)
 
+  -- the same from an equation
+  pub laid-long : (n : ℕ) (f : ℕ → A) (xs : List A) {ys : List A} → ys ≡ laid n f xs → n ≤ length xs → length ys ≡ length xs
+  laid-long n f xs e h = rw e (laid-length n f xs h)
+
   pub laid-cong : (n : ℕ) (f g : ℕ → A) (xs : List A) → ((i : ℕ) → i < n → f i ≡ g i) → laid n f xs ≡ laid n g xs
   unfolding laid
   laid-cong n f g xs h = rw (listed-cong n f g h)
@@ -226,6 +230,11 @@ pub replicate-at : {A : Type 0} (z : A) (n i : ℕ) → getD (replicate n z) i z
 replicate-at z zero i = refl
 replicate-at z (suc n) zero = refl
 replicate-at z (suc n) (suc i) = replicate-at z n i
+
+-- zeros, or some other thing, over the first n cells
+pub same-laid : {A : Type 0} (z : A) (size n : ℕ) (xs : List A) → n ≤ size → paste xs 0 (replicate size z) n ≡ laid n (λ i. z) xs
+same-laid z size n xs l =
+    paste-laid n xs (replicate size z) z (rw (length-replicate size z) l) ∙ laid-cong n _ _ xs (λ i b. replicate-at z size i)
 
 -- ---- bounds on what an array is filled with
 pub filled-below : (size : ℕ) {n limit : ℕ} (f : ℕ → ℕ) {xs : List ℕ} → xs ≡ padded 0 size n f → n ≤ size → ((i : ℕ) → i < n → f i ≤ limit)

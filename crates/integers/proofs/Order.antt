@@ -31,7 +31,8 @@ pub sub-≤ : (x : ℤ) (d : ℕ) → (x -ℤ pos d) ≤ℤ x
 sub-≤ x d = le-by (x -ℤ pos d) x (omega (arith, sub-parts-ℤ x (pos d)))
 
 -- ---- the smaller of two
-lesser-by : (P : ℤ → Type 0) (a b : ℤ) → (a ≤ℤ b → P a) → (b <ℤ a → P b) → P (lesser a b)
+-- what holds of either, where it is the smaller
+pub lesser-by : (P : ℤ → Type 0) (a b : ℤ) → (a ≤ℤ b → P a) → (b <ℤ a → P b) → P (lesser a b)
 unfolding lesser
 lesser-by P a b h k = by (leZ a b) refl
   where
@@ -44,10 +45,6 @@ lesser-left a b = lesser-by (λ x. x ≤ℤ a) a b (λ h. ≤-refl a) (λ h. <-�
 
 pub lesser-right : (a b : ℤ) → lesser a b ≤ℤ b
 lesser-right a b = lesser-by (λ x. x ≤ℤ b) a b (λ h. h) (λ h. ≤-refl b)
-
--- what is at most both is at most the smaller
-pub lesser-above : (a b : ℤ) {c : ℤ} → c ≤ℤ a → c ≤ℤ b → c ≤ℤ lesser a b
-lesser-above a b {c} h k = lesser-by (λ x. c ≤ℤ x) a b (λ _. h) (λ _. k)
 
 -- where the first is at most the second, it is the smaller
 pub lesser-is : (a b : ℤ) → a ≤ℤ b → lesser a b ≡ a

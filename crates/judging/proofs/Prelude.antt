@@ -12,5 +12,5 @@ pub use Rattle.tables.specs.declared.Tables.{Tables}
 pub use Rattle.tables.specs.declared.Verdict.{Verdict}
 pub use Rattle.tables.specs.declared.Verdict.the-variants.{Fine, Refused}
 pub use Rattle.tables.specs.Storage.{tablesIn}
-pub use Rattle.levels.specs.Storage.{cells, lent, levelIn}
+pub use Rattle.levels.specs.Storage.{cells, rows, lent, levelIn}
 pub use Rattle.judging.proofs.Stages.{fails, holds-on, fine, not-fine, counts-few}

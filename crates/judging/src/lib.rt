@@ -4,11 +4,11 @@ ghost use mathlib.Core.List.{List, []};
 ghost use Prim.Native.Nat.{ℕ, _*_, _≤_};
 ghost use lib.ListN.{length};
 ghost use Rattle.tables.specs.declared.Verdict.the-variants.{Fine};
-ghost use Rattle.tables.specs.Limits.{maxStates, maxObservations, maxVectors, maxLevels};
+ghost use Rattle.tables.specs.Limits.{maxStates, maxActions, maxObservations, maxVectors, maxLevels};
 ghost use Rattle.tables.specs.Storage.{modelOf, tablesIn};
 ghost use Rattle.plans.specs.Limits.{maxPoints, range};
-ghost use Rattle.levels.specs.Storage.{cells, lentFor, levelIn, levelOf, lent, standingIn};
-ghost use Rattle.levels.specs.Judged.{rangesVerdict, holds, levelVerdict, shapeVerdict, backupsVerdict, offerVerdict};
+ghost use Rattle.levels.specs.Storage.{cells, rows, lentFor, levelIn, levelOf, lent, standingIn};
+ghost use Rattle.levels.specs.Judged.{rangesVerdict, rowsHold, holds, levelVerdict, shapeVerdict, backupsVerdict, offerVerdict};
 use levels::Level;
 use levels::Standing;
 use levels::shape;
@@ -55,7 +55,22 @@ fn ranges_hold<'a>(
     shape::values_within(weights, values, n, points, limit)
 }
 
-// 7: whether the tables and the standing level are within their limits. Its choices are not read.
+// Whether rows of m actions and n states are there and within the range of level t.
+fn rows_hold(cells: &[i64], m: usize, n: usize, t: usize) -> bool
+    requires { ⌜ (m ≤ maxActions) × ((n ≤ maxStates) × (t ≤ maxLevels)) ⌝ }
+    ensures { λ r. ⌜ r ≡ rowsHold m n t (now (cells .entry)) ⌝ }
+{
+    if cells.len() < m * n {
+        return false;
+    }
+    let verdict = shape::rows_within(cells, m, n, range_of(t), 7);
+    let Verdict::Fine = verdict else {
+        return false;
+    };
+    true
+}
+
+// 7: whether the tables, the standing level and the rows are within their limits. The level's choices are not read.
 pub fn standing_holds<'a, 'b>(
     transition: &'a [u16],
     observation: &'a [u16],
@@ -67,10 +82,12 @@ pub fn standing_holds<'a, 'b>(
     corners: &'b [i64],
     weights: &'b [u32],
     values: &'b [i64],
+    informed: &'b [i64],
+    qmdp: &'b [i64],
 ) -> bool
     ensures { λ r. ⌜ ((choices : List ℕ) → r ≡ holds (tablesIn c (now (transition .entry)) (now (observation .entry)) (now (reward .entry)))
         (lent (now (state .entry)) (cells (now (actions .entry)) choices (now (entries .entry)) (now (corners .entry)) (now (weights .entry))
-        (now (values .entry))))) ⌝ }
+        (now (values .entry))) (rows (now (informed .entry)) (now (qmdp .entry))))) ⌝ }
 {
     let tables = judge::judge_tables(transition, observation, reward, c);
     let Verdict::Fine = tables else {
@@ -118,7 +135,10 @@ pub fn standing_holds<'a, 'b>(
     let Verdict::Fine = totals else {
         return false;
     };
-    true
+    if !rows_hold(informed, c.actions, c.states, s.number) {
+        return false;
+    }
+    rows_hold(qmdp, c.actions, c.states, s.number)
 }
 
 // 10 to 12: the numbers of an offered level by themselves, at level t over so many standing vectors.
@@ -183,6 +203,8 @@ fn judge_shape<'a, 'b, 'c>(
     corners: &'b [i64],
     weights: &'b [u32],
     values: &'b [i64],
+    informed: &'b [i64],
+    qmdp: &'b [i64],
     vectors: usize,
     points: usize,
     newactions: &'c [u8],
@@ -194,7 +216,7 @@ fn judge_shape<'a, 'b, 'c>(
 ) -> Verdict
     ensures { λ r. ⌜ (let m = tablesIn c (now (transition .entry)) (now (observation .entry)) (now (reward .entry)) in
         let x = lent (now (state .entry)) (cells (now (actions .entry)) (now (choices .entry)) (now (entries .entry)) (now (corners .entry))
-        (now (weights .entry)) (now (values .entry))) in
+        (now (weights .entry)) (now (values .entry))) (rows (now (informed .entry)) (now (qmdp .entry))) in
         let l = lentFor vectors points (cells (now (newactions .entry)) (now (newchoices .entry)) (now (newentries .entry))
         (now (newcorners .entry)) (now (newweights .entry)) (now (newvalues .entry))) in
         r ≡ shapeVerdict m x l) ⌝ }
@@ -210,6 +232,8 @@ fn judge_shape<'a, 'b, 'c>(
         corners,
         weights,
         values,
+        informed,
+        qmdp,
     ) {
         return Verdict::Refused(7, 0);
     }
@@ -276,6 +300,8 @@ fn judge_backups<'a, 'b, 'c>(
     corners: &'b [i64],
     weights: &'b [u32],
     values: &'b [i64],
+    informed: &'b [i64],
+    qmdp: &'b [i64],
     vectors: usize,
     points: usize,
     newactions: &'c [u8],
@@ -286,11 +312,12 @@ fn judge_backups<'a, 'b, 'c>(
     newvalues: &'c [i64],
 ) -> Verdict
     requires { ⌜ shapeVerdict (tablesIn c (now transition) (now observation) (now reward))
-        (lent (now state) (cells (now actions) (now choices) (now entries) (now corners) (now weights) (now values)))
+        (lent (now state) (cells (now actions) (now choices) (now entries) (now corners) (now weights) (now values))
+        (rows (now informed) (now qmdp)))
         (lentFor vectors points (cells (now newactions) (now newchoices) (now newentries) (now newcorners) (now newweights) (now newvalues))) ≡ Fine ⌝ }
     ensures { λ r. ⌜ (let m = tablesIn c (now (transition .entry)) (now (observation .entry)) (now (reward .entry)) in
         let x = lent (now (state .entry)) (cells (now (actions .entry)) (now (choices .entry)) (now (entries .entry)) (now (corners .entry))
-        (now (weights .entry)) (now (values .entry))) in
+        (now (weights .entry)) (now (values .entry))) (rows (now (informed .entry)) (now (qmdp .entry))) in
         let l = lentFor vectors points (cells (now (newactions .entry)) (now (newchoices .entry)) (now (newentries .entry))
         (now (newcorners .entry)) (now (newweights .entry)) (now (newvalues .entry))) in
         r ≡ backupsVerdict (modelOf m) (levelOf m (standingIn x)) (levelOf m l)) ⌝ }
@@ -352,6 +379,8 @@ pub fn judge_offer<'a, 'b, 'c>(
     corners: &'b [i64],
     weights: &'b [u32],
     values: &'b [i64],
+    informed: &'b [i64],
+    qmdp: &'b [i64],
     vectors: usize,
     points: usize,
     newactions: &'c [u8],
@@ -363,7 +392,7 @@ pub fn judge_offer<'a, 'b, 'c>(
 ) -> Verdict
     ensures { λ r. ⌜ (let m = tablesIn c (now (transition .entry)) (now (observation .entry)) (now (reward .entry)) in
         let x = lent (now (state .entry)) (cells (now (actions .entry)) (now (choices .entry)) (now (entries .entry)) (now (corners .entry))
-        (now (weights .entry)) (now (values .entry))) in
+        (now (weights .entry)) (now (values .entry))) (rows (now (informed .entry)) (now (qmdp .entry))) in
         let l = lentFor vectors points (cells (now (newactions .entry)) (now (newchoices .entry)) (now (newentries .entry))
         (now (newcorners .entry)) (now (newweights .entry)) (now (newvalues .entry))) in
         r ≡ offerVerdict m x l) ⌝ }
@@ -380,6 +409,8 @@ pub fn judge_offer<'a, 'b, 'c>(
         corners,
         weights,
         values,
+        informed,
+        qmdp,
         vectors,
         points,
         newactions,
@@ -404,6 +435,8 @@ pub fn judge_offer<'a, 'b, 'c>(
         corners,
         weights,
         values,
+        informed,
+        qmdp,
         vectors,
         points,
         newactions,

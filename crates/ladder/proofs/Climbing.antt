@@ -14,7 +14,7 @@ use Rattle.integers.proofs.Sums.{total-part}
 use Rattle.tables.specs.declared.Tables.{Tables}
 use Rattle.tables.specs.declared.Verdict.{Verdict}
 use Rattle.tables.specs.declared.Verdict.the-variants.{Fine}
-use Rattle.tables.specs.Limits.{maxStates, maxObservations, maxWeight, maxLevels}
+use Rattle.tables.specs.Limits.{maxStates, maxActions, maxObservations, maxWeight, maxLevels}
 use Rattle.tables.specs.Model.{Valid}
 use Rattle.tables.specs.Storage.{weightIn, countsOf, modelOf}
 use Rattle.tables.specs.Steps.{Stored}
@@ -23,7 +23,7 @@ use Rattle.tables.proofs.Fitting.{Long, sizes}
 use Rattle.plans.specs.Level.{IsPoint, level0}
 use Rattle.plans.specs.Build.{built}
 use Rattle.plans.proofs.Agreement.{point-weights}
-use Rattle.levels.specs.Storage.{Cells, LentLevel, Lent, stateSize, cells, lent, pointIn, lentFor, complete}
+use Rattle.levels.specs.Storage.{Cells, LentLevel, Rows, rows, Lent, stateSize, cells, lent, pointIn, lentFor, complete}
 use Rattle.levels.specs.Judged.{offerVerdict}
 use Rattle.levels.proofs.Laws.{passed, fine-before}
 use Rattle.levels.proofs.Over.{Complete, complete-is, complete-true, complete-long, over-long}
@@ -110,8 +110,9 @@ module _ {t : ℕ} {m : Tables} {z : Lent} {y : Cells} (k : Climbed t m z y) whe
       };
     }
 
-  pub asked : 0 < t → {state actions choices : List ℕ} {entries corners : List ℤ} {weights : List ℕ} {values : List ℤ}
-      → z ≡ lent state (cells actions choices entries corners weights values) → Asked m state actions entries corners weights values (y .weights)
+  pub asked : 0 < t → {state actions choices : List ℕ} {entries corners : List ℤ} {weights : List ℕ} {values informed qmdp : List ℤ}
+      → z ≡ lent state (cells actions choices entries corners weights values) (rows informed qmdp)
+      → Asked m state actions entries corners weights values informed qmdp (y .weights)
   asked some {choices = choices} e =
       let room = complete-true m (answerFor m 1 y) (k .points .answer-room) in
       record {
@@ -135,6 +136,17 @@ pub record Roomy (x : Cells) : Type 0 where
   pub corners : maxStates ≤ length (x .corners)
   pub weights : maxStates ≤ length (x .weights)
   pub values : 1 ≤ length (x .values)
+
+-- and for rows
+pub record RowsRoomy (r : Rows) : Type 0 where
+  pub informed : maxActions * maxStates ≤ length (r .informed)
+  pub qmdp : maxActions * maxStates ≤ length (r .qmdp)
+
+abbrev pub noRows : Rows
+noRows = rows (replicate (maxActions * maxStates) (pos 0)) (replicate (maxActions * maxStates) (pos 0))
+
+pub none-rows : RowsRoomy noRows
+none-rows = record { informed = omega arith; qmdp = omega arith }
 
 -- slices with that room, nothing but the weights written yet
 abbrev pub noneYet : List ℕ → Cells
@@ -174,9 +186,9 @@ module _ (m : Tables) (v : Valid (modelOf m)) where
   one-more = omega (arith, v .few-states)
 
   -- the tables open in them
-  pub own-open : Long m → (x : Lent) → stateSize ≤ length (x .state) → Roomy (x .cells) → ModelAccepted m x
+  pub own-open : Long m → (x : Lent) → stateSize ≤ length (x .state) → Roomy (x .cells) → RowsRoomy (x .rows) → ModelAccepted m x
   unfolding openVerdict level0
-  own-open long x state r =
+  own-open long x state r f =
       let s = sizes (record { actions = v .few-actions; states = v .few-states; observations = v .few-observations }) in
       let stored : Stored (countsOf m) (m .transition) (m .observation) (m .reward) = record {
         transitions = omega (arith, s .transitions, long .transition);
@@ -184,7 +196,9 @@ module _ (m : Tables) (v : Valid (modelOf m)) where
         rewards = omega (arith, s .rows, long .reward);
       } in
       fine-before (tables-fine m v stored) (passed 9 0 (and-is (le-leb stateSize (length (x .state)) state)
-      (complete-is m (lentFor 1 0 (x .cells)) (roomy-complete (omega arith) (omega arith) r))))
+      (and-is (complete-is m (lentFor 1 0 (x .cells)) (roomy-complete (omega arith) (omega arith) r))
+      (and-is (le-leb (m .actions * m .states) (length (x .rows .informed)) (omega (arith, s .rows, f .informed)))
+      (le-leb (m .actions * m .states) (length (x .rows .qmdp)) (omega (arith, s .rows, f .qmdp)))))))
 
   -- and each level has room in them
   pub own-points : (x : Lent) (y : Cells) → Roomy (x .cells) → Roomy y → IsPoint (m .states) (weightIn (y .weights)) → PointsHold m x 1 y

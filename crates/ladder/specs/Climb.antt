@@ -6,7 +6,7 @@ use mathlib.Core.List.{List}
 use lib.IntN.{ℤ}
 use lib.ListN.{getD}
 use Rattle.tables.specs.declared.Tables.{Tables}
-use Rattle.levels.specs.Storage.{Cells, LentLevel, Lent, cells, lent}
+use Rattle.levels.specs.Storage.{Cells, LentLevel, Lent, cells, rows, lent}
 use Rattle.runs.specs.State.{mixtureHolds}
 use Rattle.runs.specs.Demand3.{ModelAccepted, after, steps, PointsHold}
 
@@ -20,12 +20,13 @@ pub record Climbed (t : ℕ) (m : Tables) (z : Lent) (y : Cells) : Type 0 where
   pub points : PointsHold m first 1 y
 
 -- a certifier above level 0, whatever its choices are, with a mixture within the limits
-pub record Asked (m : Tables) (state actions : List ℕ) (entries corners : List ℤ) (weights : List ℕ) (values : List ℤ) (b : List ℕ) : Type 0 where
+pub record Asked (m : Tables) (state actions : List ℕ) (entries corners : List ℤ) (weights : List ℕ) (values informed qmdp : List ℤ) (b : List ℕ) :
+    Type 0 where
   pub choices : List ℕ
   pub first : Lent
   pub offers : List LentLevel
   pub opens : ModelAccepted m first
-  pub left : lent state (cells actions choices entries corners weights values) ≡ after m first offers
+  pub left : lent state (cells actions choices entries corners weights values) (rows informed qmdp) ≡ after m first offers
   pub some : 0 < steps m first offers
   pub mixture : mixtureHolds (m .states) b ≡ true
 

@@ -7,7 +7,7 @@ ghost use Rattle.tables.specs.Limits.{maxStates, maxLevels};
 ghost use Rattle.tables.specs.Model.{Valid};
 ghost use Rattle.tables.specs.Storage.{weightIn, modelOf, tablesIn};
 ghost use Rattle.plans.specs.Level.{IsPoint};
-ghost use Rattle.levels.specs.Storage.{cells, lent};
+ghost use Rattle.levels.specs.Storage.{cells, rows, lent};
 ghost use Rattle.runs.specs.Demand3.{ModelAccepted, PointsHold};
 ghost use Rattle.ladder.specs.Climb.{Climbed, Asked, Alike};
 use levels::Standing;
@@ -27,6 +27,8 @@ const LEVELS: usize = 3;
 const POINTS: usize = 1;
 
 const VECTORS: usize = Tables::STATES + POINTS;
+
+const ROWS: usize = Tables::ACTIONS * Tables::STATES;
 
 type Mixture = [u32; Tables::STATES];
 
@@ -103,10 +105,12 @@ fn print_level<'a, 'b>(
     corners: &'b [i64],
     weights: &'b [u32],
     values: &'b [i64],
+    informed: &'b [i64],
+    qmdp: &'b [i64],
     given: &[u32],
 ) -> bool
     requires { ⌜ Asked (tablesIn c (now transition) (now observation) (now reward)) (now state) (now actions) (now entries) (now corners)
-        (now weights) (now values) (now given) ⌝ }
+        (now weights) (now values) (now informed) (now qmdp) (now given) ⌝ }
 {
     let r = bounds::totals(
         transition,
@@ -119,6 +123,8 @@ fn print_level<'a, 'b>(
         corners,
         weights,
         values,
+        informed,
+        qmdp,
         given,
     );
     let told = r.verdict;
@@ -140,6 +146,8 @@ fn rung<'a>(
     corners: &mut [i64],
     weights: &mut [u32],
     values: &mut [i64],
+    informed: &mut [i64],
+    qmdp: &mut [i64],
     given: &[u32],
     newactions: &mut [u8],
     newchoices: &mut [u16],
@@ -150,11 +158,11 @@ fn rung<'a>(
     requires { ⌜ t < maxLevels ⌝ }
     requires { ⌜ Climbed t (tablesIn c (now transition) (now observation) (now reward))
         (lent (now state) (cells (now actions) (now choices) (now entries) (now corners)
-        (now weights) (now values)))
+        (now weights) (now values)) (rows (now informed) (now qmdp)))
         (cells (now newactions) (now newchoices) (now newentries) (now newcorners) (now given) (now newvalues)) ⌝ }
     ensures { λ _. ⌜ Climbed (t + 1) (tablesIn c (now (transition .entry)) (now (observation .entry)) (now (reward .entry)))
         (lent (now (state .exit)) (cells (now (actions .exit)) (now (choices .exit)) (now (entries .exit)) (now (corners .exit))
-        (now (weights .exit)) (now (values .exit))))
+        (now (weights .exit)) (now (values .exit))) (rows (now (informed .exit)) (now (qmdp .exit))))
         (cells (now (newactions .exit)) (now (newchoices .exit)) (now (newentries .exit)) (now (newcorners .exit)) (now (given .entry))
         (now (newvalues .exit))) ⌝ }
 {
@@ -169,6 +177,8 @@ fn rung<'a>(
         &corners[..],
         &weights[..],
         &values[..],
+        &informed[..],
+        &qmdp[..],
         given,
         POINTS,
         newactions,
@@ -190,6 +200,8 @@ fn rung<'a>(
         corners,
         weights,
         values,
+        informed,
+        qmdp,
         c.states + POINTS,
         POINTS,
         &newactions[..],
@@ -212,6 +224,8 @@ fn rung<'a>(
         &corners[..],
         &weights[..],
         &values[..],
+        &informed[..],
+        &qmdp[..],
         given,
     )
 }
@@ -229,6 +243,8 @@ fn climb<'a>(
     corners: &mut [i64],
     weights: &mut [u32],
     values: &mut [i64],
+    informed: &mut [i64],
+    qmdp: &mut [i64],
     given: &[u32],
     newactions: &mut [u8],
     newchoices: &mut [u16],
@@ -238,10 +254,10 @@ fn climb<'a>(
 ) -> bool
     requires { ⌜ ModelAccepted (tablesIn c (now transition) (now observation) (now reward))
         (lent (now state) (cells (now actions) (now choices) (now entries) (now corners)
-        (now weights) (now values))) ⌝ }
+        (now weights) (now values)) (rows (now informed) (now qmdp))) ⌝ }
     requires { ⌜ PointsHold (tablesIn c (now transition) (now observation) (now reward))
         (lent (now state) (cells (now actions) (now choices) (now entries) (now corners)
-        (now weights) (now values))) 1
+        (now weights) (now values)) (rows (now informed) (now qmdp))) 1
         (cells (now newactions) (now newchoices) (now newentries) (now newcorners) (now given) (now newvalues)) ⌝ }
 {
     let opened = certifier::open(
@@ -256,6 +272,8 @@ fn climb<'a>(
         corners,
         &weights[..],
         &values[..],
+        informed,
+        qmdp,
     );
     served(opened);
     for t in 0..LEVELS {
@@ -272,6 +290,8 @@ fn climb<'a>(
             corners,
             weights,
             values,
+            informed,
+            qmdp,
             given,
             newactions,
             newchoices,
@@ -297,6 +317,8 @@ fn levels_of(tables: Tables, given: Mixture) -> bool
     let mut corners = [0i64; Tables::STATES];
     let mut weights = [0u32; POINTS * Tables::STATES];
     let mut values = [0i64; POINTS];
+    let mut informed = [0i64; ROWS];
+    let mut qmdp = [0i64; ROWS];
     let mut newactions = [0u8; VECTORS];
     let mut newchoices = [0u16; VECTORS * Tables::OBSERVATIONS];
     let mut newentries = [0i64; VECTORS * Tables::STATES];
@@ -319,6 +341,8 @@ fn levels_of(tables: Tables, given: Mixture) -> bool
         &mut corners,
         &mut weights,
         &mut values,
+        &mut informed,
+        &mut qmdp,
         &given,
         &mut newactions,
         &mut newchoices,

@@ -2,4 +2,5 @@
 pub mod Laws
 pub mod Over
 pub mod Points
+pub mod Products
 pub mod Prelude

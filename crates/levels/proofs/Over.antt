@@ -1,8 +1,8 @@
--- Slices with a level laid over them: the level is read from them again, they are as long as they were, and levels that agree are laid alike.
+-- Slices with a level or rows laid over them: these are read from them again, the slices are as long as they were, and levels that agree are laid alike.
 -- Assumes nothing.
 use mathlib.Core.Path.{_≡_, refl}
 use mathlib.Core.Bool.{true}
-use Prim.Native.Nat.{ℕ, _*_, _≤_}
+use Prim.Native.Nat.{ℕ, _*_, _≤_, _<_}
 use mathlib.Core.List.{List}
 use lib.ListN.{length}
 use lib.IntN.{ℤ, pos}
@@ -10,9 +10,9 @@ use borrow.Author.Tests.{leb-true, le-leb}
 use Rattle.integers.proofs.Lists.{laid-at, laid-length, laid-cong, laidRows-at, laidRows-length, laidRows-cong}
 use Rattle.integers.proofs.Searches.{and-true, and-is}
 use Rattle.tables.specs.declared.Tables.{Tables}
-use Rattle.tables.specs.Storage.{modelOf}
+use Rattle.tables.specs.Storage.{entryIn, modelOf}
 use Rattle.plans.specs.Level.{Level, Agree}
-use Rattle.levels.specs.Storage.{Cells, cells, LentLevel, levelOf, readable, complete, over, lentFor}
+use Rattle.levels.specs.Storage.{Cells, cells, LentLevel, Rows, levelOf, readable, complete, over, overRows, lentFor}
 
 -- what `readable` and `complete` test
 pub record Readable (m : Tables) (l : LentLevel) : Type 0 where
@@ -131,3 +131,17 @@ long-long a b = record {
 pub cells-same : {a a' b b' : List ℕ} {e e' f f' : List ℤ} {w w' : List ℕ} {v v' : List ℤ} → a ≡ a' → b ≡ b' → e ≡ e' → f ≡ f' → w ≡ w' → v ≡ v'
     → cells a b e f w v ≡ cells a' b' e' f' w' v'
 cells-same p q r s t u = rw (p, q, r, s, t, u)
+
+-- ---- rows
+module _ (m : Tables) (F Q : ℕ → ℕ → ℤ) (r : Rows) where
+  pub informed-over : (a : ℕ) → a < m .actions → (s : ℕ) → s < m .states → entryIn (m .states) (overRows m F Q r .informed) a s ≡ F a s
+  informed-over a h s b = laidRows-at (m .actions) (m .states) F (r .informed) a s (pos 0) h b
+
+  pub qmdp-over : (a : ℕ) → a < m .actions → (s : ℕ) → s < m .states → entryIn (m .states) (overRows m F Q r .qmdp) a s ≡ Q a s
+  qmdp-over a h s b = laidRows-at (m .actions) (m .states) Q (r .qmdp) a s (pos 0) h b
+
+  pub informed-long : m .actions * m .states ≤ length (r .informed) → m .actions * m .states ≤ length (overRows m F Q r .informed)
+  informed-long h = rw (laidRows-length (m .actions) (m .states) F (r .informed) h) h
+
+  pub qmdp-long : m .actions * m .states ≤ length (r .qmdp) → m .actions * m .states ≤ length (overRows m F Q r .qmdp)
+  qmdp-long h = rw (laidRows-length (m .actions) (m .states) Q (r .qmdp) h) h

@@ -1,5 +1,5 @@
--- What 7, 11 and 12 say of points, by example: the total of the weights is 1 to 100, and a value lies within that total times the level's range. The
--- prover computes the definitions that the contracts name. Assumes nothing.
+-- What 7, 11 and 12 say of points, and 7 of rows, by example: the total of the weights is 1 to 100, a value lies within that total times the range of its
+-- level, rows within that range. The prover computes the definitions that the contracts name. Assumes nothing.
 use mathlib.Core.Path.{_≡_, refl}
 use mathlib.Core.Bool.{true, false}
 use mathlib.Core.List.{List, [], _∷_}
@@ -16,7 +16,7 @@ use Rattle.tables.specs.Verdicts.{firstOf}
 use Rattle.tables.specs.Judged.{limitsHold, rowsTotal, tablesVerdict}
 use Rattle.plans.specs.Limits.{range}
 use Rattle.plans.specs.Level.{Level}
-use Rattle.levels.specs.Storage.{Lent, lent, cells}
+use Rattle.levels.specs.Storage.{Lent, lent, rows, cells}
 use Rattle.levels.specs.Judged.{rowsWithin, valuesWithin, rangesVerdict, weightsVerdict, numbersIn, levelVerdict, holds}
 
 -- weights on the three, and what one point has and the next
@@ -61,9 +61,17 @@ forms = record {
   reward = replicate 3 (pos 0);
 }
 
--- a certifier at level 1 with a point alone
+-- a certifier at level 1 with a point alone, and rows
+rowed : List ℕ → ℤ → List ℤ → List ℤ → Lent
+rowed weights value informed qmdp =
+    lent (1 ∷ 1 ∷ 1 ∷ []) (cells (0 ∷ []) (0 ∷ []) (replicate 3 (pos 0)) (replicate 3 (pos 0)) weights (value ∷ [])) (rows informed qmdp)
+
 standing : List ℕ → ℤ → Lent
-standing weights value = lent (1 ∷ 1 ∷ 1 ∷ []) (cells (0 ∷ []) (0 ∷ []) (replicate 3 (pos 0)) (replicate 3 (pos 0)) weights (value ∷ []))
+standing weights value = rowed weights value (replicate 3 (pos 0)) (replicate 3 (pos 0))
+
+-- the same with one row of each kind whose last entry is this
+withRows : ℤ → ℤ → Lent
+withRows f q = rowed (1 ∷ 1 ∷ 1 ∷ []) (pos 0) (pos 0 ∷ pos 0 ∷ f ∷ []) (pos 0 ∷ pos 0 ∷ q ∷ [])
 
 record Table : Type 0 where
   -- thirds, and what their value lies within
@@ -88,9 +96,14 @@ record Table : Type 0 where
   stands : holds forms (standing (1 ∷ 1 ∷ 1 ∷ []) (pos 300_000)) ≡ true
   falls-by-11 : holds forms (standing (1 ∷ 1 ∷ 1 ∷ []) (pos 300_001)) ≡ false
   falls-by-12 : holds forms (standing (34 ∷ 34 ∷ 33 ∷ []) (pos 0)) ≡ false
+  -- 7 of the rows: the range of an entry, of both kinds, in slices that are long enough
+  rows-stand : holds forms (withRows (negsuc 99_999) (pos 100_000)) ≡ true
+  informed-falls : holds forms (withRows (negsuc 100_000) (pos 0)) ≡ false
+  qmdp-falls : holds forms (withRows (pos 0) (pos 100_001)) ≡ false
+  rows-short : holds forms (rowed (1 ∷ 1 ∷ 1 ∷ []) (pos 0) (replicate 3 (pos 0)) (replicate 2 (pos 0))) ≡ false
 
 table : Table
-unfolding forms standing three two level told alone levelVerdict holds tablesVerdict limitsHold rowsTotal numbersIn rangesVerdict rowsWithin valuesWithin
+unfolding forms rowed standing withRows three two level told alone levelVerdict holds tablesVerdict limitsHold rowsTotal numbersIn rangesVerdict rowsWithin valuesWithin
     weightsVerdict firstOf every totalTo range
 table = record {
   thirds = refl;
@@ -110,4 +123,8 @@ table = record {
   stands = refl;
   falls-by-11 = refl;
   falls-by-12 = refl;
+  rows-stand = refl;
+  informed-falls = refl;
+  qmdp-falls = refl;
+  rows-short = refl;
 }

@@ -1,6 +1,7 @@
 -- What an offer is refused for, 7 to 15, in checking order; each number is tested throughout before the next.
 use Prim.Native.Nat.{ℕ, _+_, _*_}
 use mathlib.Core.Bool.{Bool, true, false, not, _&&_, _||_}
+use mathlib.Core.List.{List}
 use lib.Dec.{leb, ltb}
 use lib.ListN.{length}
 use lib.IntN.{ℤ, natAbs}
@@ -12,7 +13,7 @@ use Rattle.tables.specs.declared.Verdict.{Verdict}
 use Rattle.tables.specs.declared.Verdict.the-variants.{Fine, Refused}
 use Rattle.tables.specs.Limits.{maxVectors, K, maxLevels}
 use Rattle.tables.specs.Model.{Model, backup}
-use Rattle.tables.specs.Storage.{modelOf}
+use Rattle.tables.specs.Storage.{entryIn, modelOf}
 use Rattle.tables.specs.Verdicts.{_before_, unless, firstOf}
 use Rattle.tables.specs.Judged.{countWithin, tablesVerdict}
 use Rattle.plans.specs.Limits.{maxPoints, maxTotal, range}
@@ -99,8 +100,12 @@ backupsVerdict M L W = floorsVerdict M L W before cornersVerdict M L W before po
 
 -- ---- an offer to a certifier
 
--- 7: the tables or the standing level break a limit of 3, 5, 6, 9, 11 or 12 or name an action that does not exist, or the level is over 100; or a slice
--- is too short for them
+-- rows of m actions and n states are there, and keep to a vector entry's range at level t
+abbrev pub rowsHold : ℕ → ℕ → ℕ → List ℤ → Bool
+rowsHold m n t cells = leb (m * n) (length cells) && isFine (rowsWithin 7 m n (range t) (entryIn n cells))
+
+-- 7: the tables, the standing level or the rows break a limit of 3, 5, 6, 9, 11 or 12 or name an action that does not exist, or the level is over 100; or
+-- a slice is too short for them
 unfoldable pub holds : Tables → Lent → Bool
 holds m x =
     let M : Model = modelOf m in
@@ -112,7 +117,9 @@ holds m x =
     && (readable m (standingIn x)
     && (actionsExist (M .actions) (L .vectors) (L .action)
     && (isFine (rangesVerdict (M .states) (numberIn x) L)
-    && isFine (weightsVerdict (M .states) (L .points) (L .weight))))))))
+    && (isFine (weightsVerdict (M .states) (L .points) (L .weight))
+    && (rowsHold (m .actions) (m .states) (numberIn x) (x .rows .informed)
+    && rowsHold (m .actions) (m .states) (numberIn x) (x .rows .qmdp)))))))))
 
 -- 9: no vector, too many vectors or points, or a slice too short for them: of the level that is offered, or of the certifier that is to hold it
 abbrev pub fits : Tables → Lent → LentLevel → Bool

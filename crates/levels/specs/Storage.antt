@@ -95,13 +95,30 @@ over m W x = record {
 
 -- ---- a certifier in slices
 
--- what a certifier has lent: the number of levels that were accepted with the vectors and points of the last of them, and that level's slices
+-- the slices of its upper bounds by rows, each by action and state
+pub record Rows : Type 0 where
+  pub informed : List ℤ
+  pub qmdp : List ℤ
+
+abbrev pub rows : List ℤ → List ℤ → Rows
+rows informed qmdp = record { informed = informed; qmdp = qmdp }
+
+-- what a certifier has lent: the number of levels that were accepted with the vectors and points of the last of them, that level's slices, and its rows
 pub record Lent : Type 0 where
   pub state : List ℕ
   pub cells : Cells
+  pub rows : Rows
 
-abbrev pub lent : List ℕ → Cells → Lent
-lent state x = record { state = state; cells = x }
+abbrev pub lent : List ℕ → Cells → Rows → Lent
+lent state x r = record { state = state; cells = x; rows = r }
+
+-- slices of such lengths are long enough for rows of m actions and n states
+abbrev pub longRows : ℕ → ℕ → ℕ → ℕ → Bool
+longRows m n informed qmdp = leb (m * n) informed && leb (m * n) qmdp
+
+-- the slices with rows F and Q laid over them
+abbrev pub overRows : Tables → (ℕ → ℕ → ℤ) → (ℕ → ℕ → ℤ) → Rows → Rows
+overRows m F Q r = rows (laidRows (m .actions) (m .states) F (r .informed)) (laidRows (m .actions) (m .states) Q (r .qmdp))
 
 -- the numbers of a certifier's state
 abbrev pub stateSize : ℕ
@@ -115,6 +132,13 @@ numberIn x = standingAt (x .state) .number
 
 abbrev pub standingIn : Lent → LentLevel
 standingIn x = record { vectors = standingAt (x .state) .vectors; points = standingAt (x .state) .points; cells = x .cells }
+
+-- its informed and its QMDP rows
+abbrev pub informedIn : Tables → Lent → ℕ → ℕ → ℤ
+informedIn m x = entryIn (m .states) (x .rows .informed)
+
+abbrev pub qmdpIn : Tables → Lent → ℕ → ℕ → ℤ
+qmdpIn m x = entryIn (m .states) (x .rows .qmdp)
 
 -- level 0: one vector, no points
 abbrev pub freshStanding : Standing

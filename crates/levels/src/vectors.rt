@@ -1,4 +1,4 @@
-// Products of weights with vectors, and the first vector with the largest.
+// Products of weights with vectors, the first vector with the largest, and the largest.
 ghost use mathlib.Core.Path.{_≡_};
 ghost use Prim.Native.Nat.{ℕ, _+_, _≤_, _<_};
 ghost use lib.ListN.{length, getD};
@@ -10,6 +10,7 @@ ghost use Rattle.tables.specs.Steps.{EntriesFit};
 ghost use Rattle.tables.specs.Storage.{weightIn, entryIn};
 ghost use Rattle.plans.specs.Limits.{maxReached};
 ghost use Rattle.plans.specs.Level.{product};
+ghost use Rattle.plans.specs.Rows.{highest};
 use tables::Vector;
 use tables::read;
 
@@ -44,4 +45,21 @@ pub fn best_vector(q: &[u64], entries: &[i64], n: usize, vectors: usize) -> Vect
         }
     }
     Vector(best)
+}
+
+// The largest product.
+pub fn largest_product(q: &[u64], entries: &[i64], n: usize, vectors: usize) -> i64
+    requires { ⌜ (n ≤ maxStates) × (0 < vectors) ⌝ }
+    requires { ⌜ Below maxReached n (now q) ⌝ }
+    requires { ⌜ EntriesFit n vectors (now entries) ⌝ }
+    ensures { λ r. ⌜ r ≡ highest vectors (λ v. product n (weightIn (now (q .entry))) (entryIn n (now (entries .entry)) v)) ⌝ }
+{
+    let mut most = product(q, entries, read::start(0, n), n);
+    for v in 1..vectors {
+        let met = product(q, entries, read::start(v, n), n);
+        if most < met {
+            most = met;
+        }
+    }
+    most
 }

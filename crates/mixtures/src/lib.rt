@@ -4,7 +4,7 @@ ghost use mathlib.Core.List.{List};
 ghost use Prim.Native.Nat.{ℕ, _*_, _≤_};
 ghost use lib.ListN.{length};
 ghost use Rattle.tables.specs.Storage.{tablesIn};
-ghost use Rattle.levels.specs.Storage.{cells, lent};
+ghost use Rattle.levels.specs.Storage.{cells, rows, lent};
 ghost use Rattle.bounds.specs.Steps.{answerIn, Asked};
 ghost use Rattle.mixtures.specs.Each.{answers, mixtureAt, roomFor, refusalIn, written, eachVerdict, eachOf};
 use levels::shape;
@@ -43,8 +43,10 @@ fn write_answers<'b>(
     entries: &'b [i64],
     corners: &'b [i64],
     weights: &'b [u32],
+    informed: &'b [i64],
     gains: &[u64],
     n: usize,
+    m: usize,
     vectors: usize,
     points: usize,
     mixtures: &[u32],
@@ -54,12 +56,12 @@ fn write_answers<'b>(
     upper: &mut [i64],
     advice: &mut [u8],
 )
-    requires { ⌜ Asked n vectors points (now actions) (now entries) (now corners) (now weights) (now gains) ⌝ }
+    requires { ⌜ Asked n m vectors points (now actions) (now entries) (now corners) (now weights) (now informed) (now gains) ⌝ }
     requires { ⌜ count * n ≤ length (now mixtures) ⌝ }
     requires { ⌜ (count ≤ length (now verdicts)) × ((count ≤ length (now lower)) × ((count ≤ length (now upper)) × (count ≤ length (now advice)))) ⌝ }
     ensures { λ _. ⌜ answers (now (verdicts .exit)) (now (lower .exit)) (now (upper .exit)) (now (advice .exit))
-        ≡ written (λ i. answerIn n vectors points (now (actions .entry)) (now (entries .entry)) (now (corners .entry)) (now (weights .entry))
-        (now (gains .entry)) (mixtureAt n (now (mixtures .entry)) i)) count
+        ≡ written (λ i. answerIn n m vectors points (now (actions .entry)) (now (entries .entry)) (now (corners .entry)) (now (weights .entry))
+        (now (informed .entry)) (now (gains .entry)) (mixtureAt n (now (mixtures .entry)) i)) count
         (answers (now (verdicts .entry)) (now (lower .entry)) (now (upper .entry)) (now (advice .entry))) ⌝ }
 {
     for i in 0..count {
@@ -70,8 +72,10 @@ fn write_answers<'b>(
             entries,
             corners,
             weights,
+            informed,
             gains,
             n,
+            m,
             vectors,
             points,
             &mixtures[at..end],
@@ -100,6 +104,8 @@ pub fn each<'a, 'b>(
     corners: &'b [i64],
     weights: &'b [u32],
     values: &'b [i64],
+    informed: &'b [i64],
+    qmdp: &'b [i64],
     mixtures: &[u32],
     count: usize,
     verdicts: &mut [u8],
@@ -109,12 +115,12 @@ pub fn each<'a, 'b>(
 ) -> Verdict
     ensures { λ r. ⌜ ((choices : List ℕ) → r ≡ eachVerdict (tablesIn c (now (transition .entry)) (now (observation .entry)) (now (reward .entry)))
         (lent (now (state .entry)) (cells (now (actions .entry)) choices (now (entries .entry)) (now (corners .entry)) (now (weights .entry))
-        (now (values .entry)))) (now (mixtures .entry)) count
+        (now (values .entry))) (rows (now (informed .entry)) (now (qmdp .entry)))) (now (mixtures .entry)) count
         (answers (now (verdicts .entry)) (now (lower .entry)) (now (upper .entry)) (now (advice .entry)))) ⌝ }
     ensures { λ _. ⌜ ((choices : List ℕ) → answers (now (verdicts .exit)) (now (lower .exit)) (now (upper .exit)) (now (advice .exit))
         ≡ eachOf (tablesIn c (now (transition .entry)) (now (observation .entry)) (now (reward .entry)))
         (lent (now (state .entry)) (cells (now (actions .entry)) choices (now (entries .entry)) (now (corners .entry)) (now (weights .entry))
-        (now (values .entry)))) (now (mixtures .entry)) count
+        (now (values .entry))) (rows (now (informed .entry)) (now (qmdp .entry)))) (now (mixtures .entry)) count
         (answers (now (verdicts .entry)) (now (lower .entry)) (now (upper .entry)) (now (advice .entry)))) ⌝ }
 {
     let standing = bounds::judge_standing(
@@ -128,6 +134,8 @@ pub fn each<'a, 'b>(
         corners,
         weights,
         values,
+        informed,
+        qmdp,
     );
     let Verdict::Fine = standing else {
         return standing;
@@ -152,8 +160,10 @@ pub fn each<'a, 'b>(
         entries,
         corners,
         weights,
+        informed,
         &gains,
         n,
+        c.actions,
         s.vectors,
         s.points,
         mixtures,

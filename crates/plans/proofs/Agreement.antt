@@ -3,12 +3,16 @@
 use Rattle.integers.proofs.Kit.{_≡_, _∙_, refl, ap, ℕ, _<_, suc, zero, arith, ℤ, pos, _+ℤ_, negsuc, _-ℤ_}
 use Rattle.integers.specs.Whole.{_·_, sumTo, totalTo, largestTo}
 use Rattle.integers.proofs.Sums.{sum-cong, total-cong, largestTo-cong}
-use Rattle.integers.proofs.Searches.{largest-cong}
+use Rattle.integers.proofs.Searches.{largest-in, largest-cong}
 use Rattle.tables.specs.Limits.{K}
 use Rattle.tables.specs.Model.{Model, successor, expectedReward, backup}
 use Rattle.plans.specs.Level.{Level, product, smallest, orNone, drop, gain, ceiling, backupAt, corner-weight, follows, Meets, Shaped, IsPoint, Agree}
-use Rattle.plans.specs.Totals.{best, lower, advice, upper}
-use Rattle.plans.proofs.Bracket.{best-exists}
+use Rattle.plans.specs.Totals.{best, lower, advice}
+
+-- the best vector is one of them
+pub best-exists : (M : Model) (L : Level) (b : ℕ → ℕ) → 0 < L .vectors → best M L b < L .vectors
+unfolding best
+best-exists M L b h = largest-in _ _ h
 
 -- ---- products, drops and ceilings
 pub product-cong : (n : ℕ) (q q' : ℕ → ℕ) (e e' : ℕ → ℤ) → ((s : ℕ) → s < n → q s ≡ q' s) → ((s : ℕ) → s < n → e s ≡ e' s)
@@ -102,10 +106,6 @@ module _ (M : Model) (W W' : Level) (e : Agree M W W') where
   ceiling-agree q =
       ceiling-cong (M .states) W' W (e .corner-same) (e .points-same) (λ i l. e .weight-same i (point-in l)) (λ i l. e .value-same i (point-in l)) q q
       (λ s l. refl)
-
-  pub upper-agree : (b : ℕ → ℕ) → upper M W' b ≡ upper M W b
-  unfolding upper
-  upper-agree = ceiling-agree
 
   module _ (some : 0 < W .vectors) (b : ℕ → ℕ) where
     best-agree : best M W' b ≡ best M W b

@@ -1,12 +1,17 @@
 -- Accepted levels are certified, and the totals of a certified level bracket what plans earn. Assumes nothing.
-use Rattle.integers.proofs.Kit.{ℕ, _<_, suc, arith}
-use Rattle.integers.proofs.Searches.{largest-in}
+use Rattle.integers.proofs.Kit.{ℕ, _<_, _^_, suc, arith, ℤ, _≤ℤ_}
+use Rattle.integers.specs.Whole.{_·_}
+use Rattle.integers.proofs.Order.{lesser-by}
+use Rattle.tables.specs.Limits.{K}
 use Rattle.tables.specs.Model.{Model}
+use Rattle.plans.specs.Plan.{earnsAt}
 use Rattle.plans.specs.Level.{Level, level0, Meets}
 use Rattle.plans.specs.Totals.{best, lower, advice, upper, Bracket}
-use Rattle.plans.proofs.Certified.{Certified}
+use Rattle.plans.proofs.Certified.{Certified, RowsCertified}
 use Rattle.plans.proofs.Floor.{earned-0, earned-next, floor}
 use Rattle.plans.proofs.Ceiling.{roof, corner-0, corner-next, point-next}
+use Rattle.plans.proofs.Agreement.{best-exists}
+use Rattle.plans.proofs.Rows.{rows-roof}
 
 pub certified-0 : (M : Model) → Certified M 0 level0
 unfolding level0
@@ -24,15 +29,19 @@ certified-next {M} {t} {L} c W m = record {
   point = point-next M t L c W m;
 }
 
-pub best-exists : (M : Model) (L : Level) (b : ℕ → ℕ) → 0 < L .vectors → best M L b < L .vectors
-unfolding best
-best-exists M L b h = largest-in _ _ h
-
 -- Some plan opens with the advice and earns at least the lower total; no plan earns more than the upper.
 -- The lower total is the product of the best vector, and the advice is its action. That vector exists, so it has a plan that fits the model, opens with
--- that action and earns at least the product (`floor`). The upper total is the ceiling, which no plan that fits passes (`roof`). Qed.
-pub bracket : {M : Model} {t : ℕ} {L : Level} → Certified M t L → 0 < L .vectors → (b : ℕ → ℕ) → Bracket M t L b
+-- that action and earns at least the product (`floor`). The upper total is the ceiling or the best informed row, and no plan that fits passes either
+-- (`roof`, `rows-roof`). Qed.
+pub bracket : {M : Model} {t : ℕ} {L : Level} {F Q : ℕ → ℕ → ℤ} → 0 < M .actions → Certified M t L → RowsCertified M t F Q → 0 < L .vectors
+    → (b : ℕ → ℕ) → Bracket M t L F b
 unfolding lower advice upper
-bracket {M} {t} {L} c h b =
+bracket {M} {t} {L} some c r h b =
     let e = c .vector (best M L b) (best-exists M L b h) in
-    record { plan = e .plan; fits = e .fits; opens = e .opens; floor = floor e b; roof = λ π f. roof c π f b }
+    record {
+      plan = e .plan;
+      fits = e .fits;
+      opens = e .opens;
+      floor = floor e b;
+      roof = λ π f. lesser-by (λ z. earnsAt M π b ≤ℤ (K ^ t) · z) _ _ (λ _. roof c π f b) (λ _. rows-roof some r π f b);
+    }

@@ -58,7 +58,7 @@ unfolding K
 K-positive = omega arith
 
 -- a backup of what lies within level t lies within level t + 1, where the weights total P
-next-range : (g P t : ℕ) (x y : ℤ) → g ≤ one → natAbs x ≤ P * maxReward → natAbs y ≤ one * one * P * range t
+pub next-range : (g P t : ℕ) (x y : ℤ) → g ≤ one → natAbs x ≤ P * maxReward → natAbs y ≤ one * one * P * range t
     → natAbs (K · x +ℤ g · y) ≤ K * (P * range (suc t))
 unfolding K range
 next-range g P t x y h hx hy =

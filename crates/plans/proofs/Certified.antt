@@ -1,7 +1,8 @@
 -- What is certified of a level after t levels, however it came about.
 --
---   Earned      some t-step plan opens with an action and earns a vector's entries
---   Certified   every vector is earned, and no t-step plan earns more than the corners and points say
+--   Earned          some t-step plan opens with an action and earns a vector's entries
+--   Certified       every vector is earned, and no t-step plan earns more than the corners and points say
+--   RowsCertified   no t-step plan earns more than the row of its first action says, and no row is above that of QMDP
 use Rattle.integers.proofs.Kit.{ℕ, _<_, _^_, ℤ, _≤ℤ_}
 use Rattle.integers.specs.Whole.{_·_}
 use Rattle.tables.specs.Limits.{K}
@@ -19,3 +20,7 @@ pub record Certified (M : Model) (t : ℕ) (L : Level) : Type 0 where
   pub vector : (v : ℕ) → v < L .vectors → Earned M t (L .action v) (L .entry v)
   pub corner : (s : ℕ) → s < M .states → (π : Plan t) → Fits M π → earns M π s ≤ℤ (K ^ t) · L .corner s
   pub point : (i : ℕ) → i < L .points → (π : Plan t) → Fits M π → earnsAt M π (L .weight i) ≤ℤ (K ^ t) · L .value i
+
+pub record RowsCertified (M : Model) (t : ℕ) (F Q : ℕ → ℕ → ℤ) : Type 0 where
+  pub row : (π : Plan t) → Fits M π → (a : ℕ) → Opens π a → (s : ℕ) → s < M .states → earns M π s ≤ℤ (K ^ t) · F a s
+  pub below : (a : ℕ) → a < M .actions → (s : ℕ) → s < M .states → F a s ≤ℤ Q a s

@@ -1,4 +1,5 @@
--- Laws of plans and levels: what vectors and ceilings say of all plans, what agreement keeps, what the builder makes, and how drops are found fast.
+-- Laws of plans and levels: what vectors and ceilings say of all plans, what agreement keeps, what the builder makes, how drops are found fast, and what the
+-- informed rows say.
 pub mod Certified
 pub mod Floor
 pub mod Ceiling
@@ -8,3 +9,4 @@ pub mod Built
 pub mod Rebuilt
 pub mod Drops
 pub mod Ticks
+pub mod Rows

@@ -2,7 +2,7 @@
 use mathlib.Core.Path.{_≡_, refl, _∙_, ap}
 use mathlib.Core.Bool.{true}
 use mathlib.Core.List.{List, [], _∷_}
-use Prim.Native.Nat.{ℕ, suc, _+_, _≤_, _<_}
+use Prim.Native.Nat.{ℕ, suc, _+_, _*_, _≤_, _<_}
 use native.Mathlib.Nat.{add-assoc, zero-add, add-zero}
 use native.Mathlib.Omega.{arith}
 use native.Mathlib.Numerals.{add-one}
@@ -19,23 +19,27 @@ use Rattle.tables.specs.Judged.{tablesVerdict}
 use Rattle.tables.proofs.Refusals.{before-fine, unless-fine}
 use Rattle.tables.proofs.Accepted.{tables-valid, tables-stored}
 use Rattle.tables.specs.Limits.{maxLevels}
-use Rattle.plans.specs.Level.{Level, level0, Agree}
+use Rattle.plans.specs.Level.{Level, level0, Agree, ceiling}
 use Rattle.plans.specs.Build.{built}
+use Rattle.plans.specs.Rows.{bestRow, informed, qmdp, informedNext, qmdpNext}
 use Rattle.plans.specs.Totals.{best, lower, upper, advice}
 use Rattle.plans.proofs.Certified.{Certified}
 use Rattle.plans.proofs.Bracket.{certified-0, certified-next, bracket}
-use Rattle.plans.proofs.Agreement.{shaped-agree, meets-agree, meets-below, lower-agree, upper-agree, advice-agree}
+use Rattle.plans.proofs.Agreement.{shaped-agree, meets-agree, meets-below, lower-agree, ceiling-agree, advice-agree}
 use Rattle.plans.proofs.Built.{built-shaped, built-meets, level0-shaped}
 use Rattle.plans.proofs.Rebuilt.{built-same}
-use Rattle.levels.specs.Storage.{Cells, LentLevel, Lent, stateSize, levelOf, pointIn, complete, over, numberIn, standingIn, lentFor}
+use Rattle.plans.proofs.Rows.{rows-certified, rows-roof, informed-range, qmdp-range, bestRow-cong, informed-cong, qmdp-cong}
+use Rattle.levels.specs.Storage.{Cells, LentLevel, Lent, rows, stateSize, levelOf, pointIn, complete, over, numberIn, standingIn, lentFor}
+use Rattle.levels.specs.Storage.{informedIn, qmdpIn}
 use Rattle.levels.specs.Judged.{holds}
 use Rattle.levels.proofs.Laws.{passed, fine-before}
 use Rattle.levels.proofs.Over.{Complete, AsLong, as-long, long-long, complete-true, complete-long, over-agree, over-long, over-same}
+use Rattle.levels.proofs.Over.{informed-over, qmdp-over, informed-long, qmdp-long}
 use Rattle.runs.specs.declared.Bounds.{Bounds}
-use Rattle.runs.specs.State.{left, at, openVerdict, opened, verdictOn, offered, mixtureHolds, totalsVerdict, totalsOf}
+use Rattle.runs.specs.State.{left, at, openVerdict, opened, verdictOn, raised, offered, mixtureHolds, totalsVerdict, totalsOf}
 use Rattle.runs.specs.State.{answerFor, buildVerdict, builtFrom, builtOf}
 use Rattle.runs.specs.Demand3.{ModelAccepted, run, counted, acceptances, newer, lastOf, after, steps, last}
-use Rattle.runs.specs.Demand3.{StateHolds, TotalsHold, BuildHolds, PointsHold, Demand3}
+use Rattle.runs.specs.Demand3.{StateHolds, RowsAre, TotalsHold, BuildHolds, PointsHold, Demand3}
 use Rattle.runs.proofs.Judged.{Held, Accepted, standing-is, accepted, accepts, weights-is}
 
 -- what holds of slices x after t acceptances, the last of them of level L, of which the first had the cells x₀
@@ -45,6 +49,8 @@ pub record Reached (m : Tables) (x₀ : Cells) (t : ℕ) (L : Level) (x : Lent) 
   pub agrees : Agree (modelOf m) L (levelOf m (standingIn x))
   pub stands : Held m x
   pub as-lent : AsLong x₀ (x .cells)
+  pub informed-is : (a : ℕ) → a < m .actions → (s : ℕ) → s < m .states → informedIn m x a s ≡ informed (modelOf m) t a s
+  pub qmdp-is : (a : ℕ) → a < m .actions → (s : ℕ) → s < m .states → qmdpIn m x a s ≡ qmdp (modelOf m) t a s
 
 state-kept : (xs : List ℕ) (a b d : ℕ) → stateSize ≤ length xs → stateSize ≤ length (a ∷ b ∷ d ∷ drop stateSize xs)
 state-kept xs a b d h = omega arith
@@ -55,18 +61,24 @@ module _ (m : Tables) (x : Lent) (o : ModelAccepted m x) where
   unfolding openVerdict
   fine-tables = before-fine _ _ o .0
 
-  pub room-for-level-0 : (stateSize ≤ length (x .state)) × Complete m (lentFor (level0 .vectors) (level0 .points) (x .cells))
+  pub room-for-level-0 : (stateSize ≤ length (x .state))
+      × (Complete m (lentFor (level0 .vectors) (level0 .points) (x .cells))
+      × ((m .actions * m .states ≤ length (x .rows .informed)) × (m .actions * m .states ≤ length (x .rows .qmdp))))
   unfolding openVerdict
   room-for-level-0 =
       let l = lentFor (level0 .vectors) (level0 .points) (x .cells) in
-      let h = and-true (leb stateSize (length (x .state))) (complete m l) (unless-fine _ 9 0 (before-fine (tablesVerdict m) _ o .1)) in
-      (leb-true _ _ (h .0), complete-true m l (h .1))
+      let h = and-true (leb stateSize (length (x .state))) _ (unless-fine _ 9 0 (before-fine (tablesVerdict m) _ o .1)) in
+      let k = and-true (complete m l) _ (h .1) in
+      let rows = and-true _ _ (k .1) in
+      (leb-true _ _ (h .0), (complete-true m l (k .0), (leb-true _ _ (rows .0), leb-true _ _ (rows .1))))
 
   pub reached-open : Reached m (x .cells) 0 level0 (opened m x)
-  unfolding opened level0
+  unfolding opened level0 informed qmdp
   reached-open =
-      let room = room-for-level-0 .1 in
+      let room = room-for-level-0 .1 .0 in
       let v = tables-valid m fine-tables in
+      let F = informed (modelOf m) 0 in
+      let Q = qmdp (modelOf m) 0 in
       let agree = over-agree m level0 (x .cells) in
       rw o record {
         number = refl;
@@ -79,16 +91,32 @@ module _ (m : Tables) (x : Lent) (o : ModelAccepted m x) where
           few-levels = omega arith;
           read = complete-long m (over-long m level0 (x .cells) room) room .read;
           shaped = shaped-agree (modelOf m) level0 _ agree 0 (level0-shaped (modelOf m) v);
+          informed = record {
+            long = informed-long m F Q (x .rows) (room-for-level-0 .1 .1 .0);
+            entry = λ a h s b. rw (informed-over m F Q (x .rows) a h s b) (omega arith);
+          };
+          qmdp = record {
+            long = qmdp-long m F Q (x .rows) (room-for-level-0 .1 .1 .1);
+            entry = λ a h s b. rw (qmdp-over m F Q (x .rows) a h s b) (omega arith);
+          };
         };
         as-lent = over-long m level0 (x .cells) room;
+        informed-is = informed-over m F Q (x .rows);
+        qmdp-is = qmdp-over m F Q (x .rows);
       }
 
 -- ---- one offer
 module _ {m : Tables} {x₀ : Cells} {t : ℕ} {L : Level} {x : Lent} (r : Reached m x₀ t L x) where
   -- An accepted level meets its inequalities over the standing level; so it does over the last accepted one, with which that agrees, and is certified
-  -- with one step more. It is laid over the slices: what is read of them agrees with it, and so has its shape. Qed.
-  pub reached-next : (l : LentLevel) → Accepted m x l → Reached m x₀ (suc t) (levelOf m l) (at m (numberIn x + 1) (levelOf m l) x)
+  -- with one step more. It is laid over the slices: what is read of them agrees with it, and so has its shape. The rows that are laid are a step above
+  -- those that stood, so they are those of the next level, within its range. Qed.
+  pub reached-next : (l : LentLevel) → Accepted m x l → Reached m x₀ (suc t) (levelOf m l) (raised m x (levelOf m l))
+  unfolding informed qmdp
   reached-next l a =
+      let M : Model = modelOf m in
+      let v = r .stands .valid-tables in
+      let F = informedNext M (informedIn m x) in
+      let Q = qmdpNext M (qmdpIn m x) in
       let agree = over-agree m (levelOf m l) (x .cells) in
       let long = over-long m (levelOf m l) (x .cells) (a .held) in
       record {
@@ -103,8 +131,18 @@ module _ {m : Tables} {x₀ : Cells} {t : ℕ} {L : Level} {x : Lent} (r : Reach
           few-levels = omega (arith, a .room);
           read = complete-long m long (a .held) .read;
           shaped = shaped-agree (modelOf m) (levelOf m l) _ agree (numberIn x + 1) (a .shaped);
+          informed = rw (add-one (numberIn x)) record {
+            long = informed-long m F Q (x .rows) (r .stands .informed .long);
+            entry = λ a h s b. rw (informed-over m F Q (x .rows) a h s b) (informed-range v (numberIn x) _ (r .stands .informed .entry) a h s b);
+          };
+          qmdp = rw (add-one (numberIn x)) record {
+            long = qmdp-long m F Q (x .rows) (r .stands .qmdp .long);
+            entry = λ a h s b. rw (qmdp-over m F Q (x .rows) a h s b) (qmdp-range v (numberIn x) _ (r .stands .qmdp .entry) a h s b);
+          };
         };
         as-lent = long-long (r .as-lent) long;
+        informed-is = λ a h s b. informed-over m F Q (x .rows) a h s b ∙ informed-cong M (v .some-actions) _ _ (r .informed-is) a s;
+        qmdp-is = λ a h s b. qmdp-over m F Q (x .rows) a h s b ∙ qmdp-cong M (v .some-actions) _ _ (r .qmdp-is) a s;
       }
 
   -- one offer keeps it: a refused one leaves all as it was
@@ -114,7 +152,7 @@ module _ {m : Tables} {x₀ : Cells} {t : ℕ} {L : Level} {x : Lent} (r : Reach
   reached-step l = by (verdictOn m x l) (accepted m x l)
     where
       by : (v : Verdict) → (v ≡ Fine → Accepted m x l)
-          → Reached m x₀ (t + counted v) (newer v (levelOf m l) L) (left v (at m (numberIn x + 1) (levelOf m l) x) x)
+          → Reached m x₀ (t + counted v) (newer v (levelOf m l) L) (left v (raised m x (levelOf m l)) x)
       by Fine a = rw (add-one t) (reached-next l (a refl))
       by (Refused number place) a = rw (add-zero t) r
 
@@ -134,8 +172,15 @@ module _ {m : Tables} {x₀ : Cells} {t : ℕ} {L : Level} {x : Lent} (r : Reach
     lower-is : lower (modelOf m) (levelOf m (standingIn x)) (weightIn b) ≡ lower (modelOf m) L (weightIn b)
     lower-is = lower-agree (modelOf m) L (levelOf m (standingIn x)) (r .agrees) some-vectors (weightIn b)
 
-    upper-is : upper (modelOf m) (levelOf m (standingIn x)) (weightIn b) ≡ upper (modelOf m) L (weightIn b)
-    upper-is = upper-agree (modelOf m) L (levelOf m (standingIn x)) (r .agrees) (weightIn b)
+    sawtooth-is : ceiling (m .states) (levelOf m (standingIn x)) (weightIn b) ≡ ceiling (m .states) L (weightIn b)
+    sawtooth-is = ceiling-agree (modelOf m) L (levelOf m (standingIn x)) (r .agrees) (weightIn b)
+
+    best-row-is : bestRow (modelOf m) (informedIn m x) (weightIn b) ≡ bestRow (modelOf m) (informed (modelOf m) t) (weightIn b)
+    best-row-is = bestRow-cong (modelOf m) (r .stands .valid-tables .some-actions) _ _ (r .informed-is) (weightIn b)
+
+    upper-is : upper (modelOf m) (levelOf m (standingIn x)) (informedIn m x) (weightIn b) ≡ upper (modelOf m) L (informed (modelOf m) t) (weightIn b)
+    unfolding upper
+    upper-is = rw (sawtooth-is, best-row-is)
 
     advice-is : advice (modelOf m) (levelOf m (standingIn x)) (weightIn b) ≡ advice (modelOf m) L (weightIn b)
     advice-is = advice-agree (modelOf m) L (levelOf m (standingIn x)) (r .agrees) some-vectors (weightIn b)
@@ -149,7 +194,7 @@ module _ {m : Tables} {x₀ : Cells} {t : ℕ} {L : Level} {x : Lent} (r : Reach
       (r .stands .valid-tables .some-actions) count (pointIn (m .states) (y .weights)))
 
   module _ (h : t < maxLevels) (count : ℕ) (y : Cells) where
-    module _ (points : PointsHold m record { state = []; cells = x₀ } count y) where
+    module _ (points : PointsHold m record { state = []; cells = x₀; rows = rows [] [] } count y) where
       build-fine : buildVerdict m x count y ≡ Fine
       unfolding buildVerdict
       build-fine =
@@ -194,22 +239,38 @@ module _ (m : Tables) (x : Lent) (o : ModelAccepted m x) (ls : List LentLevel) w
   state-holds : StateHolds m x ls
   state-holds = record { number = reached .number; standing = reached .agrees }
 
+  rows-are : RowsAre m x ls
+  rows-are =
+      let v = reached .stands .valid-tables in
+      let c = rows-certified v (steps m x ls) in
+      let some = v .some-actions in
+      record {
+        informed-is = reached .informed-is;
+        qmdp-is = reached .qmdp-is;
+        below = λ a h s b. rw (reached .informed-is a h s b, reached .qmdp-is a h s b) (c .below a h s b);
+        roof = λ b π f. rw (bestRow-cong (modelOf m) some _ _ (reached .informed-is) b) (rows-roof some c π f b);
+      }
+
   totals-hold : 0 < steps m x ls → (b : List ℕ) → mixtureHolds (m .states) b ≡ true → TotalsHold m x ls b (totalsOf m (after m x ls) b)
   unfolding totalsOf
-  totals-hold h b e = rw (totals-fine reached b h e) record {
-    given = refl;
-    lower-is = lower-is reached b;
-    upper-is = upper-is reached b;
-    gap-is = refl;
-    action-is = advice-is reached b;
-    bracket = bracket (reached .certified) (some-vectors reached) (weightIn b);
-  }
+  totals-hold h b e =
+      let v = reached .stands .valid-tables in
+      rw (totals-fine reached b h e) record {
+        given = refl;
+        lower-is = lower-is reached b;
+        sawtooth-is = sawtooth-is reached b;
+        informed-is = best-row-is reached b;
+        upper-is = upper-is reached b;
+        gap-is = refl;
+        action-is = advice-is reached b;
+        bracket = bracket (v .some-actions) (reached .certified) (rows-certified v (steps m x ls)) (some-vectors reached) (weightIn b);
+      }
 
   build-holds : steps m x ls < maxLevels → (count : ℕ) (y : Cells) → PointsHold m x count y
       → BuildHolds m x ls count y (buildVerdict m (after m x ls) count y) (builtOf m (after m x ls) count y)
   unfolding builtOf
   build-holds h count y p =
-      let points : PointsHold m record { state = []; cells = x .cells } count y =
+      let points : PointsHold m record { state = []; cells = x .cells; rows = rows [] [] } count y =
       record { few = p .few; total = p .total; answer-room = p .answer-room; certifier-room = p .certifier-room } in
       rw (build-fine reached h count y points) record {
         given = refl;
@@ -221,11 +282,12 @@ module _ (m : Tables) (x : Lent) (o : ModelAccepted m x) (ls : List LentLevel) w
 -- By induction over the list, `Reached` holds after it. Level 0 is certified for plans of no steps, and is read from the slices over which it was laid. A
 -- refused offer changes nothing. An accepted one passed every test: it has the shape of the next level and meets its inequalities over the standing level.
 -- Inequalities read only parts that agree, so it meets them over the last accepted level too, and is certified with one step more (`certified-next`).
+-- The rows step from 0 with each acceptance, so they are those of level t, which no plan passes (`rows-certified`).
 -- Totals are given, since `Reached` passes 7 and the number is above 0. They are those of the last accepted level, with which the standing one agrees, and
 -- the totals of a certified level bracket what plans earn (`bracket`). Building is not refused either: the built level has the shape of the next level and
 -- meets its inequalities over the standing one (`built-shaped`, `built-meets`); what is laid of it agrees with it, so it passes every test of an offer. Qed.
 pub demand3 : (m : Tables) (x : Lent) → ModelAccepted m x → (ls : List LentLevel) → Demand3 m x ls
-demand3 m x o ls = record { state = state-holds m x o ls; totals = totals-hold m x o ls; build = build-holds m x o ls }
+demand3 m x o ls = record { state = state-holds m x o ls; rows = rows-are m x o ls; totals = totals-hold m x o ls; build = build-holds m x o ls }
 
 -- ---- an answer that meets its equation has what demand 3 says of it
 pub totals-demand : (m : Tables) (y : Lent) (b : List ℕ) (r : Bounds) → r ≡ totalsOf m y b

@@ -1,5 +1,5 @@
--- The dough model of document 01: its table D1 to D12, on the levels that the builder makes and the certifier accepts. The prover computes the
--- definitions that the contracts name. Assumes nothing.
+-- The dough model of document 01: its table D1 to D12, on the levels that the builder makes and the certifier accepts, with D10 as document 02's Job 6 has
+-- it. The prover computes the definitions that the contracts name. Assumes nothing.
 use mathlib.Core.Path.{_≡_, refl}
 use mathlib.Core.List.{List, [], _∷_}
 use Prim.Native.Nat.{ℕ, zero, suc, _+_, _*_, _^_, _<_}
@@ -7,7 +7,7 @@ use native.Mathlib.Omega.{arith}
 use lib.ListN.{replicate}
 use lib.IntN.{ℤ, pos, negsuc, _+ℤ_, +ℤ-idr}
 use lib.Signed.{_≤ℤ_, leZ-yes}
-use Rattle.integers.specs.Whole.{_·_, sumTo, totalTo, largestTo, floorDiv, ceilDiv}
+use Rattle.integers.specs.Whole.{_·_, sumTo, totalTo, largestTo, lesser, floorDiv, ceilDiv}
 use Rattle.integers.specs.Search.{every, firstLargest}
 use Rattle.integers.specs.Cells.{listed, laid, laidRows}
 use Rattle.integers.proofs.Order.{·-zero}
@@ -23,9 +23,10 @@ use Rattle.tables.specs.Judged.{limitsHold, rowsTotal, tablesVerdict}
 use Rattle.plans.specs.Limits.{range}
 use Rattle.plans.specs.Plan.{Plan, stop, step, Fits, earns, earnsAt}
 use Rattle.plans.specs.Level.{level0, product, joined, smallest, orNone, drop, gain, ceiling, backupAt, corner-weight, follows}
+use Rattle.plans.specs.Rows.{highest, bestRow, informedBackup, informedNext, informed, qmdpBackup, qmdpNext, qmdp}
 use Rattle.plans.specs.Totals.{best, lower, upper, advice}
 use Rattle.plans.specs.Build.{chosen, entryFor, bestAction, leastFor, leastValue, seed, built}
-use Rattle.levels.specs.Storage.{Cells, LentLevel, Lent, levelOf, cornerIn, over}
+use Rattle.levels.specs.Storage.{Cells, LentLevel, Rows, rows, Lent, levelOf, cornerIn, over}
 use Rattle.levels.specs.Judged.{rowsWithin, valuesWithin, rangesVerdict, weightsVerdict, holds, numbersIn, floorsVerdict, cornersVerdict, pointsVerdict}
 use Rattle.levels.specs.Judged.{levelVerdict, shapeVerdict, backupsVerdict, offerVerdict}
 use Rattle.runs.specs.declared.Bounds.{Bounds}
@@ -57,12 +58,19 @@ slices weights = record {
   values = replicate 1 (pos 0);
 }
 
+-- the informed and the QMDP rows of levels 0 to 3, written out
+rowsAt : ℕ → Rows
+rowsAt zero = rows (replicate 4 (pos 0)) (replicate 4 (pos 0))
+rowsAt (suc zero) = rows (negsuc 99 ∷ negsuc 99 ∷ negsuc 999 ∷ pos 600 ∷ []) (negsuc 99 ∷ negsuc 99 ∷ negsuc 999 ∷ pos 600 ∷ [])
+rowsAt (suc (suc zero)) = rows (negsuc 49 ∷ pos 440 ∷ negsuc 1_089 ∷ pos 510 ∷ []) (pos 125 ∷ pos 440 ∷ negsuc 1_089 ∷ pos 510 ∷ [])
+rowsAt (suc (suc (suc t))) = rows (pos 76 ∷ pos 359 ∷ negsuc 1_044 ∷ pos 555 ∷ []) (pos 186 ∷ pos 359 ∷ negsuc 886 ∷ pos 713 ∷ [])
+
 blank : Lent
-blank = record { state = replicate 3 0; cells = slices (replicate 2 0) }
+blank = record { state = replicate 3 0; cells = slices (replicate 2 0); rows = rows (replicate 4 (pos 1)) (replicate 4 (pos 1)) }
 
 -- level 0, and the slices lent for a level that is built at the start numbers
 fresh : Lent
-fresh = record { state = 0 ∷ 1 ∷ 0 ∷ []; cells = slices (replicate 2 0) }
+fresh = record { state = 0 ∷ 1 ∷ 0 ∷ []; cells = slices (replicate 2 0); rows = rowsAt 0 }
 
 half : Cells
 half = slices (50 ∷ 50 ∷ [])
@@ -103,7 +111,7 @@ level : Cells → LentLevel
 level x = record { vectors = 3; points = 1; cells = x }
 
 standing : ℕ → Cells → Lent
-standing t x = record { state = t ∷ 3 ∷ 1 ∷ []; cells = x }
+standing t x = record { state = t ∷ 3 ∷ 1 ∷ []; cells = x; rows = rowsAt t }
 
 -- the built level 2 with one vector alone, of action 0 and choices 0 and 1
 alone : ℤ → ℤ → LentLevel
@@ -216,8 +224,10 @@ best-of-two = record {
   most = none-more;
 }
 
-abbrev given : ℤ → ℤ → ℤ → ℕ → Bounds
-given low high apart a = record { verdict = Fine; lower = low; upper = high; gap = apart; action = record { 0 = a } }
+-- totals and action, then the two ceilings
+abbrev given : ℤ → ℤ → ℤ → ℕ → ℤ → ℤ → Bounds
+given low high apart a saw row =
+    record { verdict = Fine; lower = low; upper = high; gap = apart; action = record { 0 = a }; sawtooth = saw; informed = row }
 
 -- ---- the table
 record Table : Type 0 where
@@ -229,9 +239,9 @@ record Table : Type 0 where
   three-built : (buildVerdict dough (standing 2 two) 1 half ≡ Fine) × (builtOf dough (standing 2 two) 1 half ≡ three)
   three-stands : (offerVerdict dough (standing 2 two) (level three) ≡ Fine) × (offered dough (standing 2 two) (level three) ≡ standing 3 three)
   -- what `ladder` prints
-  line-1 : totalsOf dough (standing 1 one) (mixture 50 50) ≡ given (negsuc 9_999) (negsuc 9_999) (pos 0) 0
-  line-2 : totalsOf dough (standing 2 two) (mixture 50 50) ≡ given (pos 10_000) (pos 12_500) (pos 2_500) 0
-  line-3 : totalsOf dough (standing 3 three) (mixture 50 50) ≡ given (pos 13_350) (pos 18_575) (pos 5_225) 0
+  line-1 : totalsOf dough (standing 1 one) (mixture 50 50) ≡ given (negsuc 9_999) (negsuc 9_999) (pos 0) 0 (negsuc 9_999) (negsuc 9_999)
+  line-2 : totalsOf dough (standing 2 two) (mixture 50 50) ≡ given (pos 10_000) (pos 12_500) (pos 2_500) 0 (pos 12_500) (pos 19_500)
+  line-3 : totalsOf dough (standing 3 three) (mixture 50 50) ≡ given (pos 13_350) (pos 18_575) (pos 5_225) 0 (pos 18_575) (pos 21_750)
   d1 : (cornerIn (one .corners) 0 ≡ negsuc 99) × (cornerIn (one .corners) 1 ≡ pos 600)
   d2 : ceiling 2 (levelOf dough (level one)) (λ s. corner-weight 0 s * 20_000_000 + corner-weight 1 s * 22_500_000) ≡ negsuc 2_499_999_999
   d3 : offerVerdict dough (standing 1 one) (alone (negsuc 50) (pos 251)) ≡ Fine
@@ -242,17 +252,17 @@ record Table : Type 0 where
   d7 : (two ≡ changed (negsuc 31) (pos 12_500)) × (offerVerdict dough (standing 1 one) (level two) ≡ Fine)
   d8 : offerVerdict dough (standing 1 one) (level (changed (negsuc 31) (pos 12_499))) ≡ Refused 15 0
   d9 : BestIs (modelOf dough) 2 (weightIn (mixture 50 50)) (pos 10_025)
-  d10 : totalsOf dough (standing 2 two) (mixture 1 0) ≡ given (negsuc 50) (negsuc 31) (pos 19) 0
-  d11 : totalsOf dough (standing 2 two) (mixture 0 1) ≡ given (pos 510) (pos 510) (pos 0) 1
+  d10 : totalsOf dough (standing 2 two) (mixture 1 0) ≡ given (negsuc 50) (negsuc 49) (pos 1) 0 (negsuc 31) (negsuc 49)
+  d11 : totalsOf dough (standing 2 two) (mixture 0 1) ≡ given (pos 510) (pos 510) (pos 0) 1 (pos 510) (pos 510)
   d12 : totalsOf dough (standing 2 two) (mixture 0 0) .verdict ≡ Refused 17 0
 
 table : Table
-unfolding dough slices blank fresh half one two three level standing alone changed mixture pair
+unfolding dough slices rowsAt blank fresh half one two three level standing alone changed mixture pair
     openVerdict opened offered offerVerdict shapeVerdict levelVerdict backupsVerdict floorsVerdict cornersVerdict pointsVerdict numbersIn holds over level0
     totalsOf totalsVerdict best lower upper advice builtOf buildVerdict tablesVerdict limitsHold rowsTotal
     firstOf every totalTo rangesVerdict rowsWithin valuesWithin weightsVerdict range built seed bestAction chosen entryFor leastValue leastFor firstLargest
     product successor sumTo backedUp backup follows floorDiv ceilDiv backupAt expectedReward ceiling largestTo drop gain smallest joined orNone
-    corner-weight laid laidRows listed _·_ K
+    corner-weight laid laidRows listed lesser highest bestRow informedBackup informedNext informed qmdpBackup qmdpNext qmdp _·_ K
 table = record {
   opens = (refl, refl);
   one-built = (refl, refl);

@@ -1,6 +1,7 @@
 -- From verdicts to facts, and back: what a standing level that holds, and an offer that is fine, are known to have. Assumes nothing.
 use mathlib.Core.Path.{_≡_, refl}
 use mathlib.Core.Bool.{Bool, true, false, not, _||_}
+use mathlib.Core.List.{List}
 use Prim.Native.Nat.{ℕ, _+_, _*_, _≤_, _<_}
 use native.Mathlib.Omega.{arith}
 use lib.Dec.{leb}
@@ -16,14 +17,14 @@ use Rattle.tables.specs.declared.Verdict.{Verdict}
 use Rattle.tables.specs.declared.Verdict.the-variants.{Fine, Refused}
 use Rattle.tables.specs.Limits.{K, maxLevels}
 use Rattle.tables.specs.Model.{Model, Valid, backup}
-use Rattle.tables.specs.Storage.{countsOf, modelOf}
+use Rattle.tables.specs.Storage.{countsOf, entryIn, modelOf}
 use Rattle.tables.specs.Steps.{Stored}
 use Rattle.tables.specs.Judged.{tablesVerdict}
 use Rattle.tables.proofs.Refusals.{before-fine, unless-fine, fine-at, at-fine}
 use Rattle.tables.proofs.Accepted.{tables-valid, tables-stored, tables-fine}
 use Rattle.plans.specs.Limits.{maxTotal, range}
 use Rattle.plans.specs.Level.{Level, backupAt, corner-weight, follows, Meets, Shaped, IsPoint}
-use Rattle.levels.specs.Judged.{countsHold, rowsWithin, totalHolds, valuesWithin, rangesVerdict, weightsVerdict, actionsExist, isFine, holds, fits}
+use Rattle.levels.specs.Judged.{countsHold, rowsWithin, totalHolds, valuesWithin, rangesVerdict, weightsVerdict, actionsExist, isFine, rowsHold, holds, fits}
 use Rattle.levels.specs.Judged.{numbersIn, numbersVerdict, floorsVerdict, coversBackups, cornersVerdict, pointsVerdict, levelVerdict, shapeVerdict}
 use Rattle.levels.specs.Judged.{backupsVerdict, offerVerdict}
 use Rattle.levels.specs.Storage.{LentLevel, Lent, stateSize, levelOf, readable, complete, numberIn, standingIn, lentFor}
@@ -131,6 +132,20 @@ module _ (M : Model) (t : ℕ) (W : Level) where
   }
 
 -- ---- a certifier, and an offer to it
+-- rows of m actions and n states within the range of level t, in a slice that is long enough
+pub record RowsIn (m n t : ℕ) (cells : List ℤ) : Type 0 where
+  pub long : m * n ≤ length cells
+  pub entry : (a : ℕ) → a < m → (s : ℕ) → s < n → natAbs (entryIn n cells a s) ≤ range t
+
+module _ (m n t : ℕ) (cells : List ℤ) where
+  rows-true : rowsHold m n t cells ≡ true → RowsIn m n t cells
+  rows-true e =
+      let h = and-true _ _ e in
+      record { long = leb-true _ _ (h .0); entry = rows-fine 7 m n (range t) (entryIn n cells) (fine-true _ (h .1)) }
+
+  rows-in : RowsIn m n t cells → rowsHold m n t cells ≡ true
+  rows-in h = and-is (le-leb _ _ (h .long)) (fine-is (rows-is 7 m n (range t) (entryIn n cells) (h .entry)))
+
 -- what 7 tests
 pub record Held (m : Tables) (x : Lent) : Type 0 where
   pub valid-tables : Valid (modelOf m)
@@ -139,6 +154,8 @@ pub record Held (m : Tables) (x : Lent) : Type 0 where
   pub few-levels : numberIn x ≤ maxLevels
   pub read : Readable m (standingIn x)
   pub shaped : Shaped (modelOf m) (numberIn x) (levelOf m (standingIn x))
+  pub informed : RowsIn (m .actions) (m .states) (numberIn x) (x .rows .informed)
+  pub qmdp : RowsIn (m .actions) (m .states) (numberIn x) (x .rows .qmdp)
 
 -- what 7 to 15 test
 pub record Accepted (m : Tables) (x : Lent) (l : LentLevel) : Type 0 where
@@ -169,6 +186,8 @@ module _ (m : Tables) (x : Lent) where
       let read = and-true _ _ (counts .1) in
       let actions = and-true _ _ (read .1) in
       let ranges = and-true _ _ (actions .1) in
+      let weights = and-true _ _ (ranges .1) in
+      let rows = and-true _ _ (weights .1) in
       let fine = fine-true (tablesVerdict m) (tables .0) in
       record {
         valid-tables = tables-valid m fine;
@@ -180,8 +199,10 @@ module _ (m : Tables) (x : Lent) where
           counts = counts .0;
           actions = actions .0;
           ranges = fine-true _ (ranges .0);
-          weights = fine-true _ (ranges .1);
+          weights = fine-true _ (weights .0);
         };
+        informed = rows-true (m .actions) (m .states) (numberIn x) (x .rows .informed) (rows .0);
+        qmdp = rows-true (m .actions) (m .states) (numberIn x) (x .rows .qmdp) (rows .1);
       }
 
   pub standing-is : Held m x → holds m x ≡ true
@@ -189,7 +210,9 @@ module _ (m : Tables) (x : Lent) where
   standing-is s =
       let e = shaped-tests (modelOf m) (numberIn x) (levelOf m (standingIn x)) (s .shaped) in
       and-is (fine-is (tables-fine m (s .valid-tables) (s .stored-tables))) (and-is (le-leb _ _ (s .state-long)) (and-is (le-leb _ _ (s .few-levels))
-      (and-is (e .counts) (and-is (readable-is m (standingIn x) (s .read)) (and-is (e .actions) (and-is (fine-is (e .ranges)) (fine-is (e .weights))))))))
+      (and-is (e .counts) (and-is (readable-is m (standingIn x) (s .read)) (and-is (e .actions) (and-is (fine-is (e .ranges))
+      (and-is (fine-is (e .weights)) (and-is (rows-in (m .actions) (m .states) (numberIn x) (x .rows .informed) (s .informed))
+      (rows-in (m .actions) (m .states) (numberIn x) (x .rows .qmdp) (s .qmdp))))))))))
 
   module _ (l : LentLevel) where
     abbrev M : Model

@@ -24,7 +24,7 @@ use Rattle.plans.proofs.Built.{action-exists, chosen-exists}
 use Rattle.plans.proofs.Ticks.{BackedUp, low-next, high-next}
 use Rattle.levels.specs.Storage.{Cells, LentLevel, Lent, levelOf, pointIn, over, numberIn, standingIn}
 use Rattle.levels.proofs.Over.{over-agree}
-use Rattle.runs.specs.State.{left, at, opened, verdictOn, offered, answerFor, buildVerdict, builtFrom, builtOf}
+use Rattle.runs.specs.State.{left, raised, opened, verdictOn, offered, answerFor, buildVerdict, builtFrom, builtOf}
 use Rattle.runs.specs.Demand3.{ModelAccepted, run, newer, lastOf, after, steps, last}
 use Rattle.runs.specs.Ticks.{Points, builtLevel, unlessRefused, offers, stacked, levelsOf, levels, made, Ticks}
 use Rattle.runs.proofs.Judged.{accepted}
@@ -69,7 +69,7 @@ module _ (m : Tables) (valid-tables : Valid (modelOf m)) (x₀ : Cells) where
   module _ {below : List Level} {L : Level} {x : Lent} (k : Stacked m x₀ below L x) (p : Points) where
     -- a level that was built, and accepted
     stacked-next : (l : LentLevel) → verdictOn m x l ≡ Fine → Agree (modelOf m) (builtFrom m L (p .count) (p .cells)) (levelOf m l)
-        → Stacked m x₀ (levelOf m l ∷ below) (levelOf m l) (at m (numberIn x + 1) (levelOf m l) x)
+        → Stacked m x₀ (levelOf m l ∷ below) (levelOf m l) (raised m x (levelOf m l))
     stacked-next l fine agree = record {
       reached = reached-next (k .reached) l (accepted m x l fine);
       low = low;
@@ -104,8 +104,8 @@ module _ (m : Tables) (valid-tables : Valid (modelOf m)) (x₀ : Cells) where
     unfolding offered
     stacked-step l agree = by (verdictOn m x l) (λ fine. stacked-next l fine agree)
       where
-        by : (v : Verdict) → (v ≡ Fine → Stacked m x₀ (levelOf m l ∷ below) (levelOf m l) (at m (numberIn x + 1) (levelOf m l) x))
-            → Stacked m x₀ (stacked v (levelOf m l) below) (newer v (levelOf m l) L) (left v (at m (numberIn x + 1) (levelOf m l) x) x)
+        by : (v : Verdict) → (v ≡ Fine → Stacked m x₀ (levelOf m l ∷ below) (levelOf m l) (raised m x (levelOf m l)))
+            → Stacked m x₀ (stacked v (levelOf m l) below) (newer v (levelOf m l) L) (left v (raised m x (levelOf m l)) x)
         by Fine next = next refl
         by (Refused number place) next = k
 

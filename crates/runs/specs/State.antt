@@ -4,21 +4,24 @@ use mathlib.Core.Bool.{Bool, _&&_}
 use mathlib.Core.List.{List, _∷_}
 use lib.Dec.{leb, ltb}
 use lib.ListN.{length, drop}
-use lib.IntN.{pos, _-ℤ_}
+use lib.IntN.{ℤ, pos, _-ℤ_}
 use Rattle.integers.specs.Whole.{totalTo}
 use Rattle.integers.specs.Search.{every}
 use Rattle.tables.specs.declared.Tables.{Tables}
 use Rattle.tables.specs.declared.Verdict.{Verdict}
 use Rattle.tables.specs.declared.Verdict.the-variants.{Fine, Refused}
 use Rattle.tables.specs.Limits.{maxWeight, maxLevels}
+use Rattle.tables.specs.Model.{Model}
 use Rattle.tables.specs.Storage.{weightIn, modelOf}
 use Rattle.tables.specs.Verdicts.{_before_, unless}
 use Rattle.tables.specs.Judged.{tablesVerdict}
 use Rattle.plans.specs.Limits.{maxBuilt}
-use Rattle.plans.specs.Level.{Level, level0}
+use Rattle.plans.specs.Level.{Level, level0, ceiling}
+use Rattle.plans.specs.Rows.{bestRow, informedNext, informed, qmdpNext, qmdp}
 use Rattle.plans.specs.Totals.{lower, upper, advice}
 use Rattle.plans.specs.Build.{built}
-use Rattle.levels.specs.Storage.{Cells, LentLevel, Lent, stateSize, levelOf, pointIn, complete, over, numberIn, standingIn, lentFor}
+use Rattle.levels.specs.Storage.{Cells, LentLevel, Lent, stateSize, levelOf, pointIn, complete, over, longRows, overRows, numberIn, standingIn, lentFor}
+use Rattle.levels.specs.Storage.{informedIn, qmdpIn}
 use Rattle.levels.specs.Judged.{holds, weightsVerdict, offerVerdict}
 use Rattle.runs.specs.declared.Bounds.{Bounds}
 
@@ -27,9 +30,13 @@ abbrev pub left : {A : Type 0} → Verdict → A → A → A
 left Fine new old = new
 left (Refused number place) new old = old
 
--- a certifier at level t: the level is laid over its slices
-abbrev pub at : Tables → ℕ → Level → Lent → Lent
-at m t W x = record { state = t ∷ W .vectors ∷ W .points ∷ drop stateSize (x .state); cells = over m W (x .cells) }
+-- a certifier at level t: the level is laid over its slices, and the rows F and Q
+abbrev pub at : Tables → ℕ → Level → (ℕ → ℕ → ℤ) → (ℕ → ℕ → ℤ) → Lent → Lent
+at m t W F Q x = record {
+  state = t ∷ W .vectors ∷ W .points ∷ drop stateSize (x .state);
+  cells = over m W (x .cells);
+  rows = overRows m F Q (x .rows);
+}
 
 -- ---- opening
 
@@ -37,19 +44,26 @@ at m t W x = record { state = t ∷ W .vectors ∷ W .points ∷ drop stateSize 
 unfoldable pub openVerdict : Tables → Lent → Verdict
 openVerdict m x =
     tablesVerdict m
-    before unless (leb stateSize (length (x .state)) && complete m (lentFor (level0 .vectors) (level0 .points) (x .cells))) 9 0
+    before unless (leb stateSize (length (x .state)) && (complete m (lentFor (level0 .vectors) (level0 .points) (x .cells))
+    && longRows (m .actions) (m .states) (length (x .rows .informed)) (length (x .rows .qmdp)))) 9 0
 
 unfoldable pub opened : Tables → Lent → Lent
-opened m x = left (openVerdict m x) (at m 0 level0 x) x
+opened m x = left (openVerdict m x) (at m 0 level0 (informed (modelOf m) 0) (qmdp (modelOf m) 0) x) x
 
 -- ---- offering
 
 abbrev pub verdictOn : Tables → Lent → LentLevel → Verdict
 verdictOn m x l = offerVerdict m x l
 
+-- one level higher with a level: the rows are stepped from those that stand, whatever the level
+abbrev pub raised : Tables → Lent → Level → Lent
+raised m x W =
+    let M : Model = modelOf m in
+    at m (numberIn x + 1) W (informedNext M (informedIn m x)) (qmdpNext M (qmdpIn m x)) x
+
 -- one level higher with the offered level, or as it was
 unfoldable pub offered : Tables → Lent → LentLevel → Lent
-offered m x l = left (verdictOn m x l) (at m (numberIn x + 1) (levelOf m l) x) x
+offered m x l = left (verdictOn m x l) (raised m x (levelOf m l)) x
 
 -- ---- totals
 
@@ -63,19 +77,28 @@ totalsVerdict m x b =
     before unless (ltb 0 (numberIn x)) 16 0
     before unless (mixtureHolds (m .states) b) 17 0
 
-abbrev pub boundsBy : Verdict → Tables → Level → List ℕ → Bounds
-boundsBy Fine m L b = record {
+abbrev pub boundsBy : Verdict → Model → Level → (ℕ → ℕ → ℤ) → (ℕ → ℕ) → Bounds
+boundsBy Fine M L F b = record {
   verdict = Fine;
-  lower = lower (modelOf m) L (weightIn b);
-  upper = upper (modelOf m) L (weightIn b);
-  gap = upper (modelOf m) L (weightIn b) -ℤ lower (modelOf m) L (weightIn b);
-  action = record { 0 = advice (modelOf m) L (weightIn b) };
+  lower = lower M L b;
+  upper = upper M L F b;
+  gap = upper M L F b -ℤ lower M L b;
+  action = record { 0 = advice M L b };
+  sawtooth = ceiling (M .states) L b;
+  informed = bestRow M F b;
 }
-boundsBy (Refused number place) m L b =
-    record { verdict = Refused number place; lower = pos 0; upper = pos 0; gap = pos 0; action = record { 0 = 0 } }
+boundsBy (Refused number place) M L F b = record {
+  verdict = Refused number place;
+  lower = pos 0;
+  upper = pos 0;
+  gap = pos 0;
+  action = record { 0 = 0 };
+  sawtooth = pos 0;
+  informed = pos 0;
+}
 
 unfoldable pub totalsOf : Tables → Lent → List ℕ → Bounds
-totalsOf m x b = boundsBy (totalsVerdict m x b) m (levelOf m (standingIn x)) b
+totalsOf m x b = boundsBy (totalsVerdict m x b) (modelOf m) (levelOf m (standingIn x)) (informedIn m x) (weightIn b)
 
 -- ---- building
 

@@ -7,7 +7,8 @@ use Rattle.integers.proofs.Lists.{row-below}
 use Rattle.integers.proofs.Words.{answer}
 use Rattle.plans.specs.Level.{product}
 use Rattle.sawtooth.specs.Steps.{ceilingIn}
-use Rattle.bounds.specs.Steps.{bestIn, lowerIn}
+use Rattle.integers.specs.Whole.{lesser}
+use Rattle.bounds.specs.Steps.{bestIn, lowerIn, rowIn, upperIn}
 use Rattle.bounds.proofs.Bounds.{below-reached, best-below, bounds-by}
 use Rattle.bounds.proofs.bounds_at.Statement.{statement}
 use Rattle.bounds.proofs.bounds_at.Tie as tie
@@ -22,6 +23,12 @@ chosen c = c .before .before
 abbrev multiplied : tie.After-ceiling → tie.After-product
 multiplied c = c .before
 
+abbrev of-row : tie.After-largest-product → tie.After-ceiling
+of-row c = c .before
+
+abbrev of-upper : tie.After-lesser → tie.After-largest-product
+of-upper c = c .before
+
 -- what is known there
 at-best : (c : tie.After-best-vector)
     → let a = start c .args in c .best-vector .result .0 ≡ bestIn (a .n) (a .vectors) (a .entries .now) (a .q .now)
@@ -35,10 +42,21 @@ at-lower c =
     ∙ ap (λ (z : ℕ). product (a .n) (weightIn (a .q .now)) (λ s. getD (a .entries .now) (z + s) (pos 0)))
     (c .before .start .ensures ∙ ap (λ (v : ℕ). v * a .n) (at-best (chosen c)))
 
-at-upper : (c : tie.After-ceiling)
+at-sawtooth : (c : tie.After-ceiling)
     → let a = start (chosen (multiplied c)) .args in
     toZ w64 (ofZ w64 (c .ceiling .result)) ≡ ceilingIn (a .n) (a .corners .now) (a .weights .now) (a .gains .now) (a .points) (a .q .now)
-at-upper c = answer (c .ceiling .ok) (c .ceiling .ensures)
+at-sawtooth c = answer (c .ceiling .ok) (c .ceiling .ensures)
+
+at-row : (c : tie.After-largest-product)
+    → let a = start (chosen (multiplied (of-row c))) .args in
+    toZ w64 (ofZ w64 (c .largest-product .result)) ≡ rowIn (a .n) (a .m) (a .informed .now) (a .q .now)
+at-row c = answer (c .largest-product .ok) (c .largest-product .ensures)
+
+at-upper : (c : tie.After-lesser)
+    → let a = start (chosen (multiplied (of-row (of-upper c)))) .args in
+    toZ w64 (ofZ w64 (c .lesser .result))
+    ≡ upperIn (a .n) (a .m) (a .points) (a .corners .now) (a .weights .now) (a .informed .now) (a .gains .now) (a .q .now)
+at-upper c = answer (c .lesser .ok) (c .lesser .ensures) ∙ rw (at-sawtooth (of-row (of-upper c)), at-row (of-upper c))
 
 below : (c : tie.After-best-vector) → c .best-vector .result .0 < start c .args .vectors
 below c = let a = start c in best-below (a .args .n) (a .args .entries .now) (a .args .q .now) (a .pre .0 .some-vectors) (at-best c)
@@ -67,24 +85,34 @@ ceiling-requires c κs =
     let h = a .pre .0 in
     (h .few-states, (below-reached (a .pre .1), (h .corners-fit, (h .points-fit, h .gains-fit))))
 
+largest-product-requires : tie.Need-largest-product-requires
+largest-product-requires c κs =
+    let a = start (chosen (multiplied c)) in
+    let h = a .pre .0 in
+    ((h .few-states, h .some-actions), (below-reached (a .pre .1), h .rows-fit))
+
 minus-requires : tie.Need-minus-requires
 minus-requires c κs =
-    let a = start (chosen (multiplied c)) in
-    rw (at-upper c, at-lower (multiplied c)) (a .pre .0 .fits (a .args .q .now) (a .pre .1))
+    let p = multiplied (of-row (of-upper c)) in
+    let a = start (chosen p) in
+    rw (at-upper c, at-lower p) (a .pre .0 .fits (a .args .q .now) (a .pre .1))
 
 action-stored : tie.Need-shared-slice-read-action
 action-stored c =
-    let v = chosen (multiplied (c .before .before)) in
+    let v = chosen (multiplied (of-row (of-upper (c .before .before)))) in
     omega (arith, below v, start v .pre .0 .actions-long)
 
 returns : tie.Need-returns
 returns c =
     let u = c .before .before .before in
-    let p = multiplied u in
+    let r = of-upper u in
+    let p = multiplied (of-row r) in
     let a = start (chosen p) .args in
-    bounds-by (a .n) (a .vectors) (a .points) (a .actions .now) (a .entries .now) (a .corners .now) (a .weights .now) (a .gains .now) (a .q .now)
-    (at-best (chosen p)) (at-lower p) (at-upper u) (answer (c .before .before .minus .ok) (c .before .before .minus .ensures)) (c .action .ensures)
+    bounds-by (a .n) (a .m) (a .vectors) (a .points) (a .actions .now) (a .entries .now) (a .corners .now) (a .weights .now) (a .informed .now)
+    (a .gains .now) (a .q .now) (at-best (chosen p)) (at-lower p) (at-sawtooth (of-row r)) (at-row r) (answer (u .lesser .ok) (u .lesser .ensures))
+    (answer (c .before .before .minus .ok) (c .before .before .minus .ensures)) (c .action .ensures)
 
 pub bounds-at-spec : {M : Type 1} → statement M
 bounds-at-spec =
-    tie.close (tie.spec best-vector-requires start-requires product-requires ceiling-requires minus-requires action-stored (λ c κs. search needs) returns)
+    tie.close (tie.spec best-vector-requires start-requires product-requires ceiling-requires largest-product-requires
+    (λ c κs. search needs) minus-requires action-stored (λ c κs. search needs) returns)

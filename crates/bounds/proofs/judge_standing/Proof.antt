@@ -1,5 +1,5 @@
 use Rattle.bounds.proofs.Prelude.{ℕ, _≡_, sym, _∙_, true, List, needs, arith, not-true}
-use Rattle.bounds.proofs.Prelude.{not-false, ap, [], Tables, tablesIn, Lent, cells, lent, standingAt, stands}
+use Rattle.bounds.proofs.Prelude.{not-false, ap, [], Tables, tablesIn, Lent, cells, rows, lent, standingAt, stands}
 use borrow.Author.Tests.{lt-ltb}
 use lib.Dec.{ltb}
 use Rattle.tables.proofs.Refusals.{breaks, passes}
@@ -23,6 +23,7 @@ abbrev certifier : tie.Start → List ℕ → Lent
 certifier c choices =
     let a = c .args in
     lent (a .state .now) (cells (a .actions .now) choices (a .entries .now) (a .corners .now) (a .weights .now) (a .values .now))
+    (rows (a .informed .now) (a .qmdp .now))
 
 above-zero : (t : ℕ) → (t ≡ 0 → ⊥) → ltb 0 t ≡ true
 above-zero t k = lt-ltb 0 t (omega arith)

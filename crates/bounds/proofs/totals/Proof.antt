@@ -1,4 +1,4 @@
-use Rattle.bounds.proofs.Prelude.{ℕ, _≡_, sym, _∙_, List, needs, [], Tables, tablesIn, Lent, cells, lent, standingAt, stands}
+use Rattle.bounds.proofs.Prelude.{ℕ, _≡_, sym, _∙_, List, needs, [], Tables, tablesIn, Lent, cells, rows, lent, standingAt, stands}
 use Rattle.tables.specs.declared.Verdict.the-variants.{Fine}
 use Rattle.checks.proofs.Roofs.{corners-fit, points-fit, values-fit}
 use Rattle.runs.specs.declared.Bounds.{Bounds}
@@ -27,6 +27,7 @@ abbrev certifier : tie.Start → List ℕ → Lent
 certifier c choices =
     let a = c .args in
     lent (a .state .now) (cells (a .actions .now) choices (a .entries .now) (a .corners .now) (a .weights .now) (a .values .now))
+    (rows (a .informed .now) (a .qmdp .now))
 
 -- ---- what is known
 held : (c : tie.After-enum-told) (choices : List ℕ) → standingVerdict (tables (of-certifier c)) (certifier (of-certifier c) choices) ≡ Fine

@@ -4,8 +4,9 @@ use Rattle.integers.specs.Whole.{ceilDiv}
 use Rattle.integers.specs.Search.{firstLargest}
 use Rattle.integers.proofs.Searches.{largest-first}
 use Rattle.integers.proofs.Words.{answer, back}
+use Rattle.plans.specs.Rows.{highest}
+use Rattle.plans.proofs.Rows.{highest-later, highest-same}
 use Rattle.builder.specs.Steps.{leastFrom}
-use Rattle.builder.proofs.Levels.{more-here, no-more-here}
 use Rattle.builder.proofs.least_of.Statement.{statement}
 use Rattle.builder.proofs.least_of.Tie as tie
 
@@ -30,13 +31,14 @@ unfolding K
 here c = answer (c .ceil-div2 .ok) (c .ceil-div2 .ensures ∙ ap (λ (z : ℤ). ceilDiv z K) (back _ (c .before .ceil-div-arg2 .given)))
 
 loop-again : tie.Need-loop-again Inv-loop μ-loop
+unfolding highest
 loop-again c =
     let l = c .before .before .before .before .loop in
     let f = leastFrom (c .before .before .before .before .before .before .before .args .backups .now) in (
       (omega arith, omega (arith, c .before .before .before .loop-test .taken)),
       ⊎-elim
-          (λ w. ap (toZ w64) (w .1) ∙ more-here f (l .a) (l .inv .1) (here (c .before)) (w .0 .taken))
-          (λ w. ap (toZ w64) (w .1) ∙ no-more-here f (l .a) (l .inv .1) (here (c .before)) (w .0 .left))
+          (λ w. ap (toZ w64) (w .1) ∙ highest-later f (l .a) (l .inv .1) (here (c .before)) (w .0 .taken))
+          (λ w. ap (toZ w64) (w .1) ∙ highest-same f (l .a) (l .inv .1) (here (c .before)) (w .0 .left))
           (c .if1 .came),
     )
 

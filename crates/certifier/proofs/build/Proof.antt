@@ -10,7 +10,7 @@ use Rattle.plans.specs.Level.{Level}
 use Rattle.plans.specs.Build.{built}
 use Rattle.plans.proofs.Built.{shaped-mono}
 use Rattle.levels.specs.declared.Standing.{Standing}
-use Rattle.levels.specs.Storage.{Cells, Lent, cells, lent, levelIn, levelOf, pointIn, over, standingAt, standingIn, numberIn}
+use Rattle.levels.specs.Storage.{Cells, Lent, cells, rows, lent, levelIn, levelOf, pointIn, over, standingAt, standingIn, numberIn}
 use Rattle.runs.specs.State.{buildVerdict, builtFrom, builtOf}
 use Rattle.runs.proofs.Demand3.{build-demand}
 use Rattle.builder.specs.Steps.{topBuilt}
@@ -37,6 +37,7 @@ abbrev certifier : tie.Start → List ℕ → Lent
 certifier c choices =
     let a = c .args in
     lent (a .state .now) (cells (a .actions .now) choices (a .entries .now) (a .corners .now) (a .weights .now) (a .values .now))
+    (rows (a .informed .now) (a .qmdp .now))
 
 abbrev answer : tie.Start → Cells
 answer c =

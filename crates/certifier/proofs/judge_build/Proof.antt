@@ -16,7 +16,7 @@ use Rattle.tables.specs.Verdicts.{_before_, unless}
 use Rattle.tables.proofs.Refusals.{breaks, passes}
 use Rattle.plans.specs.Limits.{maxBuilt}
 use Rattle.levels.specs.declared.Standing.{Standing}
-use Rattle.levels.specs.Storage.{Lent, cells, lent, standingAt}
+use Rattle.levels.specs.Storage.{Lent, cells, rows, lent, standingAt}
 use Rattle.levels.specs.Judged.{holds}
 use Rattle.runs.proofs.Judged.{Held, standing-true}
 use Rattle.certifier.proofs.Writing.{weights-long}
@@ -46,6 +46,7 @@ abbrev certifier : tie.Start → List ℕ → Lent
 certifier c choices =
     let a = c .args in
     lent (a .state .now) (cells (a .actions .now) choices (a .entries .now) (a .corners .now) (a .weights .now) (a .values .now))
+    (rows (a .informed .now) (a .qmdp .now))
 
 -- ---- what each test says
 holds-here : (c : tie.Else1) (choices : List ℕ) → holds (tables (of-certifier c)) (certifier (of-certifier c) choices) ≡ true

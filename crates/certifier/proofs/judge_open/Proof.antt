@@ -1,14 +1,20 @@
 use mathlib.Core.Path.{_≡_, sym, _∙_}
 use borrow.Author.Needs.{needs}
 use borrow.Author.Tests.{le-leb, lt-leb, not-true, not-false}
+use native.Mathlib.Nat.{mul-le-mul}
 use native.Mathlib.Omega.{arith}
+use Prim.Native.Nat.{_*_, _≤_}
+use mathlib.Core.Bool.{_&&_}
+use lib.Dec.{leb}
 use Rattle.tables.specs.declared.Tables.{Tables}
 use Rattle.tables.specs.declared.Verdict.the-variants.{Fine}
+use Rattle.tables.specs.Limits.{maxStates, maxActions}
 use Rattle.tables.specs.Model.{Valid}
 use Rattle.tables.specs.Storage.{modelOf, tablesIn}
 use Rattle.tables.specs.Judged.{tablesVerdict}
 use Rattle.tables.proofs.Refusals.{stops, goes}
 use Rattle.tables.proofs.Accepted.{tables-valid}
+use Rattle.levels.specs.Storage.{longEnough}
 use Rattle.certifier.proofs.judge_open.Statement.{statement}
 use Rattle.certifier.proofs.judge_open.Tie as tie
 
@@ -33,23 +39,58 @@ complete-requires c κs =
     let v = tables-valid (tables (start (t .before .before))) (fine t) in
     rw (c .fresh .ensures) (v .few-states, (v .few-observations, (omega arith, omega arith)))
 
+-- what is passed before a slice is asked for
+abbrev of-state : tie.After-complete → tie.Else1
+of-state c = c .before .before
+
+said : (c : tie.After-complete) → let a = start (of-state c .before .before .before) .args in c .complete .result
+    ≡ (leb (1 * a .c .observations) (a .choices) && longEnough (a .c .states) 1 0 (a .actions) (a .entries) (a .corners) (a .weights) (a .values))
+said c = rw (c .before .fresh .ensures) at (c .complete .ensures)
+
 returns-3 : tie.Need-returns-3
 returns-3 c =
-    let d = c .before in
-    let f = d .before in
-    let e = f .before in
-    let said = rw (f .fresh .ensures) at (d .complete .ensures) in
-    rw (fine (e .before), le-leb _ _ (e .if1 .left), sym said ∙ not-true _ (c .if2 .taken))
+    let e = of-state (c .before) in
+    rw (fine (e .before), le-leb _ _ (e .if1 .left), sym (said (c .before)) ∙ not-true _ (c .if2 .taken))
+
+few : (c : tie.Else2) → let a = start (of-state (c .before) .before .before .before) .args in a .c .actions * a .c .states ≤ maxActions * maxStates
+few c =
+    let t = of-state (c .before) .before in
+    let v = tables-valid (tables (start (t .before .before))) (fine t) in
+    mul-le-mul (v .few-actions) (v .few-states)
 
 returns-4 : tie.Need-returns-4
 returns-4 c =
-    let d = c .before in
-    let f = d .before in
-    let e = f .before in
-    let said = rw (f .fresh .ensures) at (d .complete .ensures) in
-    rw (fine (e .before), le-leb _ _ (e .if1 .left), sym said ∙ not-false _ (c .if2 .left))
+    let d = c .before .before in
+    let e = of-state (d .before) in
+    rw (fine (e .before), le-leb _ _ (e .if1 .left), sym (said (d .before)) ∙ not-false _ (d .if2 .left), lt-leb _ _ (c .if3 .taken))
+
+returns-5 : tie.Need-returns-5
+returns-5 c =
+    let i = c .before in
+    let d = i .before .before in
+    let e = of-state (d .before) in
+    rw (
+      fine (e .before),
+      le-leb _ _ (e .if1 .left),
+      sym (said (d .before)) ∙ not-false _ (d .if2 .left),
+      le-leb _ _ (i .if3 .left),
+      lt-leb _ _ (c .if4 .taken),
+    )
+
+returns-6 : tie.Need-returns-6
+returns-6 c =
+    let i = c .before in
+    let d = i .before .before in
+    let e = of-state (d .before) in
+    rw (
+      fine (e .before),
+      le-leb _ _ (e .if1 .left),
+      sym (said (d .before)) ∙ not-false _ (d .if2 .left),
+      le-leb _ _ (i .if3 .left),
+      le-leb _ _ (c .if4 .left),
+    )
 
 pub judge-open-spec : {M : Type 1} → statement M
 judge-open-spec =
     tie.close (tie.spec (λ c κs. search needs) (λ c. search needs) (λ c. search needs) returns returns-2 (λ c κs. search needs) complete-requires returns-3
-    returns-4)
+    (λ c. omega (arith, few (c .before))) returns-4 returns-5 returns-6)

@@ -7,15 +7,10 @@ use lib.Seq.{paste}
 use lib.IntN.{pos}
 use borrow.Author.Needs.{needs}
 use Rattle.integers.specs.Cells.{laid}
-use Rattle.integers.proofs.Lists.{laid-none, laid-turn, laid-cong, paste-laid, replicate-at}
+use Rattle.integers.proofs.Lists.{laid-none, laid-turn, same-laid}
 use Rattle.tables.specs.Limits.{maxStates, maxObservations}
 use Rattle.certifier.proofs.lay_level_0.Statement.{statement}
 use Rattle.certifier.proofs.lay_level_0.Tie as tie
-
--- zeros over the first n cells
-zeros-laid : {A : Type 0} (z : A) (size n : ℕ) (xs : List A) → n ≤ size → paste xs 0 (replicate size z) n ≡ laid n (λ i. z) xs
-zeros-laid z size n xs l =
-    paste-laid n xs (replicate size z) z (rw (length-replicate size z) l) ∙ laid-cong n _ _ xs (λ i b. replicate-at z size i)
 
 -- from each slice that was written to the one before it
 abbrev start : tie.After-paste-u16 → tie.Start
@@ -37,10 +32,10 @@ returns c =
     let p = s .pre in (
       laid-turn (λ v. 0) 0 (a .actions .now) 0 (sym (laid-none (λ v. 0) (a .actions .now))) refl (p .1 .0),
       (
-        h .paste-u16 .ensures ∙ zeros-laid 0 maxObservations (a .k) (a .choices .now) (p .0 .1),
+        h .paste-u16 .ensures ∙ same-laid 0 maxObservations (a .k) (a .choices .now) (p .0 .1),
         (
-          e .paste-i64 .ensures ∙ zeros-laid (pos 0) maxStates (a .n) (a .entries .now) (p .0 .0),
-          r .paste-i642 .ensures ∙ zeros-laid (pos 0) maxStates (a .n) (a .corners .now) (p .0 .0),
+          e .paste-i64 .ensures ∙ same-laid (pos 0) maxStates (a .n) (a .entries .now) (p .0 .0),
+          r .paste-i642 .ensures ∙ same-laid (pos 0) maxStates (a .n) (a .corners .now) (p .0 .0),
         ),
       ),
     )

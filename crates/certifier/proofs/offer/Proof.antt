@@ -1,6 +1,7 @@
 use Prim.Native.Nat.{ℕ, _+_}
 use mathlib.Core.Path.{_≡_, sym, _∙_, ap}
-use mathlib.Core.List.{_∷_}
+use mathlib.Core.List.{List, _∷_}
+use lib.IntN.{ℤ}
 use native.Mathlib.Omega.{arith}
 use lib.ListN.{drop}
 use borrow.Author.Needs.{needs}
@@ -8,9 +9,11 @@ use Rattle.tables.specs.declared.Tables.{Tables}
 use Rattle.tables.specs.declared.Verdict.the-variants.{Fine}
 use Rattle.tables.specs.Storage.{tablesIn}
 use Rattle.levels.specs.declared.Standing.{Standing}
-use Rattle.levels.specs.Storage.{LentLevel, Lent, stateSize, cells, lent, lentFor, standingAt}
+use Rattle.levels.specs.Storage.{LentLevel, Lent, stateSize, cells, rows, lent, lentFor, standingAt}
 use Rattle.levels.specs.Judged.{offerVerdict}
-use Rattle.runs.proofs.Judged.{Accepted, accepted}
+use Rattle.runs.proofs.Judged.{RowsIn, Accepted, accepted}
+use Rattle.rows.specs.Steps.{Ready}
+use Rattle.rows.proofs.Stepped.{ready, seen}
 use Rattle.certifier.specs.Steps.{Lays}
 use Rattle.certifier.proofs.Writing.{offered-refused, offered-fine}
 use Rattle.certifier.proofs.offer.Statement.{statement}
@@ -18,7 +21,9 @@ use Rattle.certifier.proofs.offer.Tie as tie
 
 -- from each place to the one before it
 abbrev start : tie.After-judge-offer → tie.Start
-start c = c .before .before .before .before .before .before .before .before .before .before .before .before .before .before .before .before .before
+start c =
+    let d = c .before .before .before .before .before .before .before .before .before .before .before .before in
+    d .before .before .before .before .before .before .before
 
 abbrev of-verdict : tie.After-standing-in-arg → tie.After-judge-offer
 of-verdict c = c .before .before .before
@@ -37,6 +42,7 @@ abbrev certifier : tie.Start → Lent
 certifier c =
     let a = c .args in
     lent (a .state .now) (cells (a .actions .now) (a .choices .now) (a .entries .now) (a .corners .now) (a .weights .now) (a .values .now))
+    (rows (a .informed .now) (a .qmdp .now))
 
 abbrev offered : tie.Start → LentLevel
 offered c =
@@ -72,8 +78,8 @@ written c =
     c .put-standing .ensures
     ∙ ap (λ (n : ℕ). (n + 1) ∷ s .args .vectors ∷ s .args .points ∷ drop stateSize (s .args .state .now)) (number-is (of-standing c))
 
-add-t41 : tie.Need-add-t41
-add-t41 c = let n = c .before .before in omega (arith, number-is n, passed (n .before) .room)
+add-t47 : tie.Need-add-t47
+add-t47 c = let n = c .before .before in omega (arith, number-is n, passed (n .before) .room)
 
 put-standing-requires : tie.Need-put-standing-requires
 put-standing-requires c κs = passed (c .before .before .before) .standing .state-long
@@ -109,9 +115,25 @@ lay-level-requires c κs =
       },
     )
 
+-- the rows that stand are within the range of their level
+step-requires : tie.Need-step-requires
+step-requires c κs =
+    let l = c .before .before .before .before .before .before .before .before .before .before .before in
+    let n = of-standing (of-state l) .before in
+    let a = start (of-verdict n) .args in
+    let p = passed n .standing in
+    let made : (cells : List ℤ) → RowsIn (a .c .actions) (a .c .states) (standingAt (a .state .now) .number) cells
+    → Ready (a .c) (a .transition .now) (a .reward .now) cells = λ cells r.
+    ready (a .c) (a .transition .now) (a .observation .now) (a .reward .now) (p .valid-tables) (p .stored-tables) cells _ (p .few-levels) (r .long)
+    (r .entry) in (
+      (made (a .informed .now) (p .informed), made (a .qmdp .now) (p .qmdp)),
+      seen (a .c) (a .transition .now) (a .observation .now) (a .reward .now) (p .valid-tables) (p .stored-tables),
+    )
+
 returns-2 : tie.Need-returns-2
 returns-2 c =
-    let l = c .before .before .before .before .before .before .before .before .before in
+    let k = c .before .before in
+    let l = k .before .before .before .before .before .before .before .before .before .before .before .before in
     let p = of-state l in
     let n = of-standing p in
     let g = n .before in
@@ -119,12 +141,13 @@ returns-2 c =
     let s = start j in (
       sym (fine g),
       offered-fine (tables s) (certifier s) (offered s) (said j) (g .before .enum-told .given .1)
-          (written p) (l .lay-level .ensures),
+          (written p) (l .lay-level .ensures) (k .step .ensures .0) (k .step .ensures .1),
     )
 
 pub offer-spec : {M : Type 1} → statement M
 offer-spec =
     tie.close (tie.spec (λ c κs. search needs) (λ c. search needs) (λ c. search needs) (λ c. search needs) (λ c. search needs) (λ c. search needs)
-    (λ c. search needs) (λ c. search needs) (λ c. search needs) (λ c. search needs) returns standing-in-requires add-t41 put-standing-requires
-    lay-level-requires (λ c. search needs) (λ c. search needs) (λ c. search needs) (λ c. search needs) (λ c. search needs) (λ c. search needs)
-    (λ c. search needs) returns-2)
+    (λ c. search needs) (λ c. search needs) (λ c. search needs) (λ c. search needs) (λ c. search needs) (λ c. search needs)
+    returns standing-in-requires add-t47 put-standing-requires
+    lay-level-requires step-requires (λ c. search needs) (λ c. search needs) (λ c. search needs) (λ c. search needs) (λ c. search needs) (λ c. search needs)
+    (λ c. search needs) (λ c. search needs) (λ c. search needs) returns-2)

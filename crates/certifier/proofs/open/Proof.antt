@@ -1,17 +1,18 @@
 use mathlib.Core.Path.{_≡_, sym, _∙_, ap}
 use mathlib.Core.List.{_∷_}
-use Prim.Native.Nat.{_≤_, _<_}
+use Prim.Native.Nat.{_*_, _≤_, _<_}
+use native.Mathlib.Nat.{mul-le-mul}
 use native.Mathlib.Omega.{arith}
 use lib.ListN.{length, drop}
 use borrow.Author.Needs.{needs}
 use Rattle.tables.specs.declared.Tables.{Tables}
 use Rattle.tables.specs.declared.Verdict.the-variants.{Fine}
-use Rattle.tables.specs.Limits.{maxStates, maxObservations}
+use Rattle.tables.specs.Limits.{maxStates, maxActions, maxObservations}
 use Rattle.tables.specs.Storage.{tablesIn}
 use Rattle.tables.proofs.Accepted.{tables-valid}
 use Rattle.plans.specs.Level.{level0}
 use Rattle.levels.specs.declared.Standing.{Standing}
-use Rattle.levels.specs.Storage.{Lent, stateSize, cells, lent}
+use Rattle.levels.specs.Storage.{Lent, stateSize, cells, rows, lent}
 use Rattle.runs.specs.State.{openVerdict}
 use Rattle.runs.proofs.Demand3.{fine-tables, room-for-level-0}
 use Rattle.certifier.proofs.Writing.{opened-refused, opened-fine}
@@ -35,6 +36,7 @@ abbrev certifier : tie.Start → Lent
 certifier c =
     let a = c .args in
     lent (a .state .now) (cells (a .actions .now) (a .choices .now) (a .entries .now) (a .corners .now) (a .weights .now) (a .values .now))
+    (rows (a .informed .now) (a .qmdp .now))
 
 said : (c : tie.After-judge-open) → c .judge-open .result ≡ openVerdict (tables (start c)) (certifier (start c))
 unfolding openVerdict level0
@@ -64,7 +66,7 @@ unfolding level0
 room c =
     let s = start (of-verdict c) in
     let v = tables-valid (tables s) (fine-tables (tables s) (certifier s) (opens c)) in
-    let r = room-for-level-0 (tables s) (certifier s) (opens c) .1 in
+    let r = room-for-level-0 (tables s) (certifier s) (opens c) .1 .0 in
     ((v .few-states, v .few-observations), (omega (arith, r .read .actions), (omega (arith, r .choices), (omega (arith, r .read .entries), r .read .corners))))
 
 lay-level-0-requires : tie.Need-lay-level-0-requires
@@ -76,9 +78,30 @@ written c =
     ∙ ap (λ (s : Standing). s .number ∷ s .vectors ∷ s .points ∷ drop stateSize (start (of-verdict (c .before)) .args .state .now))
     (c .before .fresh .ensures)
 
+-- the rows
+few : (c : tie.After-fresh) → let a = start (of-verdict c) .args in a .c .actions * a .c .states ≤ maxActions * maxStates
+few c =
+    let s = start (of-verdict c) in
+    let v = tables-valid (tables s) (fine-tables (tables s) (certifier s) (opens c)) in
+    mul-le-mul (v .few-actions) (v .few-states)
+
+rows-room : (c : tie.After-fresh) → let a = start (of-verdict c) .args in
+    (a .c .actions * a .c .states ≤ length (a .informed .now)) × (a .c .actions * a .c .states ≤ length (a .qmdp .now))
+rows-room c = let s = start (of-verdict c) in room-for-level-0 (tables s) (certifier s) (opens c) .1 .1
+
+abbrev of-level : tie.After-clear → tie.After-lay-level-0
+of-level c = c .before .before .before .before .before .before .before .before .before
+
+clear-requires : tie.Need-clear-requires
+clear-requires c κs = let f = of-state (c .before .before .before .before .before .before .before .before) .before in (few f, rows-room f .0)
+
+clear-requires-2 : tie.Need-clear-requires-2
+clear-requires-2 c κs = let f = of-state (of-level (c .before .before .before)) .before in (few f, rows-room f .1)
+
 returns-2 : tie.Need-returns-2
 returns-2 c =
-    let l = c .before .before .before .before .before .before in
+    let k = c .before .before .before .before .before in
+    let l = of-level k in
     let p = of-state l in
     let f = p .before in
     let j = of-verdict f in
@@ -86,10 +109,12 @@ returns-2 c =
     let e = l .lay-level-0 .ensures in (
       sym (opens f),
       opened-fine (tables s) (certifier s) (said j) (f .before .before .enum-told .given .1) (written p) (e .0)
-          (e .1 .0) (e .1 .1 .0) (e .1 .1 .1),
+          (e .1 .0) (e .1 .1 .0) (e .1 .1 .1) (k .clear .ensures) (c .before .clear2 .ensures),
     )
 
 pub open-spec : {M : Type 1} → statement M
 open-spec =
     tie.close (tie.spec (λ c κs. search needs) (λ c. search needs) (λ c. search needs) returns (λ c κs. search needs) put-standing-requires
-    lay-level-0-requires (λ c. search needs) (λ c. search needs) (λ c. search needs) (λ c. search needs) (λ c. search needs) returns-2)
+    lay-level-0-requires (λ c. omega (arith, few (of-state (c .before .before .before .before .before .before .before .before) .before))) clear-requires
+    (λ c. omega (arith, few (of-state (of-level (c .before .before .before)) .before))) clear-requires-2 (λ c. search needs)
+    (λ c. search needs) (λ c. search needs) (λ c. search needs) (λ c. search needs) (λ c. search needs) (λ c. search needs) returns-2)

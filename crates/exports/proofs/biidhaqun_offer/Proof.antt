@@ -6,10 +6,10 @@ use Rattle.exports.proofs.biidhaqun_offer.Tie as tie
 
 returns : tie.Need-returns
 returns c =
-    let o = c .before .before .before .before .before .before .before .before .before .before .before .before .offer .ensures in
+    let o = c .before .before .before .before .before .before .before .before .before .before .before .before .before .before .offer .ensures in
     (c .refusal-of .ensures ∙ ap refusalOf (o .0), o .1)
 
 pub biidhaqun-offer-spec : {M : Type 1} → statement M
 biidhaqun-offer-spec =
     tie.close (tie.spec (λ c κs. search needs) (λ c κs. search needs) (λ c. search needs) (λ c. search needs) (λ c. search needs) (λ c. search needs)
-    (λ c. search needs) (λ c. search needs) (λ c. search needs) returns)
+    (λ c. search needs) (λ c. search needs) (λ c. search needs) (λ c. search needs) (λ c. search needs) returns)

@@ -14,11 +14,13 @@ returns c =
     let l : mag (t .result .lower) < 2 ^ 63 = search (needs, t .ok) in
     let u : mag (t .result .upper) < 2 ^ 63 = search (needs, t .ok) in
     let g : mag (t .result .gap) < 2 ^ 63 = search (needs, t .ok) in
+    let saw : mag (t .result .sawtooth) < 2 ^ 63 = search (needs, t .ok) in
+    let row : mag (t .result .informed) < 2 ^ 63 = search (needs, t .ok .1 .1 .1 .1 .1 .1 .1) in
     let same = c .before .before .refusal-of .ensures in (
-      λ choices. rw (back _ l, back _ u, back _ g, same) (ap totalsBy (t .ensures .0 choices)),
+      λ choices. rw (back _ l, back _ u, back _ g, back _ saw, back _ row, same) (ap totalsBy (t .ensures .0 choices)),
       λ choices x ls o e h b. record {
         bounds = t .result;
-        answer = rw (back _ l, back _ u, back _ g, same) refl;
+        answer = rw (back _ l, back _ u, back _ g, back _ saw, back _ row, same) refl;
         holds = t .ensures .1 choices x ls o e h b;
       },
     )

@@ -1,4 +1,4 @@
-use Rattle.judging.proofs.Prelude.{_≡_, needs, Tables, tablesIn, cells, lent}
+use Rattle.judging.proofs.Prelude.{_≡_, needs, Tables, tablesIn, cells, rows, lent}
 use Rattle.levels.specs.declared.Standing.{Standing}
 use Rattle.levels.specs.Storage.{LentLevel, Lent, lentFor, standingAt}
 use Rattle.runs.proofs.Judged.{Fitting, fitting}
@@ -25,6 +25,7 @@ abbrev certifier : tie.Start → Lent
 certifier c =
     let a = c .args in
     lent (a .state .now) (cells (a .actions .now) (a .choices .now) (a .entries .now) (a .corners .now) (a .weights .now) (a .values .now))
+    (rows (a .informed .now) (a .qmdp .now))
 
 abbrev offered : tie.Start → LentLevel
 offered c =

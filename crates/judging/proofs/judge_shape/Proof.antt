@@ -1,5 +1,5 @@
 use Rattle.judging.proofs.Prelude.{_≤_, _<_, _≡_, sym, _∙_, true, arith, needs, not-true, not-false, Tables, Verdict, Refused}
-use Rattle.judging.proofs.Prelude.{tablesIn, cells, lent, counts-few}
+use Rattle.judging.proofs.Prelude.{tablesIn, cells, rows, lent, counts-few}
 use mathlib.Core.Path.{ap}
 use lib.Dec.{ltb}
 use borrow.Author.Tests.{lt-ltb, le-ltb}
@@ -43,6 +43,7 @@ abbrev certifier : tie.Start → Lent
 certifier c =
     let a = c .args in
     lent (a .state .now) (cells (a .actions .now) (a .choices .now) (a .entries .now) (a .corners .now) (a .weights .now) (a .values .now))
+    (rows (a .informed .now) (a .qmdp .now))
 
 abbrev offered : tie.Start → LentLevel
 offered c =

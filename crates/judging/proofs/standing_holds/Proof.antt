@@ -4,14 +4,17 @@ use mathlib.Core.Path.{ap}
 use mathlib.Core.List.{List, []}
 use borrow.Author.Tests.{leb-true}
 use lib.ListN.{length, getD}
-use Rattle.tables.specs.Limits.{maxStates, maxVectors, maxLevels}
+use lib.IntN.{ℤ}
+use Rattle.tables.specs.Limits.{maxStates, maxActions, maxVectors, maxLevels}
+use Rattle.tables.specs.Model.{Valid}
+use Rattle.tables.specs.Storage.{modelOf}
 use Rattle.tables.specs.declared.Verdict.{Verdict}
 use Rattle.tables.specs.Judged.{tablesVerdict}
 use Rattle.tables.proofs.Accepted.{tables-valid}
 use Rattle.plans.specs.Limits.{maxPoints}
 use Rattle.levels.specs.declared.Standing.{Standing}
 use Rattle.levels.specs.Storage.{LentLevel, stateSize, standingAt, cells, lentFor, readable, pointIn}
-use Rattle.levels.specs.Judged.{countsHold, actionsExist, isFine, rangesVerdict, weightsVerdict, holds}
+use Rattle.levels.specs.Judged.{countsHold, actionsExist, isFine, rangesVerdict, weightsVerdict, rowsHold, holds}
 use Rattle.levels.proofs.Over.{Readable, readable-true}
 use Rattle.judging.proofs.Stages.{ranges-read}
 use Rattle.judging.proofs.standing_holds.Statement.{statement}
@@ -42,6 +45,13 @@ of-actions c = c .before .before
 abbrev of-ranges : tie.After-enum-told3 → tie.Else5
 of-ranges c = c .before .before .before
 
+abbrev of-weights : tie.After-enum-told5 → tie.After-enum-told3
+of-weights c = c .before .before .before
+
+-- what stands, from the rows on
+abbrev of-standing : tie.After-enum-told5 → tie.After-standing-in
+of-standing c = of-number (of-counts (of-read (of-actions (of-ranges (of-weights c)))))
+
 abbrev tables : tie.Start → Tables
 tables c = tablesIn (c .args .c) (c .args .transition .now) (c .args .observation .now) (c .args .reward .now)
 
@@ -49,8 +59,11 @@ tables c = tablesIn (c .args .c) (c .args .transition .now) (c .args .observatio
 fine-tables : (c : tie.After-enum-told) → tablesVerdict (tables (of-tables c)) ≡ Fine
 fine-tables c = sym (c .before .before .judge-tables .ensures) ∙ c .enum-told .given .1
 
+valid : (c : tie.After-enum-told) → Valid (modelOf (tables (of-tables c)))
+valid c = tables-valid (tables (of-tables c)) (fine-tables c)
+
 few-states : (c : tie.After-enum-told) → of-tables c .args .c .states ≤ maxStates
-few-states c = tables-valid (tables (of-tables c)) (fine-tables c) .few-states
+few-states c = valid c .few-states
 
 long-state : (c : tie.Else1) → leb stateSize (length (of-tables (of-state c) .args .state .now)) ≡ true
 long-state c = le-leb _ _ (c .if1 .left)
@@ -217,16 +230,49 @@ returns-8 : tie.Need-returns-8
 unfolding holds
 returns-8 c choices =
     let w = c .before .before in
-    after-ranges (w .before) choices (sym (not-fine (sym (totals-said w) ∙ c .enum-told6 .given .1)))
+    after-ranges (w .before) choices (fails _ (not-fine (sym (totals-said w) ∙ c .enum-told6 .given .1)))
+
+number-is : (c : tie.After-standing-in) → c .standing-in .result .number ≡ state c .number
+number-is c = ap (λ (s : Standing). s .number) (stands c)
+
+rows-hold-requires : tie.Need-rows-hold-requires
+rows-hold-requires c κs =
+    let n = of-standing c in
+    let v = valid (of-state (n .before)) in
+    rw (number-is n) (v .few-actions, (v .few-states, leb-true _ _ (few-levels (of-counts (of-read (of-actions (of-ranges (of-weights c))))))))
+
+after-weights : (c : tie.After-enum-told5) (choices : List ℕ) {b x : Bool} → x ≡ b → let r = of-ranges (of-weights c) in
+    x ≡ TestsRead (of-read (of-actions r)) (Acts (of-actions r) && (isFine (Ranges r choices) && (isFine (Totals r) && b)))
+after-weights c choices e = after-ranges (of-weights c) choices (holds-on (fine (sym (totals-said (c .before .before)) ∙ c .enum-told5 .given .1)) e)
+
+-- the rows of a slice, at the level that stands
+abbrev Rowed : tie.After-enum-told5 → List ℤ → Bool
+Rowed c cells =
+    let n = of-standing c in
+    let a = of-tables (of-state (n .before)) .args in
+    rowsHold (a .c .actions) (a .c .states) (state n .number) cells
+
+informed-said : (c : tie.After-rows-hold) → let a = of-tables (of-state (of-standing (c .before) .before)) .args in
+    c .rows-hold .result ≡ Rowed (c .before) (a .informed .now)
+informed-said c = rw (number-is (of-standing (c .before))) at (c .rows-hold .ensures)
 
 returns-9 : tie.Need-returns-9
 unfolding holds
-returns-9 c choices =
-    let w = c .before .before in
-    after-ranges (w .before) choices (sym (fine (sym (totals-said w) ∙ c .enum-told5 .given .1)))
+returns-9 c choices = let r = c .before in after-weights (r .before) choices (fails _ (sym (informed-said r) ∙ not-true _ (c .if6 .taken)))
+
+rows-hold-requires-2 : tie.Need-rows-hold-requires-2
+rows-hold-requires-2 c κs = rows-hold-requires (c .before .before) κs
+
+returns-10 : tie.Need-returns-10
+unfolding holds
+returns-10 c choices =
+    let r = c .before .before in
+    after-weights (r .before) choices (holds-on (sym (informed-said r) ∙ not-false _ (c .before .if6 .left))
+    (rw (number-is (of-standing (r .before))) at (c .rows-hold2 .ensures)))
 
 pub standing-holds-spec : {M : Type 1} → statement M
 standing-holds-spec =
     tie.close (tie.spec (λ c κs. search needs) (λ c. search needs) (λ c. search needs) returns returns-2 (λ c κs. search needs) returns-3
     (λ c κs. search needs) returns-4 readable-requires returns-5 actions-exist-requires returns-6 ranges-hold-requires (λ c. search needs)
-    (λ c. search needs) returns-7 weights-hold-requires (λ c. search needs) (λ c. search needs) returns-8 returns-9)
+    (λ c. search needs) returns-7 weights-hold-requires (λ c. search needs) (λ c. search needs) returns-8
+    rows-hold-requires returns-9 rows-hold-requires-2 returns-10)

@@ -3,7 +3,7 @@ use Prim.Native.Nat.{_+_}
 use native.Mathlib.Omega.{arith}
 use borrow.Author.Needs.{needs}
 use Rattle.tables.specs.Storage.{tablesIn}
-use Rattle.levels.specs.Storage.{Cells, Lent, cells, lent}
+use Rattle.levels.specs.Storage.{Cells, Lent, cells, rows, lent}
 use Rattle.ladder.specs.Climb.{Climbed}
 use Rattle.ladder.proofs.Climbing.{few-states, built-given, built-accepted, climbed-next, asked}
 use Rattle.ladder.proofs.rung.Statement.{statement}
@@ -13,18 +13,18 @@ use Rattle.ladder.proofs.rung.Tie as tie
 abbrev start : tie.After-build → tie.Start
 start c =
     let d = c .before .before .before .before .before .before .before .before .before .before .before in
-    d .before .before .before .before .before .before .before .before .before .before
+    d .before .before .before .before .before .before .before .before .before .before .before .before
 
 abbrev of-building : tie.After-offer → tie.After-build
 of-building c =
     let d = c .before .before .before .before .before .before .before .before .before .before .before .before .before in
-    d .before .before .before .before .before .before .before .before .before
+    d .before .before .before .before .before .before .before .before .before .before .before
 
-abbrev of-offer : tie.After-values → tie.After-offer
-of-offer c = c .before .before .before .before .before .before .before .before .before .before .before
+abbrev of-offer : tie.After-qmdp → tie.After-offer
+of-offer c = c .before .before .before .before .before .before .before .before .before .before .before .before .before
 
 abbrev of-line : tie.After-print-level → tie.After-served2
-of-line c = c .before .before .before .before .before .before .before
+of-line c = c .before .before .before .before .before .before .before .before .before
 
 served-requires : tie.Need-served-requires
 served-requires c κs =
@@ -34,7 +34,7 @@ served-requires c κs =
 
 add-offer : tie.Need-add-offer
 add-offer c =
-    let b = c .before .before .before .before .before .before .before .before .before .before .before .before .before .before .before .before in
+    let b = c .before .before .before .before .before .before .before .before .before .before .before .before .before .before .before .before .before .before in
     omega (arith, few-states (start b .pre .1))
 
 served-requires-2 : tie.Need-served-requires-2
@@ -49,10 +49,11 @@ abbrev certifier : tie.After-offer → Lent
 certifier c =
     let l = c .offer .last .1 .1 .1 .1 in
     lent (l .0) (cells (l .1 .0) (l .1 .1 .0) (l .1 .1 .1 .0) (l .1 .1 .1 .1 .0) (l .1 .1 .1 .1 .1 .0) (l .1 .1 .1 .1 .1 .1 .0))
+    (rows (l .1 .1 .1 .1 .1 .1 .1 .0) (l .1 .1 .1 .1 .1 .1 .1 .1 .0))
 
 abbrev built : tie.After-build → Cells
 built c =
-    let l = c .build .last .1 .1 .1 .1 .1 .1 .1 .1 .1 .1 .1 .1 in
+    let l = c .build .last .1 .1 .1 .1 .1 .1 .1 .1 .1 .1 .1 .1 .1 .1 in
     cells (l .0) (l .1 .0) (l .1 .1 .0) (l .1 .1 .1 .0) (start c .args .given .now) (l .1 .1 .1 .1 .0)
 
 -- one level higher
@@ -68,7 +69,7 @@ add-print-level : tie.Need-add-print-level
 add-print-level c = omega (arith, start (of-building (of-offer (c .before))) .pre .0)
 
 print-level-requires : tie.Need-print-level-requires
-print-level-requires c κs = asked (climbed (c .before .before .before .before .before .before)) (omega arith) refl
+print-level-requires c κs = asked (climbed (c .before .before .before .before .before .before .before .before)) (omega arith) refl
 
 pub rung-spec : {M : Type 1} → statement M
 rung-spec =
@@ -77,8 +78,10 @@ rung-spec =
     (λ c. of-offer (of-line c .before) .offer .kept .1 .1 .1 .1 .1 .1 .0) (λ c. of-offer (of-line c .before) .offer .kept .1 .1 .1 .1 .1 .1 .1 .0)
     (λ c. of-offer (of-line c .before) .offer .kept .1 .1 .1 .1 .1 .1 .1 .1 .0) (λ c. of-offer (of-line c .before) .offer .kept .1 .1 .1 .1 .1 .1 .1 .1 .1 .0)
     (λ c. of-offer (of-line c .before) .offer .kept .1 .1 .1 .1 .1 .1 .1 .1 .1 .1 .0)
-    (λ c. of-building (of-offer (of-line c .before)) .build .kept .1 .1 .1 .1 .1 .1 .1 .1 .1 .1 .1 .1 .0)
-    (λ c. of-building (of-offer (of-line c .before)) .build .kept .1 .1 .1 .1 .1 .1 .1 .1 .1 .1 .1 .1 .1 .0)
+    (λ c. of-offer (of-line c .before) .offer .kept .1 .1 .1 .1 .1 .1 .1 .1 .1 .1 .1 .0)
+    (λ c. of-offer (of-line c .before) .offer .kept .1 .1 .1 .1 .1 .1 .1 .1 .1 .1 .1 .1 .0)
     (λ c. of-building (of-offer (of-line c .before)) .build .kept .1 .1 .1 .1 .1 .1 .1 .1 .1 .1 .1 .1 .1 .1 .0)
     (λ c. of-building (of-offer (of-line c .before)) .build .kept .1 .1 .1 .1 .1 .1 .1 .1 .1 .1 .1 .1 .1 .1 .1 .0)
-    (λ c. of-building (of-offer (of-line c .before)) .build .kept .1 .1 .1 .1 .1 .1 .1 .1 .1 .1 .1 .1 .1 .1 .1 .1 .0) (λ c. climbed (of-line c)))
+    (λ c. of-building (of-offer (of-line c .before)) .build .kept .1 .1 .1 .1 .1 .1 .1 .1 .1 .1 .1 .1 .1 .1 .1 .1 .0)
+    (λ c. of-building (of-offer (of-line c .before)) .build .kept .1 .1 .1 .1 .1 .1 .1 .1 .1 .1 .1 .1 .1 .1 .1 .1 .1 .0)
+    (λ c. of-building (of-offer (of-line c .before)) .build .kept .1 .1 .1 .1 .1 .1 .1 .1 .1 .1 .1 .1 .1 .1 .1 .1 .1 .1 .0) (λ c. climbed (of-line c)))

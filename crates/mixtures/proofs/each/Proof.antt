@@ -7,7 +7,7 @@ use mathlib.Core.List.{List, []}
 use mathlib.Core.Path.{_≡_, sym, _∙_}
 use Rattle.tables.specs.declared.Tables.{Tables}
 use Rattle.tables.specs.Storage.{tablesIn}
-use Rattle.levels.specs.Storage.{Lent, cells, lent, standingAt}
+use Rattle.levels.specs.Storage.{Lent, cells, rows, lent, standingAt}
 use Rattle.checks.proofs.Roofs.{corners-fit, points-fit, values-fit}
 use borrow.Author.Tests.{not-true, not-false, leb-true}
 use Rattle.tables.specs.declared.Verdict.{Verdict}
@@ -48,6 +48,7 @@ abbrev certifier : tie.Start → List ℕ → Lent
 certifier c choices =
     let a = c .args in
     lent (a .state .now) (cells (a .actions .now) choices (a .entries .now) (a .corners .now) (a .weights .now) (a .values .now))
+    (rows (a .informed .now) (a .qmdp .now))
 
 abbrev lent-for : tie.Start → Answers
 lent-for c = answers (c .args .verdicts .now) (c .args .lower .now) (c .args .upper .now) (c .args .advice .now)

@@ -16,12 +16,12 @@ use Rattle.mixtures.proofs.write_answers.Statement.{statement}
 use Rattle.mixtures.proofs.write_answers.Tie as tie
 
 abbrev Inv-loop : tie.InvT-loop
-Inv-loop actions entries corners weights gains n vectors points mixtures count verdicts₀ lower₀ upper₀ advice₀ i₀ verdicts lower upper advice i =
+Inv-loop actions entries corners weights informed gains n m vectors points mixtures count verdicts₀ lower₀ upper₀ advice₀ i₀ verdicts lower upper advice i =
     (i ≤ count) × (answers verdicts lower upper advice
-    ≡ written (λ j. answerIn n vectors points actions entries corners weights gains (mixtureAt n mixtures j)) i (answers verdicts₀ lower₀ upper₀ advice₀))
+    ≡ written (λ j. answerIn n m vectors points actions entries corners weights informed gains (mixtureAt n mixtures j)) i (answers verdicts₀ lower₀ upper₀ advice₀))
 
 abbrev μ-loop : tie.MeasureT-loop
-μ-loop actions entries corners weights gains n vectors points mixtures count verdicts₀ lower₀ upper₀ advice₀ i₀ verdicts lower upper advice i = count - i
+μ-loop actions entries corners weights informed gains n m vectors points mixtures count verdicts₀ lower₀ upper₀ advice₀ i₀ verdicts lower upper advice i = count - i
 
 -- from each place to the one before it
 abbrev start : tie.In-loop Inv-loop μ-loop → tie.Start Inv-loop μ-loop
@@ -40,8 +40,8 @@ of-number c = of-refusal (c .before)
 abbrev Answer : tie.Start Inv-loop μ-loop → ℕ → Bounds
 Answer s j =
     let a = s .args in
-    answerIn (a .n) (a .vectors) (a .points) (a .actions .now) (a .entries .now) (a .corners .now) (a .weights .now) (a .gains .now)
-    (mixtureAt (a .n) (a .mixtures .now) j)
+    answerIn (a .n) (a .m) (a .vectors) (a .points) (a .actions .now) (a .entries .now) (a .corners .now) (a .weights .now) (a .informed .now)
+    (a .gains .now) (mixtureAt (a .n) (a .mixtures .now) j)
 
 -- what is known of the slices
 abbrev lent : tie.Start Inv-loop μ-loop → Answers
@@ -67,8 +67,8 @@ long c = written-long (Answer (start c)) _ (c .before .loop .inv .1) (room (star
 answer-is : (c : tie.After-answer Inv-loop μ-loop) → c .answer .result ≡ Answer (start (of-answer c)) (of-answer c .before .loop .i)
 answer-is c =
     let a = start (of-answer c) .args in
-    c .answer .ensures ∙ ap (λ (b : List ℕ). answerIn (a .n) (a .vectors) (a .points) (a .actions .now) (a .entries .now) (a .corners .now)
-    (a .weights .now) (a .gains .now) b) (part-is (a .n) (of-answer c .before .loop .i) (a .mixtures .now))
+    c .answer .ensures ∙ ap (λ (b : List ℕ). answerIn (a .n) (a .m) (a .vectors) (a .points) (a .actions .now) (a .entries .now) (a .corners .now)
+    (a .weights .now) (a .informed .now) (a .gains .now) b) (part-is (a .n) (of-answer c .before .loop .i) (a .mixtures .now))
 
 loop-holds : tie.Need-loop-holds Inv-loop μ-loop
 loop-holds c = (omega arith, written-none (Answer (c .before .before .before .before .before .before)) _ _ _ _)

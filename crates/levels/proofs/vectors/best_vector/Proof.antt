@@ -1,26 +1,14 @@
-use Rattle.levels.proofs.Prelude.{needs, ℕ, _+_, _<_, _≤_, _-_, _≡_, refl, sym, _∙_, arith, true, List, getD, ℤ, pos, w64, toZ, answer, weightIn}
-use Rattle.levels.proofs.Prelude.{length, ofZ, product, row-below}
+use Rattle.levels.proofs.Prelude.{needs, ℕ, _+_, _≤_, _-_, _≡_, sym, _∙_, arith, true, ℤ, w64, toZ, answer}
+use Rattle.levels.proofs.Prelude.{ofZ, product}
 use mathlib.Core.Path.{ap}
-use lib.IntN.{natAbs}
 use mathlib.Core.Logic.{⊎-elim}
 use mathlib.Core.Bool.{false}
 use lib.Signed.{ltZ}
 use Rattle.integers.specs.Search.{firstLargest}
 use Rattle.integers.proofs.Searches.{largest-first, largest-later, largest-same}
-use Rattle.tables.specs.Limits.{maxEntry}
-use Rattle.tables.specs.Storage.{rowStart, entryIn}
-use Rattle.tables.specs.Steps.{EntriesFit}
+use Rattle.levels.proofs.Products.{worth, from-start, here}
 use Rattle.levels.proofs.vectors.best_vector.Statement.{statement}
 use Rattle.levels.proofs.vectors.best_vector.Tie as tie
-
--- the product with vector v
-abbrev worth : List ℕ → List ℤ → ℕ → ℕ → ℤ
-worth q entries n v = product n (weightIn q) (entryIn n entries v)
-
--- by where the vector starts
-from-start : (q : List ℕ) (entries : List ℤ) (n v : ℕ) {at : ℕ} {r : ℤ} → at ≡ rowStart n v
-    → r ≡ product n (weightIn q) (λ s. getD entries (at + s) (pos 0)) → r ≡ worth q entries n v
-from-start q entries n v e h = h ∙ ap (λ (z : ℕ). product n (weightIn q) (λ s. getD entries (z + s) (pos 0))) e
 
 -- a turn of the search: the best so far, what it is worth, and what vector v is worth
 module _ (f : ℕ → ℤ) (v : ℕ) {best : ℕ} {most here : ℤ} (so-far : best ≡ firstLargest v f) (held : most ≡ f best) (seen : here ≡ f v) where
@@ -36,14 +24,6 @@ Inv-loop q entries n vectors best₀ most₀ v₀ best most v =
 
 abbrev μ-loop : tie.MeasureT-loop
 μ-loop q entries n vectors best₀ most₀ v₀ best most v = vectors - v
-
--- vector v lies in the array, with entries within the limit
-record Here (entries : List ℤ) (n at : ℕ) : Type 0 where
-  inside : at + n ≤ length entries
-  within : (s : ℕ) → s < n → natAbs (getD entries (at + s) (pos 0)) ≤ maxEntry
-
-here : (entries : List ℤ) (n vectors v : ℕ) {at : ℕ} → EntriesFit n vectors entries → v < vectors → at ≡ rowStart n v → Here entries n at
-here entries n vectors v fit l e = record { inside = rw e (omega (arith, row-below v vectors n l, fit .stored)); within = λ s b. rw e (fit .entry v l s b) }
 
 product-requires : tie.Need-product-requires Inv-loop μ-loop
 product-requires c κs =

@@ -1,0 +1,3 @@
+-- Laws of stepping rows.
+pub mod Stepped
+pub mod Prelude
