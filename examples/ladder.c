@@ -13,7 +13,8 @@
 /* One byte more than a file may have shows that it is too long. */
 static uint8_t file[BIIDHAQUN_FILE_BYTES + 1];
 static struct biidhaqun_tables_room tables_room;
-static struct biidhaqun_level_room standing_room, built_room;
+static struct biidhaqun_certifier_room standing_room;
+static struct biidhaqun_level_room built_room;
 
 /* Says what was refused; whether anything was. */
 static int refused(uint64_t number, size_t place)
@@ -25,6 +26,10 @@ static int refused(uint64_t number, size_t place)
 
 int main(void)
 {
+    if (biidhaqun_version() != BIIDHAQUN_VERSION) {
+        fputs("ladder: the archive is of another version than the header\n", stderr);
+        return 2;
+    }
     size_t length = fread(file, 1, sizeof file, stdin);
     if (ferror(stdin)) {
         fputs("ladder: standard input cannot be read\n", stderr);

@@ -3,8 +3,9 @@
  *
  * A POMDP with 1 to 16 states, 1 to 8 actions and 1 to 8 observations is held in whole numbers. A certifier opens on it, is
  * offered levels of alpha vectors (a floor) and of corner and point values (a sawtooth ceiling) by anyone, and accepts a
- * level exactly where every backup inequality holds. From then on its totals at a mixture of the states bracket what the
- * best of all plans earns that have as many steps as levels were accepted.
+ * level exactly where every backup inequality holds. Beside the level it keeps a ceiling of its own, the fast informed bound,
+ * which it steps at each acceptance. From then on its totals at a mixture of the states bracket what the best of all plans
+ * earns that have as many steps as levels were accepted.
  *
  *     cc -std=c99 -Iinclude program.c target/staticlib/libbiidhaqun.a -o program
  *
@@ -27,7 +28,9 @@
  *                reward       m x n       by action, state                          ticks, within -100,000 and 100,000
  *                discount                                                           thousandths
  *   certifier    state        3           levels accepted; vectors and points of the last of them
- *                and the slices of that level
+ *                the slices of that level, and
+ *                informed     m x n       by action, state                          ticks, within 100,000 x t of 0
+ *                qmdp         m x n       by action, state                          ticks, within 100,000 x t of 0
  *   level t      actions      vectors     the action that a plan of the vector opens with
  *                choices      vectors x k the vector of level t - 1 to go on with after an observation
  *                entries      vectors x n ticks, within 100,000 x t of 0
@@ -41,6 +44,19 @@
  * A tick is a hundredth of a unit of reward. Totals are in ticks times the mixture's total weight: over 100 times that
  * weight they are units of reward.
  *
+ * CEILINGS. Two bounds say what no plan earns more than at a mixture, and the upper total is the lower of them. The sawtooth
+ * is that of the level's corners and points: they are offered, and an offer's corners and points are tested against the
+ * sawtooth that stands, and nothing else. The fast informed bound is a row for each action, and its ceiling the largest
+ * product of a row with the mixture. No one offers it: the rows are 0 at level 0, and each acceptance steps them by one
+ * level, from the tables and the rows that stand, whatever the level has,
+ *
+ *     informed'(a, s) = R(s,a) + discount x the sum over o of the largest over a' of
+ *                                           the sum over s' of T(s,a,s') x O(a,s',o) x informed(a', s')
+ *     qmdp'(a, s)     = R(s,a) + discount x the sum over s' of T(s,a,s') x the largest over a' of qmdp(a', s')
+ *
+ * rounded up to ticks. The QMDP rows are kept beside them to be looked at: they have the state known after each step, and
+ * none of their entries is below the informed one. No total is worked out from them.
+ *
  * REFUSALS. A call is served, or it is refused by a number with a place: then nothing that was lent has changed, and every
  * other field of the answer is 0. One number is tested throughout before the next, in the order given for each call; the
  * place is the first that offends. A slice that is too short for its counts is refused where the number stands that is given
@@ -53,11 +69,11 @@
  *    4  BIIDHAQUN_START_TOTAL         the file's length
  *    5  BIIDHAQUN_TRANSITION_TOTAL    in a file its length; on tables action x n + state left
  *    6  BIIDHAQUN_OBSERVATION_TOTAL   in a file its length; on tables action x n + state reached
- *    7  BIIDHAQUN_CERTIFIER           0; a slice is too short for the tables, or for the level that stands (its choices, which
- *                                     no call reads, are not asked for)
+ *    7  BIIDHAQUN_CERTIFIER           0; a slice is too short for the tables, for the level that stands (its choices, which
+ *                                     no call reads, are not asked for), or for the rows
  *    8  BIIDHAQUN_LEVELS              0
  *    9  BIIDHAQUN_LEVEL_SIZE          0; a slice is too short for the level offered or to be built, for the points, for
- *                                     level 0 in biidhaqun_open, or for answers
+ *                                     level 0 and its rows in biidhaqun_open, or for answers
  *   10  BIIDHAQUN_NUMBERS             the vector
  *   11  BIIDHAQUN_RANGE               the first vector; else the first corner; else the first point, those that get 12 aside
  *   12  BIIDHAQUN_POINT_TOTAL         the point
@@ -81,14 +97,12 @@ extern "C" {
 
 /*
  * The version of the layout: of the calls' names, parameters and answers. It changes when they do; a program that was
- * compiled with another one must be compiled anew. It is this file's: the library has no word of its own for it.
+ * compiled with another one must be compiled anew. The macro is this file's, the function's answer the archive's: compare
+ * the two where header and archive may come from different places, before any other call.
  */
-#define BIIDHAQUN_VERSION 2
+#define BIIDHAQUN_VERSION 3
 
-static inline int biidhaqun_version(void)
-{
-    return BIIDHAQUN_VERSION;
-}
+uint64_t biidhaqun_version(void);
 
 /* Limits. */
 enum {
@@ -139,7 +153,7 @@ static inline const char *biidhaqun_words(uint64_t number)
     case BIIDHAQUN_START_TOTAL: return "the start numbers do not total 1";
     case BIIDHAQUN_TRANSITION_TOTAL: return "a row of T does not total 1";
     case BIIDHAQUN_OBSERVATION_TOTAL: return "a row of O does not total 1";
-    case BIIDHAQUN_CERTIFIER: return "the certifier's tables or standing level break a limit, or over 100 levels stand";
+    case BIIDHAQUN_CERTIFIER: return "the certifier's tables, standing level or rows break a limit, or over 100 levels stand";
     case BIIDHAQUN_LEVELS: return "100 levels already stand";
     case BIIDHAQUN_LEVEL_SIZE: return "a level has no vector, over 32 vectors or over 32 points, the builder is given over "
                                       "16 points, or a slice is too short";
@@ -177,11 +191,19 @@ struct biidhaqun_reading {
 struct biidhaqun_bounds {
     uint64_t number;
     size_t place;
-    int64_t lower; /* the largest product of a vector with the mixture */
-    int64_t upper; /* the ceiling at the mixture */
-    int64_t gap;   /* upper less lower */
-    size_t action; /* the action of the first such vector: some plan that opens with it earns the lower total */
+    int64_t lower;    /* the largest product of a vector with the mixture */
+    int64_t upper;    /* the lower of the two ceilings at the mixture: no plan earns more */
+    int64_t gap;      /* upper less lower */
+    size_t action;    /* the action of the first such vector: some plan that opens with it earns the lower total */
+    int64_t sawtooth; /* the ceiling of the level's corners and points */
+    int64_t informed; /* the ceiling of the informed rows: the largest product of a row with the mixture */
 };
+
+/* Whether the informed rows speak: theirs is the lower ceiling. Where both are the same, the sawtooth does. */
+static inline int biidhaqun_informed_speaks(struct biidhaqun_bounds at)
+{
+    return at.informed < at.sawtooth;
+}
 
 /* What a plan graph's node is worth. */
 struct biidhaqun_value {
@@ -202,8 +224,8 @@ struct biidhaqun_reading biidhaqun_read(
     uint16_t *start, size_t start_length);
 
 /*
- * Opens a certifier: level 0 stands, one vector of zeros with action and choices 0, zero corners and no points. Of weights
- * and values only the length is looked at. Tests: 3, 5, 6, 9.
+ * Opens a certifier: level 0 stands, one vector of zeros with action and choices 0, zero corners and no points, and the rows
+ * are zeros. Of weights and values only the length is looked at. Tests: 3, 5, 6, 9.
  */
 struct biidhaqun_refusal biidhaqun_open(
     size_t states, size_t actions, size_t observations, uint64_t discount,
@@ -211,12 +233,13 @@ struct biidhaqun_refusal biidhaqun_open(
     const int64_t *reward, size_t reward_length, size_t *state, size_t state_length,
     uint8_t *standing_actions, size_t standing_actions_length, uint16_t *choices, size_t choices_length,
     int64_t *entries, size_t entries_length, int64_t *corners, size_t corners_length,
-    const uint32_t *weights, size_t weights_length, const int64_t *values, size_t values_length);
+    const uint32_t *weights, size_t weights_length, const int64_t *values, size_t values_length,
+    int64_t *informed, size_t informed_length, int64_t *qmdp, size_t qmdp_length);
 
 /*
- * Offers a level: accepted, it is copied into the certifier's slices, and the first number of the state is one more. Tests:
- * 7 to 15. A level with slices that are too short therefore gets 8 where 100 levels stand, and 9 before anything in it is
- * looked at.
+ * Offers a level: accepted, it is copied into the certifier's slices, the first number of the state is one more, and the rows
+ * are stepped. Tests: 7 to 15. A level with slices that are too short therefore gets 8 where 100 levels stand, and 9 before
+ * anything in it is looked at.
  */
 struct biidhaqun_refusal biidhaqun_offer(
     size_t states, size_t actions, size_t observations, uint64_t discount,
@@ -224,7 +247,8 @@ struct biidhaqun_refusal biidhaqun_offer(
     const int64_t *reward, size_t reward_length, size_t *state, size_t state_length,
     uint8_t *standing_actions, size_t standing_actions_length, uint16_t *choices, size_t choices_length,
     int64_t *entries, size_t entries_length, int64_t *corners, size_t corners_length,
-    uint32_t *weights, size_t weights_length, int64_t *values, size_t values_length, size_t vectors, size_t points,
+    uint32_t *weights, size_t weights_length, int64_t *values, size_t values_length,
+    int64_t *informed, size_t informed_length, int64_t *qmdp, size_t qmdp_length, size_t vectors, size_t points,
     const uint8_t *new_actions, size_t new_actions_length, const uint16_t *new_choices, size_t new_choices_length,
     const int64_t *new_entries, size_t new_entries_length, const int64_t *new_corners, size_t new_corners_length,
     const uint32_t *new_weights, size_t new_weights_length, const int64_t *new_values, size_t new_values_length);
@@ -236,7 +260,8 @@ struct biidhaqun_bounds biidhaqun_totals(
     const int64_t *reward, size_t reward_length, const size_t *state, size_t state_length,
     const uint8_t *standing_actions, size_t standing_actions_length, const int64_t *entries, size_t entries_length,
     const int64_t *corners, size_t corners_length, const uint32_t *weights, size_t weights_length,
-    const int64_t *values, size_t values_length, const uint32_t *mixture, size_t mixture_length);
+    const int64_t *values, size_t values_length, const int64_t *informed, size_t informed_length,
+    const int64_t *qmdp, size_t qmdp_length, const uint32_t *mixture, size_t mixture_length);
 
 /*
  * The totals at `count` mixtures, whose weights lie one after the other; the certifier is judged once. Each answer is the one
@@ -249,7 +274,8 @@ struct biidhaqun_refusal biidhaqun_each(
     const int64_t *reward, size_t reward_length, const size_t *state, size_t state_length,
     const uint8_t *standing_actions, size_t standing_actions_length, const int64_t *entries, size_t entries_length,
     const int64_t *corners, size_t corners_length, const uint32_t *weights, size_t weights_length,
-    const int64_t *values, size_t values_length, const uint32_t *mixtures, size_t mixtures_length,
+    const int64_t *values, size_t values_length, const int64_t *informed, size_t informed_length,
+    const int64_t *qmdp, size_t qmdp_length, const uint32_t *mixtures, size_t mixtures_length,
     size_t count, uint8_t *numbers, size_t numbers_length, int64_t *lower, size_t lower_length,
     int64_t *upper, size_t upper_length, uint8_t *action, size_t action_length);
 
@@ -265,7 +291,8 @@ struct biidhaqun_refusal biidhaqun_build(
     const int64_t *reward, size_t reward_length, const size_t *state, size_t state_length,
     const uint8_t *standing_actions, size_t standing_actions_length, const int64_t *entries, size_t entries_length,
     const int64_t *corners, size_t corners_length, const uint32_t *weights, size_t weights_length,
-    const int64_t *values, size_t values_length, size_t count, const uint32_t *points, size_t points_length,
+    const int64_t *values, size_t values_length, const int64_t *informed, size_t informed_length,
+    const int64_t *qmdp, size_t qmdp_length, size_t count, const uint32_t *points, size_t points_length,
     uint8_t *new_actions, size_t new_actions_length, uint16_t *new_choices, size_t new_choices_length,
     int64_t *new_entries, size_t new_entries_length, int64_t *new_corners, size_t new_corners_length,
     int64_t *new_values, size_t new_values_length);
@@ -316,6 +343,10 @@ struct biidhaqun_certifier {
     size_t weights_length;
     int64_t *values;
     size_t values_length;
+    int64_t *informed;
+    size_t informed_length;
+    int64_t *qmdp;
+    size_t qmdp_length;
 };
 
 /* A level to be offered, or to be built. No call writes its weights. */
@@ -352,7 +383,7 @@ struct biidhaqun_tables_room {
     int64_t reward[BIIDHAQUN_ACTIONS * BIIDHAQUN_STATES];
 };
 
-/* Room for any level, 7 KB: a certifier's, one that is offered, or one that is built. */
+/* Room for any level, 7 KB: one that stands, one that is offered, or one that is built. */
 struct biidhaqun_level_room {
     uint8_t actions[BIIDHAQUN_VECTORS];
     uint16_t choices[BIIDHAQUN_VECTORS * BIIDHAQUN_OBSERVATIONS];
@@ -360,6 +391,13 @@ struct biidhaqun_level_room {
     int64_t corners[BIIDHAQUN_STATES];
     uint32_t weights[BIIDHAQUN_POINTS * BIIDHAQUN_STATES];
     int64_t values[BIIDHAQUN_POINTS];
+};
+
+/* Room for any certifier, 9 KB: the level that stands, and the rows. */
+struct biidhaqun_certifier_room {
+    struct biidhaqun_level_room level;
+    int64_t informed[BIIDHAQUN_ACTIONS * BIIDHAQUN_STATES];
+    int64_t qmdp[BIIDHAQUN_ACTIONS * BIIDHAQUN_STATES];
 };
 
 #define BIIDHAQUN_LEND(object, room, slice) \
@@ -375,16 +413,18 @@ static inline void biidhaqun_tables_in(struct biidhaqun_tables *tables, struct b
     BIIDHAQUN_LEND(tables, room, reward);
 }
 
-/* A certifier whose level lies in a room; it is still to be opened. */
-static inline void biidhaqun_certifier_in(struct biidhaqun_certifier *certifier, struct biidhaqun_level_room *room)
+/* A certifier that lies in a room; it is still to be opened. */
+static inline void biidhaqun_certifier_in(struct biidhaqun_certifier *certifier, struct biidhaqun_certifier_room *room)
 {
     certifier->state[0] = certifier->state[1] = certifier->state[2] = 0;
-    BIIDHAQUN_LEND(certifier, room, actions);
-    BIIDHAQUN_LEND(certifier, room, choices);
-    BIIDHAQUN_LEND(certifier, room, entries);
-    BIIDHAQUN_LEND(certifier, room, corners);
-    BIIDHAQUN_LEND(certifier, room, weights);
-    BIIDHAQUN_LEND(certifier, room, values);
+    BIIDHAQUN_LEND(certifier, &room->level, actions);
+    BIIDHAQUN_LEND(certifier, &room->level, choices);
+    BIIDHAQUN_LEND(certifier, &room->level, entries);
+    BIIDHAQUN_LEND(certifier, &room->level, corners);
+    BIIDHAQUN_LEND(certifier, &room->level, weights);
+    BIIDHAQUN_LEND(certifier, &room->level, values);
+    BIIDHAQUN_LEND(certifier, room, informed);
+    BIIDHAQUN_LEND(certifier, room, qmdp);
 }
 
 /* A level that lies in a room; its counts are still to be said, or it is to be built. */
@@ -400,6 +440,23 @@ static inline void biidhaqun_level_in(struct biidhaqun_level *level, struct biid
 }
 
 #undef BIIDHAQUN_LEND
+
+/*
+ * The entry of an action's informed row at a state, both within their counts, in ticks. With as many steps as levels were
+ * accepted, no plan that opens with the action earns more from there.
+ */
+static inline int64_t biidhaqun_informed_at(const struct biidhaqun_tables *t, const struct biidhaqun_certifier *c,
+                                            size_t action, size_t state)
+{
+    return c->informed[action * t->states + state];
+}
+
+/* The same of the QMDP rows: what no such plan earns more than if it were shown the state after each step. */
+static inline int64_t biidhaqun_qmdp_at(const struct biidhaqun_tables *t, const struct biidhaqun_certifier *c,
+                                        size_t action, size_t state)
+{
+    return c->qmdp[action * t->states + state];
+}
 
 /* biidhaqun_read, which also sets the counts and the discount of the tables if it is served. */
 static inline struct biidhaqun_refusal biidhaqun_read_file(const uint8_t *file, size_t file_length,
@@ -428,7 +485,7 @@ static inline struct biidhaqun_refusal biidhaqun_open_on(const struct biidhaqun_
         t->states, t->actions, t->observations, t->discount, t->transition, t->transition_length, t->observation,
         t->observation_length, t->reward, t->reward_length, c->state, 3, c->actions, c->actions_length, c->choices,
         c->choices_length, c->entries, c->entries_length, c->corners, c->corners_length, c->weights, c->weights_length,
-        c->values, c->values_length);
+        c->values, c->values_length, c->informed, c->informed_length, c->qmdp, c->qmdp_length);
 }
 
 /* biidhaqun_offer */
@@ -440,9 +497,9 @@ static inline struct biidhaqun_refusal biidhaqun_offer_level(const struct biidha
         t->states, t->actions, t->observations, t->discount, t->transition, t->transition_length, t->observation,
         t->observation_length, t->reward, t->reward_length, c->state, 3, c->actions, c->actions_length, c->choices,
         c->choices_length, c->entries, c->entries_length, c->corners, c->corners_length, c->weights, c->weights_length,
-        c->values, c->values_length, l->vectors, l->points, l->actions, l->actions_length, l->choices, l->choices_length,
-        l->entries, l->entries_length, l->corners, l->corners_length, l->weights, l->weights_length, l->values,
-        l->values_length);
+        c->values, c->values_length, c->informed, c->informed_length, c->qmdp, c->qmdp_length, l->vectors, l->points,
+        l->actions, l->actions_length, l->choices, l->choices_length, l->entries, l->entries_length, l->corners,
+        l->corners_length, l->weights, l->weights_length, l->values, l->values_length);
 }
 
 /* biidhaqun_totals */
@@ -454,7 +511,7 @@ static inline struct biidhaqun_bounds biidhaqun_totals_at(const struct biidhaqun
         t->states, t->actions, t->observations, t->discount, t->transition, t->transition_length, t->observation,
         t->observation_length, t->reward, t->reward_length, c->state, 3, c->actions, c->actions_length, c->entries,
         c->entries_length, c->corners, c->corners_length, c->weights, c->weights_length, c->values, c->values_length,
-        mixture, mixture_length);
+        c->informed, c->informed_length, c->qmdp, c->qmdp_length, mixture, mixture_length);
 }
 
 /* biidhaqun_each, with answers in slices of `count` */
@@ -468,7 +525,8 @@ static inline struct biidhaqun_refusal biidhaqun_totals_at_each(const struct bii
         t->states, t->actions, t->observations, t->discount, t->transition, t->transition_length, t->observation,
         t->observation_length, t->reward, t->reward_length, c->state, 3, c->actions, c->actions_length, c->entries,
         c->entries_length, c->corners, c->corners_length, c->weights, c->weights_length, c->values, c->values_length,
-        mixtures, mixtures_length, count, numbers, count, lower, count, upper, count, action, count);
+        c->informed, c->informed_length, c->qmdp, c->qmdp_length, mixtures, mixtures_length, count, numbers, count, lower,
+        count, upper, count, action, count);
 }
 
 /*
@@ -483,9 +541,10 @@ static inline struct biidhaqun_refusal biidhaqun_build_level(const struct biidha
     struct biidhaqun_refusal x = biidhaqun_build(
         t->states, t->actions, t->observations, t->discount, t->transition, t->transition_length, t->observation,
         t->observation_length, t->reward, t->reward_length, c->state, 3, c->actions, c->actions_length, c->entries,
-        c->entries_length, c->corners, c->corners_length, c->weights, c->weights_length, c->values, c->values_length, count,
-        points, points_length, l->actions, l->actions_length, l->choices, l->choices_length, l->entries,
-        l->entries_length, l->corners, l->corners_length, l->values, l->values_length);
+        c->entries_length, c->corners, c->corners_length, c->weights, c->weights_length, c->values, c->values_length,
+        c->informed, c->informed_length, c->qmdp, c->qmdp_length, count, points, points_length, l->actions,
+        l->actions_length, l->choices, l->choices_length, l->entries, l->entries_length, l->corners, l->corners_length,
+        l->values, l->values_length);
     if (x.number == BIIDHAQUN_SERVED) {
         l->vectors = t->states + count;
         l->points = count;

@@ -44,12 +44,14 @@ pub fn floating_level(level: &Level, n: usize, k: usize) -> floating::Level {
 
 /// A certifier in floating point.
 pub fn floating_certifier(tables: &Tables, certifier: &Certifier) -> floating::Certifier {
-    let Certifier { state, actions, choices, entries, corners, weights, values } = certifier.clone();
+    let Certifier { state, actions, choices, entries, corners, weights, values, informed, qmdp } = certifier.clone();
     let level = Level { vectors: state[1], points: state[2], actions, choices, entries, corners, weights, values };
     floating::Certifier {
         tables: floating_tables(tables),
         number: state[0],
         level: floating_level(&level, tables.states, tables.observations),
+        informed: ticks(&informed[..tables.actions * tables.states]),
+        qmdp: ticks(&qmdp[..tables.actions * tables.states]),
     }
 }
 

@@ -43,6 +43,9 @@ pub struct Certifier {
     pub tables: Tables,
     pub number: usize,
     pub level: Level,
+    /// The fast informed bound and the QMDP rows, by action and state.
+    pub informed: Vec<f64>,
+    pub qmdp: Vec<f64>,
 }
 
 /// Lower and upper value of a belief, and the action.
@@ -106,6 +109,32 @@ impl Tables {
         dot(b, self.rewards_of(a)) + self.discount * ceilings
     }
 
+    /// The largest of what the rows have.
+    fn best_row(&self, rows: &[f64], value: impl Fn(&[f64]) -> f64) -> f64 {
+        rows.chunks_exact(self.states).map(value).fold(f64::NEG_INFINITY, f64::max)
+    }
+
+    /// The informed rows of the next level.
+    fn informed(&self, rows: &[f64]) -> Vec<f64> {
+        let mut next = self.rewards.clone();
+        for (a, entries) in next.chunks_exact_mut(self.states).enumerate() {
+            for (entry, moved) in entries.iter_mut().zip(self.transitions_of(a).chunks_exact(self.states)) {
+                for o in 0..self.observations {
+                    let weights = self.seen(moved, a, o);
+                    *entry += self.discount * self.best_row(rows, |row| dot(row, &weights));
+                }
+            }
+        }
+        next
+    }
+
+    /// The QMDP rows of the next level.
+    fn qmdp(&self, rows: &[f64]) -> Vec<f64> {
+        let best: Vec<f64> = (0..self.states).map(|s| self.best_row(rows, |row| row[s])).collect();
+        let moved = self.transitions.chunks_exact(self.states);
+        self.rewards.iter().zip(moved).map(|(reward, moved)| reward + self.discount * dot(moved, &best)).collect()
+    }
+
     fn best_ceiling(&self, level: &Level, b: &[f64]) -> f64 {
         (0..self.actions).map(|a| self.ceiling_backup(level, b, a)).fold(f64::NEG_INFINITY, f64::max)
     }
@@ -154,7 +183,8 @@ pub fn open(tables: &Tables) -> Option<Certifier> {
     }
     let vector = Vector { action: 0, choices: vec![0; k], entries: vec![0.0; n] };
     let level = Level { vectors: vec![vector], corners: vec![0.0; n], points: Vec::new() };
-    Some(Certifier { tables: tables.clone(), number: 0, level })
+    let rows = vec![0.0; tables.actions * n];
+    Some(Certifier { tables: tables.clone(), number: 0, level, informed: rows.clone(), qmdp: rows })
 }
 
 /// Offers a level; whether it was accepted.
@@ -172,6 +202,8 @@ pub fn offer(certifier: &mut Certifier, offered: &Level) -> bool {
     let point = |point: &Point| point.value + TOLERANCE >= tables.best_ceiling(standing, &point.weights);
     let holds = floors && (0..tables.states).all(corner) && offered.points.iter().all(point);
     if holds {
+        certifier.informed = tables.informed(&certifier.informed);
+        certifier.qmdp = tables.qmdp(&certifier.qmdp);
         certifier.level = offered.clone();
         certifier.number += 1;
     }
@@ -182,7 +214,8 @@ pub fn offer(certifier: &mut Certifier, offered: &Level) -> bool {
 pub fn totals(certifier: &Certifier, b: &[f64]) -> Totals {
     let level = &certifier.level;
     let (first, lower) = level.best_vector(b);
-    Totals { lower, upper: level.ceiling(b), action: level.vectors[first].action }
+    let informed = certifier.tables.best_row(&certifier.informed, |row| dot(row, b));
+    Totals { lower, upper: level.ceiling(b).min(informed), action: level.vectors[first].action }
 }
 
 /// A point-based backup at every corner and some points.

@@ -64,7 +64,7 @@ pub struct Standing {
 impl Standing {
     /// A certifier that opens on tables.
     pub fn fresh(tables: Tables) -> Standing {
-        let mut certifier = Certifier::roomy(tables.states, tables.observations);
+        let mut certifier = Certifier::roomy(tables.states, tables.actions, tables.observations);
         assert_eq!(Tuned.open(&tables, &mut certifier), Refusal::default(), "tables within the limits");
         Standing { tables, certifier }
     }

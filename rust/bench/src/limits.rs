@@ -53,7 +53,7 @@ impl<'a> Model<'a> {
     }
 }
 
-/// A level cut to its counts.
+/// A level cut to its counts, and the rows beside it; an offered level has none until it is accepted.
 #[derive(Clone, Copy)]
 pub struct Cut<'a> {
     pub actions: &'a [u8],
@@ -62,6 +62,8 @@ pub struct Cut<'a> {
     pub corners: &'a [i64],
     pub weights: &'a [u32],
     pub values: &'a [i64],
+    pub informed: &'a [i64],
+    pub qmdp: &'a [i64],
 }
 
 /// 9: whether the counts of a level are within their limits.
@@ -83,11 +85,13 @@ impl<'a> Cut<'a> {
             corners: level.corners.get(..n)?,
             weights: level.weights.get(..points * n)?,
             values: level.values.get(..points)?,
+            informed: &[],
+            qmdp: &[],
         })
     }
 
     /// What stands, likewise, and its number. Its choices are read nowhere, and left out.
-    pub fn standing(certifier: &'a Certifier, n: usize) -> Option<(usize, Cut<'a>)> {
+    pub fn standing(certifier: &'a Certifier, m: usize, n: usize) -> Option<(usize, Cut<'a>)> {
         let (number, vectors, points) = match certifier.state[..] {
             [number, vectors, points, ..] if number <= LEVELS && counts_fit(vectors, points) => {
                 (number, vectors, points)
@@ -101,8 +105,16 @@ impl<'a> Cut<'a> {
             corners: certifier.corners.get(..n)?,
             weights: certifier.weights.get(..points * n)?,
             values: certifier.values.get(..points)?,
+            informed: certifier.informed.get(..m * n)?,
+            qmdp: certifier.qmdp.get(..m * n)?,
         };
         Some((number, level))
+    }
+
+    /// 7: whether the rows keep to the range of level t.
+    pub fn rows_fit(&self, t: usize) -> bool {
+        let end = REWARD * t as i64;
+        self.informed.iter().chain(self.qmdp).all(|entry| (-end..=end).contains(entry))
     }
 
     /// Whether a certifier's slices have room for the level.
@@ -114,6 +126,8 @@ impl<'a> Cut<'a> {
             && certifier.corners.len() >= self.corners.len()
             && certifier.weights.len() >= self.weights.len()
             && certifier.values.len() >= self.values.len()
+            && certifier.informed.len() >= self.informed.len()
+            && certifier.qmdp.len() >= self.qmdp.len()
     }
 
     /// Lays the level over a certifier's slices.
@@ -125,6 +139,8 @@ impl<'a> Cut<'a> {
         certifier.corners[..self.corners.len()].copy_from_slice(self.corners);
         certifier.weights[..self.weights.len()].copy_from_slice(self.weights);
         certifier.values[..self.values.len()].copy_from_slice(self.values);
+        certifier.informed[..self.informed.len()].copy_from_slice(self.informed);
+        certifier.qmdp[..self.qmdp.len()].copy_from_slice(self.qmdp);
     }
 }
 
@@ -133,12 +149,20 @@ pub fn open(model: Model, certifier: &mut Certifier) -> Answer<()> {
     let zeros = [0; STATES];
     let corners = &zeros[..model.n];
     let choices = &[0; OBSERVATIONS][..model.k];
-    let fresh = Cut { actions: &[0], choices, entries: corners, corners, weights: &[], values: &[] };
+    let rows = &[0; ACTIONS * STATES][..model.m * model.n];
+    let (weights, values) = (&[], &[]);
+    let fresh = Cut { actions: &[0], choices, entries: corners, corners, weights, values, informed: rows, qmdp: rows };
     if !fresh.has_room_in(certifier) {
         return refused(9, 0);
     }
     fresh.stand(0, certifier);
     Ok(())
+}
+
+/// The answer at a mixture: the upper total is the lower of both ceilings.
+pub fn totals_of(lower: i64, action: u8, sawtooth: i64, informed: i64) -> Totals {
+    let upper = sawtooth.min(informed);
+    Totals { lower, upper, gap: upper - lower, action: action.into(), sawtooth, informed, ..Totals::default() }
 }
 
 /// A mixture's weights, if there are enough, none is above its limit and not all are 0; or 17.

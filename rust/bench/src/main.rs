@@ -331,7 +331,10 @@ fn reading(tables: &Tables) -> Call {
 }
 
 fn opening(tables: &Tables) -> Call {
-    Call::Open { tables: tables.clone(), certifier: Certifier::roomy(tables.states, tables.observations) }
+    Call::Open {
+        tables: tables.clone(),
+        certifier: Certifier::roomy(tables.states, tables.actions, tables.observations),
+    }
 }
 
 fn offering((Standing { tables, certifier }, level): (Standing, Level)) -> Call {

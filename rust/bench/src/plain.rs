@@ -47,6 +47,32 @@ impl Model<'_> {
         let ceilings: i64 = (0..self.k).map(|o| ceiling(level, &self.successor(p, a, o))).sum();
         K * earned + self.g * ceilings
     }
+
+    /// K × R + g × what follows, over K and rounded up, by action and state.
+    fn stepped(&self, follows: impl Fn(usize, usize) -> i64) -> Vec<i64> {
+        let entry = |a, s| -(-(K * self.r(s, a) + self.g * follows(a, s))).div_euclid(K);
+        (0..self.m * self.n).map(|cell| entry(cell / self.n, cell % self.n)).collect()
+    }
+
+    /// The informed rows of the next level: the sum over o of the largest over a' of the sum over s' of T × O × (the row of
+    /// a' at s') follows.
+    fn informed(&self, rows: &[i64]) -> Vec<i64> {
+        self.stepped(|a, s| {
+            let seen = |row: &[i64], o| (0..self.n).map(|s2| self.t(s, a, s2) * self.o(a, s2, o) * row[s2]).sum();
+            (0..self.k).map(|o| best_row(rows.chunks(self.n).map(|row| seen(row, o)))).sum()
+        })
+    }
+
+    /// The QMDP rows of the next level: the sum over s' of T × 1,000 × (the largest over a' of the row of a' at s') follows.
+    fn qmdp(&self, rows: &[i64]) -> Vec<i64> {
+        let known = |s2: usize| best_row(rows.chunks(self.n).map(|row| row[s2]));
+        self.stepped(|a, s| (0..self.n).map(|s2| self.t(s, a, s2) * THOUSAND * known(s2)).sum())
+    }
+}
+
+/// The largest of what the rows have; a model has an action.
+fn best_row(values: impl Iterator<Item = i64>) -> i64 {
+    values.max().unwrap_or(0)
 }
 
 /// 3, 5, 6.
@@ -130,10 +156,11 @@ fn first_untotalled(weights: &[u32], n: usize) -> Option<usize> {
 fn examine<'a>(tables: &'a Tables, certifier: &'a Certifier) -> Answer<(Model<'a>, usize, Cut<'a>)> {
     let seven = Refusal { number: 7, place: 0 };
     let model = judge(tables).map_err(|_| seven)?;
-    let (number, level) = Cut::standing(certifier, model.n).ok_or(seven)?;
+    let (number, level) = Cut::standing(certifier, model.m, model.n).ok_or(seven)?;
     let holds = level.actions.iter().all(|&action| usize::from(action) < model.m)
         && first_outside(&level, model.n, number).is_none()
-        && first_untotalled(level.weights, model.n).is_none();
+        && first_untotalled(level.weights, model.n).is_none()
+        && level.rows_fit(number);
     if holds {
         Ok((model, number, level))
     } else {
@@ -167,7 +194,8 @@ fn offer(tables: &Tables, certifier: &mut Certifier, level: &Level) -> Answer<()
     refuse(14, (0..n).find(|&s| !covers(offered.corners[s], &corner(n, s))))?;
     let below = |(p, &value): (&[u32], &i64)| !covers(value, &whole(p));
     refuse(15, offered.weights.chunks(n).zip(offered.values).position(below))?;
-    offered.stand(number + 1, certifier);
+    let (informed, qmdp) = (model.informed(standing.informed), model.qmdp(standing.qmdp));
+    Cut { informed: &informed, qmdp: &qmdp, ..offered }.stand(number + 1, certifier);
     Ok(())
 }
 
@@ -182,8 +210,8 @@ fn standing<'a>(tables: &'a Tables, certifier: &'a Certifier) -> Answer<(Model<'
 fn totals_at(model: &Model, level: &Cut, weights: &[u32]) -> Answer<Totals> {
     let b = whole(mixture(weights, model.n)?);
     let (first, lower) = first_largest(level.entries.chunks(model.n).map(|entries| dot(entries, &b)));
-    let upper = ceiling(level, &b);
-    Ok(Totals { lower, upper, gap: upper - lower, action: level.actions[first].into(), ..Totals::default() })
+    let informed = best_row(level.informed.chunks(model.n).map(|row| dot(row, &b)));
+    Ok(totals_of(lower, level.actions[first], ceiling(level, &b), informed))
 }
 
 fn totals(tables: &Tables, certifier: &Certifier, mixture: &[u32]) -> Answer<Totals> {

@@ -158,10 +158,11 @@ fn drop_of(q: &[i64], p: &[i64], gain: i64) -> i64 {
 fn examine<'a>(tables: &'a Tables, certifier: &'a Certifier) -> Answer<(Model<'a>, usize, Cut<'a>)> {
     let seven = Refusal { number: 7, place: 0 };
     let model = judge(tables).map_err(|_| seven)?;
-    let (number, level) = Cut::standing(certifier, model.n).ok_or(seven)?;
+    let (number, level) = Cut::standing(certifier, model.m, model.n).ok_or(seven)?;
     let holds = level.actions.iter().all(|&action| usize::from(action) < model.m)
         && first_outside(&level, model.n, number).is_none()
-        && first_untotalled(level.weights, model.n).is_none();
+        && first_untotalled(level.weights, model.n).is_none()
+        && level.rows_fit(number);
     if holds {
         Ok((model, number, level))
     } else {
@@ -232,6 +233,56 @@ fn ceiling_backup(model: &Model, sawtooth: &Sawtooth, p: &[i64], a: usize) -> i6
     earned(model, p, a) + model.g * ceilings
 }
 
+/// Room for the rows.
+type Rows = [i64; ACTIONS * STATES];
+
+/// The quotient by K rounded up.
+fn up(backup: i64) -> i64 {
+    -(-backup).div_euclid(K)
+}
+
+/// The informed rows of the next level. What an action's observation makes of each row is worked out once for all states.
+fn informed<'a>(model: &Model, rows: &[i64], room: &'a mut Rows) -> &'a [i64] {
+    let (n, k) = (model.n, model.k);
+    let mut seen: Rows = [0; ACTIONS * STATES];
+    for a in 0..model.m {
+        let mut follows = [0; STATES];
+        let sights = of_action(model.o, n, k, a);
+        for o in 0..k {
+            for (seen, row) in seen.chunks_exact_mut(n).zip(rows.chunks_exact(n)) {
+                for ((seen, sight), entry) in seen.iter_mut().zip(sights.chunks_exact(k)).zip(row) {
+                    *seen = i64::from(sight[o]) * entry;
+                }
+            }
+            for (follows, chances) in follows.iter_mut().zip(of_action(model.t, n, n, a).chunks_exact(n)) {
+                let best = seen[..rows.len()].chunks_exact(n).map(|seen| mean(chances, seen)).max();
+                *follows += best.unwrap_or(0);
+            }
+        }
+        let entries = room[a * n..(a + 1) * n].iter_mut().zip(&follows);
+        for ((entry, follows), reward) in entries.zip(of_action(model.r, n, 1, a)) {
+            *entry = up(K * reward + model.g * follows);
+        }
+    }
+    &room[..rows.len()]
+}
+
+/// The QMDP rows of the next level.
+fn qmdp<'a>(model: &Model, rows: &[i64], room: &'a mut Rows) -> &'a [i64] {
+    let n = model.n;
+    let mut best = [i64::MIN; STATES];
+    for row in rows.chunks_exact(n) {
+        for (best, &entry) in best.iter_mut().zip(row) {
+            *best = (*best).max(entry);
+        }
+    }
+    let chances = model.t.chunks_exact(n).zip(model.r);
+    for (entry, (chances, reward)) in room.iter_mut().zip(chances) {
+        *entry = up(K * reward + model.g * THOUSAND * mean(chances, &best[..n]));
+    }
+    &room[..rows.len()]
+}
+
 /// Weight 1 on one state.
 fn corner(state: usize) -> States {
     let mut p = [0; STATES];
@@ -277,7 +328,10 @@ fn offer(tables: &Tables, certifier: &mut Certifier, level: &Level) -> Answer<()
             return refused(15, j);
         }
     }
-    offered.stand(number + 1, certifier);
+    let (mut low, mut high) = ([0; ACTIONS * STATES], [0; ACTIONS * STATES]);
+    let informed = informed(&model, standing.informed, &mut low);
+    let qmdp = qmdp(&model, standing.qmdp, &mut high);
+    Cut { informed, qmdp, ..offered }.stand(number + 1, certifier);
     Ok(())
 }
 
@@ -293,8 +347,8 @@ fn totals_at(level: &Cut, sawtooth: &Sawtooth, weights: &[u32]) -> Answer<Totals
     let mut room = [0; STATES];
     let b = whole(mixture(weights, level.corners.len())?, &mut room);
     let (first, lower) = best_vector(level.entries, b);
-    let upper = sawtooth.ceiling(b);
-    Ok(Totals { lower, upper, gap: upper - lower, action: level.actions[first].into(), ..Totals::default() })
+    let (_, informed) = best_vector(level.informed, b);
+    Ok(totals_of(lower, level.actions[first], sawtooth.ceiling(b), informed))
 }
 
 fn totals(tables: &Tables, certifier: &Certifier, mixture: &[u32]) -> Answer<Totals> {

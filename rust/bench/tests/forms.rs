@@ -91,7 +91,13 @@ fn the_floating_form_comes_close() {
             assert_eq!(exact.number, 0);
             let close = floating::totals(&float, &convert::belief(&mixture));
             assert!((exact.lower as f64 / total - close.lower).abs() < 1.0);
-            assert!((exact.upper as f64 / total - close.upper).abs() < 1.0);
+            // Corners, points and rows are rounded up by less than a tick at each level above the first.
+            assert!((exact.upper as f64 / total - close.upper).abs() < 2.0);
+            let rows = |exact: &[i64], close: &[f64]| {
+                assert!(exact.iter().zip(close).all(|(exact, close)| (*exact as f64 - close).abs() < 2.0));
+            };
+            rows(&standing.certifier.informed, &float.informed);
+            rows(&standing.certifier.qmdp, &float.qmdp);
         }
     }
 }

@@ -7,16 +7,18 @@ use crate::parts::{Mixture, Points};
 use crate::rule::Rule;
 use crate::shape::Shape;
 use crate::slices;
-use crate::totals::Totals;
+use crate::totals::{Bounds, Totals};
 
-/// A certifier: a model, the number of levels that were accepted, and the last of them.
+/// A certifier: a model, the number of levels that were accepted, the last of them, and the rows of the fast informed bound,
+/// which it steps itself at each acceptance.
 ///
 /// It owns a copy of the model and slices with room for every level, so that it can be kept and sent anywhere and no offer
 /// lacks room; the calls are handed these slices as they lie, and nothing is translated or allocated in an offer or in
 /// totals.
 ///
 /// What is proved of one that was opened on a [`Model`] and offered levels of any content: its totals bracket what every
-/// plan earns that has as many steps as levels were accepted, and a level that it builds is accepted.
+/// plan earns that has as many steps as levels were accepted, and a level that it builds is accepted. At every mixture the best
+/// informed row is no lower than what any such plan earns, and at every action and state no higher than the QMDP row.
 #[derive(Clone, Debug)]
 pub struct Certifier {
     model: Model,
@@ -26,8 +28,8 @@ pub struct Certifier {
 impl Certifier {
     /// A fresh certifier, at level 0. A [`Model`] is never refused.
     pub fn open(model: &Model) -> Result<Certifier, Refusal> {
-        let Shape { states, observations, .. } = model.shape();
-        let mut slices = slices::Certifier::roomy(states, observations);
+        let Shape { states, actions, observations } = model.shape();
+        let mut slices = slices::Certifier::roomy(states, actions, observations);
         Refusal::unless(slices::open(model.tables(), &mut slices), Handed::Tables(states))?;
         Ok(Certifier { model: model.clone(), slices })
     }
@@ -40,12 +42,12 @@ impl Certifier {
         if ended.number == Rule::Certifier.number() {
             Refusal::unless(slices::Refusal { number: ended.number, place: ended.place }, Handed::Other)?;
         }
-        let Shape { states, observations, .. } = model.shape();
-        let room = slices::Certifier::roomy(states, observations);
+        let Shape { states, actions, observations } = model.shape();
+        let room = slices::Certifier::roomy(states, actions, observations);
         Ok(Certifier { model: model.clone(), slices: grown(slices, &room) })
     }
 
-    /// The slices: the state, and the standing level in slices with room for every other.
+    /// The slices: the state, the standing level in slices with room for every other, and the rows.
     pub fn slices(&self) -> &slices::Certifier {
         &self.slices
     }
@@ -77,8 +79,26 @@ impl Certifier {
         Level::of(standing, states, observations)
     }
 
+    /// The entry of an action's row of the fast informed bound at a state, in ticks: with as many steps as levels were
+    /// accepted, no plan that opens with the action earns more from there. Panics outside the counts.
+    pub fn informed(&self, action: usize, state: usize) -> i64 {
+        self.slices.informed[self.model.row(action, state)]
+    }
+
+    /// The same of the QMDP rows, which have the state known after each step: no lower than [`Certifier::informed`]. Nothing
+    /// else is worked out from them. Panics outside the counts.
+    pub fn qmdp(&self, action: usize, state: usize) -> i64 {
+        self.slices.qmdp[self.model.row(action, state)]
+    }
+
+    /// Both kinds of rows.
+    fn rows(&self) -> (&[i64], &[i64]) {
+        let Shape { states, actions, .. } = self.model.shape();
+        (&self.slices.informed[..actions * states], &self.slices.qmdp[..actions * states])
+    }
+
     /// Offers a level: it is accepted, and stands, exactly if it is within the limits and meets every backup inequality
-    /// upon the level that stands. Refused with 8 to 15, and then nothing changes.
+    /// upon the level that stands; the rows are then stepped, whatever it has. Refused with 8 to 15, and then nothing changes.
     pub fn offer(&mut self, level: &Level) -> Result<(), Error> {
         let shape = self.model.shape();
         Length::test("states of the level", None, level.states, shape.states)?;
@@ -92,12 +112,13 @@ impl Certifier {
         Length::test("weights of the mixture", None, mixture.weights.len(), self.model.shape().states)?;
         let at = slices::totals(self.model.tables(), &self.slices, &mixture.weights);
         Refusal::unless(slices::Refusal { number: at.number, place: at.place }, Handed::Other)?;
-        Ok(Totals { lower: at.lower, upper: at.upper, gap: at.gap, action: at.action })
+        let slices::Totals { lower, upper, gap, action, sawtooth, informed, .. } = at;
+        Ok(Totals { lower, upper, gap, action, sawtooth, informed })
     }
 
-    /// The totals at many mixtures: what [`Certifier::totals`] answers at each, with the certifier judged once. A mixture that
-    /// is refused refuses its own answer alone. All are refused with 16.
-    pub fn totals_at(&self, mixtures: &[Mixture]) -> Result<Vec<Result<Totals, Refusal>>, Error> {
+    /// The bounds at many mixtures: those that [`Certifier::totals`] answers at each, with the certifier judged once. A mixture
+    /// that is refused refuses its own answer alone. All are refused with 16.
+    pub fn totals_at(&self, mixtures: &[Mixture]) -> Result<Vec<Result<Bounds, Refusal>>, Error> {
         let mut weights = Vec::new();
         for mixture in mixtures {
             Length::test("weights of the mixture", None, mixture.weights.len(), self.model.shape().states)?;
@@ -110,7 +131,7 @@ impl Certifier {
             let ended = slices::Refusal { number: answers.numbers[at].into(), place: 0 };
             Refusal::unless(ended, Handed::Other)?;
             let (lower, upper) = (answers.lower[at], answers.upper[at]);
-            Ok(Totals { lower, upper, gap: upper - lower, action: answers.actions[at].into() })
+            Ok(Bounds { lower, upper, gap: upper - lower, action: answers.actions[at].into() })
         };
         Ok((0..mixtures.len()).map(one).collect())
     }
@@ -130,11 +151,14 @@ impl Certifier {
     }
 }
 
-/// Equal are certifiers of the same model at the same level, upon which the same level stands; what lies past its counts
-/// is not looked at.
+/// Equal are certifiers of the same model at the same level, upon which the same level and the same rows stand; what lies past
+/// their counts is not looked at.
 impl PartialEq for Certifier {
     fn eq(&self, other: &Certifier) -> bool {
-        self.model == other.model && self.level() == other.level() && self.standing() == other.standing()
+        self.model == other.model
+            && self.level() == other.level()
+            && self.standing() == other.standing()
+            && self.rows() == other.rows()
     }
 }
 
@@ -151,5 +175,7 @@ fn grown(mut slices: slices::Certifier, room: &slices::Certifier) -> slices::Cer
     grow(&mut slices.corners, &room.corners);
     grow(&mut slices.weights, &room.weights);
     grow(&mut slices.values, &room.values);
+    grow(&mut slices.informed, &room.informed);
+    grow(&mut slices.qmdp, &room.qmdp);
     slices
 }

@@ -129,7 +129,7 @@ impl fmt::Display for Refusal {
             }
             (Rule::ObservationTotal, _) => write!(f, "a row of O does not total 1; the place is the file's length"),
             (Rule::Certifier, _) => {
-                write!(f, "the certifier handed in is no certifier: its tables or its standing level break a limit")
+                write!(f, "the certifier handed in is no certifier: its tables, its standing level or its rows break a limit")
             }
             (Rule::Levels, _) => write!(f, "100 levels already stand, and no more are accepted"),
             (Rule::LevelSize, _) => write!(

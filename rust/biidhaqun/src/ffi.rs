@@ -1,4 +1,4 @@
-//! The library's seven calls over slices. Nothing but this module is unsafe.
+//! The library's calls over slices. Nothing but this module is unsafe.
 //!
 //! A slice goes over as its pointer and its length. The library reads and writes inside these lengths only, writes nothing
 //! that is lent to be read, keeps no pointer, and answers whatever the content.
@@ -9,6 +9,8 @@ mod library {
     use super::{Reading, Refusal, Totals, Worth};
 
     extern "C" {
+        pub fn biidhaqun_version() -> u64;
+
         pub fn biidhaqun_read(
             file: *const u8,
             file_length: usize,
@@ -47,6 +49,10 @@ mod library {
             weights_length: usize,
             values: *const i64,
             values_length: usize,
+            informed: *mut i64,
+            informed_length: usize,
+            qmdp: *mut i64,
+            qmdp_length: usize,
         ) -> Refusal;
 
         pub fn biidhaqun_offer(
@@ -74,6 +80,10 @@ mod library {
             weights_length: usize,
             values: *mut i64,
             values_length: usize,
+            informed: *mut i64,
+            informed_length: usize,
+            qmdp: *mut i64,
+            qmdp_length: usize,
             vectors: usize,
             points: usize,
             new_actions: *const u8,
@@ -113,6 +123,10 @@ mod library {
             weights_length: usize,
             values: *const i64,
             values_length: usize,
+            informed: *const i64,
+            informed_length: usize,
+            qmdp: *const i64,
+            qmdp_length: usize,
             mixture: *const u32,
             mixture_length: usize,
         ) -> Totals;
@@ -140,6 +154,10 @@ mod library {
             weights_length: usize,
             values: *const i64,
             values_length: usize,
+            informed: *const i64,
+            informed_length: usize,
+            qmdp: *const i64,
+            qmdp_length: usize,
             mixtures: *const u32,
             mixtures_length: usize,
             count: usize,
@@ -176,6 +194,10 @@ mod library {
             weights_length: usize,
             values: *const i64,
             values_length: usize,
+            informed: *const i64,
+            informed_length: usize,
+            qmdp: *const i64,
+            qmdp_length: usize,
             count: usize,
             points: *const u32,
             points_length: usize,
@@ -214,6 +236,11 @@ mod library {
     }
 }
 
+/// The version of the layout that the linked library has: [`VERSION`](crate::slices::VERSION), where both are of one source.
+pub fn version() -> u64 {
+    unsafe { library::biidhaqun_version() }
+}
+
 /// Reads a model file: its counts and discount are answered, its tables and its start numbers in hundredths written; or 1
 /// to 6, or 100.
 pub fn read(
@@ -239,7 +266,7 @@ pub fn read(
     }
 }
 
-/// Opens a certifier on tables: level 0 stands; or 3, 5, 6, 9.
+/// Opens a certifier on tables: level 0 stands, and the rows are zeros; or 3, 5, 6, 9.
 pub fn open(tables: &Tables, certifier: &mut Certifier) -> Refusal {
     unsafe {
         library::biidhaqun_open(
@@ -267,11 +294,15 @@ pub fn open(tables: &Tables, certifier: &mut Certifier) -> Refusal {
             certifier.weights.len(),
             certifier.values.as_ptr(),
             certifier.values.len(),
+            certifier.informed.as_mut_ptr(),
+            certifier.informed.len(),
+            certifier.qmdp.as_mut_ptr(),
+            certifier.qmdp.len(),
         )
     }
 }
 
-/// Offers a level: accepted, it stands, and the first number of the state is one more; or 7 to 15.
+/// Offers a level: accepted, it stands, the first number of the state is one more, and the rows are stepped; or 7 to 15.
 pub fn offer(tables: &Tables, certifier: &mut Certifier, level: &Level) -> Refusal {
     unsafe {
         library::biidhaqun_offer(
@@ -299,6 +330,10 @@ pub fn offer(tables: &Tables, certifier: &mut Certifier, level: &Level) -> Refus
             certifier.weights.len(),
             certifier.values.as_mut_ptr(),
             certifier.values.len(),
+            certifier.informed.as_mut_ptr(),
+            certifier.informed.len(),
+            certifier.qmdp.as_mut_ptr(),
+            certifier.qmdp.len(),
             level.vectors,
             level.points,
             level.actions.as_ptr(),
@@ -343,6 +378,10 @@ pub fn totals(tables: &Tables, certifier: &Certifier, mixture: &[u32]) -> Totals
             certifier.weights.len(),
             certifier.values.as_ptr(),
             certifier.values.len(),
+            certifier.informed.as_ptr(),
+            certifier.informed.len(),
+            certifier.qmdp.as_ptr(),
+            certifier.qmdp.len(),
             mixture.as_ptr(),
             mixture.len(),
         )
@@ -376,6 +415,10 @@ pub fn each(tables: &Tables, certifier: &Certifier, mixtures: &[u32], count: usi
             certifier.weights.len(),
             certifier.values.as_ptr(),
             certifier.values.len(),
+            certifier.informed.as_ptr(),
+            certifier.informed.len(),
+            certifier.qmdp.as_ptr(),
+            certifier.qmdp.len(),
             mixtures.as_ptr(),
             mixtures.len(),
             count,
@@ -419,6 +462,10 @@ pub fn build(tables: &Tables, certifier: &Certifier, count: usize, points: &[u32
             certifier.weights.len(),
             certifier.values.as_ptr(),
             certifier.values.len(),
+            certifier.informed.as_ptr(),
+            certifier.informed.len(),
+            certifier.qmdp.as_ptr(),
+            certifier.qmdp.len(),
             count,
             points.as_ptr(),
             points.len(),

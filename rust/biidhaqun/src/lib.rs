@@ -2,8 +2,9 @@
 //!
 //! A [`Model`] is a POMDP in whole numbers. A [`Certifier`] opens on it, is offered [`Level`]s of alpha vectors (a floor)
 //! and of corner and point values (a sawtooth ceiling) by anyone, and accepts a level exactly where every backup inequality
-//! holds. From then on its [`Totals`] at a [`Mixture`] bracket what the best of all plans earns that have as many steps as
-//! levels were accepted.
+//! holds. Beside the level it steps a ceiling of its own, the fast informed bound, at each acceptance. From then on its
+//! [`Totals`] at a [`Mixture`] bracket what the best of all plans earns that have as many steps as levels were accepted; the
+//! upper one is the lower of both ceilings.
 //!
 //! The calls are those of a static library in which each is proved to meet its contract, never to fault, and to end,
 //! whatever it is handed; a [`Refusal`] says which rule was broken and where. What each type promises, and what of it is
@@ -62,13 +63,16 @@ mod totals;
 #[cfg(feature = "linked")]
 pub use certifier::Certifier;
 pub use error::{Error, Length, Place, Refusal};
+#[cfg(feature = "linked")]
+pub use ffi::version;
 pub use level::{Level, Point, Vector};
 #[cfg(feature = "linked")]
 pub use model::{Action, Model};
 pub use parts::{Graph, Mixture, Points};
 pub use rule::Rule;
 pub use shape::Shape;
-pub use totals::{Bracket, Totals, Units};
+pub use slices::VERSION;
+pub use totals::{Bounds, Bracket, Ceiling, Totals, Units};
 
 #[cfg(all(test, feature = "linked"))]
 mod tests;

@@ -73,7 +73,8 @@ impl Model {
 
     /// The model of these tables. Refused with 3, 5 or 6; what lies past the counts is cut off.
     pub fn from_tables(mut tables: Tables) -> Result<Model, Refusal> {
-        let mut room = Certifier::roomy(tables.states.min(STATES), tables.observations.min(slices::OBSERVATIONS));
+        let (states, actions) = (tables.states.min(STATES), tables.actions.min(slices::ACTIONS));
+        let mut room = Certifier::roomy(states, actions, tables.observations.min(slices::OBSERVATIONS));
         Refusal::unless(slices::open(&tables, &mut room), Handed::Tables(tables.states))?;
         cut(&mut tables);
         Ok(Model { tables })
@@ -129,7 +130,8 @@ impl Model {
         self.tables.reward[self.row(action, state)]
     }
 
-    fn row(&self, action: usize, state: usize) -> usize {
+    /// The number of an action's row at a state.
+    pub(crate) fn row(&self, action: usize, state: usize) -> usize {
         below(action, self.tables.actions) * self.tables.states + below(state, self.tables.states)
     }
 

@@ -41,7 +41,7 @@ rules! {
     4 StartTotal: "the start numbers total 1",
     5 TransitionTotal: "each row of T totals 1",
     6 ObservationTotal: "each row of O totals 1",
-    7 Certifier: "the tables and the standing level of a certifier are within their limits, and at most 100 levels stand",
+    7 Certifier: "the tables, the standing level and the rows of a certifier are within their limits, and at most 100 levels stand",
     8 Levels: "at most 100 levels are accepted",
     9 LevelSize: "a level has 1 to 32 vectors and at most 32 points, the builder is given at most 16, and slices have room",
     10 Numbers: "actions and chosen vectors exist",

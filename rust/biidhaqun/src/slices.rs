@@ -4,16 +4,20 @@
 //! nor written. n stands for the model's states, m for its actions, k for its observations.
 //!
 //! What is handed in may hold anything and have any length. With the feature `linked`, this module has the calls themselves
-//! too: [`read`], [`open`], [`offer`], [`totals`], [`each`], [`build`] and [`worth`]. Each is proved to answer, and to leave in what
+//! too: [`version`], [`read`], [`open`], [`offer`], [`totals`], [`each`], [`build`] and [`worth`]. Each is proved to answer, and to leave in what
 //! it is lent, what its definitions say; one that is refused leaves all as it was.
 //!
 //! A slice that is too short is refused: one of the tables by 3 at 0 where they are opened or a worth is asked, else by 7;
-//! one of a certifier by 7 for what stands (its choices are read by no call, and not asked for), by 9 for what is to stand;
+//! one of a certifier by 7 for what stands and for the rows (its choices are read by no call, and not asked for), by 9 for
+//! what is to stand;
 //! one of an offered level, of points, of a level to be built or of answers by 9; a mixture, or several, by 17; one of a plan graph by 18; one that
 //! a file is read into by 100, and the place is then the length that it needs.
 
 #[cfg(feature = "linked")]
-pub use crate::ffi::{build, each, offer, open, read, totals, worth};
+pub use crate::ffi::{build, each, offer, open, read, totals, version, worth};
+
+/// The version of this layout, the C header's too. [`version`] is the linked library's.
+pub const VERSION: u64 = 3;
 
 /// Most states, actions, observations, vectors and points of a level, points to build at, nodes and steps of a plan graph,
 /// levels, and bytes of a file.
@@ -66,7 +70,8 @@ impl Tables {
     }
 }
 
-/// What a certifier keeps between calls: how many levels were accepted, and the last of them.
+/// What a certifier keeps between calls: how many levels were accepted, the last of them, and the rows that it steps itself at
+/// each acceptance.
 #[derive(Clone, Debug, Default, PartialEq, Eq, Hash)]
 pub struct Certifier {
     /// The number of accepted levels, and the vectors and points of the last of them: 3.
@@ -83,11 +88,15 @@ pub struct Certifier {
     pub weights: Vec<u32>,
     /// In ticks times the point's total weight, by point.
     pub values: Vec<i64>,
+    /// The fast informed bound in ticks, by action and state: m × n.
+    pub informed: Vec<i64>,
+    /// The QMDP rows in ticks, by action and state: m × n.
+    pub qmdp: Vec<i64>,
 }
 
 impl Certifier {
-    /// Room for any level of models with so many states and observations.
-    pub fn roomy(states: usize, observations: usize) -> Certifier {
+    /// Room for any level of models with so many states, actions and observations.
+    pub fn roomy(states: usize, actions: usize, observations: usize) -> Certifier {
         let level = Level::roomy(states, observations);
         Certifier {
             state: vec![0; 3],
@@ -97,6 +106,8 @@ impl Certifier {
             corners: level.corners,
             weights: level.weights,
             values: level.values,
+            informed: vec![0; actions * states],
+            qmdp: vec![0; actions * states],
         }
     }
 }
@@ -181,9 +192,14 @@ pub struct Totals {
     pub number: u64,
     pub place: usize,
     pub lower: i64,
+    /// The lower of the two ceilings.
     pub upper: i64,
     pub gap: i64,
     pub action: usize,
+    /// The ceiling of the level's corners and points.
+    pub sawtooth: i64,
+    /// The ceiling of the informed rows.
+    pub informed: i64,
 }
 
 /// The answers at many mixtures, each at its mixture's number: what [`totals`] answers there.

@@ -30,7 +30,7 @@ fn levels_one_and_two() {
     assert_eq!(one.standing().corners(), [-100, 600]);
     let (_, _, two) = standing(2);
     let at = |weights: &[u32]| two.totals(&Mixture::new(weights)).map(|t| (t.lower, t.upper, t.gap, t.action));
-    assert_eq!(at(&[1, 0]), Ok((-51, -32, 19, 0)));
+    assert_eq!(at(&[1, 0]), Ok((-51, -50, 1, 0)));
     assert_eq!(at(&[0, 1]), Ok((510, 510, 0, 1)));
     assert!(at(&[0, 1_000_000]).is_ok());
     assert_eq!(refusal(at(&[0, 1_000_001])), (17, 0));
@@ -44,11 +44,55 @@ fn many_mixtures_at_once() {
     let mixtures = [[1, 0], [0, 1], [0, 0], [50, 50], [0, 1_000_001]].map(|weights| Mixture::new(&weights));
     let answers = two.totals_at(&mixtures).unwrap();
     for (answer, mixture) in answers.into_iter().zip(&mixtures) {
-        assert_eq!(answer.map_err(Error::from), two.totals(mixture));
+        assert_eq!(answer.map_err(Error::from), two.totals(mixture).map(|totals| totals.bounds()));
     }
     assert_eq!(two.totals_at(&[]), Ok(Vec::new()));
     let (_, _, fresh) = standing(0);
     assert_eq!(refusal(fresh.totals_at(&mixtures)), (16, 0));
+}
+
+/// Each of the two ceilings is the lower one somewhere.
+#[test]
+fn the_ceilings_apart() {
+    let (_, _, two) = standing(2);
+    let apart = |weights: &[u32]| {
+        let at = two.totals(&Mixture::new(weights)).unwrap();
+        assert_eq!(at.upper, at.sawtooth.min(at.informed));
+        (at.sawtooth, at.informed, at.speaks())
+    };
+    assert_eq!(apart(&[1, 0]), (-32, -50, Ceiling::Informed));
+    assert_eq!(apart(&[0, 1]), (510, 510, Ceiling::Sawtooth));
+    assert_eq!(apart(&[50, 50]), (12_500, 19_500, Ceiling::Sawtooth));
+}
+
+/// The rows are stepped from the tables alone: by what is accepted, and by nothing that is refused.
+#[test]
+fn the_rows_of_the_dough() {
+    let rows = |certifier: &Certifier| {
+        let cells = [(0, 0), (0, 1), (1, 0), (1, 1)];
+        (cells.map(|(a, s)| certifier.informed(a, s)), cells.map(|(a, s)| certifier.qmdp(a, s)))
+    };
+    assert_eq!(rows(&standing(0).2), ([0; 4], [0; 4]));
+    assert_eq!(rows(&standing(1).2), ([-100, -100, -1_000, 600], [-100, -100, -1_000, 600]));
+    let (model, _, mut two) = standing(2);
+    assert_eq!(rows(&two), ([-50, 440, -1_090, 510], [125, 440, -1_090, 510]));
+    let mut loose = Level::new(model.shape());
+    loose.add_vector(0, &[0, 0], &[300_000, 300_000]).unwrap();
+    loose.corners_mut().fill(300_000);
+    assert_eq!(refusal(two.offer(&loose)), (13, 0));
+    assert_eq!(rows(&two), rows(&standing(2).2));
+    loose.entries_mut(0).fill(-300_000);
+    two.offer(&loose).unwrap();
+    assert_eq!(rows(&two), rows(&standing(3).2));
+    assert!(std::panic::catch_unwind(|| two.informed(2, 0)).is_err());
+    assert!(std::panic::catch_unwind(|| two.qmdp(0, 2)).is_err());
+}
+
+#[test]
+fn the_library_is_of_this_version() {
+    assert_eq!(version(), VERSION);
+    let header = include_str!("../../../include/biidhaqun.h");
+    assert!(header.contains(&format!("#define BIIDHAQUN_VERSION {}\n", VERSION)));
 }
 
 #[test]
@@ -125,6 +169,17 @@ fn a_certifier_from_slices() {
         shorter.corners.truncate(1);
         let seven = Err(Refusal { rule: Rule::Certifier, place: Place::Whole });
         assert_eq!(Certifier::from_slices(&model, shorter), seven);
+        let broken: [fn(&mut slices::Certifier); 4] = [
+            |slices| slices.informed.truncate(3),
+            |slices| slices.qmdp.clear(),
+            |slices| slices.informed[3] = 100_000 * slices.state[0] as i64 + 1,
+            |slices| slices.qmdp[0] = -100_000 * slices.state[0] as i64 - 1,
+        ];
+        for change in broken {
+            let mut slices = certifier.slices().clone();
+            change(&mut slices);
+            assert_eq!(Certifier::from_slices(&model, slices), seven);
+        }
         assert_eq!(Certifier::from_slices(&model, slices::Certifier::default()), seven);
     }
 }
@@ -311,13 +366,17 @@ fn the_parts_of_a_model() {
 #[test]
 fn units_are_rounded_outwards() {
     let bracket = |lower, upper, weights: &[u32]| {
-        let totals = Totals { lower, upper, gap: upper - lower, action: 0 };
-        let bracket = totals.bracket(&Mixture::new(weights));
+        let bounds = Bounds { lower, upper, gap: upper - lower, action: 0 };
+        let bracket = bounds.bracket(&Mixture::new(weights));
         (bracket.floor.ten_thousandths(), bracket.ceiling.ten_thousandths())
     };
     assert_eq!(bracket(13_350, 18_575, &[50, 50]), (13_350, 18_575));
     assert_eq!(bracket(100, 100, &[1, 2]), (3_333, 3_334));
     assert_eq!(bracket(-100, -100, &[1, 2]), (-3_334, -3_333));
-    let totals = Totals { lower: -5, upper: 5, gap: 10, action: 0 };
-    assert_eq!(totals.bracket(&Mixture::new(&[1])).floor.to_string(), "-0.0500");
+    let totals = Totals { lower: -5, upper: 5, gap: 10, action: 0, sawtooth: 7, informed: 5 };
+    let one = Mixture::new(&[1]);
+    assert_eq!(totals.bracket(&one).floor.to_string(), "-0.0500");
+    assert_eq!(totals.ceiling(Ceiling::Sawtooth, &one).to_string(), "0.0700");
+    assert_eq!(totals.ceiling(totals.speaks(), &one), totals.bracket(&one).ceiling);
+    assert_eq!(bracket(i64::MIN, i64::MAX, &[1]), (i64::MIN, i64::MAX));
 }

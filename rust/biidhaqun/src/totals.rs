@@ -11,12 +11,47 @@ use std::fmt;
 pub struct Totals {
     /// Some plan that opens with the action earns at least this.
     pub lower: i64,
+    /// No plan earns more than this: the lower of the two ceilings.
+    pub upper: i64,
+    /// The upper total less the lower one.
+    pub gap: i64,
+    /// The action to open with.
+    pub action: usize,
+    /// The ceiling of the standing level's corners and points.
+    pub sawtooth: i64,
+    /// The ceiling of the fast informed bound: the largest product of an action's row with the mixture.
+    pub informed: i64,
+}
+
+/// The totals without the two ceilings apart, as they are asked for at many mixtures.
+#[derive(Clone, Copy, Debug, PartialEq, Eq, Hash)]
+pub struct Bounds {
+    /// Some plan that opens with the action earns at least this.
+    pub lower: i64,
     /// No plan earns more than this.
     pub upper: i64,
     /// The upper total less the lower one.
     pub gap: i64,
     /// The action to open with.
     pub action: usize,
+}
+
+/// A ceiling: what no plan earns more than.
+#[derive(Clone, Copy, Debug, PartialEq, Eq, Hash)]
+pub enum Ceiling {
+    /// That of the corners and points that were offered.
+    Sawtooth,
+    /// That of the rows that the certifier steps: the fast informed bound.
+    Informed,
+}
+
+impl fmt::Display for Ceiling {
+    fn fmt(&self, f: &mut fmt::Formatter) -> fmt::Result {
+        f.pad(match self {
+            Ceiling::Sawtooth => "sawtooth",
+            Ceiling::Informed => "informed",
+        })
+    }
 }
 
 /// Ten-thousandths in a unit, and in a tick.
@@ -58,22 +93,68 @@ pub struct Bracket {
     pub ceiling: Units,
 }
 
-impl Totals {
-    /// The totals in units of reward, over the weight of the mixture that they were asked at; rounded outwards to
+impl Bounds {
+    /// The bounds in units of reward, over the weight of the mixture that they were asked at; rounded outwards to
     /// ten-thousandths, which is exact where the weights total 100.
     ///
     /// ```
-    /// use biidhaqun::{Mixture, Totals};
+    /// use biidhaqun::{Bounds, Mixture};
     ///
-    /// let totals = Totals { lower: 10_000, upper: 12_500, gap: 2_500, action: 0 };
-    /// let bracket = totals.bracket(&Mixture::new(&[50, 50]));
+    /// let bounds = Bounds { lower: 10_000, upper: 12_500, gap: 2_500, action: 0 };
+    /// let bracket = bounds.bracket(&Mixture::new(&[50, 50]));
     /// assert_eq!((bracket.floor.to_string(), bracket.ceiling.to_string()), ("1.0000".to_string(), "1.2500".to_string()));
     /// ```
     pub fn bracket(&self, mixture: &Mixture) -> Bracket {
-        let weight = i128::from(mixture.total().max(1));
-        let down = |total: i64| (i128::from(total) * TICK).div_euclid(weight);
-        // A total is at most 10^7 ticks times the weight.
-        let units = |number: i128| Units(i64::try_from(number).unwrap_or(if number < 0 { i64::MIN } else { i64::MAX }));
-        Bracket { floor: units(down(self.lower)), ceiling: units(-(-i128::from(self.upper) * TICK).div_euclid(weight)) }
+        Bracket { floor: rounded_down(self.lower, mixture), ceiling: rounded_up(self.upper, mixture) }
     }
+}
+
+impl Totals {
+    /// Lower, upper, gap and action alone.
+    pub fn bounds(&self) -> Bounds {
+        let Totals { lower, upper, gap, action, .. } = *self;
+        Bounds { lower, upper, gap, action }
+    }
+
+    /// As [`Bounds::bracket`].
+    pub fn bracket(&self, mixture: &Mixture) -> Bracket {
+        self.bounds().bracket(mixture)
+    }
+
+    /// The ceiling that the upper total is; the sawtooth, where both are the same.
+    pub fn speaks(&self) -> Ceiling {
+        if self.informed < self.sawtooth {
+            Ceiling::Informed
+        } else {
+            Ceiling::Sawtooth
+        }
+    }
+
+    /// One of the ceilings in units of reward, over the weight of the mixture, rounded up.
+    pub fn ceiling(&self, of: Ceiling, mixture: &Mixture) -> Units {
+        let total = match of {
+            Ceiling::Sawtooth => self.sawtooth,
+            Ceiling::Informed => self.informed,
+        };
+        rounded_up(total, mixture)
+    }
+}
+
+/// A total over the mixture's weight, rounded down.
+fn rounded_down(total: i64, mixture: &Mixture) -> Units {
+    units((i128::from(total) * TICK).div_euclid(weight(mixture)))
+}
+
+/// A total over the mixture's weight, rounded up.
+fn rounded_up(total: i64, mixture: &Mixture) -> Units {
+    units(-(-i128::from(total) * TICK).div_euclid(weight(mixture)))
+}
+
+fn weight(mixture: &Mixture) -> i128 {
+    i128::from(mixture.total().max(1))
+}
+
+/// A total is at most 10^7 ticks times the weight, so that a certifier's fit.
+fn units(number: i128) -> Units {
+    Units(i64::try_from(number).unwrap_or(if number < 0 { i64::MIN } else { i64::MAX }))
 }

@@ -76,9 +76,13 @@ const EXPLANATIONS: &[Explanation] = &[
     },
     Explanation {
         number: 7,
-        means: "The certifier that was handed in breaks a limit: its tables, its standing level, or its number above 100.",
+        means: "The certifier that was handed in breaks a limit: its tables, its standing level, its rows (an entry of the fast \
+                informed bound or of QMDP beyond 100,000 ticks x the level), or its number above 100.",
         place: NONE,
-        causes: &["A program changed the words of a certifier, or cut them short. This command never does."],
+        causes: &[
+            "A program changed the words of a certifier, or cut them short. This command never does.",
+            "Rows that were not opened with the certifier, or not handed on from call to call: each acceptance steps them, and at level 0 they are 0.",
+        ],
     },
     Explanation {
         number: 8,

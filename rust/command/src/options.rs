@@ -33,7 +33,8 @@ pub enum Request {
     /// Build levels, offer them, and print what is certified
     ///
     /// With no option: a line for each of three levels at the start mixture, with the level, the lower and the upper total,
-    /// their gap, and the action. Totals are in ticks (hundredths of a unit of reward) times the mixture's total weight.
+    /// their gap, and the action. Totals are in ticks (hundredths of a unit of reward) times the mixture's total weight. With
+    /// options, tables that say too which ceiling the upper total is: the sawtooth or the fast informed bound.
     Levels {
         #[command(flatten)]
         built: Built,
@@ -79,8 +80,8 @@ pub enum Request {
     },
     /// Draw what is certified, as an SVG image
     ///
-    /// Floor and ceiling over the levels at a mixture; with two states also floor, ceiling and actions over all mixtures,
-    /// with three the gap over all mixtures.
+    /// The floor and both ceilings (the sawtooth and the fast informed bound) over the levels at a mixture; with two states
+    /// also these and the actions over all mixtures, with three the gap below the lower ceiling over all mixtures.
     Picture {
         #[command(flatten)]
         built: Built,

@@ -130,9 +130,9 @@ fn levels_at_points_and_mixtures() {
     let out = served(&["levels", "examples/dough.pomdp", "--levels", "2", "--at", "1,0", "--at", "0,1"]);
     let lines: Vec<Vec<&str>> = out.lines().map(|line| line.split_whitespace().collect()).collect();
     assert_eq!(lines[0], ["at", "1,0"]);
-    assert_eq!(lines[3], ["2", "-0.5100", "-0.3200", "0.1900", "-51", "-32", "0"]);
+    assert_eq!(lines[3], ["2", "-0.5100", "-0.5000", "0.0100", "-51", "-50", "informed", "0"]);
     assert_eq!(lines[5], ["at", "0,1"]);
-    assert_eq!(lines[8], ["2", "5.1000", "5.1000", "0.0000", "510", "510", "1"]);
+    assert_eq!(lines[8], ["2", "5.1000", "5.1000", "0.0000", "510", "510", "both", "1"]);
     // At the points, then at the mixtures.
     let out = served(&["levels", "examples/dough.pomdp", "--at", "1,0", "--point", "20,80", "--point", "50,50"]);
     let asked: Vec<&str> = out.lines().filter(|line| line.starts_with("at ")).collect();
@@ -155,6 +155,8 @@ fn levels_as_json() {
     let at = &object["levels"][2]["at"][0];
     assert_eq!(at["lower"], 13_350);
     assert_eq!(at["upper"], 18_575);
+    assert_eq!(at["sawtooth"], 18_575);
+    assert!(at["informed"].as_i64() > Some(18_575));
     assert_eq!(at["floor"], 1.335);
     assert_eq!(at["ceiling"], 1.8575);
     assert_eq!(at["action"], 0);
@@ -217,7 +219,7 @@ fn points_say_thirds() {
     let points = ["1,1,1", "4,5,1", "1,5,9", "1,2,2", "1,1,0"].map(|point| ["--point", point]).concat();
     let out = served(&[&["levels", "examples/tempering.pomdp"], &points[..]].concat());
     let third = out.lines().nth(4).unwrap().split_whitespace().collect::<Vec<_>>();
-    assert_eq!(third, ["3", "1.3900", "1.5167", "0.1267", "417", "455", "0", "(stir)"]);
+    assert_eq!(third, ["3", "1.3900", "1.5167", "0.1267", "417", "455", "sawtooth", "0", "(stir)"]);
 }
 
 #[test]
@@ -285,6 +287,7 @@ fn pictures() {
     };
     let two = draw("examples/dough.pomdp", &["--levels", "5"]);
     assert!(two.starts_with("<svg") && two.contains("level 5, all mixtures") && two.contains("share of state 1"));
+    assert!(two.matches("informed ceiling").count() == 2 && two.matches("sawtooth ceiling").count() == 2);
     let machine = temporary("machine.pomdp", served_import("machine").as_bytes());
     let three = draw(machine.to_str().unwrap(), &["--at", "1,1,1"]);
     assert!(three.contains("at 1,1,1") && three.contains("ceiling less floor") && three.contains("both-failed"));

@@ -28,11 +28,14 @@ pub struct Seen {
     /// Those at the mixture (1, 1, 1).
     pub thirds: u64,
     pub above_corners: u64,
+    /// Those at which the informed ceiling was the lower one.
+    pub informed: u64,
 }
 
 /// Follows a list, and at each step compares what is answered with all plans of as many steps as levels were accepted:
-/// no plan is above the upper total, some plan that opens with the action is at or above the lower one, a built level is
-/// accepted, a refused one changes nothing.
+/// no plan is above the upper total, nor above either ceiling, some plan that opens with the action is at or above the lower
+/// one, no plan is above its own action's informed row, which is nowhere above the QMDP row, a built level is accepted, a
+/// refused one changes nothing.
 pub fn check(list: &List, by: &dyn Calls) -> Result<Seen, String> {
     let model = Model::of(&list.tables, &DOCUMENT).map_err(|refusal| refusal.to_string())?;
     let certifier = by.open(&list.tables).map_err(|refusal| format!("opening is {}", refusal))?;
@@ -103,6 +106,7 @@ impl Run<'_> {
         }
         self.seen.above_corners += u64::from(above_corners(&self.certifier, self.model.n));
         self.plans = all_plans(&self.model, self.seen.accepted as u32);
+        self.rows()?;
         for s in 0..self.model.n {
             let mut mixture = vec![0; STATES];
             mixture[s] = 1;
@@ -111,13 +115,37 @@ impl Run<'_> {
         Ok(true)
     }
 
+    /// Each entry of the rows, against the plans that open with its action.
+    fn rows(&self) -> Result<(), String> {
+        let unit = scale(self.seen.accepted as u32);
+        for a in 0..self.model.m {
+            for s in 0..self.model.n {
+                let cell = a * self.model.n + s;
+                let (informed, qmdp) = (self.certifier.informed[cell], self.certifier.qmdp[cell]);
+                if informed > qmdp {
+                    return Err(format!("action {}, state {}: informed {} is above QMDP {}", a, s, informed, qmdp));
+                }
+                let plans = self.plans.iter().filter(|plan| plan.action == a);
+                let most = plans.map(|plan| &plan.n[s]).max().ok_or("no plan opens with the action")?;
+                if *most > &unit * informed {
+                    return Err(format!(
+                        "action {}, state {}: a plan earns {} / {}, above {}",
+                        a, s, most, unit, informed
+                    ));
+                }
+            }
+        }
+        Ok(())
+    }
+
     /// The totals at one mixture, against all plans.
     fn compare(&mut self, mixture: &[u64]) -> Result<(), String> {
         let totals = self.by.totals(&self.certifier, mixture).map_err(|refusal| format!("totals are {}", refusal))?;
         let mixture = &mixture[..self.model.n];
         let unit = scale(self.seen.accepted as u32);
         let earned = best(&self.plans, mixture, None).ok_or("there is no plan")?;
-        if earned > &totals.upper * &unit {
+        let lowest = (&totals.sawtooth).min(&totals.informed).min(&totals.upper);
+        if earned > lowest * &unit {
             return Err(format!("at {:?} a plan earns {} / {}, above {:?}", mixture, earned, unit, totals));
         }
         let opening = Some(totals.action as usize);
@@ -128,9 +156,13 @@ impl Run<'_> {
                 mixture, opened, unit, totals
             ));
         }
+        if totals.upper != *lowest {
+            return Err(format!("the upper total of {:?} is not the lower ceiling", totals));
+        }
         if totals.gap != &totals.upper - &totals.lower {
             return Err(format!("the gap of {:?} is wrong", totals));
         }
+        self.seen.informed += u64::from(totals.informed < totals.sawtooth);
         self.seen.compared += 1;
         self.seen.thirds += u64::from(mixture == [1, 1, 1]);
         Ok(())
@@ -175,11 +207,36 @@ mod tests {
                     let steps = certifier.level as u32;
                     let totals = DOCUMENT.totals(&certifier, mixture).unwrap();
                     let most = best(&all_plans(&model, steps), &mixture[..3], None).unwrap() * 1_000 / scale(steps);
-                    figures.push((whole(&totals.lower), whole(&most), whole(&totals.upper), totals.action));
+                    let ceilings = (whole(&totals.sawtooth), whole(&totals.informed));
+                    figures.push((whole(&totals.lower), whole(&most), ceilings, totals.action));
                 }
                 _ => {}
             }
         }
-        assert_eq!(figures, [(-100, -100_000, -100, 2), (78, 78_000, 586, 0), (417, 419_088, 1_279, 0)]);
+        assert_eq!(
+            figures,
+            [(-100, -100_000, (-100, -100), 2), (78, 78_000, (586, 482), 0), (417, 419_088, (1_279, 1_003), 0)]
+        );
+    }
+
+    /// Whatever a model, up to level 100 no informed entry is above the QMDP one.
+    #[test]
+    fn rows_up_to_level_100() {
+        for number in 0..12 {
+            let mut rng = Rng::for_case(1, "rows", number);
+            let shape = if number % 3 == 0 { gen::shape(&mut rng) } else { gen::tiny_shape(&mut rng) };
+            let tables = gen::tables(&mut rng, shape);
+            let mut certifier = DOCUMENT.open(&tables).unwrap();
+            for t in 1..=reference::LEVELS as i64 {
+                // The loosest level of all, so that only the rows are worked for.
+                let mut level = Level::fresh();
+                level.entries[..shape.n].fill(-100_000 * t);
+                level.corners[..shape.n].fill(100_000 * t);
+                DOCUMENT.offer(&mut certifier, &level).unwrap();
+                let both = || certifier.informed.iter().zip(&certifier.qmdp);
+                assert!(both().all(|(informed, qmdp)| informed <= qmdp), "rows:{} at level {}", number, t);
+                assert!(both().all(|(informed, qmdp)| informed.abs().max(qmdp.abs()) <= 100_000 * t));
+            }
+        }
     }
 }

@@ -1,13 +1,13 @@
 //! The library's calls by the reference, or by a copy of it with one deliberate mistake.
 //!
 //! A slice that is too short counts as one whose object breaks its first limit: tables without counts (3, or 7), a level
-//! without vectors (7 where it stands, 9 where it is offered or has no room), too many points (9), no weights (17), no nodes
-//! (18). What is written is written at the front of the slices; the rest stays.
+//! without vectors (7 where it stands or its rows are too short, 9 where it is offered or has no room), too many points (9), no
+//! weights (17), no nodes (18). What is written is written at the front of the slices; the rest stays.
 
 use crate::gen::{Question, DOCUMENT};
 use crate::lent::{narrowed, stored, Cell, Library};
 use biidhaqun::slices::{Answers, Certifier, Graph, Level, Reading, Refusal, Tables, Totals, Worth};
-use reference::{Rules, BUILT_POINTS, NODES, OBSERVATIONS, POINTS, STATES, VECTORS};
+use reference::{Rules, ACTIONS, BUILT_POINTS, NODES, OBSERVATIONS, POINTS, ROWS, STATES, VECTORS};
 
 /// Lists the slips with a sentence each.
 macro_rules! slips {
@@ -50,6 +50,17 @@ slips! {
     NumberKept: "an acceptance is not counted",
     CountsKept: "an accepted level's counts are not written",
     OpeningClearsPoints: "opening clears the weights and values",
+    OpeningLeavesRows: "opening leaves the rows as they were",
+    InformedUnasked: "the informed rows may have any length",
+    QmdpUnasked: "the QMDP rows may have any length",
+    RowsAskedAsRoom: "rows too short for an offer get 9",
+    RowsAskedAtOpening: "rows too short for an opening get 7",
+    RowsByState: "the rows lie by state and action",
+    RowsBySixteenStates: "the rows are packed by 16 states",
+    RowsExchanged: "the informed rows lie where the QMDP rows should, and the other way round",
+    CeilingsExchanged: "the sawtooth is shown for the informed ceiling, and the other way round",
+    RefusedCeilings: "refused totals show ceilings",
+    EachBySawtooth: "at many mixtures the upper totals are the sawtooth's",
     RefusedTotals: "refused totals carry numbers",
     OneRefusesAll: "a refused mixture among many refuses them all",
     LaterAnswersLeft: "what comes after a refused mixture is not answered",
@@ -174,6 +185,56 @@ impl Copied {
         level
     }
 
+    /// Where in a slice an action's entry at a state lies.
+    fn row_cell(&self, tables: &reference::Tables, a: usize, s: usize) -> usize {
+        match self.slip {
+            Some(Slip::RowsByState) => s * tables.actions as usize + a,
+            Some(Slip::RowsBySixteenStates) => a * STATES + s,
+            _ => a * tables.states as usize + s,
+        }
+    }
+
+    /// Rows in storage; cells that a slice has not are 0.
+    fn rows(&self, tables: &reference::Tables, slice: &[i64]) -> Vec<i64> {
+        let mut rows = vec![0; ROWS];
+        let n = tables.states as usize;
+        for (at, cell) in rows.iter_mut().enumerate().take(tables.actions as usize * n) {
+            *cell = slice.get(self.row_cell(tables, at / n, at % n)).copied().unwrap_or(0);
+        }
+        rows
+    }
+
+    /// Writes rows of storage, as far as the slice goes.
+    fn lay_rows(&self, tables: &reference::Tables, rows: &[i64], slice: &mut [i64]) {
+        let n = tables.states as usize;
+        let used = tables.actions as usize * n;
+        if matches!(self.slip, Some(Slip::RowsByState | Slip::RowsBySixteenStates)) {
+            for (at, &row) in rows[..used].iter().enumerate() {
+                if let Some(cell) = slice.get_mut(self.row_cell(tables, at / n, at % n)) {
+                    *cell = row;
+                }
+            }
+        } else {
+            self.lay(&rows[..used], slice);
+        }
+    }
+
+    /// The informed and the QMDP slice.
+    fn row_slices<'a>(&self, lent: &'a mut Certifier) -> (&'a mut Vec<i64>, &'a mut Vec<i64>) {
+        let Certifier { informed, qmdp, .. } = lent;
+        if self.has(Slip::RowsExchanged) {
+            (qmdp, informed)
+        } else {
+            (informed, qmdp)
+        }
+    }
+
+    /// Whether both kinds of rows are long enough.
+    fn rows_long(&self, lent: &Certifier, needed: usize) -> bool {
+        (self.long(&lent.informed, needed) || self.has(Slip::InformedUnasked))
+            && (self.long(&lent.qmdp, needed) || self.has(Slip::QmdpUnasked))
+    }
+
     /// What stands. Its choices are not read, so they are not asked for.
     fn standing(&self, tables: &Tables, lent: &Certifier) -> reference::Certifier {
         let tables = self.tables(tables);
@@ -181,8 +242,10 @@ impl Copied {
         let at = |at: usize| lent.state.get(at).copied().unwrap_or(0);
         let (vectors, points) = if self.has(Slip::StateInOtherOrder) { (at(2), at(1)) } else { (at(1), at(2)) };
         let choices = stored(&lent.choices, vectors.min(VECTORS) * k, vectors.min(VECTORS) * k);
+        let rows = tables.actions as usize * n;
+        let long = self.long(&lent.state, 3) && (self.rows_long(lent, rows) || self.has(Slip::RowsAskedAsRoom));
         let level = Level {
-            vectors: if self.long(&lent.state, 3) { vectors } else { 0 },
+            vectors: if long { vectors } else { 0 },
             points,
             actions: lent.actions.clone(),
             choices: if self.has(Slip::StandingChoicesAsked) { lent.choices.clone() } else { choices },
@@ -191,7 +254,10 @@ impl Copied {
             weights: lent.weights.clone(),
             values: lent.values.clone(),
         };
-        reference::Certifier { standing: self.level(&level, n, k), level: at(0) as u64, tables }
+        let mut copy = lent.clone();
+        let (informed, qmdp) = self.row_slices(&mut copy);
+        let (informed, qmdp) = (self.rows(&tables, informed), self.rows(&tables, qmdp));
+        reference::Certifier { standing: self.level(&level, n, k), level: at(0) as u64, tables, informed, qmdp }
     }
 
     /// Whether a certifier's slices have room for a level.
@@ -235,6 +301,11 @@ impl Copied {
             self.lay(&narrowed(&level.weights, needed.weights), &mut lent.weights);
             self.lay(&level.values[..needed.points], &mut lent.values);
         }
+        if standing.level > 0 || !self.has(Slip::OpeningLeavesRows) {
+            let (informed, qmdp) = self.row_slices(lent);
+            self.lay_rows(&standing.tables, &standing.informed, informed);
+            self.lay_rows(&standing.tables, &standing.qmdp, qmdp);
+        }
     }
 
     /// How a call on a certifier ends.
@@ -247,9 +318,12 @@ impl Copied {
     }
 
     fn opened(&self, tables: &Tables, lent: &mut Certifier) -> Result<(), reference::Refusal> {
-        let needed = Needed::of(1, 0, tables.states.min(STATES), tables.observations.min(OBSERVATIONS));
-        let room = || match self.receives(lent, &needed) {
+        let (n, m) = (tables.states.min(STATES), tables.actions.min(ACTIONS));
+        let needed = Needed::of(1, 0, n, tables.observations.min(OBSERVATIONS));
+        let rows = self.rows_long(lent, m * n);
+        let room = || match self.receives(lent, &needed) && rows {
             true => Ok(()),
+            false if self.has(Slip::RowsAskedAtOpening) && !rows => Err(reference::Refusal::at(7, 0)),
             false if self.has(Slip::RoomByHundred) => Err(reference::Refusal::at(100, 0)),
             false => Err(NINE),
         };
@@ -271,7 +345,8 @@ impl Copied {
         let (n, k) = (standing.tables.states as usize, standing.tables.observations as usize);
         let mut offered = self.level(level, n, k);
         let needed = Needed::of(offered.vectors as usize, offered.points as usize, n, k);
-        let receives = self.receives(lent, &needed);
+        let rows = standing.tables.actions as usize * n;
+        let receives = self.receives(lent, &needed) && self.rows_long(lent, rows);
         if !receives && !self.has(Slip::ReceivingAtTheEnd) {
             offered = reference::Level::zero();
         }
@@ -325,7 +400,7 @@ impl Copied {
             }
             all.numbers.push(at.number as u8);
             all.lower.push(at.lower);
-            all.upper.push(at.upper);
+            all.upper.push(if self.has(Slip::EachBySawtooth) { at.sawtooth } else { at.upper });
             all.actions.push(at.action as u8);
             if at.number != 0 && self.has(Slip::LaterAnswersLeft) {
                 break;
@@ -433,17 +508,27 @@ impl Library for Copied {
         let count = if self.long(mixture, n) { n } else { 0 };
         let ticks = |total: &num_bigint::BigInt| i64::try_from(total).unwrap_or(i64::MAX);
         match reference::totals(&standing, &stored(mixture, count, STATES), &self.rules) {
-            Ok(totals) => Totals {
-                lower: ticks(&totals.lower),
-                upper: ticks(&totals.upper),
-                gap: ticks(&totals.gap),
-                action: totals.action as usize,
-                ..Totals::default()
-            },
+            Ok(totals) => {
+                let mut ceilings = (ticks(&totals.sawtooth), ticks(&totals.informed));
+                if self.has(Slip::CeilingsExchanged) {
+                    ceilings = (ceilings.1, ceilings.0);
+                }
+                Totals {
+                    lower: ticks(&totals.lower),
+                    upper: ticks(&totals.upper),
+                    gap: ticks(&totals.gap),
+                    action: totals.action as usize,
+                    sawtooth: ceilings.0,
+                    informed: ceilings.1,
+                    ..Totals::default()
+                }
+            }
             Err(refusal) => {
                 let Refusal { number, place } = refused(refusal);
                 let left = i64::from(self.has(Slip::RefusedTotals));
-                Totals { number, place, lower: left, upper: left, ..Totals::default() }
+                let ceiling = i64::from(self.has(Slip::RefusedCeilings));
+                let (sawtooth, informed) = (ceiling, ceiling);
+                Totals { number, place, lower: left, upper: left, sawtooth, informed, ..Totals::default() }
             }
         }
     }

@@ -6,7 +6,7 @@
 use crate::rng::Rng;
 use reference::{
     build, offer, open, Certifier, Graph, Level, Points, Rules, Tables, ACTIONS, BUILT_POINTS, LEVELS, NODES,
-    OBSERVATIONS, POINTS, POINT_TOTAL, REWARD, STATES, STEPS, THOUSAND, VECTORS, WEIGHT,
+    OBSERVATIONS, POINTS, POINT_TOTAL, REWARD, ROWS, STATES, STEPS, THOUSAND, VECTORS, WEIGHT,
 };
 
 /// The document.
@@ -373,7 +373,7 @@ pub fn spoil_level(rng: &mut Rng, level: &mut Level, shape: Shape, t: u64, below
         litter(rng, &mut level.weights, 0, junk);
         litter(rng, &mut level.values, 0, signed_junk);
     }
-    match rng.below(if points > 0 { 9 } else { 7 }) {
+    match rng.below(if points > 0 { 10 } else { 7 }) {
         0 => level.vectors = rng.pick(&[0, 1, 32, 33, u64::MAX, anything]),
         1 => level.points = rng.pick(&[0, 1, 32, 33, u64::MAX, anything]),
         2 => level.actions[rng.index(vectors)] = rng.pick(&[m as u64 - 1, m as u64, u64::MAX, anything]),
@@ -399,6 +399,28 @@ pub fn spoil_level(rng: &mut Rng, level: &mut Level, shape: Shape, t: u64, below
         _ => {
             let point = rng.index(points);
             spoil_weights(rng, &mut level.weights[point * n..(point + 1) * n]);
+        }
+    }
+}
+
+/// Puts entries of the rows of a certifier at a limit, or past it, or anywhere; some past the counts too.
+pub fn spoil_rows(rng: &mut Rng, certifier: &mut Certifier, shape: Shape) {
+    let used = shape.m * shape.n;
+    let ticks = range(certifier.level);
+    for rows in [&mut certifier.informed, &mut certifier.qmdp] {
+        litter(rng, rows, used, signed_junk);
+        if rng.once_in(3) {
+            at_ends(rng, &mut rows[..used], ticks);
+        }
+        if rng.once_in(3) {
+            for cell in &mut rows[..used] {
+                *cell = rng.within(-ticks, ticks);
+            }
+        }
+        if rng.once_in(6) {
+            let anything = signed_junk(rng);
+            rows[rng.index(used)] =
+                rng.pick(&[ticks, -ticks, ticks + 1, -ticks - 1, ticks + REWARD, i64::MIN, i64::MAX, anything]);
         }
     }
 }
@@ -585,6 +607,9 @@ pub fn handed(rng: &mut Rng, shape: Shape) -> (Certifier, Vec<Step>) {
         let t = certifier.level;
         spoil_level(rng, &mut certifier.standing, shape, t, 1);
     }
+    if rng.once_in(2) {
+        spoil_rows(rng, &mut certifier, shape);
+    }
     if rng.once_in(6) {
         spoil_tables(rng, &mut certifier.tables);
     }
@@ -649,7 +674,7 @@ fn level_at_ends(rng: &mut Rng, shape: Shape, t: u64) -> Level {
     level
 }
 
-/// A certifier whose rewards and standing level are at the ends of their ranges, and calls on it with such levels: the
+/// A certifier whose rewards, standing level and rows are at the ends of their ranges, and calls on it with such levels: the
 /// largest sums that can occur.
 pub fn ends(rng: &mut Rng, shape: Shape) -> (Certifier, Vec<Step>) {
     let n = shape.n;
@@ -658,7 +683,13 @@ pub fn ends(rng: &mut Rng, shape: Shape) -> (Certifier, Vec<Step>) {
     at_ends(rng, &mut tables.rewards[..shape.m * n], REWARD);
     let level = rng.pick(&[0, 1, 50, LEVELS - 2, LEVELS - 1, LEVELS - 1, LEVELS - 1, LEVELS]);
     let standing = level_at_ends(rng, shape, level);
-    let certifier = Certifier { tables, standing, level };
+    let mut rows = || {
+        let mut rows = vec![0; ROWS];
+        at_ends(rng, &mut rows[..shape.m * n], range(level));
+        rows
+    };
+    let (informed, qmdp) = (rows(), rows());
+    let certifier = Certifier { tables, standing, level, informed, qmdp };
     let mut most = vec![WEIGHT; STATES];
     most[rng.index(STATES)] = 0;
     let count = match shape {

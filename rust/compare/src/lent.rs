@@ -118,6 +118,15 @@ pub fn counts(tables: &reference::Tables) -> (usize, usize) {
     }
 }
 
+/// How many entries each kind of rows has; any number, where the tables are refused in any case.
+pub fn rows(tables: &reference::Tables) -> usize {
+    if tables.counts_fit() {
+        (tables.actions * tables.states) as usize
+    } else {
+        1
+    }
+}
+
 pub fn tables(storage: &reference::Tables) -> Tables {
     let all = (storage.transitions.len(), storage.sights.len(), storage.rewards.len());
     let (t, o, r) = if storage.counts_fit() { storage.cells_used() } else { all };
@@ -157,6 +166,8 @@ pub fn certifier(storage: &reference::Certifier) -> Certifier {
         corners: level.corners,
         weights: level.weights,
         values: level.values,
+        informed: storage.informed[..rows(&storage.tables)].to_vec(),
+        qmdp: storage.qmdp[..rows(&storage.tables)].to_vec(),
     }
 }
 
@@ -179,7 +190,7 @@ pub fn graph(storage: &reference::Graph, k: usize) -> Graph {
 
 /// Certifier's slices with room for every level, and anything in it.
 pub fn roomy(rng: &mut Rng, mut certifier: Certifier) -> Certifier {
-    let room = Certifier::roomy(reference::STATES, reference::OBSERVATIONS);
+    let room = Certifier::roomy(reference::STATES, reference::ACTIONS, reference::OBSERVATIONS);
     certifier.state.sized(certifier.state.len().max(3), rng);
     certifier.actions.sized(room.actions.len() + rng.index(3), rng);
     certifier.choices.sized(room.choices.len() + rng.index(3), rng);
@@ -187,6 +198,8 @@ pub fn roomy(rng: &mut Rng, mut certifier: Certifier) -> Certifier {
     certifier.corners.sized(room.corners.len() + rng.index(3), rng);
     certifier.weights.sized(room.weights.len() + rng.index(3), rng);
     certifier.values.sized(room.values.len() + rng.index(3), rng);
+    certifier.informed.sized(room.informed.len() + rng.index(3), rng);
+    certifier.qmdp.sized(room.qmdp.len() + rng.index(3), rng);
     certifier
 }
 
@@ -263,8 +276,11 @@ impl Call {
             Call::Open { tables, certifier } => ended(by.open(tables, certifier)),
             Call::Offer { tables, certifier, level } => ended(by.offer(tables, certifier, level)),
             Call::Totals { tables, certifier, mixture } => {
-                let Totals { number, place, lower, upper, gap, action } = by.totals(tables, certifier, mixture);
-                vec![number.into(), place as i128, lower.into(), upper.into(), gap.into(), action as i128]
+                let at = by.totals(tables, certifier, mixture);
+                let Totals { number, place, lower, upper, gap, action, sawtooth, informed } = at;
+                let bounds = [lower, upper, gap].map(i128::from);
+                let ceilings = [sawtooth, informed].map(i128::from);
+                [&[number.into(), place as i128][..], &bounds, &[action as i128], &ceilings].concat()
             }
             Call::Each { tables, certifier, mixtures, count, answers } => {
                 ended(by.each(tables, certifier, mixtures, *count, answers))
@@ -316,6 +332,8 @@ impl Call {
                 ("standing corners", &mut certifier.corners),
                 ("standing weights", &mut certifier.weights),
                 ("standing values", &mut certifier.values),
+                ("informed rows", &mut certifier.informed),
+                ("QMDP rows", &mut certifier.qmdp),
             ];
             if choices {
                 slices.push(("standing choices", &mut certifier.choices));

@@ -2,6 +2,7 @@
 
 pub mod bracket;
 pub mod calls;
+pub mod ceilings;
 pub mod copied;
 pub mod files;
 pub mod gen;

@@ -36,6 +36,8 @@ fn edged_certifier(certifier: &Certifier) -> Certifier {
         corners: edged(&certifier.corners),
         weights: edged(&certifier.weights),
         values: edged(&certifier.values),
+        informed: edged(&certifier.informed),
+        qmdp: edged(&certifier.qmdp),
     }
 }
 
@@ -47,6 +49,8 @@ fn kept_certifier(certifier: &mut Certifier) -> bool {
         && kept(&mut certifier.corners)
         && kept(&mut certifier.weights)
         && kept(&mut certifier.values)
+        && kept(&mut certifier.informed)
+        && kept(&mut certifier.qmdp)
 }
 
 /// Makes a call on a copy of a certifier with edges.

@@ -6,7 +6,7 @@
 //!   past the longest),
 //! - `random`: random models in random dress, half of them damaged,
 //! - `plans`: lists of offers upon small models, the totals held against the best of all plans; a quarter of them are of three
-//!   states thought equally likely, at the point (1, 1, 1),
+//!   states thought equally likely, at the point (1, 1, 1); the rows against the plans that open with their action,
 //! - `ticks`: levels built and offered in turn, each entry held against what the plan named by its vector earns,
 //! - `calls`: storage of any content, lists of offers up to level 100 and past it, used with `--library` and `--traps`,
 //! - `ends`: storage with every number at an end of its range, for the largest sums, used with `--library`,
@@ -14,7 +14,8 @@
 //! - `lengths`: served calls with each slice in turn one short, empty, exact and longer, used with `--library`.
 //!
 //! From the root of the repository: `rust/target/release/compare target/bin/ladder`; with the feature `library`,
-//! `rust/target/release/compare --library`.
+//! `rust/target/release/compare --library`. How often the informed ceiling is lower than the sawtooth on the examples, and by how
+//! much: `rust/target/release/compare --self --ceilings`.
 //!
 //! The command ends with 0 if nothing differs, with 1 after the first difference, with 2 if it could not run.
 
@@ -22,7 +23,7 @@ use compare::gen::DOCUMENT;
 use compare::options::{Options, USAGE};
 use compare::program::Answerer;
 use compare::rng::Rng;
-use compare::{bracket, calls, files, show, ticks, traps};
+use compare::{bracket, calls, ceilings, files, show, ticks, traps};
 use reference::{ladder, Rules};
 use std::collections::BTreeMap;
 use std::process::ExitCode;
@@ -57,6 +58,9 @@ fn main() -> ExitCode {
 fn run(options: &Options) -> io::Result<bool> {
     if options.linked {
         return library(options);
+    }
+    if options.ceilings {
+        return ceilings::run(&options.examples, options.seed);
     }
     let answerer = match &options.program {
         Some(path) => Answerer::Program(path.clone()),
@@ -148,12 +152,14 @@ impl Comparison<'_> {
         }
         println!("lists of offers against all plans: {}", lists);
         println!(
-            "  {} levels accepted ({} with a point above the corners), {} refused, {} totals compared ({} at equal thirds)",
+            "  {} levels accepted ({} with a point above the corners), {} refused, {} totals compared ({} at equal thirds, {} where \
+             the informed ceiling is the lower)",
             self.plans.accepted,
             self.plans.above_corners,
             self.plans.refused,
             self.plans.compared,
-            self.plans.thirds
+            self.plans.thirds,
+            self.plans.informed
         );
         if !self.climbs()? {
             return Ok(false);
@@ -242,6 +248,7 @@ impl Comparison<'_> {
                 self.plans.compared += seen.compared;
                 self.plans.thirds += seen.thirds;
                 self.plans.above_corners += seen.above_corners;
+                self.plans.informed += seen.informed;
                 Ok(true)
             }
             Err(message) => {

@@ -11,6 +11,8 @@ usage: compare LADDER [OPTIONS]     compare the program at the path LADDER with 
   --seconds N      go on with random cases until so many seconds have passed (default: a fixed number of cases)
   --traps          show that deliberate mistakes are noticed: a copy of the rules, or of the interface, with one of them must
                    differ from the program in files, and from the reference in calls; with --library, from the library
+  --ceilings       tell how often the informed ceiling is lower than the sawtooth, and by how much, on the model files of
+                   --examples; by the reference alone, so with --self
   --only SUITE:N   one case alone: fixed:N, random:N, calls:N, plans:N, ticks:N, ends:N, slices:N or lengths:N
   --file PATH      one file alone
   --save PATH      where to write the case that differs (the file, or the case as text)
@@ -25,6 +27,7 @@ pub struct Options {
     pub seed: u64,
     pub seconds: Option<u64>,
     pub traps: bool,
+    pub ceilings: bool,
     pub only: Option<(String, u64)>,
     pub file: Option<PathBuf>,
     pub save: Option<PathBuf>,
@@ -40,6 +43,7 @@ impl Options {
             seed: 1,
             seconds: None,
             traps: false,
+            ceilings: false,
             only: None,
             file: None,
             save: None,
@@ -53,6 +57,7 @@ impl Options {
                 "--self" => itself = true,
                 "--library" => options.linked = true,
                 "--traps" => options.traps = true,
+                "--ceilings" => options.ceilings = true,
                 "--seed" => options.seed = number(&value()?)?,
                 "--seconds" => options.seconds = Some(number(&value()?)?),
                 "--only" => options.only = Some(case(&value()?)?),
@@ -66,6 +71,9 @@ impl Options {
         }
         if usize::from(options.program.is_some()) + usize::from(options.linked) + usize::from(itself) != 1 {
             return Err("either a program's path, --library or --self is wanted".to_string());
+        }
+        if options.ceilings && !itself {
+            return Err("--ceilings goes with --self".to_string());
         }
         Ok(options)
     }

@@ -45,10 +45,12 @@ pub fn level(level: &Level) -> String {
 
 pub fn certifier(certifier: &Certifier) -> String {
     format!(
-        "certifier at level {}\n{}standing {}",
+        "certifier at level {}\n{}standing {}  informed {}\n  qmdp {}\n",
         certifier.level,
         tables(&certifier.tables),
-        level(&certifier.standing)
+        level(&certifier.standing),
+        cells(&certifier.informed),
+        cells(&certifier.qmdp)
     )
 }
 

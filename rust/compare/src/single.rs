@@ -62,10 +62,14 @@ fn whole(rng: &mut Rng) -> Call {
     }
 }
 
-/// Slices for level 0 of tables.
+/// Slices for level 0 of tables, and its rows.
 fn opening_room(rng: &mut Rng, tables: &Tables) -> Certifier {
-    let (n, k) = if tables.counts_fit() { (tables.states, tables.observations) } else { (1, 1) };
-    sized(rng, Certifier::default(), &Level::zeros(n, k, 1, 0))
+    let fit = tables.counts_fit();
+    let (n, m, k) = if fit { (tables.states, tables.actions, tables.observations) } else { (1, 1, 1) };
+    let mut certifier = sized(rng, Certifier::default(), &Level::zeros(n, k, 1, 0));
+    certifier.informed.sized(m * n, rng);
+    certifier.qmdp.sized(m * n, rng);
+    certifier
 }
 
 /// Slices of a certifier that are as long as a level's, at least.
@@ -238,6 +242,7 @@ fn if_short(call: &Call, name: &str, length: usize) -> Option<(u64, usize)> {
             "standing actions" => vectors,
             "standing entries" => vectors * tables.states,
             "standing corners" => tables.states,
+            "informed rows" | "QMDP rows" => tables.actions * tables.states,
             "standing weights" => points * tables.states,
             _ => points,
         }

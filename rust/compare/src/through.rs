@@ -6,7 +6,7 @@ use crate::lent::{self, stored, Call, Library};
 use crate::rng::Rng;
 use biidhaqun::slices::{Certifier, Level, Tables};
 use num_bigint::BigInt;
-use reference::{Graph, Points, Refusal, Totals, OBSERVATIONS, POINTS, STATES, VECTORS};
+use reference::{Graph, Points, Refusal, Totals, ACTIONS, OBSERVATIONS, POINTS, ROWS, STATES, VECTORS};
 
 /// The first call of a case in which the other's answer, or what it leaves in a slice, differs from the one's. The slices
 /// are handed from call to call as the one left them.
@@ -129,21 +129,28 @@ fn storage(level: &Level, n: usize, k: usize) -> reference::Level {
     }
 }
 
-/// What stands, in storage.
-fn standing(lent: Certifier, n: usize, k: usize) -> (u64, reference::Level) {
-    let Certifier { state, actions, choices, entries, corners, weights, values } = lent;
+/// The certifier in storage.
+fn standing(lent: Certifier, tables: reference::Tables) -> reference::Certifier {
+    let (n, k) = lent::counts(&tables);
+    let rows = lent::rows(&tables);
+    let Certifier { state, actions, choices, entries, corners, weights, values, informed, qmdp } = lent;
     let level = Level { vectors: state[1], points: state[2], actions, choices, entries, corners, weights, values };
-    (state[0] as u64, storage(&level, n, k))
+    reference::Certifier {
+        tables,
+        standing: storage(&level, n, k),
+        level: state[0] as u64,
+        informed: stored(&informed, rows, ROWS),
+        qmdp: stored(&qmdp, rows, ROWS),
+    }
 }
 
 impl Calls for Through<'_> {
     fn open(&self, tables: &reference::Tables) -> Result<reference::Certifier, Refusal> {
         let (n, k) = lent::counts(tables);
-        let mut certifier = Certifier::roomy(n, k);
+        let mut certifier = Certifier::roomy(n, ACTIONS, k);
         let ended = self.0.open(&lent::tables(tables), &mut certifier);
         served(ended.number, ended.place)?;
-        let (level, standing) = standing(certifier, n, k);
-        Ok(reference::Certifier { tables: tables.stored(), standing, level })
+        Ok(standing(certifier, tables.stored()))
     }
 
     fn offer(&self, certifier: &mut reference::Certifier, level: &reference::Level) -> Result<(), Refusal> {
@@ -151,9 +158,7 @@ impl Calls for Through<'_> {
         let mut slices = lent::roomy(&mut Rng::for_case(0, "room", 0), lent::certifier(certifier));
         let ended = self.0.offer(&lent::tables(&certifier.tables), &mut slices, &lent::level(level, n, k));
         served(ended.number, ended.place)?;
-        let (level, standing) = standing(slices, n, k);
-        certifier.standing = standing;
-        certifier.level = level;
+        *certifier = standing(slices, certifier.tables.clone());
         Ok(())
     }
 
@@ -163,7 +168,14 @@ impl Calls for Through<'_> {
         let at = self.0.totals(&tables, &slices, &lent::mixture(mixture, n));
         served(at.number, at.place)?;
         let whole = BigInt::from;
-        Ok(Totals { lower: whole(at.lower), upper: whole(at.upper), gap: whole(at.gap), action: at.action as u64 })
+        Ok(Totals {
+            lower: whole(at.lower),
+            upper: whole(at.upper),
+            gap: whole(at.gap),
+            action: at.action as u64,
+            sawtooth: whole(at.sawtooth),
+            informed: whole(at.informed),
+        })
     }
 
     fn build(&self, certifier: &reference::Certifier, points: &Points) -> Result<reference::Level, Refusal> {

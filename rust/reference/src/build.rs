@@ -1,6 +1,6 @@
 //! The builder.
 
-use crate::exact::{corner, dot, first_largest, k, last_largest, round_down, round_up, weights};
+use crate::exact::{corner, dot, first_largest, k, last_largest, round_down, round_up, stored, weights};
 use crate::level::{ceiling_backup, examine, first_untotalled, full, vector_backup, Certifier, Level, Lists};
 use crate::model::{Model, STATES};
 use crate::refusal::Refusal;
@@ -76,12 +76,6 @@ pub fn build(certifier: &Certifier, points: &Points, rules: &Rules) -> Result<Le
         level.values[j] = stored(&least_value(&model, &standing, p, rules));
     }
     Ok(level)
-}
-
-/// An entry or a value in storage. By the document all of them are within the range of level 100; what a trap makes of
-/// weights without limit may be too large for storage, and is then as large as can be.
-fn stored(value: &BigInt) -> i64 {
-    i64::try_from(value).unwrap_or(i64::MAX)
 }
 
 /// The vector of one action at weights p: for each observation the first standing vector with the largest product with q,

@@ -62,7 +62,7 @@ fn only_vector(entries: [i64; 2]) -> Result<(), Refusal> {
     })
 }
 
-/// Totals at level 2.
+/// Lower, upper, gap and action at level 2.
 fn at(mixture: [u64; 2]) -> Result<(i64, i64, i64, u64), Refusal> {
     let whole = |value: &BigInt| i64::try_from(value).unwrap();
     totals(&standing(2), &mixture, &DOCUMENT).map(|t| (whole(&t.lower), whole(&t.upper), whole(&t.gap), t.action))
@@ -121,8 +121,21 @@ fn d9_the_best_two_step_plan() {
 
 #[test]
 fn d10_and_d11_totals_at_corners() {
-    assert_eq!(at([1, 0]), Ok((-51, -32, 19, 0)));
+    assert_eq!(at([1, 0]), Ok((-51, -50, 1, 0)));
     assert_eq!(at([0, 1]), Ok((510, 510, 0, 1)));
+}
+
+/// Each of the two ceilings is the lower one somewhere.
+#[test]
+fn the_ceilings_apart() {
+    let apart = |mixture: [u64; 2]| {
+        let at = totals(&standing(2), &mixture, &DOCUMENT).unwrap();
+        assert_eq!(&at.upper, (&at.sawtooth).min(&at.informed));
+        (i64::try_from(&at.sawtooth).unwrap(), i64::try_from(&at.informed).unwrap())
+    };
+    assert_eq!(apart([1, 0]), (-32, -50));
+    assert_eq!(apart([0, 1]), (510, 510));
+    assert_eq!(apart([50, 50]), (12_500, 19_500));
 }
 
 #[test]

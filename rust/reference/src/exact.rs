@@ -71,6 +71,12 @@ pub fn corner(count: usize, state: usize) -> Vec<BigInt> {
     (0..count).map(|s| BigInt::from(u8::from(s == state))).collect()
 }
 
+/// An entry or a value in storage. By the document all of them are within the range of level 100; what a trap makes may be
+/// too large for storage, and is then as large as can be.
+pub fn stored(value: &BigInt) -> i64 {
+    i64::try_from(value).unwrap_or(i64::MAX)
+}
+
 /// What is kept of an array of which the first `used` cells count: those, then zeros.
 pub fn kept<Cell: Copy + Default>(cells: &[Cell], used: usize) -> Vec<Cell> {
     let mut kept = cells[..used].to_vec();

@@ -3,6 +3,7 @@
 use crate::exact::{corner, dot, k, kept, round_down, ticks, weights, zero};
 use crate::model::{Model, Tables, OBSERVATIONS, STATES};
 use crate::refusal::Refusal;
+use crate::rows;
 use crate::rules::{Rules, Trap};
 use num_bigint::BigInt;
 
@@ -41,12 +42,16 @@ pub struct Level {
     pub values: Vec<i64>,
 }
 
-/// The certifier: its tables, the standing level, and the number of levels that were accepted.
+/// The certifier: its tables, the standing level, the number of levels that were accepted, and the rows that it steps.
 #[derive(Clone, Debug, PartialEq, Eq)]
 pub struct Certifier {
     pub tables: Tables,
     pub standing: Level,
     pub level: u64,
+    /// The fast informed bound in ticks, by action and state.
+    pub informed: Vec<i64>,
+    /// The QMDP rows in ticks, by action and state.
+    pub qmdp: Vec<i64>,
 }
 
 /// A level as lists: what is read of it once its counts have passed.
@@ -55,6 +60,8 @@ pub struct Lists {
     pub vectors: Vec<Vec<BigInt>>,
     pub corners: Vec<BigInt>,
     pub points: Vec<Point>,
+    /// The informed rows that stand beside it; an offered level has none.
+    pub informed: Vec<Vec<BigInt>>,
 }
 
 /// A point's weights and its value.
@@ -135,6 +142,7 @@ impl Level {
             vectors: (0..vectors).map(|v| ticks(&self.entries[v * n..(v + 1) * n])).collect(),
             corners: ticks(&self.corners[..n]),
             points: (0..points).map(point).collect(),
+            informed: Vec::new(),
         }
     }
 
@@ -207,9 +215,17 @@ pub fn ceiling(lists: &Lists, q: &[BigInt], rules: &Rules) -> BigInt {
 }
 
 /// K × p·R(·, a) + g × the sum over o of the previous level's ceiling at q: what a point's value is compared with, and a
-/// corner's with weight 1 on its state.
+/// corner's with weight 1 on its state. The informed rows have no part in it.
 pub fn ceiling_backup(model: &Model, standing: &Lists, p: &[BigInt], a: usize, rules: &Rules) -> BigInt {
-    let ceilings = (0..model.k).map(|o| ceiling(standing, &model.successor(p, a, o), rules));
+    let ceilings = (0..model.k).map(|o| {
+        let q = model.successor(p, a, o);
+        let sawtooth = ceiling(standing, &q, rules);
+        if rules.has(Trap::InformedInBackups) {
+            sawtooth.min(rows::ceiling(&standing.informed, &q, rules))
+        } else {
+            sawtooth
+        }
+    });
     k() * model.rewarded(p, a) + model.g() * ceilings.sum::<BigInt>()
 }
 
@@ -228,11 +244,34 @@ pub fn vector_backup(model: &Model, standing: &Lists, s: usize, a: usize, choice
 /// Opens a certifier on tables, or refuses them with 3, 5 or 6. It stands at level 0.
 pub fn open(tables: &Tables, rules: &Rules) -> Result<Certifier, Refusal> {
     Model::of(tables, rules)?;
-    Ok(Certifier { tables: tables.stored(), standing: Level::fresh(), level: 0 })
+    let (informed, qmdp) = (rows::fresh(), rows::fresh());
+    Ok(Certifier { tables: tables.stored(), standing: Level::fresh(), level: 0, informed, qmdp })
 }
 
-/// 7: the certifier handed in is within the limits of 3, 5, 6, 9, 11 and 12, each standing vector has an action, and its
-/// level is at most 100. Its choices are not read, and its inequalities are not asked. The place is 0 whatever is broken.
+impl Certifier {
+    /// Steps both kinds of rows.
+    fn step_rows(&mut self, rules: &Rules) {
+        if let Ok(model) = Model::of(&self.tables, rules) {
+            self.informed = rows::informed(&self.informed, &model, rules);
+            if !rules.has(Trap::QmdpKept) {
+                self.qmdp = rows::qmdp(&self.qmdp, &model, rules);
+            }
+        }
+    }
+
+    /// 7: whether the entries of the rows keep to the range of a vector's at this level.
+    fn rows_fit(&self, model: &Model, rules: &Rules) -> bool {
+        let t = self.level + u64::from(rules.has(Trap::RowsRangeOfNext));
+        let end = BigInt::from(TICKS) * t;
+        let fit = |cells: &[i64]| ticks(&cells[..model.m * model.n]).iter().all(|cell| *cell >= -&end && *cell <= end);
+        (fit(&self.informed) || rules.has(Trap::SevenForgetsInformed))
+            && (fit(&self.qmdp) || rules.has(Trap::SevenForgetsQmdp))
+    }
+}
+
+/// 7: the certifier handed in is within the limits of 3, 5, 6, 9, 11 and 12, each standing vector has an action, its level is
+/// at most 100, and the entries of its rows keep to a vector entry's range. Its choices are not read, and its inequalities
+/// are not asked. The place is 0 whatever is broken.
 pub fn examine(certifier: &Certifier, rules: &Rules) -> Result<(Model, Lists), Refusal> {
     let seven = Refusal::at(7, 0);
     let model = Model::of(&certifier.tables, rules).map_err(|_| seven)?;
@@ -241,6 +280,7 @@ pub fn examine(certifier: &Certifier, rules: &Rules) -> Result<(Model, Lists), R
         && standing.counts_fit()
         && standing.first_outside(model.n, certifier.level, rules).is_none()
         && standing.first_untotalled(model.n, rules).is_none()
+        && certifier.rows_fit(&model, rules)
         && standing.actions[..standing.vectors as usize].iter().all(|&a| a < model.m as u64);
     if !fits {
         return Err(seven);
@@ -256,7 +296,7 @@ pub fn examine(certifier: &Certifier, rules: &Rules) -> Result<(Model, Lists), R
     if rules.has(Trap::FreshOnly) && certifier.level == 0 && *standing != Level::fresh() {
         return Err(seven);
     }
-    let lists = standing.lists(model.n);
+    let lists = Lists { informed: rows::lists(&certifier.informed, &model), ..standing.lists(model.n) };
     Ok((model, lists))
 }
 
@@ -265,7 +305,8 @@ pub fn full(certifier: &Certifier, rules: &Rules) -> bool {
     certifier.level == LEVELS || (certifier.level == LEVELS - 1 && rules.has(Trap::HundredEarly))
 }
 
-/// Offers a level: accepted, it stands, and the level number is one more; refused with 7 to 15, the certifier stays.
+/// Offers a level: accepted, it stands, the level number is one more, and the rows are stepped; refused with 7 to 15, the
+/// certifier stays.
 pub fn offer(certifier: &mut Certifier, offered: &Level, rules: &Rules) -> Result<(), Refusal> {
     let answer = judge(certifier, offered, rules);
     match &answer {
@@ -274,8 +315,12 @@ pub fn offer(certifier: &mut Certifier, offered: &Level, rules: &Rules) -> Resul
                 certifier.standing = stored.clone();
             }
             certifier.level += if rules.has(Trap::LevelMadeUp) { 2 } else { 1 };
+            if !rules.has(Trap::RowsKept) {
+                certifier.step_rows(rules);
+            }
         }
         Err(_) if rules.has(Trap::RefusalChanges) => certifier.standing = offered.clone(),
+        Err(_) if rules.has(Trap::RefusalStepsRows) => certifier.step_rows(rules),
         Err(_) => {}
     }
     answer.map(|_| ())

@@ -1,4 +1,4 @@
-//! Document 01 in big integers.
+//! Document 01 in big integers, with the changes of document 02 that were made.
 //!
 //! Every number that is computed is a [`num_bigint::BigInt`], so nothing can overflow, and every function follows one
 //! sentence of the document as it stands, without a shortcut. It is slow, and meant to be read next to the document.
@@ -22,6 +22,7 @@ mod plan;
 #[cfg(test)]
 mod readings;
 mod refusal;
+mod rows;
 mod rules;
 mod totals;
 mod words;
@@ -34,6 +35,7 @@ pub use level::{offer, open, Certifier, Level, LEVELS, POINTS, POINT_TOTAL, VECT
 pub use model::{Model, Tables, ACTIONS, OBSERVATIONS, REWARD, STATES, THOUSAND};
 pub use plan::{all_plans, at_mixture, best, earned, scale, Earned, Plan};
 pub use refusal::Refusal;
+pub use rows::ROWS;
 pub use rules::{Rules, Trap};
 pub use totals::{totals, Totals, WEIGHT};
 pub use worth::{worth, Graph, NODES, STEPS};

@@ -49,7 +49,16 @@ fn ladder(lines: &[Vec<Totals>]) -> String {
     lines.iter().enumerate().map(line).collect()
 }
 
-/// A table for each mixture: in units of reward, in ticks times the weight, and the action.
+/// Which ceiling the upper total is.
+fn by(at: &Totals) -> String {
+    if at.sawtooth == at.informed {
+        "both".to_string()
+    } else {
+        at.speaks().to_string()
+    }
+}
+
+/// A table for each mixture: in units of reward, in ticks times the weight, which ceiling speaks, and the action.
 fn tables(certified: &Certified) -> String {
     let mut text = String::new();
     for (number, mixture) in certified.mixtures.iter().enumerate() {
@@ -58,26 +67,30 @@ fn tables(certified: &Certified) -> String {
         }
         text.push_str(&format!("at {}\n", about(certified.named, mixture)));
         text.push_str(&format!(
-            "{:>5} {:>12} {:>12} {:>10} {:>14} {:>14}  {}\n",
-            "level", "floor", "ceiling", "gap", "lower", "upper", "action"
+            "{:>5} {:>12} {:>12} {:>10} {:>14} {:>14}  {:<8}  {}\n",
+            "level", "floor", "ceiling", "gap", "lower", "upper", "by", "action"
         ));
         for (level, totals) in certified.lines.iter().enumerate() {
             let at = &totals[number];
             let bracket = at.bracket(mixture);
             let gap = Totals { lower: 0, upper: at.gap, ..*at }.bracket(mixture).ceiling;
             text.push_str(&format!(
-                "{:>5} {:>12} {:>12} {:>10} {:>14} {:>14}  {}\n",
+                "{:>5} {:>12} {:>12} {:>10} {:>14} {:>14}  {:<8}  {}\n",
                 level + 1,
                 bracket.floor,
                 bracket.ceiling,
                 gap,
                 at.lower,
                 at.upper,
+                by(at),
                 certified.named.actions.with(at.action)
             ));
         }
     }
     text.push_str("\nfloor, ceiling, gap: units of reward; lower, upper: ticks x the mixture's total weight\n");
+    text.push_str(
+        "by: which ceiling is the lower one, the sawtooth of corners and points or the fast informed bound\n",
+    );
     text
 }
 
@@ -109,6 +122,8 @@ fn object(certified: &Certified) -> String {
             "gap": totals.gap,
             "floor": f64::from(bracket.floor),
             "ceiling": f64::from(bracket.ceiling),
+            "sawtooth": totals.sawtooth,
+            "informed": totals.informed,
             "action": totals.action,
             "action_name": named.actions.get(totals.action),
         })

@@ -5,6 +5,10 @@ use plotters::style::{RGBColor, ShapeStyle};
 pub const WHITE: RGBColor = RGBColor(255, 255, 255);
 pub const INK: RGBColor = RGBColor(40, 40, 40);
 
+pub const FLOOR: RGBColor = RGBColor(0, 70, 140);
+pub const SAWTOOTH: RGBColor = RGBColor(180, 50, 0);
+pub const INFORMED: RGBColor = RGBColor(110, 30, 130);
+
 /// After Okabe and Ito.
 const ACTIONS: [RGBColor; 8] = [
     RGBColor(86, 180, 233),

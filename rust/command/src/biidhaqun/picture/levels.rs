@@ -1,22 +1,24 @@
-//! Floor and ceiling over the levels at one mixture: a bar from the one to the other for each level.
+//! Floor and ceilings over the levels at one mixture: a bar from the floor to the lower ceiling for each level.
 
-use super::colours::{action, filled, line, INK};
+use super::colours::{action, filled, line, FLOOR, INFORMED, SAWTOOTH};
 use super::line::{called, legend};
 use super::{Area, Drawn, Sample};
 use command::names::Named;
 use plotters::prelude::{ChartBuilder, PathElement, Rectangle};
+use plotters::style::RGBColor;
 use std::ops::Range;
 
 /// Half the width of a bar, in levels.
 const HALF: f64 = 0.3;
 
 pub fn draw(area: &Area, title: &str, samples: &[Sample], named: &Named) -> Drawn {
+    let reach = range(samples.iter().copied());
     let mut chart = ChartBuilder::on(area)
         .caption(title, ("sans-serif", 18))
         .margin(12)
         .x_label_area_size(40)
         .y_label_area_size(60)
-        .build_cartesian_2d(0.5..samples.len() as f64 + 0.5, range(samples.iter().copied()))?;
+        .build_cartesian_2d(0.5..samples.len() as f64 + 0.5, reach.clone())?;
     chart
         .configure_mesh()
         .disable_x_mesh()
@@ -41,20 +43,63 @@ pub fn draw(area: &Area, title: &str, samples: &[Sample], named: &Named) -> Draw
             .label(called(named, number))
             .legend(move |(x, y)| Rectangle::new([(x, y - 5), (x + 12, y + 5)], filled(action(number))));
     }
-    // Both ends of each bar, so that a gap of 0 is seen.
-    let ends = samples.iter().enumerate().flat_map(|(at, sample)| {
-        let level = at as f64 + 1.0;
-        [sample.floor(), sample.ceiling()]
-            .map(|end| PathElement::new([(level - HALF, end), (level + HALF, end)], line(INK, 2)))
-    });
-    chart.draw_series(ends)?;
+    // Both ends of each bar, so that a gap of 0 is seen, and the higher ceiling; where both are the same, both are seen too.
+    for end in ENDS {
+        let End { colour, wide, of, .. } = end;
+        let seen = samples.iter().enumerate().filter(|(_, sample)| reach.contains(&of(sample)));
+        let ends = seen.map(|(at, sample)| {
+            let (level, end) = (at as f64 + 1.0, of(sample));
+            PathElement::new([(level - HALF, end), (level + HALF, end)], line(colour, 2 * wide))
+        });
+        chart
+            .draw_series(ends)?
+            .label(end.called(samples.iter(), &reach))
+            .legend(move |(x, y)| PathElement::new([(x, y), (x + 12, y)], line(colour, 2 * wide)));
+    }
     legend(&mut chart)
 }
 
-/// The range of brackets, with some room around it.
+/// A line that is drawn through all samples.
+pub struct End {
+    pub name: &'static str,
+    pub colour: RGBColor,
+    /// How many times as wide as the others.
+    pub wide: u32,
+    pub of: fn(&Sample) -> f64,
+}
+
+impl End {
+    /// Its name, and whether it lies above what is drawn.
+    pub fn called<'a>(&self, samples: impl Iterator<Item = &'a Sample>, reach: &Range<f64>) -> String {
+        let above: Vec<bool> = samples.map(|sample| (self.of)(sample) > reach.end).collect();
+        match above.iter().filter(|&&above| above).count() {
+            0 => self.name.to_string(),
+            some if some < above.len() => format!("{} (in part above)", self.name),
+            _ => format!("{} (above)", self.name),
+        }
+    }
+}
+
+/// The wider ones first, so that those that lie upon them leave an edge.
+pub const ENDS: [End; 3] = [
+    End { name: "informed ceiling", colour: INFORMED, wide: 2, of: Sample::informed },
+    End { name: "sawtooth ceiling", colour: SAWTOOTH, wide: 1, of: Sample::sawtooth },
+    End { name: "floor", colour: FLOOR, wide: 1, of: Sample::floor },
+];
+
+/// How much of the height is left to what lies above all brackets, in parts of theirs.
+const ABOVE: f64 = 0.5;
+
+/// The range of brackets and of the higher ceilings, as far as these leave the brackets most of the height; with some room
+/// around it.
 pub fn range(samples: impl Iterator<Item = Sample>) -> Range<f64> {
-    let (low, high) =
-        samples.fold((f64::MAX, f64::MIN), |(low, high), sample| (low.min(sample.floor()), high.max(sample.ceiling())));
+    let (mut low, mut high, mut top) = (f64::MAX, f64::MIN, f64::MIN);
+    for sample in samples {
+        low = low.min(sample.floor());
+        high = high.max(sample.ceiling());
+        top = top.max(sample.sawtooth()).max(sample.informed());
+    }
+    let high = top.min(high + ABOVE * (high - low));
     let room = if high > low { 0.06 * (high - low) } else { 1.0 };
     low - room..high + room
 }

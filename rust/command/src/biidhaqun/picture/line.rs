@@ -1,18 +1,16 @@
-//! Two states: floor, ceiling and the regions of the actions over all mixtures.
+//! Two states: floor, ceilings and the regions of the actions over all mixtures.
 
 use super::colours::{action, filled, INK, WHITE};
-use super::levels::{actions, range, short};
+use super::levels::{actions, range, short, End, ENDS};
 use super::{Area, Drawn, Sample};
 use biidhaqun::Mixture;
 use command::names::Named;
 use plotters::coord::ranged1d::Ranged;
 use plotters::prelude::{Cartesian2d, ChartBuilder, ChartContext, Rectangle, SVGBackend, SeriesLabelPosition};
-use plotters::style::{Color, RGBColor};
+use plotters::style::Color;
 
 /// How many parts the line of mixtures is sampled in.
 const PARTS: u32 = 400;
-const FLOOR: RGBColor = RGBColor(0, 70, 140);
-const CEILING: RGBColor = RGBColor(180, 50, 0);
 
 /// All weight on state 0, up to all on state 1.
 pub fn mixtures() -> Vec<Mixture> {
@@ -62,17 +60,20 @@ pub fn draw(area: &Area, title: &str, samples: &[(Mixture, Sample)], named: &Nam
             .label(called(named, number))
             .legend(move |(x, y)| Rectangle::new([(x, y - 5), (x + 12, y + 5)], filled(action(number))));
     }
-    type End = fn(&Sample) -> f64;
-    for (name, colour, end) in [("ceiling", CEILING, Sample::ceiling as End), ("floor", FLOOR, Sample::floor as End)] {
-        let marks = samples.iter().map(|(mixture, sample)| {
+    for end in ENDS {
+        let End { colour, wide, of, .. } = end;
+        let half = f64::from(wide) * thick / 2.0;
+        let seen = samples.iter().filter(|(_, sample)| reach.contains(&of(sample)));
+        let marks = seen.map(|(mixture, sample)| {
             let (left, right) = sides(mixture);
-            let at = end(sample);
-            Rectangle::new([(left, at - thick / 2.0), (right, at + thick / 2.0)], filled(colour))
+            let at = of(sample);
+            Rectangle::new([(left, at - half), (right, at + half)], filled(colour))
         });
+        let high = wide as i32;
         chart
             .draw_series(marks)?
-            .label(name)
-            .legend(move |(x, y)| Rectangle::new([(x, y - 1), (x + 12, y + 1)], filled(colour)));
+            .label(end.called(samples.iter().map(|(_, sample)| sample), &reach))
+            .legend(move |(x, y)| Rectangle::new([(x, y - high), (x + 12, y + high)], filled(colour)));
     }
     legend(&mut chart)
 }

@@ -9,7 +9,7 @@ mod triangle;
 
 use crate::building::{fitting, joined, progress, Building};
 use crate::stop::Stop;
-use biidhaqun::{Bracket, Certifier, Mixture};
+use biidhaqun::{Bracket, Ceiling, Certifier, Mixture, Units};
 use colours::WHITE;
 use command::files;
 use command::options::Built;
@@ -27,10 +27,12 @@ pub type Area<'a> = DrawingArea<SVGBackend<'a>, Shift>;
 /// Drawing on text does not fail but by an error of ours.
 pub type Drawn = Result<(), Box<dyn Error>>;
 
-/// What is certified at one mixture: in units of reward, and the action.
+/// What is certified at one mixture: in units of reward, both ceilings apart, and the action.
 #[derive(Clone, Copy)]
 pub struct Sample {
     bracket: Bracket,
+    sawtooth: Units,
+    informed: Units,
     action: usize,
 }
 
@@ -39,8 +41,17 @@ impl Sample {
         self.bracket.floor.into()
     }
 
+    /// The lower of both ceilings.
     fn ceiling(&self) -> f64 {
         self.bracket.ceiling.into()
+    }
+
+    fn sawtooth(&self) -> f64 {
+        self.sawtooth.into()
+    }
+
+    fn informed(&self) -> f64 {
+        self.informed.into()
     }
 
     fn gap(&self) -> f64 {
@@ -75,7 +86,13 @@ pub fn run(built: &Built, out: &Path) -> Result<(), Stop> {
 
 fn sample(building: &Building, certifier: &Certifier, mixture: &Mixture) -> Result<Sample, Stop> {
     let totals = building.totals(certifier, mixture)?;
-    Ok(Sample { bracket: totals.bracket(mixture), action: totals.action })
+    let ceiling = |of| totals.ceiling(of, mixture);
+    Ok(Sample {
+        bracket: totals.bracket(mixture),
+        sawtooth: ceiling(Ceiling::Sawtooth),
+        informed: ceiling(Ceiling::Informed),
+        action: totals.action,
+    })
 }
 
 /// Samples over all mixtures, where there are two or three states.

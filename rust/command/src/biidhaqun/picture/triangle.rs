@@ -1,4 +1,4 @@
-//! Three states: the gap over the triangle of all mixtures.
+//! Three states: the gap below the lower ceiling, over the triangle of all mixtures.
 
 use super::colours::{filled, line, scale, INK};
 use super::levels::short;
