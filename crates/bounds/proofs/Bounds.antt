@@ -1,15 +1,8 @@
 -- Laws of the totals of a certifier that is not refused by 7: what is known of its parts, how large the totals are, and that they read weights of states only.
 -- Assumes nothing.
-use mathlib.Core.Path.{_≡_, refl, sym, _∙_, ap}
-use mathlib.Core.Bool.{Bool, true, false}
-use mathlib.Core.List.{List}
-use Prim.Native.Nat.{ℕ, _+_, _*_, _≤_, _<_, _^_}
+use Rattle.integers.proofs.Kit.{_≡_, _∙_, refl, ap, sym, true, false, Bool, List, ℕ, _≤_, _<_, _+_, _*_, _^_, arith, leb-true, leb, ltb, length, getD}
+use Rattle.integers.proofs.Kit.{ℤ, natAbs, _-ℤ_}
 use native.Mathlib.Nat as NatL
-use native.Mathlib.Omega.{arith}
-use borrow.Author.Tests.{leb-true}
-use lib.Dec.{leb, ltb}
-use lib.ListN.{length, getD}
-use lib.IntN.{ℤ, natAbs, _-ℤ_}
 use Rattle.integers.specs.Whole.{totalTo, lesser, Below}
 use Rattle.integers.specs.Search.{every}
 use Rattle.integers.specs.Cells.{padded}

@@ -228,7 +228,7 @@ fn build_vectors<'a>(
 }
 
 // The least corners that meet their inequalities.
-fn build_corners<'a, 'b>(
+pub fn build_corners<'a, 'b>(
     transition: &'a [u16],
     observation: &'a [u16],
     reward: &'a [i64],
@@ -265,7 +265,7 @@ fn build_corners<'a, 'b>(
 }
 
 // The least point values that meet their inequalities.
-fn build_values<'a, 'b>(
+pub fn build_values<'a, 'b>(
     transition: &'a [u16],
     observation: &'a [u16],
     reward: &'a [i64],

@@ -1,13 +1,5 @@
 -- What is written is what the calls are said to leave. Assumes nothing.
-use mathlib.Core.Path.{_≡_, refl, sym, _∙_, ap}
-use mathlib.Core.Bool.{true}
-use mathlib.Core.List.{List, _∷_}
-use Prim.Native.Nat.{ℕ, _+_, _*_, _≤_, _<_}
-use native.Mathlib.Omega.{arith}
-use lib.Dec.{leb}
-use lib.ListN.{drop}
-use borrow.Author.Tests.{leb-true, ltb-true}
-use lib.IntN.{ℤ, pos}
+use Rattle.integers.proofs.Kit.{_≡_, _∙_, refl, ap, sym, true, List, _∷_, ℕ, _≤_, _<_, _+_, _*_, arith, leb-true, ltb-true, leb, drop, ℤ, pos}
 use Rattle.integers.specs.Cells.{laid, laidRows}
 use Rattle.integers.proofs.Lists.{laid-none, laidRows-none, laidRows-flat}
 use Rattle.integers.proofs.Searches.{and-true}

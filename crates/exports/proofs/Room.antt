@@ -1,10 +1,5 @@
 -- The verdict on a reading, as the code goes through it. Assumes nothing.
-use Prim.Native.Nat.{ℕ, _*_, _≤_}
-use mathlib.Core.Path.{_≡_, sym, _∙_}
-use mathlib.Core.List.{List}
-use lib.ListN.{length}
-use lib.IntN.{ℤ}
-use borrow.Author.Tests.{leb-true}
+use Rattle.integers.proofs.Kit.{_≡_, _∙_, sym, List, ℕ, _≤_, _*_, leb-true, length, ℤ}
 use Rattle.tables.specs.declared.Verdict.{Verdict}
 use Rattle.tables.specs.declared.Verdict.the-variants.{Fine, Refused}
 use Rattle.tables.proofs.Refusals.{before-fine, unless-fine}

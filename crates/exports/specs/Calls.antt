@@ -10,9 +10,13 @@ use Rattle.levels.specs.Storage.{Cells, LentLevel, Lent}
 use Rattle.runs.specs.declared.Bounds.{Bounds}
 use Rattle.runs.specs.Demand3.{TotalsHold, BuildHolds}
 use Rattle.worth.specs.declared.Valued.{Valued}
+use Rattle.solved.specs.declared.Adopted.{Adopted}
+use Rattle.replay.specs.declared.Replayed.{Replayed}
 use Rattle.exports.specs.declared.Refusal.{Refusal}
 use Rattle.exports.specs.declared.Totals.{Totals}
 use Rattle.exports.specs.declared.Worth.{Worth}
+use Rattle.exports.specs.declared.Adoption.{Adoption}
+use Rattle.exports.specs.declared.Replay.{Replay}
 
 -- the version of the calls' names, parameters and answers
 abbrev pub layoutVersion : ℕ
@@ -46,6 +50,12 @@ totalsBy b = record {
   sawtooth = b .sawtooth;
   informed = b .informed;
 }
+
+abbrev pub adoptionBy : Adopted → Adoption
+adoptionBy r = record { number = refusalOf (r .verdict) .number; place = refusalOf (r .verdict) .place; vectors = r .vectors }
+
+abbrev pub replayBy : Replayed → Replay
+replayBy r = record { number = refusalOf (r .verdict) .number; place = refusalOf (r .verdict) .place; accepted = r .accepted }
 
 abbrev pub worthBy : Valued → Worth
 worthBy x = record { number = refusalOf (x .verdict) .number; place = refusalOf (x .verdict) .place; ticks = x .ticks }

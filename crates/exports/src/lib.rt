@@ -12,9 +12,15 @@ ghost use Rattle.modelfile.specs.ModelFile.{modelFile};
 ghost use Rattle.runs.specs.State.{left, openVerdict, opened, offered, mixtureHolds, totalsOf, buildVerdict, builtOf};
 ghost use Rattle.mixtures.specs.Each.{answers, eachVerdict, eachOf};
 ghost use Rattle.runs.specs.Demand3.{ModelAccepted, after, steps, PointsHold};
+ghost use Rattle.tables.specs.declared.Verdict.the-variants.{Fine};
+ghost use Rattle.solver.specs.Files.{vectorsIn};
+ghost use Rattle.solved.specs.Solved.{adoptVerdict, adopted};
+ghost use Rattle.solved.specs.Solved.{answered as made};
+ghost use Rattle.solved.specs.Claim.{AdoptHolds};
+ghost use Rattle.replay.specs.Replay.{packed, offersIn, replayVerdict, answered, replayed, ReplayHolds};
 ghost use Rattle.worth.specs.Storage.{lentGraph};
 ghost use Rattle.worth.specs.Judged.{worthAnswer};
-ghost use Rattle.exports.specs.Calls.{layoutVersion, model, refusalOf, totalsBy, worthBy, Brackets, Builds};
+ghost use Rattle.exports.specs.Calls.{layoutVersion, model, refusalOf, totalsBy, adoptionBy, replayBy, worthBy, Brackets, Builds};
 ghost use Rattle.exports.specs.Reading.{roomVerdict, readVerdict, readingBy, readingOf, laidTransitions, laidObservations, laidRewards, laidStart};
 use integers::cells;
 use tables::Counts;
@@ -62,6 +68,20 @@ pub struct Totals {
     pub action: usize,
     pub sawtooth: i64,
     pub informed: i64,
+}
+
+#[repr(C)]
+pub struct Adoption {
+    pub number: u64,
+    pub place: usize,
+    pub vectors: usize,
+}
+
+#[repr(C)]
+pub struct Replay {
+    pub number: u64,
+    pub place: usize,
+    pub accepted: usize,
 }
 
 #[repr(C)]
@@ -535,6 +555,197 @@ pub extern "C" fn biidhaqun_build<'a, 'b>(
         newvalues,
     );
     refusal_of(verdict)
+}
+
+// Makes the next level of a certifier of a solver's alpha file and policy graph, and of a count of points, whose weights are the level's own.
+#[no_mangle]
+pub extern "C" fn biidhaqun_adopt<'a, 'b, 'c>(
+    n: usize,
+    m: usize,
+    k: usize,
+    g: u64,
+    transition: &'a [u16],
+    observation: &'a [u16],
+    reward: &'a [i64],
+    state: &'b [usize],
+    actions: &'b [u8],
+    entries: &'b [i64],
+    corners: &'b [i64],
+    weights: &'b [u32],
+    values: &'b [i64],
+    informed: &'b [i64],
+    qmdp: &'b [i64],
+    alpha: &'c [u8],
+    graph: &'c [u8],
+    given: &[u32],
+    count: usize,
+    newactions: &mut [u8],
+    newchoices: &mut [u16],
+    newentries: &mut [i64],
+    newcorners: &mut [i64],
+    newvalues: &mut [i64],
+) -> Adoption
+    ensures { λ r. ⌜ ((choices : List ℕ) →
+        let tables = model n m k g (now (transition .entry)) (now (observation .entry)) (now (reward .entry)) in
+        let standing = lent (now (state .entry)) (cells (now (actions .entry)) choices (now (entries .entry)) (now (corners .entry))
+        (now (weights .entry)) (now (values .entry))) (rows (now (informed .entry)) (now (qmdp .entry))) in
+        let y = cells (now (newactions .entry)) (now (newchoices .entry)) (now (newentries .entry)) (now (newcorners .entry)) (now (given .entry))
+        (now (newvalues .entry)) in
+        r ≡ adoptionBy (made (adoptVerdict tables standing (now (alpha .entry)) (now (graph .entry)) count y) (vectorsIn n (now (alpha .entry))))) ⌝ }
+    ensures { λ _. ⌜ ((choices : List ℕ) →
+        let tables = model n m k g (now (transition .entry)) (now (observation .entry)) (now (reward .entry)) in
+        let standing = lent (now (state .entry)) (cells (now (actions .entry)) choices (now (entries .entry)) (now (corners .entry))
+        (now (weights .entry)) (now (values .entry))) (rows (now (informed .entry)) (now (qmdp .entry))) in
+        let y = cells (now (newactions .entry)) (now (newchoices .entry)) (now (newentries .entry)) (now (newcorners .entry)) (now (given .entry))
+        (now (newvalues .entry)) in
+        let laid = cells (now (newactions .exit)) (now (newchoices .exit)) (now (newentries .exit)) (now (newcorners .exit)) (now (given .entry))
+        (now (newvalues .exit)) in
+        laid ≡ adopted tables standing (now (alpha .entry)) (now (graph .entry)) count y) ⌝ }
+    ensures { λ _. ⌜ ((choices : List ℕ) →
+        let tables = model n m k g (now (transition .entry)) (now (observation .entry)) (now (reward .entry)) in
+        let standing = lent (now (state .entry)) (cells (now (actions .entry)) choices (now (entries .entry)) (now (corners .entry))
+        (now (weights .entry)) (now (values .entry))) (rows (now (informed .entry)) (now (qmdp .entry))) in
+        let y = cells (now (newactions .entry)) (now (newchoices .entry)) (now (newentries .entry)) (now (newcorners .entry)) (now (given .entry))
+        (now (newvalues .entry)) in
+        let laid = cells (now (newactions .exit)) (now (newchoices .exit)) (now (newentries .exit)) (now (newcorners .exit)) (now (given .entry))
+        (now (newvalues .exit)) in
+        adoptVerdict tables standing (now (alpha .entry)) (now (graph .entry)) count y ≡ Fine
+        → AdoptHolds tables standing (now (alpha .entry)) (now (graph .entry)) count y laid) ⌝ }
+{
+    let c = Counts {
+        states: n,
+        actions: m,
+        observations: k,
+        discount: g,
+    };
+    let made = solved::adopt(
+        transition,
+        observation,
+        reward,
+        c,
+        state,
+        actions,
+        entries,
+        corners,
+        weights,
+        values,
+        informed,
+        qmdp,
+        alpha,
+        graph,
+        given,
+        count,
+        newactions,
+        newchoices,
+        newentries,
+        newcorners,
+        newvalues,
+    );
+    let verdict = made.verdict;
+    let refusal = refusal_of(verdict);
+    Adoption {
+        number: refusal.number,
+        place: refusal.place,
+        vectors: made.vectors,
+    }
+}
+
+// Offers each level of a list to a certifier, one after the other. Block i of each slice has room for v vectors and p points; the offer that lies there has
+// counts of its own.
+#[no_mangle]
+pub extern "C" fn biidhaqun_replay<'a, 'b>(
+    n: usize,
+    m: usize,
+    k: usize,
+    g: u64,
+    transition: &'a [u16],
+    observation: &'a [u16],
+    reward: &'a [i64],
+    state: &mut [usize],
+    actions: &mut [u8],
+    choices: &mut [u16],
+    entries: &mut [i64],
+    corners: &mut [i64],
+    weights: &mut [u32],
+    values: &mut [i64],
+    informed: &mut [i64],
+    qmdp: &mut [i64],
+    count: usize,
+    v: usize,
+    p: usize,
+    vectors: &'b [usize],
+    points: &'b [usize],
+    newactions: &'b [u8],
+    newchoices: &'b [u16],
+    newentries: &'b [i64],
+    newcorners: &'b [i64],
+    newweights: &'b [u32],
+    newvalues: &'b [i64],
+) -> Replay
+    ensures { λ r. ⌜ (let tables = model n m k g (now (transition .entry)) (now (observation .entry)) (now (reward .entry)) in
+        let x = lent (now (state .entry)) (cells (now (actions .entry)) (now (choices .entry)) (now (entries .entry)) (now (corners .entry))
+        (now (weights .entry)) (now (values .entry))) (rows (now (informed .entry)) (now (qmdp .entry))) in
+        let b = packed v p (now (vectors .entry)) (now (points .entry)) (cells (now (newactions .entry)) (now (newchoices .entry))
+        (now (newentries .entry)) (now (newcorners .entry)) (now (newweights .entry)) (now (newvalues .entry))) in
+        r ≡ replayBy (answered tables x b count)) ⌝ }
+    ensures { λ _. ⌜ (let tables = model n m k g (now (transition .entry)) (now (observation .entry)) (now (reward .entry)) in
+        let x = lent (now (state .entry)) (cells (now (actions .entry)) (now (choices .entry)) (now (entries .entry)) (now (corners .entry))
+        (now (weights .entry)) (now (values .entry))) (rows (now (informed .entry)) (now (qmdp .entry))) in
+        let b = packed v p (now (vectors .entry)) (now (points .entry)) (cells (now (newactions .entry)) (now (newchoices .entry))
+        (now (newentries .entry)) (now (newcorners .entry)) (now (newweights .entry)) (now (newvalues .entry))) in
+        lent (now (state .exit)) (cells (now (actions .exit)) (now (choices .exit)) (now (entries .exit)) (now (corners .exit))
+        (now (weights .exit)) (now (values .exit))) (rows (now (informed .exit)) (now (qmdp .exit)))
+        ≡ replayed tables x b count) ⌝ }
+    ensures { λ r. ⌜ (let tables = model n m k g (now (transition .entry)) (now (observation .entry)) (now (reward .entry)) in
+        let x = lent (now (state .entry)) (cells (now (actions .entry)) (now (choices .entry)) (now (entries .entry)) (now (corners .entry))
+        (now (weights .entry)) (now (values .entry))) (rows (now (informed .entry)) (now (qmdp .entry))) in
+        let b = packed v p (now (vectors .entry)) (now (points .entry)) (cells (now (newactions .entry)) (now (newchoices .entry))
+        (now (newentries .entry)) (now (newcorners .entry)) (now (newweights .entry)) (now (newvalues .entry))) in
+        (x₀ : Lent) (ls : List LentLevel) → ModelAccepted tables x₀ → x ≡ after tables x₀ ls → replayVerdict tables x b count ≡ Fine
+        → ReplayHolds tables x₀ ls (offersIn tables b count)
+        (lent (now (state .exit)) (cells (now (actions .exit)) (now (choices .exit)) (now (entries .exit)) (now (corners .exit))
+        (now (weights .exit)) (now (values .exit))) (rows (now (informed .exit)) (now (qmdp .exit))))
+        (r .accepted)) ⌝ }
+{
+    let c = Counts {
+        states: n,
+        actions: m,
+        observations: k,
+        discount: g,
+    };
+    let run = replay::replay(
+        transition,
+        observation,
+        reward,
+        c,
+        state,
+        actions,
+        choices,
+        entries,
+        corners,
+        weights,
+        values,
+        informed,
+        qmdp,
+        count,
+        v,
+        p,
+        vectors,
+        points,
+        newactions,
+        newchoices,
+        newentries,
+        newcorners,
+        newweights,
+        newvalues,
+    );
+    let verdict = run.verdict;
+    let refusal = refusal_of(verdict);
+    Replay {
+        number: refusal.number,
+        place: refusal.place,
+        accepted: run.accepted,
+    }
 }
 
 // The worth of a plan graph's node at a state with some steps left.

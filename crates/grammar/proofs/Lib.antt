@@ -2,5 +2,6 @@
 pub mod Laws
 pub mod Arms
 pub mod Gives
+pub mod Named
 pub mod Alike
 pub mod Prelude

@@ -25,6 +25,11 @@ abbrev pub choose : {X : Type 0} → Answer ℕ → (Words → X) → X → X
 choose (got v ws) k other = k ws
 choose (refused n p) k other = other
 
+-- the first where no word is left
+abbrev pub unlessEnd : {X : Type 0} → Words → X → X → X
+unlessEnd (end at) a b = a
+unlessEnd (word at w rest) a b = b
+
 -- ---- one word
 
 -- a value, a form that does not fit, or a value outside its limit

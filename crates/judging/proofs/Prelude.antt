@@ -1,13 +1,6 @@
 -- What more than one proof of this crate names.
-pub use Prim.Native.Nat.{ℕ, _+_, _*_, _≤_, _<_}
-pub use borrow.Author.Needs.{needs}
-pub use borrow.Author.Tests.{le-leb, lt-leb, not-false, not-true}
-pub use lib.Dec.{leb}
-pub use mathlib.Core.Bool.{Bool, true, _&&_}
-pub use mathlib.Core.List.{List}
-pub use mathlib.Core.Path.{_∙_, _≡_, sym}
-pub use native.Mathlib.Nat.{mul-le-mul}
-pub use native.Mathlib.Omega.{arith}
+pub use Rattle.integers.proofs.Kit.{_≡_, _∙_, sym, true, Bool, _&&_, List, ℕ, _≤_, _<_, _+_, _*_, arith, mul-le-mul, needs, le-leb, lt-leb, not-false}
+pub use Rattle.integers.proofs.Kit.{not-true, leb}
 pub use Rattle.tables.specs.declared.Tables.{Tables}
 pub use Rattle.tables.specs.declared.Verdict.{Verdict}
 pub use Rattle.tables.specs.declared.Verdict.the-variants.{Fine, Refused}

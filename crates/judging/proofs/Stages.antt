@@ -1,13 +1,5 @@
 -- The tests in their order, as the code goes through them. Assumes nothing.
-use mathlib.Core.Path.{_≡_, refl, _∙_}
-use mathlib.Core.Bool.{Bool, true, false, _&&_}
-use mathlib.Core.List.{List, []}
-use Prim.Native.Nat.{ℕ, _+_, _*_, _≤_}
-use native.Mathlib.Omega.{arith}
-use lib.Dec.{leb}
-use lib.ListN.{getD}
-use lib.IntN.{ℤ, pos}
-use borrow.Author.Tests.{leb-true}
+use Rattle.integers.proofs.Kit.{_≡_, _∙_, refl, true, false, Bool, _&&_, List, [], ℕ, _≤_, _+_, _*_, arith, leb-true, leb, getD, ℤ, pos}
 use Rattle.integers.proofs.Searches.{and-true}
 use Rattle.tables.specs.declared.Verdict.{Verdict}
 use Rattle.tables.specs.declared.Verdict.the-variants.{Fine, Refused}

@@ -18,7 +18,7 @@ use tables::Verdict;
 use tables::judge;
 
 // The range of entries and corners at level t.
-fn range_of(t: usize) -> u64
+pub fn range_of(t: usize) -> u64
     requires { ⌜ t ≤ maxLevels ⌝ }
     ensures { λ r. ⌜ r ≡ range t ⌝ }
 {

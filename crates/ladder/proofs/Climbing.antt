@@ -1,13 +1,8 @@
 -- The calls of the program refuse nothing: demand 3 over the list of levels that it has offered. Assumes nothing.
-use mathlib.Core.Path.{_≡_, refl, sym, _∙_, ap, subst}
-use mathlib.Core.Bool.{true}
-use mathlib.Core.List.{List, [], _∷_, _++_}
-use Prim.Native.Nat.{ℕ, _+_, _*_, _≤_, _<_}
-use native.Mathlib.Nat.{add-zero, zero-add, add-assoc, mul-le-mul}
-use native.Mathlib.Omega.{arith}
-use borrow.Author.Tests.{le-leb, lt-ltb}
-use lib.IntN.{ℤ, pos}
-use lib.ListN.{length, replicate}
+use Rattle.integers.proofs.Kit.{_≡_, _∙_, refl, ap, sym, subst, true, List, [], _∷_, ℕ, _≤_, _<_, _+_, _*_, arith, mul-le-mul, add-zero, zero-add}
+use Rattle.integers.proofs.Kit.{le-leb, lt-ltb, length, replicate, ℤ, pos}
+use mathlib.Core.List.{_++_}
+use native.Mathlib.Nat.{add-assoc}
 use Rattle.integers.specs.Whole.{totalTo}
 use Rattle.integers.proofs.Searches.{and-is, at-every}
 use Rattle.integers.proofs.Sums.{total-part}
@@ -29,7 +24,7 @@ use Rattle.levels.proofs.Laws.{passed, fine-before}
 use Rattle.levels.proofs.Over.{Complete, complete-is, complete-true, complete-long, over-long}
 use Rattle.runs.specs.State.{openVerdict, opened, offered, mixtureHolds, answerFor, builtFrom}
 use Rattle.runs.specs.Demand3.{ModelAccepted, run, counted, acceptances, after, steps, last, BuildHolds, PointsHold}
-use Rattle.runs.proofs.Demand3.{fine-tables}
+use Rattle.runs.proofs.Demand3.{fine-tables, run-append, acceptances-append}
 use Rattle.modelfile.specs.declared.ModelFile.{ModelFile}
 use Rattle.modelfile.specs.ModelFile.{modelFile}
 use Rattle.modelfile.proofs.Opens.{read-opens, read-valid, FileOpens}
@@ -38,15 +33,12 @@ use Rattle.ladder.specs.Climb.{Climbed, Asked, Alike}
 -- ---- one offer more
 run-more : (m : Tables) (x : Lent) (ls : List LentLevel) (l : LentLevel) → run m x (ls ++ (l ∷ [])) ≡ offered m (run m x ls) l
 unfolding run
-run-more m x [] l = refl
-run-more m x (k ∷ ls) l = run-more m (offered m x k) ls l
+run-more m x ls l = run-append m x ls (l ∷ [])
 
 acceptances-more : (m : Tables) (x : Lent) (ls : List LentLevel) (l : LentLevel)
     → acceptances m x (ls ++ (l ∷ [])) ≡ acceptances m x ls + counted (offerVerdict m (run m x ls) l)
-unfolding run acceptances
-acceptances-more m x [] l = add-zero _ ∙ sym (zero-add _)
-acceptances-more m x (k ∷ ls) l =
-    ap (λ (n : ℕ). counted (offerVerdict m x k) + n) (acceptances-more m (offered m x k) ls l) ∙ sym (add-assoc _ _ _)
+unfolding acceptances
+acceptances-more m x ls l = acceptances-append m x ls (l ∷ []) ∙ ap (λ (n : ℕ). acceptances m x ls + n) (add-zero _)
 
 -- ---- a mixture that is a point
 mixture-holds : (n : ℕ) (b : List ℕ) → n ≤ length b → IsPoint n (weightIn b) → mixtureHolds n b ≡ true

@@ -1,8 +1,5 @@
 -- Laws of a level's tests as a loop makes them. Assumes nothing.
-use Prim.Native.Nat.{ℕ, _<_}
-use mathlib.Core.Path.{_≡_}
-use mathlib.Core.Bool.{Bool, true, false}
-use borrow.Author.Tests.{ltb-true}
+use Rattle.integers.proofs.Kit.{_≡_, true, false, Bool, ℕ, _<_, ltb-true}
 use Rattle.tables.specs.declared.Verdict.{Verdict}
 use Rattle.tables.specs.declared.Verdict.the-variants.{Fine, Refused}
 use Rattle.tables.specs.Verdicts.{_before_, unless}

@@ -1,12 +1,6 @@
 -- Slices with a level or rows laid over them: these are read from them again, the slices are as long as they were, and levels that agree are laid alike.
 -- Assumes nothing.
-use mathlib.Core.Path.{_≡_, refl}
-use mathlib.Core.Bool.{true}
-use Prim.Native.Nat.{ℕ, _*_, _≤_, _<_}
-use mathlib.Core.List.{List}
-use lib.ListN.{length}
-use lib.IntN.{ℤ, pos}
-use borrow.Author.Tests.{leb-true, le-leb}
+use Rattle.integers.proofs.Kit.{_≡_, refl, true, List, ℕ, _≤_, _<_, _*_, le-leb, leb-true, length, ℤ, pos}
 use Rattle.integers.proofs.Lists.{laid-at, laid-length, laid-cong, laidRows-at, laidRows-length, laidRows-cong}
 use Rattle.integers.proofs.Searches.{and-true, and-is}
 use Rattle.tables.specs.declared.Tables.{Tables}

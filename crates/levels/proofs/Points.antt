@@ -1,11 +1,6 @@
 -- What 7, 11 and 12 say of points, and 7 of rows, by example: the total of the weights is 1 to 100, a value lies within that total times the range of its
 -- level, rows within that range. The prover computes the definitions that the contracts name. Assumes nothing.
-use mathlib.Core.Path.{_≡_, refl}
-use mathlib.Core.Bool.{true, false}
-use mathlib.Core.List.{List, [], _∷_}
-use Prim.Native.Nat.{ℕ, zero, suc}
-use lib.ListN.{replicate}
-use lib.IntN.{ℤ, pos, negsuc}
+use Rattle.integers.proofs.Kit.{_≡_, refl, true, false, List, [], _∷_, ℕ, suc, zero, replicate, ℤ, pos, negsuc}
 use Rattle.integers.specs.Whole.{totalTo}
 use Rattle.integers.specs.Search.{every}
 use Rattle.tables.specs.declared.Tables.{Tables}
@@ -103,7 +98,8 @@ record Table : Type 0 where
   rows-short : holds forms (rowed (1 ∷ 1 ∷ 1 ∷ []) (pos 0) (replicate 3 (pos 0)) (replicate 2 (pos 0))) ≡ false
 
 table : Table
-unfolding forms rowed standing withRows three two level told alone levelVerdict holds tablesVerdict limitsHold rowsTotal numbersIn rangesVerdict rowsWithin valuesWithin
+unfolding forms rowed standing withRows three two level told alone levelVerdict holds tablesVerdict limitsHold rowsTotal
+    numbersIn rangesVerdict rowsWithin valuesWithin
     weightsVerdict firstOf every totalTo range
 table = record {
   thirds = refl;

@@ -1,10 +1,5 @@
 -- The product with one of some vectors, by where it lies. Assumes nothing.
-use mathlib.Core.Path.{_≡_, _∙_, ap}
-use mathlib.Core.List.{List}
-use Prim.Native.Nat.{ℕ, _+_, _≤_, _<_}
-use native.Mathlib.Omega.{arith}
-use lib.ListN.{length, getD}
-use lib.IntN.{ℤ, pos, natAbs}
+use Rattle.integers.proofs.Kit.{_≡_, _∙_, ap, List, ℕ, _≤_, _<_, _+_, arith, length, getD, ℤ, pos, natAbs}
 use Rattle.integers.proofs.Lists.{row-below}
 use Rattle.tables.specs.Limits.{maxEntry}
 use Rattle.tables.specs.Storage.{rowStart, weightIn, entryIn}

@@ -1,14 +1,7 @@
 -- Laws of the answers at many mixtures. Assumes nothing.
-use mathlib.Core.Path.{_≡_, sym, _∙_, ap}
-use mathlib.Core.Bool.{true, false}
-use mathlib.Core.List.{List}
-use Prim.Native.Nat.{ℕ, _+_, _*_, _-_, _/_, _≤_, _<_}
+use Rattle.integers.proofs.Kit.{_≡_, _∙_, ap, sym, true, false, List, ℕ, _≤_, _<_, _+_, _*_, _-_, _/_, arith, le-leb, leb-true, lt-leb, leb, length}
+use Rattle.integers.proofs.Kit.{drop, set, take, ℤ, pos}
 use native.Mathlib.Nat as NatL
-use native.Mathlib.Omega.{arith}
-use borrow.Author.Tests.{le-leb, lt-leb, leb-true}
-use lib.Dec.{leb}
-use lib.ListN.{length, take, drop, set}
-use lib.IntN.{ℤ, pos}
 use Rattle.integers.proofs.Lists.{laid-none, laid-turn, laid-length, laid-cong, row-below}
 use Rattle.integers.proofs.Searches.{and-true}
 use Rattle.tables.specs.declared.Tables.{Tables}

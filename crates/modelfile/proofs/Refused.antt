@@ -1,5 +1,5 @@
 -- What a refused file is answered: its number is 1 to 6, and where its place lies. Assumes nothing.
-use Rattle.integers.proofs.Kit.{_≡_, refl, sym, subst, true, false, Bool, cond, List, [], _∷_, ℕ, _≤_, _+_, _*_, suc, zero, arith, add-one}
+use Rattle.integers.proofs.Kit.{_≡_, refl, sym, subst, true, false, Bool, cond, List, ℕ, _≤_, _+_, _*_, suc, zero, arith, add-one}
 use Rattle.integers.proofs.Kit.{leb, eqb, length, getD, replicate, ℤ}
 use Rattle.integers.specs.Whole.{totalTo}
 use Rattle.tables.specs.declared.Verdict.{Verdict}
@@ -8,99 +8,32 @@ use Rattle.tables.specs.Limits.{maxStates, one}
 use Rattle.tables.specs.Storage.{cellIn}
 use Rattle.tables.specs.Verdicts.{_before_, unless, firstOf}
 use Rattle.tables.specs.Judged.{rowsTotal}
-use Rattle.words.specs.Class.{classOf}
-use Rattle.words.specs.Words.{Role, parts, alone, opens, belongs, roleOf, Words, word, end, Mode, between, inside, comment, step, wordsOf, wordsIn}
+use Rattle.words.specs.Words.{Words, word, end, run, between, wordsOf, wordsIn}
 use Rattle.drafts.specs.Drafts.{stated}
-use Rattle.numerals.specs.declared.Form.{Form}
 use Rattle.numerals.specs.Numeral.{countForm, probabilityForm, startForm, rewardForm}
-use Rattle.grammar.specs.Grammar.{Answer, got, refused, _then_, choose, Finding, fits, unfit, outside, answered, oneWord, number, magnitude}
-use Rattle.grammar.specs.Grammar.{signedNumber, key, keys, colon, star, named, field, index}
+use Rattle.grammar.specs.Grammar.{Answer, got, refused, _then_, choose, key, colon, star, named, field, index, unlessEnd}
+use Rattle.grammar.proofs.Named.{UpTo, up-more, words-up, Word-refused, Named, then-named, key-named, number-named, keyed, keys-named, field-named}
+use Rattle.grammar.proofs.Named.{index-named, signed-named}
 use Rattle.statements.specs.Statements.{Outcome, filled, stopped, upon, further, within, wholly, probability, startTotal, startNumber, rewardNumber, indexed}
-use Rattle.statements.specs.Statements.{starred, row, entry, table, reward, rewards, Draft, oneStatement}
+use Rattle.statements.specs.Statements.{starred, row, entry, table, reward, rewards, Draft, draft, rewardStatement, observationOrReward, oneStatement}
 use Rattle.statements.specs.Statements.{statements}
 use Rattle.modelfile.specs.ModelFile.{maxBytes, startName, Text, noCells, body, counted, headed, placed, sumsVerdict, refusedFile, judgedFile, ended}
 use Rattle.modelfile.specs.ModelFile.{modelFile}
 use Rattle.statements.specs.Statements.{entryBy, observationOrRewardBy, oneStatementBy, rewardBy, rewardStatementBy, rewardsBy, statementsBy, tableBy}
 use Rattle.modelfile.specs.ModelFile.{bodyBy, countedBy, headedBy, modelFileBy}
 
--- ---- words: at most c of them, none past the end of a file of so many bytes
-
-abbrev UpTo : ℕ → ℕ → Words → Type 0
-UpTo size c (end at) = at ≤ size
-UpTo size zero (word at w rest) = ⊥
-UpTo size (suc c) (word at w rest) = (at ≤ size) × UpTo size c rest
-
-up-more : (size c : ℕ) (ws : Words) → UpTo size c ws → UpTo size (suc c) ws
-up-more size c (end at) h = h
-up-more size zero (word at w rest) h = absurd h
-up-more size (suc c) (word at w rest) (h, k) = (h, up-more size c rest k)
-
--- each byte begins one word at most
-step-up : (size c at b : ℕ) (s : List ℕ) (m : Mode) (r : Role) (next : Mode → Words) → at ≤ size → ((m : Mode) → UpTo size c (next m))
-    → UpTo size (suc c) (step m r at b s next)
-step-up size c at b s between parts next h k = up-more size c (next between) (k between)
-step-up size c at b s between alone next h k = (h, k between)
-step-up size c at b s between opens next h k = up-more size c (next comment) (k comment)
-step-up size c at b s between belongs next h k = (h, k inside)
-step-up size c at b s inside parts next h k = up-more size c (next between) (k between)
-step-up size c at b s inside alone next h k = (h, k between)
-step-up size c at b s inside opens next h k = up-more size c (next comment) (k comment)
-step-up size c at b s inside belongs next h k = up-more size c (next inside) (k inside)
-step-up size c at b s comment r next h k = either (eqb b 10)
-  where
-    either : (t : Bool) → UpTo size (suc c) (cond t (next between) (next comment))
-    either true = up-more size c (next between) (k between)
-    either false = up-more size c (next comment) (k comment)
-
-words-up : (m : Mode) (size at : ℕ) (s : List ℕ) → at + length s ≤ size → UpTo size (length s) (wordsOf m at s)
-unfolding wordsOf
-words-up m size at [] h = omega arith
-words-up m size at (b ∷ s) h =
-    step-up size (length s) at b s m (roleOf (classOf b)) (λ m'. wordsOf m' (at + 1) s) (omega arith) (λ m'. words-up m' size (at + 1) s (omega arith))
-
--- ---- reading: a refused word gets 2 or 3 at a place in the file
-
-record Word-refused (size n p : ℕ) : Type 0 where
-  low : 2 ≤ n
-  high : n ≤ 3
-  place : p ≤ size
-
 module _ (size : ℕ) where
-  abbrev Named : {A : Type 0} → ℕ → Answer A → Type 0
-  Named c (got x ws) = UpTo size c ws
-  Named c (refused n p) = Word-refused size n p
-
   abbrev Stops : {C : Type 0} → ℕ → Outcome C → Type 0
   Stops c (filled cells ws) = UpTo size c ws
   Stops c (stopped n p cells) = Word-refused size n p
 
-  answered-named : (c at : ℕ) (rest : Words) (f : Finding) → at ≤ size → UpTo size c rest → Named c (answered at rest f)
-  answered-named c at rest (fits v) h k = k
-  answered-named c at rest unfit h k = record { low = omega arith; high = omega arith; place = h }
-  answered-named c at rest outside h k = record { low = omega arith; high = omega arith; place = h }
-
-  one-named : (c : ℕ) (find : List ℕ → Finding) (ws : Words) → UpTo size (suc c) ws → Named c (oneWord find ws)
-  one-named c find (word at w rest) (h, k) = answered-named c at rest (find w) h k
-  one-named c find (end at) h = record { low = omega arith; high = omega arith; place = h }
-
-  then-named : {A B : Type 0} (c d : ℕ) (a : Answer A) (k : A → Words → Answer B) → Named c a → ((x : A) (ws : Words) → UpTo size c ws → Named d (k x ws))
-      → Named d (a then k)
-  then-named c d (got x ws) k h g = g x ws h
-  then-named c d (refused n p) k h g = h
-
-  choose-named : {B : Type 0} (c d : ℕ) (a : Answer ℕ) (k : Words → Answer B) (o : Answer B) → Named c a → ((ws : Words) → UpTo size c ws → Named d (k ws))
-      → Named d o
-      → Named d (choose a k o)
-  choose-named c d (got v ws) k o h g l = g ws h
-  choose-named c d (refused n p) k o h g l = l
-
-  upon-left : {A C : Type 0} (c d : ℕ) (cells : C) (a : Answer A) (k : A → Words → Outcome C) → Named c a
+  upon-left : {A C : Type 0} (c d : ℕ) (cells : C) (a : Answer A) (k : A → Words → Outcome C) → Named size c a
       → ((x : A) (ws : Words) → UpTo size c ws → Stops d (k x ws)) → Stops d (upon cells a k)
   upon-left c d cells (got x ws) k h g = g x ws h
   upon-left c d cells (refused n p) k h g = h
 
-  choose-left : {C : Type 0} (c d : ℕ) (a : Answer ℕ) (k : Words → Outcome C) (o : Outcome C) → Named c a → ((ws : Words) → UpTo size c ws → Stops d (k ws))
-      → Stops d o → Stops d (choose a k o)
+  choose-left : {C : Type 0} (c d : ℕ) (a : Answer ℕ) (k : Words → Outcome C) (o : Outcome C) → Named size c a
+      → ((ws : Words) → UpTo size c ws → Stops d (k ws)) → Stops d o → Stops d (choose a k o)
   choose-left c d (got v ws) k o h g l = g ws h
   choose-left c d (refused n p) k o h g l = l
 
@@ -113,48 +46,21 @@ module _ (size : ℕ) where
   further-left c d (filled cells ws) k h g = g cells ws h
   further-left c d (stopped n p cells) k h g = h
 
-  wholly-named : {C : Type 0} (c : ℕ) (o : Outcome C) → Stops c o → Named c (wholly o)
+  wholly-named : {C : Type 0} (c : ℕ) (o : Outcome C) → Stops c o → Named size c (wholly o)
   wholly-named c (filled cells ws) h = h
   wholly-named c (stopped n p cells) h = h
 
-  -- ---- a word
-
-  key-named : (c : ℕ) (k : List ℕ) (ws : Words) → UpTo size (suc c) ws → Named c (key k ws)
-  unfolding key
-  key-named c k ws h = one-named c _ ws h
-
-  number-named : (c : ℕ) (form : Form) (least most : ℕ) (ws : Words) → UpTo size c ws → Named c (number form least most ws)
-  unfolding number
-  number-named c form least most ws h = one-named c _ ws (up-more size c ws h)
-
   module _ (c : ℕ) where
-    keyed : (k : List ℕ) (ws : Words) → UpTo size c ws → Named c (key k ws)
-    keyed k ws h = key-named c k ws (up-more size c ws h)
-
-    keys-named : (first second : List ℕ) (ws : Words) → UpTo size c ws → Named c (keys first second ws)
-    unfolding keys
-    keys-named first second ws h = then-named c c (key first ws) (λ _ ws. key second ws) (keyed first ws h) (λ _ ws. keyed second ws)
-
-    field-named : (name : List ℕ) (form : Form) (least most : ℕ) (ws : Words) → UpTo size c ws → Named c (field name form least most ws)
-    unfolding field
-    field-named name form least most ws h =
-        then-named c c (named name ws) (λ _ ws. number form least most ws) (keys-named name colon ws h) (λ _ ws. number-named c form least most ws)
-
-    index-named : (n : ℕ) (ws : Words) → UpTo size c ws → Named c (index n ws)
-    unfolding index
-    index-named n ws h = choose-named c c (key star ws) _ _ (keyed star ws h) (λ ws k. k) (number-named c countForm 0 _ ws h)
-
-    indexed-named : (n : ℕ) (ws : Words) → UpTo size c ws → Named c (indexed n ws)
+    indexed-named : (n : ℕ) (ws : Words) → UpTo size c ws → Named size c (indexed n ws)
     unfolding indexed
-    indexed-named n ws h = then-named c c (key colon ws) (λ _ ws. index n ws) (keyed colon ws h) (λ _ ws. index-named n ws)
+    indexed-named n ws h = then-named size c c (key colon ws) (λ _ ws. index n ws) (keyed size c colon ws h) (λ _ ws. index-named size c n ws)
 
-    reward-named : (ws : Words) → UpTo size c ws → Named c (rewardNumber ws)
-    unfolding signedNumber magnitude
-    reward-named ws h = then-named c c (magnitude rewardForm _ ws) _ (one-named c _ ws (up-more size c ws h)) (λ v rest k. k)
+    reward-named : (ws : Words) → UpTo size c ws → Named size c (rewardNumber ws)
+    reward-named ws h = signed-named size c rewardForm _ ws h
 
     -- ---- a statement
 
-    row-left : (one-number : Words → Answer ℕ) (put : ℕ → ℕ → List ℕ → List ℕ) → ((ws : Words) → UpTo size c ws → Named c (one-number ws))
+    row-left : (one-number : Words → Answer ℕ) (put : ℕ → ℕ → List ℕ → List ℕ) → ((ws : Words) → UpTo size c ws → Named size c (one-number ws))
         → (x k : ℕ) (cells : List ℕ) (ws : Words) → UpTo size c ws → Stops c (row one-number put x k cells ws)
     unfolding row
     row-left one-number put g x zero cells ws h = h
@@ -165,31 +71,33 @@ module _ (size : ℕ) where
     entry-left : (m n w a s : ℕ) (cells : List ℕ) (ws : Words) → UpTo size c ws → Stops c (entry m n w a s cells ws)
     unfolding entryBy
     entry-left m n w a s cells ws h =
-        upon-left c c cells (index w ws) _ (index-named w ws h)
-        (λ x ws k. upon-left c c cells (probability ws) _ (number-named c probabilityForm 0 _ ws k) (λ p ws l. l))
+        upon-left c c cells (index w ws) _ (index-named size c w ws h)
+        (λ x ws k. upon-left c c cells (probability ws) _ (number-named size c probabilityForm 0 _ ws k) (λ p ws l. l))
 
     table-left : (m n w : ℕ) (cells : List ℕ) (ws : Words) → UpTo size c ws → Stops c (table m n w cells ws)
     unfolding tableBy
     table-left m n w cells ws h =
         upon-left c c cells (indexed m ws) _ (indexed-named m ws h) (λ a ws k. upon-left c c cells (indexed n ws) _ (indexed-named n ws k) (λ s ws l.
-        choose-left c c (key colon ws) _ _ (keyed colon ws l) (λ ws. entry-left m n w a s cells ws)
-        (row-left probability _ (λ ws. number-named c probabilityForm 0 _ ws) 0 w cells ws l)))
+        choose-left c c (key colon ws) _ _ (keyed size c colon ws l) (λ ws. entry-left m n w a s cells ws)
+        (row-left probability _ (λ ws. number-named size c probabilityForm 0 _ ws) 0 w cells ws l)))
 
     rewards-left : (m n : ℕ) (cells : List ℤ) (ws : Words) → UpTo size c ws → Stops c (rewards m n cells ws)
     unfolding rewardsBy rewardBy
     rewards-left m n cells ws h =
         upon-left c c cells (indexed m ws) _ (indexed-named m ws h) (λ a ws h. upon-left c c cells (indexed n ws) _ (indexed-named n ws h) (λ s ws h.
-        upon-left c c cells (starred ws) _ (keys-named colon star ws h) (λ _ ws h. upon-left c c cells (starred ws) _ (keys-named colon star ws h) (λ _ ws h.
+        upon-left c c cells (starred ws) _ (keys-named size c colon star ws h) (λ _ ws h.
+        upon-left c c cells (starred ws) _ (keys-named size c colon star ws h) (λ _ ws h.
         upon-left c c cells (rewardNumber ws) _ (reward-named ws h) (λ r ws k. k)))))
 
     -- it takes a word or more
     one-left : (m n k : ℕ) (d : Draft) (ws : Words) → UpTo size (suc c) ws → Stops c (oneStatement m n k d ws)
     unfolding oneStatementBy observationOrRewardBy rewardStatementBy
     one-left m n k d ws h =
-        choose-left c c (key _ ws) _ _ (key-named c _ ws h) (λ ws l. within-left c _ (table m n n (d .transition) ws) (table-left m n n (d .transition) ws l))
-        (choose-left c c (key _ ws) _ _ (key-named c _ ws h) (λ ws l. within-left c _ (table m n k (d .observation) ws)
+        choose-left c c (key _ ws) _ _ (key-named size c _ ws h)
+        (λ ws l. within-left c _ (table m n n (d .transition) ws) (table-left m n n (d .transition) ws l))
+        (choose-left c c (key _ ws) _ _ (key-named size c _ ws h) (λ ws l. within-left c _ (table m n k (d .observation) ws)
         (table-left m n k (d .observation) ws l))
-        (upon-left c c d (key _ ws) _ (key-named c _ ws h) (λ _ ws l. within-left c _ (rewards m n (d .reward) ws) (rewards-left m n (d .reward) ws l))))
+        (upon-left c c d (key _ ws) _ (key-named size c _ ws h) (λ _ ws l. within-left c _ (rewards m n (d .reward) ws) (rewards-left m n (d .reward) ws l))))
 
   -- as many statements as there are words are enough
   statements-left : (f m n k : ℕ) (d : Draft) (ws : Words) → UpTo size f ws → Stops f (statements f m n k d ws)
@@ -208,29 +116,31 @@ module _ (size : ℕ) where
   -- ---- the file
 
   module _ (c : ℕ) where
-    body-named : (d n m k : ℕ) (ws : Words) → UpTo size c ws → Named c (body c d n m k ws)
+    body-named : (d n m k : ℕ) (ws : Words) → UpTo size c ws → Named size c (body c d n m k ws)
     unfolding bodyBy
     body-named d n m k ws h =
-        then-named c c (named startName ws) _ (keys-named c startName colon ws h) (λ _ ws h.
+        then-named size c c (named startName ws) _ (keys-named size c startName colon ws h) (λ _ ws h.
         let start = row startNumber (stated 1 1 n 0 0) 0 n (replicate maxStates 0) ws in
-        then-named c c (wholly start) _
-        (wholly-named c start (row-left c startNumber (stated 1 1 n 0 0) (λ ws. number-named c startForm 0 startTotal ws) 0 n (replicate maxStates 0) ws h))
+        then-named size c c (wholly start) _
+        (wholly-named c start (row-left c startNumber (stated 1 1 n 0 0) (λ ws. number-named size c startForm 0 startTotal ws) 0 n
+        (replicate maxStates 0) ws h))
         (λ start ws h.
-        then-named c c (wholly (statements c m n k noCells ws)) _ (wholly-named c (statements c m n k noCells ws) (statements-left c m n k noCells ws h))
+        then-named size c c (wholly (statements c m n k noCells ws)) _ (wholly-named c (statements c m n k noCells ws) (statements-left c m n k noCells ws h))
         (λ cells ws h. h)))
 
-    counted-named : (d : ℕ) (ws : Words) → UpTo size c ws → Named c (counted c d ws)
+    counted-named : (d : ℕ) (ws : Words) → UpTo size c ws → Named size c (counted c d ws)
     unfolding countedBy
     counted-named d ws h =
-        then-named c c (field _ countForm 1 _ ws) _ (field-named c _ countForm 1 _ ws h) (λ n ws h.
-        then-named c c (field _ countForm 1 _ ws) _ (field-named c _ countForm 1 _ ws h) (λ m ws h.
-        then-named c c (field _ countForm 1 _ ws) _ (field-named c _ countForm 1 _ ws h) (λ k ws. body-named d n m k ws)))
+        then-named size c c (field _ countForm 1 _ ws) _ (field-named size c _ countForm 1 _ ws h) (λ n ws h.
+        then-named size c c (field _ countForm 1 _ ws) _ (field-named size c _ countForm 1 _ ws h) (λ m ws h.
+        then-named size c c (field _ countForm 1 _ ws) _ (field-named size c _ countForm 1 _ ws h) (λ k ws. body-named d n m k ws)))
 
-    headed-named : (ws : Words) → UpTo size c ws → Named c (headed c ws)
+    headed-named : (ws : Words) → UpTo size c ws → Named size c (headed c ws)
     unfolding headedBy
     headed-named ws h =
-        then-named c c (field _ probabilityForm 0 _ ws) _ (field-named c _ probabilityForm 0 _ ws h) (λ d ws h.
-        then-named c c (named _ ws) _ (keys-named c _ colon ws h) (λ _ ws h. then-named c c (key _ ws) _ (keyed c _ ws h) (λ _ ws. counted-named d ws)))
+        then-named size c c (field _ probabilityForm 0 _ ws) _ (field-named size c _ probabilityForm 0 _ ws h) (λ d ws h.
+        then-named size c c (named _ ws) _ (keys-named size c _ colon ws h) (λ _ ws h.
+        then-named size c c (key _ ws) _ (keyed size c _ ws h) (λ _ ws. counted-named d ws)))
 
 -- ---- the totals
 

@@ -5,10 +5,11 @@ use mathlib.Core.Bool.{Bool, true, false, false≢true, _&&_, _||_, cond, and-eq
 use mathlib.Core.List.{List, [], _∷_}
 use native.Mathlib.Omega.{arith}
 use native.Mathlib.Decide.{decLt}
-use native.Mathlib.Nat.{mul-le-mul, pow-le-pow-right}
+use native.Mathlib.Nat.{mul-le-mul, pow-le-pow-right, pow-zero}
 use borrow.Author.Tests.{eqb-true, leb-true, eq-eqb, le-leb}
 use lib.Dec.{eqb, leb, ltb}
 use lib.ListN.{length, getD, drop, drop-of-length-le}
+use lib.Pow.{pow-add}
 use lib.Seq.{drop-length}
 use mir.Val.{boolByte}
 use Rattle.words.specs.Class.{classOf}
@@ -18,9 +19,10 @@ use Rattle.words.proofs.Laws.{by-class, from-here}
 use Rattle.numerals.specs.declared.Amount.{Amount}
 use Rattle.numerals.specs.declared.Amount.the-variants.{Is, Not}
 use Rattle.numerals.specs.declared.Form.{Form}
-use Rattle.numerals.specs.Numeral.{countForm, probabilityForm, startForm, rewardForm, isDigit, isPoint, digits, value, isMinus, negative, fitting}
+use Rattle.numerals.specs.Numeral.{countForm, probabilityForm, startForm, rewardForm, decimalForm}
+use Rattle.numerals.specs.Numeral.{isDigit, isPoint, digits, value, isMinus, negative, fitting}
 use Rattle.numerals.specs.Numeral.{unsigned, scaled, mostPower, exponentMark, powered, exponent, pointed, enough, decimal, fraction, amountOf}
-use Rattle.numerals.specs.Steps.{mostPlaces, Written}
+use Rattle.numerals.specs.Steps.{mostRead, mostDigits, mostPlaces, mostUnits, Short, Written}
 
 -- ---- bytes
 never : {A : Type 0} → false ≡ true → A
@@ -116,9 +118,43 @@ module _ (w : List ℕ) {from most end v : ℕ} (d : Written w from most end v) 
   pub cut-short : digits (drop from w) ≤ most → from + digits (drop from w) ≡ length w → end < length w → ⊥
   cut-short few all h = omega (arith, d .count, d .cut (omega (arith, d .count)))
 
--- a small number of digits times a small power
-pub product : {v u : ℕ} (n m : ℕ) → v < 10 ^ n → n ≤ m → u ≤ 10 ^ mostPlaces → v * u ≤ 10 ^ m * 10 ^ mostPlaces
-product {v} n m h k l = mul-le-mul (let s : v ≤ 10 ^ m = omega (arith, pow-le-pow-right {n = 10} (omega arith) {i = n} {j = m} k) in s) l
+-- ---- room in 64 bits
+
+pub power-least : {i j : ℕ} → i ≤ j → 10 ^ i ≤ 10 ^ j
+power-least {i} {j} h = pow-le-pow-right {n = 10} (omega arith) {i = i} {j = j} h
+
+pub power-some : (n : ℕ) → 0 < 10 ^ n
+power-some n = omega (arith, pow-zero 10, power-least {i = 0} {j = n} (omega arith))
+
+-- n digits times a power of ten
+pub product : {v u : ℕ} (n p : ℕ) {m q : ℕ} → v < 10 ^ n → n ≤ m → u ≡ 10 ^ p → p ≤ q → v * u ≤ 10 ^ m * 10 ^ q
+product {v} {u} n p {m} {q} h k e l =
+    let few : v ≤ 10 ^ m = omega (arith, power-least k) in
+    let low : u ≤ 10 ^ q = omega (arith, e, power-least l) in
+    mul-le-mul few low
+
+-- k of p decimals, with a 0 for each of the others
+pub filled-up : {v u : ℕ} (k p : ℕ) {q : ℕ} → v < 10 ^ k → u ≡ 10 ^ (p - k) → k ≤ p → p ≤ q → v * u ≤ 10 ^ q
+filled-up {v} {u} k p {q} h e few l =
+    let all : k + (p - k) ≡ p = omega arith in
+    let whole : 10 ^ p ≡ 10 ^ k * 10 ^ (p - k) = ap (λ (n : ℕ). 10 ^ n) (sym all) ∙ pow-add 10 k (p - k) in
+    let less : v * u ≤ 10 ^ k * 10 ^ (p - k) = product k (p - k) h (omega arith) e (omega arith) in
+    omega (arith, less, whole, power-least l)
+
+pub room : (loose : Bool) → mostUnits loose < 2 ^ 63
+room true = omega arith
+room false = omega arith
+
+few-read : (loose : Bool) → (mostDigits loose ≤ mostRead) × (mostPlaces loose ≤ mostRead)
+few-read true = (omega arith, omega arith)
+few-read false = (omega arith, omega arith)
+
+module _ {form : Form} (short : Short form) where
+  pub digits-read : form .digits ≤ mostRead
+  digits-read = omega (arith, short .few-digits, few-read (form .loose))
+
+  pub places-read : form .places ≤ mostRead
+  places-read = omega (arith, short .few-places, few-read (form .loose))
 
 refused : (t : Bool) (a : Amount) → (t ≡ true → ⊥) → fitting t a ≡ Not
 refused true a n = absurd (n refl)
@@ -343,6 +379,28 @@ four-decimals = refl
 pub two-digits : amountOf probabilityForm (49 ∷ 48 ∷ []) ≡ Not
 unfolding amountOf fraction decimal exponent digits value
 two-digits = refl
+
+-- "999999.999999999999" is the largest decimal of a vector; "1000000" and "0.0000000000001" are none, nor are ".5" and "1e0"
+pub largest-decimal : amountOf decimalForm
+    (57 ∷ 57 ∷ 57 ∷ 57 ∷ 57 ∷ 57 ∷ 46 ∷ 57 ∷ 57 ∷ 57 ∷ 57 ∷ 57 ∷ 57 ∷ 57 ∷ 57 ∷ 57 ∷ 57 ∷ 57 ∷ 57 ∷ []) ≡ Is 999_999_999_999_999_999
+unfolding amountOf fraction decimal exponent digits value
+largest-decimal = refl
+
+pub seven-digits : amountOf decimalForm (49 ∷ 48 ∷ 48 ∷ 48 ∷ 48 ∷ 48 ∷ 48 ∷ []) ≡ Not
+unfolding amountOf fraction decimal exponent digits value
+seven-digits = refl
+
+pub thirteen-decimals : amountOf decimalForm (48 ∷ 46 ∷ 48 ∷ 48 ∷ 48 ∷ 48 ∷ 48 ∷ 48 ∷ 48 ∷ 48 ∷ 48 ∷ 48 ∷ 48 ∷ 48 ∷ 49 ∷ []) ≡ Not
+unfolding amountOf fraction decimal exponent digits value
+thirteen-decimals = refl
+
+pub decimal-without-whole-part : amountOf decimalForm (46 ∷ 53 ∷ []) ≡ Not
+unfolding amountOf fraction decimal exponent digits value
+decimal-without-whole-part = refl
+
+pub decimal-by-exponent : amountOf decimalForm (49 ∷ 101 ∷ 48 ∷ []) ≡ Not
+unfolding amountOf fraction decimal exponent digits value
+decimal-by-exponent = refl
 
 -- "1." and "1e0" are no count
 pub pointed-count : amountOf countForm (49 ∷ 46 ∷ []) ≡ Not

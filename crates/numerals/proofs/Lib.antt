@@ -2,5 +2,6 @@
 pub mod Laws
 pub mod Before
 pub mod Worth
+pub mod Sizes
 pub mod Typed
 pub mod Prelude

@@ -30,6 +30,14 @@ startForm = record { digits = 1; places = 2; loose = true }
 abbrev pub rewardForm : Form
 rewardForm = record { digits = 4; places = 2; loose = true }
 
+-- numbers of a solver's vectors, in units of 10 ^ -12
+abbrev pub decimalForm : Form
+decimalForm = record { digits = 6; places = 12; loose = false }
+
+-- numbers of a plan graph's nodes
+abbrev pub nodeForm : Form
+nodeForm = record { digits = 3; places = 0; loose = false }
+
 -- ---- digits
 
 abbrev pub isDigit : Class → Bool

@@ -1,28 +1,36 @@
 -- What the code's steps ask and say.
 use Prim.Native.Nat.{ℕ, _+_, _-_, _*_, _^_, _≤_, _<_}
 use mathlib.Core.Path.{_≡_}
+use mathlib.Core.Bool.{Bool, true, false}
 use mathlib.Core.List.{List}
 use lib.ListN.{length, drop}
 use Rattle.numerals.specs.declared.Form.{Form}
 use Rattle.numerals.specs.Numeral.{digits, value}
 
--- forms whose numbers have room in 64 bits
-abbrev pub mostDigits : ℕ
-mostDigits = 4
+-- ---- forms whose numbers have room in 64 bits: those of a loose one, times the power of ten that an exponent says
 
-abbrev pub mostPlaces : ℕ
-mostPlaces = 3
+-- digits of one part that are read
+abbrev pub mostRead : ℕ
+mostRead = 12
 
-abbrev pub mostWhole : ℕ
-mostWhole = 10 ^ mostDigits * 10 ^ mostPlaces
+abbrev pub mostDigits : Bool → ℕ
+mostDigits true = 4
+mostDigits false = 6
+
+abbrev pub mostPlaces : Bool → ℕ
+mostPlaces true = 3
+mostPlaces false = mostRead
+
+abbrev pub mostWhole : Bool → ℕ
+mostWhole loose = 10 ^ mostDigits loose * 10 ^ mostPlaces loose
 
 -- the units of a number before its exponent
-abbrev pub mostUnits : ℕ
-mostUnits = mostWhole + 10 ^ mostPlaces * 10 ^ mostPlaces
+abbrev pub mostUnits : Bool → ℕ
+mostUnits loose = mostWhole loose + 10 ^ mostPlaces loose
 
 pub record Short (form : Form) : Type 0 where
-  pub few-digits : form .digits ≤ mostDigits
-  pub few-places : form .places ≤ mostPlaces
+  pub few-digits : form .digits ≤ mostDigits (form .loose)
+  pub few-places : form .places ≤ mostPlaces (form .loose)
 
 -- the digits of w from an offset on, up to `end`, write v: all of them, or the first `most`
 pub record Written (w : List ℕ) (from most end v : ℕ) : Type 0 where

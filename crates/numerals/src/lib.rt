@@ -1,9 +1,10 @@
 // Numbers as a word writes them.
 ghost use mathlib.Core.Path.{_≡_};
+ghost use mathlib.Core.Bool.{true};
 ghost use Prim.Native.Nat.{_+_, _^_, _≤_, _<_};
 ghost use lib.ListN.{length, drop};
-ghost use Rattle.numerals.specs.Numeral.{pointed, enough, scaled, powered, exponent, decimal, fraction, amountOf, negative, signed};
-ghost use Rattle.numerals.specs.Steps.{mostDigits, mostPlaces, mostWhole, mostUnits, Short, Written};
+ghost use Rattle.numerals.specs.Numeral.{mostPower, pointed, enough, scaled, powered, exponent, decimal, fraction, amountOf, negative, signed};
+ghost use Rattle.numerals.specs.Steps.{mostRead, mostWhole, mostUnits, Short, Written};
 use words::Class;
 
 // How a number is written: up to `digits` digits, then optionally a point and up to `places` digits. It counts in units of which
@@ -39,6 +40,20 @@ impl Form {
         loose: true,
     };
 
+    // of a solver's vectors
+    pub const DECIMAL: Form = Form {
+        digits: 6,
+        places: 12,
+        loose: false,
+    };
+
+    // of a plan graph's nodes
+    pub const NODE: Form = Form {
+        digits: 3,
+        places: 0,
+        loose: false,
+    };
+
     pub const POWER: u64 = 3; // the most that an exponent says
 }
 
@@ -67,7 +82,7 @@ fn bounded(length: usize, from: usize, most: usize) -> usize
 
 // The digits from an offset on, `most` of them at most. Bytes below them are told first, so that the class takes one test more.
 fn digits_from(w: &[u8], from: usize, most: usize) -> Digits
-    requires { ⌜ (from ≤ length (now w)) × (most ≤ mostDigits) ⌝ }
+    requires { ⌜ (from ≤ length (now w)) × (most ≤ mostRead) ⌝ }
     ensures { λ r. ⌜ Written (now (w .entry)) from most (r .end) (r .value) ⌝ }
 {
     let stop = bounded(w.len(), from, most);
@@ -90,15 +105,14 @@ fn digits_from(w: &[u8], from: usize, most: usize) -> Digits
 
 // 10 to the power of `places`.
 fn scale(places: usize) -> u64
-    requires { ⌜ places ≤ mostPlaces ⌝ }
-    ensures { λ r. ⌜ (r ≡ 10 ^ places) × (r ≤ 10 ^ mostPlaces) ⌝ }
+    requires { ⌜ places ≤ mostRead ⌝ }
+    ensures { λ r. ⌜ r ≡ 10 ^ places ⌝ }
 {
-    match places {
-        0 => 1,
-        1 => 10,
-        2 => 100,
-        _ => 1000,
+    let mut u: u64 = 1;
+    for _ in 0..places {
+        u = u * 10;
     }
+    u
 }
 
 // Whether a word begins with a minus.
@@ -128,7 +142,7 @@ pub fn with_sign(minus: bool, v: u64) -> i64
 
 // 10 to a power times a number, or the number over it, if that is whole.
 fn scaled_by(minus: bool, power: usize, v: u64) -> Amount
-    requires { ⌜ (power ≤ mostPlaces) × (v ≤ mostUnits) ⌝ }
+    requires { ⌜ (power ≤ mostPower) × (v ≤ mostUnits true) ⌝ }
     ensures { λ r. ⌜ r ≡ scaled minus power v ⌝ }
 {
     let u = scale(power);
@@ -143,7 +157,7 @@ fn scaled_by(minus: bool, power: usize, v: u64) -> Amount
 
 // After an `e`: an optional minus and one digit.
 fn powered_by(w: &[u8], v: u64) -> Amount
-    requires { ⌜ v ≤ mostUnits ⌝ }
+    requires { ⌜ v ≤ mostUnits true ⌝ }
     ensures { λ r. ⌜ r ≡ powered v (now (w .entry)) ⌝ }
 {
     let minus = is_negative(w);
@@ -163,7 +177,7 @@ fn powered_by(w: &[u8], v: u64) -> Amount
 
 // An exponent, from its `e` on.
 fn marked_of(w: &[u8], from: usize, loose: bool, v: u64) -> Amount
-    requires { ⌜ (from < length (now w)) × (v ≤ mostUnits) ⌝ }
+    requires { ⌜ (from < length (now w)) × (v ≤ mostUnits loose) ⌝ }
     ensures { λ r. ⌜ r ≡ exponent loose v (drop from (now (w .entry))) ⌝ }
 {
     if w[from] != b'e' {
@@ -177,7 +191,7 @@ fn marked_of(w: &[u8], from: usize, loose: bool, v: u64) -> Amount
 
 // What follows the digits: mostly nothing.
 fn exponent_of(w: &[u8], from: usize, loose: bool, v: u64) -> Amount
-    requires { ⌜ (from ≤ length (now w)) × (v ≤ mostUnits) ⌝ }
+    requires { ⌜ (from ≤ length (now w)) × (v ≤ mostUnits loose) ⌝ }
     ensures { λ r. ⌜ r ≡ exponent loose v (drop from (now (w .entry))) ⌝ }
 {
     if from == w.len() {
@@ -201,7 +215,7 @@ fn is_enough(loose: bool, n: usize, k: usize) -> bool
 
 // What follows a point.
 fn decimal_of(w: &[u8], from: usize, form: Form, n: usize, whole: u64) -> Amount
-    requires { ⌜ (from ≤ length (now w)) × ((Short form) × (whole ≤ mostWhole)) ⌝ }
+    requires { ⌜ (from ≤ length (now w)) × ((Short form) × (whole ≤ mostWhole (form .loose))) ⌝ }
     ensures { λ r. ⌜ r ≡ decimal form n whole (drop from (now (w .entry))) ⌝ }
 {
     let d = digits_from(w, from, form.places);
@@ -234,7 +248,7 @@ fn is_pointed(w: &[u8], from: usize) -> bool
 
 // What follows a whole part of n digits.
 fn fraction_of(w: &[u8], from: usize, form: Form, n: usize, whole: u64) -> Amount
-    requires { ⌜ (from ≤ length (now w)) × ((Short form) × (whole ≤ mostWhole)) ⌝ }
+    requires { ⌜ (from ≤ length (now w)) × ((Short form) × (whole ≤ mostWhole (form .loose))) ⌝ }
     ensures { λ r. ⌜ r ≡ fraction form n whole (drop from (now (w .entry))) ⌝ }
 {
     if is_pointed(w, from) {

@@ -6,14 +6,8 @@
 --   informed-made, qmdp-made             what is worked out is the model's
 --   action-in, state-in                  the action and the state of a place
 --   rows-pasted                          rows that were worked out apart, over those that stand
-use mathlib.Core.Path.{_≡_, refl, sym, _∙_, ap}
-use mathlib.Core.List.{List}
-use Prim.Native.Nat.{ℕ, _+_, _*_, _/_, _%_, _^_, _≤_, _<_}
+use Rattle.integers.proofs.Kit.{_≡_, _∙_, refl, ap, sym, List, ℕ, _≤_, _<_, _+_, _*_, _^_, _/_, _%_, arith, length, getD, paste, ℤ, pos, natAbs, _+ℤ_}
 use native.Mathlib.Nat as NatL
-use native.Mathlib.Omega.{arith}
-use lib.ListN.{length, getD}
-use lib.Seq.{paste}
-use lib.IntN.{ℤ, pos, natAbs, _+ℤ_}
 use Rattle.integers.specs.Whole.{_·_, sumTo, ceilDiv, Below, Within}
 use Rattle.integers.specs.Cells.{padded, laid, laidRows}
 use Rattle.integers.proofs.Order.{·-·}

@@ -1,14 +1,8 @@
 -- Demand 3, proved over the definitions that the contracts name. Assumes nothing.
-use mathlib.Core.Path.{_≡_, refl, _∙_, ap}
-use mathlib.Core.Bool.{true}
-use mathlib.Core.List.{List, [], _∷_}
-use Prim.Native.Nat.{ℕ, suc, _+_, _*_, _≤_, _<_}
-use native.Mathlib.Nat.{add-assoc, zero-add, add-zero}
-use native.Mathlib.Omega.{arith}
-use native.Mathlib.Numerals.{add-one}
-use lib.Dec.{leb}
-use lib.ListN.{length, drop}
-use borrow.Author.Tests.{leb-true, le-leb, lt-ltb}
+use Rattle.integers.proofs.Kit.{_≡_, _∙_, refl, ap, sym, true, List, [], _∷_, ℕ, _≤_, _<_, _+_, _*_, suc, arith, add-zero, zero-add, add-one, le-leb}
+use Rattle.integers.proofs.Kit.{leb-true, lt-ltb, leb, length, drop}
+use mathlib.Core.List.{_++_}
+use native.Mathlib.Nat.{add-assoc}
 use Rattle.integers.proofs.Searches.{and-true, and-is}
 use Rattle.tables.specs.declared.Tables.{Tables}
 use Rattle.tables.specs.declared.Verdict.{Verdict}
@@ -221,6 +215,19 @@ module _ {m : Tables} {x₀ : Cells} {t : ℕ} {L : Level} {x : Lent} (r : Reach
                 (built-shaped M S (numberIn x) v (r .stands .shaped) count weight (points .few) (points .total)));
             meets = meets-agree M S W _ agree (built-meets M S (numberIn x) v (r .stands .shaped) count weight (points .few) (points .total));
           }
+
+-- ---- a list after a list
+pub run-append : (m : Tables) (x : Lent) (ls ks : List LentLevel) → run m x (ls ++ ks) ≡ run m (run m x ls) ks
+unfolding run
+run-append m x [] ks = refl
+run-append m x (l ∷ ls) ks = run-append m (offered m x l) ls ks
+
+pub acceptances-append : (m : Tables) (x : Lent) (ls ks : List LentLevel)
+    → acceptances m x (ls ++ ks) ≡ acceptances m x ls + acceptances m (run m x ls) ks
+unfolding run acceptances
+acceptances-append m x [] ks = sym (zero-add _)
+acceptances-append m x (l ∷ ls) ks =
+    ap (λ (n : ℕ). counted (verdictOn m x l) + n) (acceptances-append m (offered m x l) ls ks) ∙ sym (add-assoc _ _ _)
 
 -- ---- a list of offers
 -- by induction over the list, each offer by `reached-step`

@@ -1,12 +1,8 @@
 -- The dough model of document 01: its table D1 to D12, on the levels that the builder makes and the certifier accepts, with D10 as document 02's Job 6 has
 -- it. The prover computes the definitions that the contracts name. Assumes nothing.
-use mathlib.Core.Path.{_≡_, refl}
-use mathlib.Core.List.{List, [], _∷_}
-use Prim.Native.Nat.{ℕ, zero, suc, _+_, _*_, _^_, _<_}
-use native.Mathlib.Omega.{arith}
-use lib.ListN.{replicate}
-use lib.IntN.{ℤ, pos, negsuc, _+ℤ_, +ℤ-idr}
-use lib.Signed.{_≤ℤ_, leZ-yes}
+use Rattle.integers.proofs.Kit.{_≡_, refl, List, [], _∷_, ℕ, _<_, _+_, _*_, suc, zero, _^_, arith, replicate, ℤ, pos, _+ℤ_, negsuc, _≤ℤ_}
+use lib.IntN.{+ℤ-idr}
+use lib.Signed.{leZ-yes}
 use Rattle.integers.specs.Whole.{_·_, sumTo, totalTo, largestTo, lesser, floorDiv, ceilDiv}
 use Rattle.integers.specs.Search.{every, firstLargest}
 use Rattle.integers.specs.Cells.{listed, laid, laidRows}
@@ -33,7 +29,7 @@ use Rattle.runs.specs.declared.Bounds.{Bounds}
 use Rattle.runs.specs.State.{openVerdict, opened, offered, totalsVerdict, totalsOf, buildVerdict, builtOf}
 
 -- T by a, s, s'; O by a, s', o; R by a, s
-dough : Tables
+unfoldable pub dough : Tables
 dough = record {
   states = 2;
   actions = 2;
@@ -48,7 +44,7 @@ mixture : ℕ → ℕ → List ℕ
 mixture x y = x ∷ y ∷ []
 
 -- slices with room for three vectors and one point
-slices : List ℕ → Cells
+unfoldable pub slices : List ℕ → Cells
 slices weights = record {
   actions = replicate 3 0;
   choices = replicate 6 0;
@@ -59,7 +55,7 @@ slices weights = record {
 }
 
 -- the informed and the QMDP rows of levels 0 to 3, written out
-rowsAt : ℕ → Rows
+unfoldable pub rowsAt : ℕ → Rows
 rowsAt zero = rows (replicate 4 (pos 0)) (replicate 4 (pos 0))
 rowsAt (suc zero) = rows (negsuc 99 ∷ negsuc 99 ∷ negsuc 999 ∷ pos 600 ∷ []) (negsuc 99 ∷ negsuc 99 ∷ negsuc 999 ∷ pos 600 ∷ [])
 rowsAt (suc (suc zero)) = rows (negsuc 49 ∷ pos 440 ∷ negsuc 1_089 ∷ pos 510 ∷ []) (pos 125 ∷ pos 440 ∷ negsuc 1_089 ∷ pos 510 ∷ [])
@@ -69,14 +65,14 @@ blank : Lent
 blank = record { state = replicate 3 0; cells = slices (replicate 2 0); rows = rows (replicate 4 (pos 1)) (replicate 4 (pos 1)) }
 
 -- level 0, and the slices lent for a level that is built at the start numbers
-fresh : Lent
+unfoldable pub fresh : Lent
 fresh = record { state = 0 ∷ 1 ∷ 0 ∷ []; cells = slices (replicate 2 0); rows = rowsAt 0 }
 
-half : Cells
+unfoldable pub half : Cells
 half = slices (50 ∷ 50 ∷ [])
 
 -- ---- the levels that are built, written out
-one : Cells
+unfoldable pub one : Cells
 one = record {
   actions = 0 ∷ 1 ∷ 0 ∷ [];
   choices = replicate 6 0;
@@ -110,7 +106,7 @@ three = record {
 level : Cells → LentLevel
 level x = record { vectors = 3; points = 1; cells = x }
 
-standing : ℕ → Cells → Lent
+unfoldable pub standing : ℕ → Cells → Lent
 standing t x = record { state = t ∷ 3 ∷ 1 ∷ []; cells = x; rows = rowsAt t }
 
 -- the built level 2 with one vector alone, of action 0 and choices 0 and 1

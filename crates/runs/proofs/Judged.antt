@@ -1,14 +1,7 @@
 -- From verdicts to facts, and back: what a standing level that holds, and an offer that is fine, are known to have. Assumes nothing.
-use mathlib.Core.Path.{_≡_, refl}
-use mathlib.Core.Bool.{Bool, true, false, not, _||_}
-use mathlib.Core.List.{List}
-use Prim.Native.Nat.{ℕ, _+_, _*_, _≤_, _<_}
-use native.Mathlib.Omega.{arith}
-use lib.Dec.{leb}
-use lib.ListN.{length}
-use lib.IntN.{ℤ, natAbs}
-use lib.Signed.{_≤ℤ_}
-use borrow.Author.Tests.{leb-true, le-leb, ltb-true, lt-ltb}
+use Rattle.integers.proofs.Kit.{_≡_, refl, true, false, Bool, _||_, List, ℕ, _≤_, _<_, _+_, _*_, arith, le-leb, leb-true, lt-ltb, ltb-true, leb}
+use Rattle.integers.proofs.Kit.{length, ℤ, natAbs, _≤ℤ_}
+use mathlib.Core.Bool.{not}
 use Rattle.integers.specs.Whole.{_·_, totalTo}
 use Rattle.integers.proofs.Parts.{is-T, leZ-is, le-true}
 use Rattle.integers.proofs.Searches.{and-true, and-is, every-at, at-every}
@@ -44,7 +37,7 @@ rows-fine : (number rows w limit : ℕ) (cell : ℕ → ℕ → ℤ) → rowsWit
 unfolding rowsWithin
 rows-fine number rows w limit cell e r l x b = leb-true _ _ (unless-fine _ _ _ (fine-at _ w (fine-at _ rows e r l) x b))
 
-rows-is : (number rows w limit : ℕ) (cell : ℕ → ℕ → ℤ) → ((r : ℕ) → r < rows → (x : ℕ) → x < w → natAbs (cell r x) ≤ limit)
+pub rows-is : (number rows w limit : ℕ) (cell : ℕ → ℕ → ℤ) → ((r : ℕ) → r < rows → (x : ℕ) → x < w → natAbs (cell r x) ≤ limit)
     → rowsWithin number rows w limit cell ≡ Fine
 unfolding rowsWithin
 rows-is number rows w limit cell h = at-fine _ rows (λ r l. at-fine _ w (λ x b. passed number r (le-leb _ _ (h r l x b))))
@@ -89,19 +82,19 @@ module _ (n points limit : ℕ) (weight : ℕ → ℕ → ℕ) (value : ℕ → 
       leb-true _ _ (only-if (totalHolds (totalTo n (weight i))) _ (unless-fine _ 11 i (fine-at _ points e i l))
       (point-is n (weight i) (weights-fine n points weight weights i l)))
 
-  values-is : ((i : ℕ) → i < points → natAbs (value i) ≤ totalTo n (weight i) * limit) → valuesWithin n points limit weight value ≡ Fine
+  pub values-is : ((i : ℕ) → i < points → natAbs (value i) ≤ totalTo n (weight i) * limit) → valuesWithin n points limit weight value ≡ Fine
   unfolding valuesWithin
   values-is h = at-fine _ points (λ i l. passed 11 i (if-so (totalHolds (totalTo n (weight i))) _ (le-leb _ _ (h i l))))
 
 -- the tests of a level by itself, in the order of the standing level's
-record Tests (M : Model) (t : ℕ) (W : Level) : Type 0 where
-  counts : countsHold (W .vectors) (W .points) ≡ true
-  actions : actionsExist (M .actions) (W .vectors) (W .action) ≡ true
-  ranges : rangesVerdict (M .states) t W ≡ Fine
-  weights : weightsVerdict (M .states) (W .points) (W .weight) ≡ Fine
+pub record Tests (M : Model) (t : ℕ) (W : Level) : Type 0 where
+  pub counts : countsHold (W .vectors) (W .points) ≡ true
+  pub actions : actionsExist (M .actions) (W .vectors) (W .action) ≡ true
+  pub ranges : rangesVerdict (M .states) t W ≡ Fine
+  pub weights : weightsVerdict (M .states) (W .points) (W .weight) ≡ Fine
 
 module _ (M : Model) (t : ℕ) (W : Level) where
-  tests-shaped : Tests M t W → Shaped M t W
+  pub tests-shaped : Tests M t W → Shaped M t W
   unfolding rangesVerdict
   tests-shaped e =
       let c = and-true _ _ (e .counts) in

@@ -1,11 +1,5 @@
 -- How much rounding costs, proved over the same definitions as demand 3. Assumes nothing.
-use mathlib.Core.Path.{_≡_, refl, sym, _∙_, ap}
-use mathlib.Core.List.{List, [], _∷_}
-use Prim.Native.Nat.{ℕ, suc, _+_, _^_, _<_}
-use native.Mathlib.Omega.{arith}
-use lib.ListN.{length}
-use lib.IntN.{ℤ, pos, _+ℤ_}
-use lib.Signed.{_≤ℤ_, _<ℤ_}
+use Rattle.integers.proofs.Kit.{_≡_, _∙_, refl, ap, sym, List, [], _∷_, ℕ, _<_, _+_, suc, _^_, arith, length, ℤ, pos, _+ℤ_, _≤ℤ_, _<ℤ_}
 use Rattle.integers.specs.Whole.{_·_, floorDiv}
 use Rattle.integers.proofs.Order.{≤-of, <-≤, ·-zero}
 use Rattle.tables.specs.declared.Tables.{Tables}

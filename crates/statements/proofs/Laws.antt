@@ -11,12 +11,12 @@ use Rattle.drafts.specs.Drafts.{rewarded}
 use Rattle.numerals.specs.Numeral.{rewardForm, signed}
 use Rattle.grammar.specs.declared.Read.{Read}
 use Rattle.grammar.specs.declared.Read.the-variants.{Value, Refused}
-use Rattle.grammar.specs.Grammar.{Answer, got, refused, _then_, choose, magnitude, minus, signedNumber}
+use Rattle.grammar.specs.Grammar.{Answer, got, refused, _then_, choose, magnitude, minus, signedNumber, unlessEnd}
 use Rattle.grammar.specs.Steps.{answerOf, Onward, Tells, Reads, Takes}
 use Rattle.grammar.proofs.Read as read-type
 use Rattle.grammar.proofs.Laws.{value-is, value-next, onward, onward-earlier, other-is}
 use Rattle.grammar.proofs.Arms.{no-word, back-onward}
-use Rattle.statements.specs.Statements.{Outcome, filled, stopped, upon, further, within, row, reward, Draft, oneStatement, unlessEnd, statements}
+use Rattle.statements.specs.Statements.{Outcome, filled, stopped, upon, further, within, row, reward, Draft, oneStatement, statements}
 use Rattle.statements.specs.Steps.{CellsFit, outcomeOf, Leaves, begin}
 use Rattle.statements.specs.Statements.{rewardBy, statementsBy}
 

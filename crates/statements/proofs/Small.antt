@@ -5,11 +5,11 @@ use Rattle.tables.specs.Limits.{one, maxReward}
 use Rattle.drafts.specs.Drafts.{stated, rewarded}
 use Rattle.drafts.proofs.Marks.{marked-all}
 use Rattle.numerals.specs.Numeral.{probabilityForm, rewardForm, signed}
-use Rattle.grammar.specs.Grammar.{Answer, got, refused, choose, key, colon, index, magnitude, minus, signedNumber}
+use Rattle.grammar.specs.Grammar.{Answer, got, refused, choose, key, colon, index, magnitude, minus, signedNumber, unlessEnd}
 use Rattle.grammar.proofs.Gives.{Gives, gives-then, number-gives, magnitude-gives}
 use Rattle.statements.specs.Statements.{Outcome, filled, stopped, upon, further, within, wholly, probability, rewardNumber, indexed, starred, row, entry}
 use Rattle.statements.specs.Statements.{table, reward, rewards, Draft, draft, transitionKey, observationKey, rewardKey, rewardStatement}
-use Rattle.statements.specs.Statements.{observationOrReward, oneStatement, unlessEnd, statements}
+use Rattle.statements.specs.Statements.{observationOrReward, oneStatement, statements}
 use Rattle.statements.specs.Statements.{entryBy, observationOrRewardBy, oneStatementBy, rewardBy, rewardStatementBy, rewardsBy, statementsBy, tableBy}
 
 -- ---- what holds of the cells that are read whole

@@ -3,12 +3,12 @@
 use Prim.Native.Nat.{ℕ, zero, suc, _+_}
 use mathlib.Core.List.{List, [], _∷_}
 use lib.IntN.{ℤ}
-use Rattle.words.specs.Words.{Words, word, end}
+use Rattle.words.specs.Words.{Words}
 use Rattle.tables.specs.Limits.{one, maxReward}
 use Rattle.drafts.specs.Drafts.{stated, rewarded}
 use Rattle.numerals.specs.declared.Form.{Form}
 use Rattle.numerals.specs.Numeral.{probabilityForm, startForm, rewardForm}
-use Rattle.grammar.specs.Grammar.{Answer, got, refused, _then_, choose, key, keys, colon, star, index, number, signedNumber}
+use Rattle.grammar.specs.Grammar.{Answer, got, refused, _then_, choose, key, keys, colon, star, index, number, signedNumber, unlessEnd}
 
 -- ---- reading into cells
 
@@ -129,10 +129,6 @@ unfoldable pub oneStatementBy : Forms → ℕ → ℕ → ℕ → Draft → Word
 oneStatementBy f m n k d ws =
     choose (key transitionKey ws) (λ ws. within (λ cells. draft cells (d .observation) (d .reward)) (tableBy f m n n (d .transition) ws))
     (observationOrRewardBy f m n k d ws)
-
-abbrev pub unlessEnd : {B : Type 0} → Words → B → B → B
-unlessEnd (end at) a b = a
-unlessEnd (word at w rest) a b = b
 
 -- any number of them, up to the end of the file; each has a word, so that one more than the file has bytes are enough
 unfoldable pub statementsBy : Forms → ℕ → ℕ → ℕ → ℕ → Draft → Words → Outcome Draft

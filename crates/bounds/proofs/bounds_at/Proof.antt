@@ -1,8 +1,5 @@
 use Rattle.bounds.proofs.Prelude.{ℕ, _+_, _*_, _<_, _≡_, _∙_, arith, needs, weightIn, ap}
-use lib.IntN.{pos}
-use lib.ListN.{getD}
-use mir.Syntax.{w64}
-use mir.Val.{toZ, ofZ}
+use Rattle.integers.proofs.Kit.{getD, pos, w64, toZ, ofZ}
 use Rattle.integers.proofs.Lists.{row-below}
 use Rattle.integers.proofs.Words.{answer}
 use Rattle.plans.specs.Level.{product}

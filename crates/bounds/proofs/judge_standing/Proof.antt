@@ -1,7 +1,6 @@
 use Rattle.bounds.proofs.Prelude.{ℕ, _≡_, sym, _∙_, true, List, needs, arith, not-true}
 use Rattle.bounds.proofs.Prelude.{not-false, ap, [], Tables, tablesIn, Lent, cells, rows, lent, standingAt, stands}
-use borrow.Author.Tests.{lt-ltb}
-use lib.Dec.{ltb}
+use Rattle.integers.proofs.Kit.{lt-ltb, ltb}
 use Rattle.tables.proofs.Refusals.{breaks, passes}
 use Rattle.levels.specs.declared.Standing.{Standing}
 use Rattle.levels.specs.Judged.{holds}

@@ -1,8 +1,5 @@
 use Rattle.bounds.proofs.Prelude.{_-_, _*_, _≤_, _≡_, sym, true, arith, needs, weightIn}
-use borrow.Author.Tests.{le-leb, lt-leb}
-use lib.Dec.{leb}
-use lib.ListN.{length}
-use mathlib.Core.Bool.{false}
+use Rattle.integers.proofs.Kit.{false, le-leb, lt-leb, leb, length}
 use Rattle.integers.specs.Whole.{totalTo}
 use Rattle.tables.specs.Limits.{maxWeight}
 use Rattle.integers.specs.Search.{every}

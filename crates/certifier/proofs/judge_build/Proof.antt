@@ -1,12 +1,5 @@
-use Prim.Native.Nat.{ℕ, _+_, _*_, _≤_, _<_}
-use mathlib.Core.Path.{_≡_, refl, sym, _∙_, ap}
-use mathlib.Core.Bool.{true}
-use mathlib.Core.List.{List, []}
-use native.Mathlib.Omega.{arith}
-use lib.Dec.{leb, ltb}
-use lib.ListN.{length}
-use borrow.Author.Needs.{needs}
-use borrow.Author.Tests.{le-leb, lt-leb, lt-ltb, le-ltb, not-true, not-false}
+use Rattle.integers.proofs.Kit.{_≡_, _∙_, refl, ap, sym, true, List, [], ℕ, _≤_, _<_, _+_, _*_, arith, needs, le-leb, lt-leb, not-false, not-true}
+use Rattle.integers.proofs.Kit.{lt-ltb, le-ltb, leb, ltb, length}
 use Rattle.integers.proofs.Searches.{and-true}
 use Rattle.tables.specs.declared.Tables.{Tables}
 use Rattle.tables.specs.declared.Verdict.{Verdict}

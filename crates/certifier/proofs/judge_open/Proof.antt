@@ -1,11 +1,4 @@
-use mathlib.Core.Path.{_≡_, sym, _∙_}
-use borrow.Author.Needs.{needs}
-use borrow.Author.Tests.{le-leb, lt-leb, not-true, not-false}
-use native.Mathlib.Nat.{mul-le-mul}
-use native.Mathlib.Omega.{arith}
-use Prim.Native.Nat.{_*_, _≤_}
-use mathlib.Core.Bool.{_&&_}
-use lib.Dec.{leb}
+use Rattle.integers.proofs.Kit.{_≡_, _∙_, sym, _&&_, _≤_, _*_, arith, mul-le-mul, needs, le-leb, lt-leb, not-false, not-true, leb}
 use Rattle.tables.specs.declared.Tables.{Tables}
 use Rattle.tables.specs.declared.Verdict.the-variants.{Fine}
 use Rattle.tables.specs.Limits.{maxStates, maxActions}

@@ -1,9 +1,4 @@
-use Prim.Native.Nat.{_*_, _≤_}
-use mathlib.Core.Path.{_∙_}
-use native.Mathlib.Nat.{mul-le-mul}
-use native.Mathlib.Omega.{arith}
-use lib.IntN.{pos}
-use borrow.Author.Needs.{needs}
+use Rattle.integers.proofs.Kit.{_∙_, _≤_, _*_, arith, mul-le-mul, needs, pos}
 use Rattle.integers.proofs.Lists.{paste-laid}
 use Rattle.tables.specs.Limits.{maxStates}
 use Rattle.plans.specs.Limits.{maxPoints}

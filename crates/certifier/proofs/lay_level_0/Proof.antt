@@ -1,11 +1,4 @@
-use Prim.Native.Nat.{ℕ, _≤_}
-use mathlib.Core.Path.{_≡_, refl, sym, _∙_}
-use mathlib.Core.List.{List}
-use native.Mathlib.Omega.{arith}
-use lib.ListN.{length, replicate, length-replicate}
-use lib.Seq.{paste}
-use lib.IntN.{pos}
-use borrow.Author.Needs.{needs}
+use Rattle.integers.proofs.Kit.{_≡_, _∙_, refl, sym, List, ℕ, _≤_, arith, needs, length, replicate, length-replicate, paste, pos}
 use Rattle.integers.specs.Cells.{laid}
 use Rattle.integers.proofs.Lists.{laid-none, laid-turn, same-laid}
 use Rattle.tables.specs.Limits.{maxStates, maxObservations}

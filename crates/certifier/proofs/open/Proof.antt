@@ -1,10 +1,4 @@
-use mathlib.Core.Path.{_≡_, sym, _∙_, ap}
-use mathlib.Core.List.{_∷_}
-use Prim.Native.Nat.{_*_, _≤_, _<_}
-use native.Mathlib.Nat.{mul-le-mul}
-use native.Mathlib.Omega.{arith}
-use lib.ListN.{length, drop}
-use borrow.Author.Needs.{needs}
+use Rattle.integers.proofs.Kit.{_≡_, _∙_, ap, sym, _∷_, _≤_, _<_, _*_, arith, mul-le-mul, needs, length, drop}
 use Rattle.tables.specs.declared.Tables.{Tables}
 use Rattle.tables.specs.declared.Verdict.the-variants.{Fine}
 use Rattle.tables.specs.Limits.{maxStates, maxActions, maxObservations}

@@ -1,5 +1,4 @@
-use mathlib.Core.Path.{_∙_, ap}
-use borrow.Author.Needs.{needs}
+use Rattle.integers.proofs.Kit.{_∙_, ap, needs}
 use Rattle.exports.specs.Calls.{refusalOf}
 use Rattle.exports.proofs.biidhaqun_build.Statement.{statement}
 use Rattle.exports.proofs.biidhaqun_build.Tie as tie

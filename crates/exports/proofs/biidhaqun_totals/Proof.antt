@@ -1,7 +1,4 @@
-use Prim.Native.Nat.{_<_, _^_}
-use mathlib.Core.Path.{_≡_, refl, sym, _∙_, ap}
-use lib.Signed.{mag}
-use borrow.Author.Needs.{needs}
+use Rattle.integers.proofs.Kit.{_≡_, _∙_, refl, ap, sym, _<_, _^_, needs, mag}
 use Rattle.integers.proofs.Words.{back}
 use Rattle.exports.specs.Calls.{totalsBy}
 use Rattle.exports.specs.declared.Totals.{Totals}

@@ -1,7 +1,4 @@
-use Prim.Native.Nat.{_<_, _^_}
-use mathlib.Core.Path.{ap}
-use lib.Signed.{mag}
-use borrow.Author.Needs.{needs}
+use Rattle.integers.proofs.Kit.{ap, _<_, _^_, needs, mag}
 use Rattle.integers.proofs.Words.{back}
 use Rattle.exports.specs.Calls.{worthBy}
 use Rattle.exports.proofs.biidhaqun_worth.Statement.{statement}

@@ -1,7 +1,4 @@
-use Prim.Native.Nat.{_*_, _≤_}
-use native.Mathlib.Nat.{mul-le-mul}
-use native.Mathlib.Omega.{arith}
-use borrow.Author.Tests.{le-leb, lt-leb}
+use Rattle.integers.proofs.Kit.{_≤_, _*_, arith, mul-le-mul, le-leb, lt-leb}
 use Rattle.tables.specs.Limits.{maxStates, maxActions, maxObservations}
 use Rattle.exports.specs.Reading.{roomVerdict}
 use Rattle.exports.proofs.judge_room.Statement.{statement}

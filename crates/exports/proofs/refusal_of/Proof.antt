@@ -1,6 +1,5 @@
-use mathlib.Core.Path.{sym, ap}
+use Rattle.integers.proofs.Kit.{ap, sym, needs}
 use Rattle.exports.specs.Calls.{refusalOf}
-use borrow.Author.Needs.{needs}
 use Rattle.exports.proofs.refusal_of.Statement.{statement}
 use Rattle.exports.proofs.refusal_of.Tie as tie
 

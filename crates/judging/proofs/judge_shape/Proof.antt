@@ -1,8 +1,6 @@
 use Rattle.judging.proofs.Prelude.{_≤_, _<_, _≡_, sym, _∙_, true, arith, needs, not-true, not-false, Tables, Verdict, Refused}
 use Rattle.judging.proofs.Prelude.{tablesIn, cells, rows, lent, counts-few}
-use mathlib.Core.Path.{ap}
-use lib.Dec.{ltb}
-use borrow.Author.Tests.{lt-ltb, le-ltb}
+use Rattle.integers.proofs.Kit.{ap, lt-ltb, le-ltb, ltb}
 use Rattle.integers.proofs.Searches.{and-is}
 use Rattle.tables.specs.Limits.{maxStates, maxObservations, maxVectors, maxLevels}
 use Rattle.tables.specs.Verdicts.{_before_, unless}

@@ -1,10 +1,6 @@
 use Rattle.judging.proofs.Prelude.{ℕ, _*_, _≤_, _≡_, sym, _∙_, Bool, true, _&&_, arith, needs, leb, le-leb, lt-leb, not-true, not-false, Tables}
 use Rattle.judging.proofs.Prelude.{tablesIn, fails, holds-on, fine, not-fine, counts-few, Fine, levelIn}
-use mathlib.Core.Path.{ap}
-use mathlib.Core.List.{List, []}
-use borrow.Author.Tests.{leb-true}
-use lib.ListN.{length, getD}
-use lib.IntN.{ℤ}
+use Rattle.integers.proofs.Kit.{ap, List, [], leb-true, length, getD, ℤ}
 use Rattle.tables.specs.Limits.{maxStates, maxActions, maxVectors, maxLevels}
 use Rattle.tables.specs.Model.{Valid}
 use Rattle.tables.specs.Storage.{modelOf}

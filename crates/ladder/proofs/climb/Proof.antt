@@ -1,10 +1,4 @@
-use mathlib.Core.Path.{_≡_, refl, _∙_}
-use mathlib.Core.List.{List}
-use Prim.Native.Nat.{ℕ, _-_, _≤_}
-use native.Mathlib.Omega.{arith}
-use borrow.Author.Needs.{needs}
-use lib.IntN.{ℤ}
-use lib.ListN.{length}
+use Rattle.integers.proofs.Kit.{_≡_, _∙_, refl, List, ℕ, _≤_, _-_, arith, needs, length, ℤ}
 use Rattle.tables.specs.Storage.{tablesIn}
 use Rattle.levels.specs.Storage.{Cells, cells, rows, lent}
 use Rattle.levels.proofs.Over.{AsLong, as-long, long-long}
@@ -174,5 +168,6 @@ climb-spec =
     (λ c. omega (arith, in-turn (of-rung (c .before)) .loop-test .taken)) loop-again (λ c. kept-loop (c .before) .0 .0)
     (λ c. kept-loop (c .before) .1 .0 .actions) (λ c. kept-loop (c .before) .1 .0 .choices) (λ c. kept-loop (c .before) .1 .0 .entries)
     (λ c. kept-loop (c .before) .1 .0 .corners) (λ c. kept-loop (c .before) .1 .0 .weights) (λ c. kept-loop (c .before) .1 .0 .values)
-    (λ c. kept-loop (c .before) .0 .1 .0) (λ c. kept-loop (c .before) .0 .1 .1) (λ c. kept-loop (c .before) .1 .1 .actions) (λ c. kept-loop (c .before) .1 .1 .choices) (λ c. kept-loop (c .before) .1 .1 .entries)
+    (λ c. kept-loop (c .before) .0 .1 .0) (λ c. kept-loop (c .before) .0 .1 .1) (λ c. kept-loop (c .before) .1 .1 .actions)
+    (λ c. kept-loop (c .before) .1 .1 .choices) (λ c. kept-loop (c .before) .1 .1 .entries)
     (λ c. kept-loop (c .before) .1 .1 .corners) (λ c. kept-loop (c .before) .1 .1 .values) (λ c. search needs))

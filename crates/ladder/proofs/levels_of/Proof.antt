@@ -1,7 +1,4 @@
-use Prim.Native.Nat.{_≤_}
-use native.Mathlib.Omega.{arith}
-use borrow.Author.Needs.{needs}
-use lib.ListN.{length, replicate}
+use Rattle.integers.proofs.Kit.{_≤_, arith, needs, length, replicate}
 use Rattle.tables.specs.Limits.{maxStates}
 use Rattle.tables.proofs.Fitting.{Long}
 use Rattle.levels.specs.Storage.{stateSize, lent}

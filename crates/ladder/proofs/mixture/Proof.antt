@@ -1,7 +1,4 @@
-use mathlib.Core.Path.{_≡_, refl, sym}
-use Prim.Native.Nat.{_-_, _≤_}
-use native.Mathlib.Omega.{arith}
-use borrow.Author.Needs.{needs}
+use Rattle.integers.proofs.Kit.{_≡_, refl, sym, _≤_, _-_, arith, needs}
 use Rattle.integers.specs.Cells.{padded}
 use Rattle.integers.proofs.Lists.{padded-none, padded-turn, padded-at}
 use Rattle.tables.specs.Limits.{maxStates}

@@ -1,7 +1,4 @@
-use mathlib.Core.Path.{refl, _∙_}
-use Prim.Native.Nat.{_+_}
-use native.Mathlib.Omega.{arith}
-use borrow.Author.Needs.{needs}
+use Rattle.integers.proofs.Kit.{_∙_, refl, _+_, arith, needs}
 use Rattle.tables.specs.Storage.{tablesIn}
 use Rattle.levels.specs.Storage.{Cells, Lent, cells, rows, lent}
 use Rattle.ladder.specs.Climb.{Climbed}

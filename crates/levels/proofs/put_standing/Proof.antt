@@ -1,9 +1,5 @@
-use Prim.Native.Nat.{ℕ, suc, _≤_}
-use mathlib.Core.Path.{_≡_, refl}
-use mathlib.Core.List.{List, [], _∷_}
-use native.Mathlib.Omega.{arith}
-use lib.ListN.{length, set, drop, length-set}
-use borrow.Author.Needs.{needs}
+use Rattle.integers.proofs.Kit.{_≡_, refl, List, [], _∷_, ℕ, _≤_, suc, arith, needs, length, drop, set}
+use lib.ListN.{length-set}
 use Rattle.levels.specs.Storage.{stateSize}
 use Rattle.levels.proofs.put_standing.Statement.{statement}
 use Rattle.levels.proofs.put_standing.Tie as tie

@@ -1,15 +1,8 @@
-use Prim.Native.Nat.{ℕ, _*_, _<_}
-use borrow.Author.Needs.{needs}
-use lib.Dec.{leb}
-use lib.ListN.{length}
-use mathlib.Core.Bool.{true}
-use mathlib.Core.List.{List, []}
-use mathlib.Core.Path.{_≡_, sym, _∙_}
+use Rattle.integers.proofs.Kit.{_≡_, _∙_, sym, true, List, [], ℕ, _<_, _*_, needs, leb-true, not-false, not-true, leb, length}
 use Rattle.tables.specs.declared.Tables.{Tables}
 use Rattle.tables.specs.Storage.{tablesIn}
 use Rattle.levels.specs.Storage.{Lent, cells, rows, lent, standingAt}
 use Rattle.checks.proofs.Roofs.{corners-fit, points-fit, values-fit}
-use borrow.Author.Tests.{not-true, not-false, leb-true}
 use Rattle.tables.specs.declared.Verdict.{Verdict}
 use Rattle.tables.specs.declared.Verdict.the-variants.{Fine, Refused}
 use Rattle.levels.specs.Judged.{holds}

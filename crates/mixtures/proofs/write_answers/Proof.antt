@@ -1,11 +1,4 @@
-use borrow.Author.Needs.{needs}
-use lib.ListN.{length}
-use mathlib.Core.List.{List}
-use mathlib.Core.Path.{_≡_, _∙_, ap}
-use native.Mathlib.Omega.{arith}
-use Prim.Native.Nat.{ℕ, _+_, _*_, _-_, _≤_, _<_, _^_}
-use mir.Syntax.{w64}
-use mir.Val.{toZ, ofZ}
+use Rattle.integers.proofs.Kit.{_≡_, _∙_, ap, List, ℕ, _≤_, _<_, _+_, _*_, _-_, _^_, arith, needs, length, w64, toZ, ofZ}
 use Rattle.integers.proofs.Words.{back-small}
 use Rattle.runs.specs.declared.Bounds.{Bounds}
 use Rattle.bounds.specs.Steps.{answerIn}
@@ -18,10 +11,12 @@ use Rattle.mixtures.proofs.write_answers.Tie as tie
 abbrev Inv-loop : tie.InvT-loop
 Inv-loop actions entries corners weights informed gains n m vectors points mixtures count verdicts₀ lower₀ upper₀ advice₀ i₀ verdicts lower upper advice i =
     (i ≤ count) × (answers verdicts lower upper advice
-    ≡ written (λ j. answerIn n m vectors points actions entries corners weights informed gains (mixtureAt n mixtures j)) i (answers verdicts₀ lower₀ upper₀ advice₀))
+    ≡ written (λ j. answerIn n m vectors points actions entries corners weights informed gains (mixtureAt n mixtures j))
+    i (answers verdicts₀ lower₀ upper₀ advice₀))
 
 abbrev μ-loop : tie.MeasureT-loop
-μ-loop actions entries corners weights informed gains n m vectors points mixtures count verdicts₀ lower₀ upper₀ advice₀ i₀ verdicts lower upper advice i = count - i
+μ-loop actions entries corners weights informed gains n m vectors points mixtures count verdicts₀ lower₀ upper₀ advice₀ i₀ verdicts lower upper advice i =
+    count - i
 
 -- from each place to the one before it
 abbrev start : tie.In-loop Inv-loop μ-loop → tie.Start Inv-loop μ-loop

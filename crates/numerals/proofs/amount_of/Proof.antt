@@ -1,25 +1,26 @@
-use Rattle.numerals.proofs.Prelude.{ℕ, _-_, _*_, _^_, _≡_, sym, ap, _∙_, arith, needs, drop, digits, value, product}
+use Rattle.numerals.proofs.Prelude.{ℕ, _-_, _*_, _^_, _≤_, _≡_, sym, ap, _∙_, arith, needs, drop, digits, value, product}
 use native.Mathlib.Decide.{decLt}
 use lib.Seq.{drop-drop}
-use Rattle.numerals.proofs.Laws.{amount-is, amount-not, written-all, digit-fraction}
+use Rattle.numerals.specs.Steps.{mostWhole}
+use Rattle.numerals.proofs.Laws.{room, digits-read, places-read, amount-is, amount-not, written-all, digit-fraction}
 use Rattle.numerals.proofs.amount_of.Statement.{statement}
 use Rattle.numerals.proofs.amount_of.Tie as tie
 
+-- the whole part is small
+small : (c : tie.After-struct-known2) → c .before .before .before .digits-from .result .value * c .before .scale .result
+    ≤ mostWhole (c .before .before .before .before .before .args .form .loose)
+small c =
+    let d = c .before .before .before .digits-from .ensures in
+    let short = c .before .before .before .before .before .pre .1 in
+    product _ _ (d .small) (omega (arith, d .few, short .few-digits)) (c .before .scale .ensures) (short .few-places)
+
 mul-fraction-of : tie.Need-mul-fraction-of
-mul-fraction-of c = omega (
-  arith,
-  product _ 4 (c .before .before .before .digits-from .ensures .small)
-      (omega (arith, c .before .before .before .digits-from .ensures .few)) (c .before .scale .ensures .1),
-)
+mul-fraction-of c = omega (arith, small c, room (c .before .before .before .before .before .args .form .loose))
 
 fraction-of-requires : tie.Need-fraction-of-requires
 fraction-of-requires c κs = (
   c .before .before .before .digits-from .ensures .low,
-  (
-    c .before .before .before .before .before .pre .1,
-    product _ 4 (c .before .before .before .digits-from .ensures .small)
-        (omega (arith, c .before .before .before .digits-from .ensures .few)) (c .before .scale .ensures .1),
-  ),
+  (c .before .before .before .before .before .pre .1, small c),
 )
 
 returns : tie.Need-returns
@@ -34,7 +35,7 @@ returns c =
           ∙ sym (amount-not (a .form) w (λ few. omega (arith, d .ensures .count, d .ensures .cut more)))
       | no none ↦
           let all = written-all (a .w .now) (d .ensures) (omega arith) in
-          let whole : d .result .value * u .result ≡ value 0 w * 10 ^ (a .form .places) = cc (all .1, u .ensures .0) in
+          let whole : d .result .value * u .result ≡ value 0 w * 10 ^ (a .form .places) = cc (all .1, u .ensures) in
           let some : d .result .end - a .from ≡ digits w = omega (arith, all .0) in
           let rest : drop (d .result .end) (a .w .now) ≡ drop (digits w) w = ap (λ (n : ℕ). drop n (a .w .now)) (all .0) ∙ sym
           (drop-drop (digits w) (a .from) (a .w .now)) in
@@ -43,4 +44,5 @@ returns c =
 
 pub amount-of-spec : {M : Type 1} → statement M
 amount-of-spec =
-    tie.close (tie.spec (λ c κs. search needs) (λ c. search needs) (λ c κs. search needs) mul-fraction-of fraction-of-requires returns)
+    tie.close (tie.spec (λ c κs. (c .before .pre .0, digits-read (c .before .pre .1))) (λ c. search needs)
+    (λ c κs. places-read (c .before .before .before .pre .1)) mul-fraction-of fraction-of-requires returns)

@@ -1,12 +1,12 @@
-use Rattle.numerals.proofs.Prelude.{ℕ, _+_, _-_, _*_, _^_, _≤_, _≡_, sym, ap, _∙_, arith, needs, drop, digits, value, product}
+use Rattle.numerals.proofs.Prelude.{ℕ, _+_, _-_, _*_, _^_, _≤_, _<_, _≡_, sym, ap, _∙_, arith, needs, drop, digits, value}
 use mathlib.Core.Bool.{true, false, true≢false}
 use mathlib.Core.List.{List}
 use native.Mathlib.Decide.{decLt}
 use borrow.Author.Tests.{not-true, not-false}
 use lib.Seq.{drop-drop}
 use Rattle.numerals.specs.Numeral.{enough, exponent}
-use Rattle.numerals.specs.Steps.{Written}
-use Rattle.numerals.proofs.Laws.{decimal-is, decimal-not, written-all, digit-exponent}
+use Rattle.numerals.specs.Steps.{mostPlaces, mostUnits, Written}
+use Rattle.numerals.proofs.Laws.{filled-up, room, places-read, decimal-is, decimal-not, written-all, digit-exponent}
 use Rattle.numerals.proofs.decimal_of.Statement.{statement}
 use Rattle.numerals.proofs.decimal_of.Tie as tie
 
@@ -28,10 +28,15 @@ returns c =
 
 -- what is read of the fraction is small
 small : (c : tie.After-struct-known3)
-    → c .before .before .before .before .before .before .digits-from .result .value * c .before .scale .result ≤ 10 ^ 3 * 10 ^ 3
+    → c .before .before .before .before .before .before .digits-from .result .value * c .before .scale .result
+    ≤ 10 ^ mostPlaces (c .before .before .before .before .before .before .before .before .args .form .loose)
 small c =
-    product _ 3 (c .before .before .before .before .before .before .digits-from .ensures .small)
-    (omega (arith, c .before .before .before .before .before .before .digits-from .ensures .few)) (c .before .scale .ensures .1)
+    filled-up _ _ (c .before .before .before .before .before .before .digits-from .ensures .small) (c .before .scale .ensures)
+    (omega (arith, c .before .before .before .before .before .before .digits-from .ensures .few))
+    (c .before .before .before .before .before .before .before .before .pre .1 .0 .few-places)
+
+roomy : (c : tie.After-struct-known3) → mostUnits (c .before .before .before .before .before .before .before .before .args .form .loose) < 2 ^ 63
+roomy c = room (c .before .before .before .before .before .before .before .before .args .form .loose)
 
 returns-2 : tie.Need-returns-2
 returns-2 c =
@@ -47,7 +52,7 @@ returns-2 c =
       | no none ↦
           let all = written-all (a .w .now) (d .ensures) (omega arith) in
           let k : d .result .end - a .from ≡ digits w = omega (arith, all .0) in
-          let e : u .result ≡ 10 ^ (a .form .places - digits w) = rw k at (u .ensures .0) in
+          let e : u .result ≡ 10 ^ (a .form .places - digits w) = rw k at (u .ensures) in
           let worth : v ≡ a .whole + value 0 w * 10 ^ (a .form .places - digits w) = cc (all .1, e) in
           let rest : drop (d .result .end) (a .w .now) ≡ drop (digits w) w = ap (λ (n : ℕ). drop n (a .w .now)) (all .0) ∙ sym
           (drop-drop (digits w) (a .from) (a .w .now)) in
@@ -60,7 +65,8 @@ returns-2 c =
 
 pub decimal-of-spec : {M : Type 1} → statement M
 decimal-of-spec =
-    tie.close (tie.spec (λ c κs. search needs) (λ c. search needs) (λ c κs. search needs) returns
-    (λ c. omega (arith, c .before .before .before .before .digits-from .ensures .few)) (λ c κs. search needs)
-    (λ c. omega (arith, small c)) (λ c. omega (arith, small c))
+    tie.close (tie.spec (λ c κs. (c .before .pre .0, places-read (c .before .pre .1 .0))) (λ c. search needs) (λ c κs. search needs) returns
+    (λ c. omega (arith, c .before .before .before .before .digits-from .ensures .few))
+    (λ c κs. omega (arith, places-read (c .before .before .before .before .before .before .pre .1 .0)))
+    (λ c. omega (arith, small c, roomy c)) (λ c. omega (arith, small c, roomy c))
     (λ c κs. (c .before .before .before .before .before .before .digits-from .ensures .low, omega (arith, small c))) returns-2)

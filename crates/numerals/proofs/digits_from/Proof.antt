@@ -7,7 +7,7 @@ use lib.ListN.{length, getD}
 use Rattle.words.specs.declared.Class.{Class}
 use Rattle.words.proofs.Keys.{by-keys}
 use Rattle.numerals.specs.Numeral.{isDigit}
-use Rattle.numerals.specs.Steps.{mostDigits, Written}
+use Rattle.numerals.specs.Steps.{mostRead, Written}
 use Rattle.numerals.proofs.Laws.{low-byte, digits-end, digits-stop, turn}
 use Rattle.numerals.proofs.digits_from.Statement.{statement}
 use Rattle.numerals.proofs.digits_from.Tie as tie
@@ -15,12 +15,12 @@ use Rattle.numerals.proofs.digits_from.Tie as tie
 grown : (n v d : ℕ) → v < 10 ^ n → d ≤ 9 → v * 10 + d < 10 ^ suc n
 grown n v d h k = rw pow-suc (omega arith)
 
-small : (n v : ℕ) → v < 10 ^ n → n ≤ mostDigits → v < 10 ^ mostDigits
-small n v h k = omega (arith, pow-le-pow-right {n = 10} (omega arith) {i = n} {j = mostDigits} k)
+small : (n v : ℕ) → v < 10 ^ n → n ≤ mostRead → v < 10 ^ mostRead
+small n v h k = omega (arith, pow-le-pow-right {n = 10} (omega arith) {i = n} {j = mostRead} k)
 
 -- v is what the digits up to `at` write, of those before `stop`
 record Reading (w : List ℕ) (from most stop v at : ℕ) : Type 0 where
-  bound : (stop ≤ length w) × ((stop ≤ from + most) × (most ≤ mostDigits))
+  bound : (stop ≤ length w) × ((stop ≤ from + most) × (most ≤ mostRead))
   cut : stop < length w → stop ≡ from + most
   up : from ≤ at
   low : at ≤ stop
@@ -55,7 +55,7 @@ module _ {w : List ℕ} {from most stop v at : ℕ} (r : Reading w from most sto
         | no n ↦ absurd (omega (arith, r .bound, digits-end w at (omega (arith, r .bound))))
       ]
 
-  under : v < 10 ^ mostDigits
+  under : v < 10 ^ mostRead
   under = small (at - from) v (r .few) (omega (arith, r .low, r .bound))
 
 loop-holds : tie.Need-loop-holds Inv-loop μ-loop

@@ -1,10 +1,11 @@
-use Rattle.numerals.proofs.Prelude.{ℕ, _+_, _-_, _≡_, sym, ap, _∙_, arith, needs, drop}
-use mathlib.Core.Bool.{true≢false}
+use Rattle.numerals.proofs.Prelude.{ℕ, _+_, _-_, _≤_, _≡_, sym, ap, subst, _∙_, arith, needs, drop}
+use mathlib.Core.Bool.{Bool, true, true≢false}
 use mathlib.Core.List.{List}
 use borrow.Author.Tests.{not-true, not-false}
 use lib.ListN.{length, take, length-drop}
 use lib.Seq.{take-all}
 use Rattle.numerals.specs.Numeral.{powered}
+use Rattle.numerals.specs.Steps.{mostUnits}
 use Rattle.numerals.proofs.Laws.{exponent-is, exponent-not}
 use Rattle.numerals.proofs.marked_of.Statement.{statement}
 use Rattle.numerals.proofs.marked_of.Tie as tie
@@ -22,6 +23,13 @@ returns-2 c =
     let a = c .before .before .before .before .args in
     sym (exponent-not (a .loose) (a .v) (a .w .now) (a .from) (omega arith) (λ l e. true≢false (sym l ∙ not-true _ (c .if2 .taken))))
 
+-- only a loose form has an exponent
+powered-by-requires : tie.Need-powered-by-requires
+powered-by-requires c κs =
+    let a = c .before .before .before .before .before .args in
+    let loose : a .loose ≡ true = not-false _ (c .before .if2 .left) in
+    subst (λ (t : Bool). a .v ≤ mostUnits t) loose (c .before .before .before .before .before .pre .1)
+
 returns-3 : tie.Need-returns-3
 returns-3 c =
     let a = c .before .before .before .before .before .before .args in
@@ -32,4 +40,4 @@ returns-3 c =
 pub marked-of-spec : {M : Type 1} → statement M
 marked-of-spec =
     tie.close (tie.spec (λ c. search needs) returns returns-2 (λ c. search needs)
-    (λ c. search needs) (λ c. search needs) (λ c. search needs) (λ c κs. search needs) returns-3)
+    (λ c. search needs) (λ c. search needs) (λ c. search needs) powered-by-requires returns-3)

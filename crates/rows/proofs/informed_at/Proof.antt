@@ -1,6 +1,5 @@
 use Rattle.rows.proofs.Prelude.{_≡_, sym, _∙_, ap, arith, w64, toZ, ofZ, answer}
-use lib.Dec.{lit<}
-use lib.IntN.{ℤ}
+use Rattle.integers.proofs.Kit.{lit<, ℤ}
 use Rattle.integers.specs.Whole.{_·_, sumTo, ceilDiv}
 use Rattle.integers.proofs.Lists.{padded-length}
 use Rattle.tables.specs.Limits.{maxStates, K}

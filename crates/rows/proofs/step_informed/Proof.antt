@@ -1,7 +1,5 @@
 use Rattle.rows.proofs.Prelude.{ℕ, _*_, _/_, _%_, _-_, _<_, _≤_, _≡_, sym, arith, pos, answer}
-use mathlib.Core.List.{List}
-use lib.ListN.{length}
-use lib.IntN.{ℤ}
+use Rattle.integers.proofs.Kit.{List, length, ℤ}
 use Rattle.integers.specs.Cells.{laid, laidRows}
 use Rattle.integers.proofs.Lists.{laid-long, laid-none, laid-turn}
 use Rattle.tables.specs.declared.Counts.{Counts}

@@ -1,8 +1,5 @@
 use Rattle.rows.proofs.Prelude.{ℕ, _*_, _/_, _%_, _-_, _<_, _≤_, _≡_, sym, _∙_, ap, arith, pos, answer}
-use mathlib.Core.List.{List, []}
-use lib.Dec.{lit<}
-use lib.ListN.{length}
-use lib.IntN.{ℤ}
+use Rattle.integers.proofs.Kit.{List, [], lit<, length, ℤ}
 use Rattle.integers.specs.Whole.{ceilDiv}
 use Rattle.integers.specs.Cells.{laid, laidRows}
 use Rattle.integers.proofs.Lists.{laid-long, laid-none, laid-turn, padded-length}

@@ -1,6 +1,5 @@
 use Rattle.levels.proofs.Prelude.{arith}
-use native.Mathlib.Nat.{mul-le-mul}
-use borrow.Author.Tests.{le-leb, lt-leb}
+use Rattle.integers.proofs.Kit.{mul-le-mul, le-leb, lt-leb}
 use Rattle.levels.proofs.shape.complete.Statement.{statement}
 use Rattle.levels.proofs.shape.complete.Tie as tie
 

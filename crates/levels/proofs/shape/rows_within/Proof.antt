@@ -1,9 +1,7 @@
 use Rattle.levels.proofs.Prelude.{needs, ℕ, _+_, _*_, _≤_, _-_, _≡_, refl, sym, _∙_, arith, List, length, getD, ℤ, pos, row-stored, rows-stored, _<_}
 use Rattle.levels.proofs.Prelude.{back, Verdict, Fine}
 use Rattle.levels.proofs.Prelude.{unless, firstOf, first-none, first-more, first-here, passed, failed}
-use borrow.Author.Tests.{not-true, not-false}
-use lib.Dec.{leb}
-use lib.IntN.{natAbs}
+use Rattle.integers.proofs.Kit.{not-false, not-true, leb, natAbs}
 use Rattle.levels.specs.Judged.{rowsWithin}
 use Rattle.levels.proofs.shape.rows_within.Statement.{statement}
 use Rattle.levels.proofs.shape.rows_within.Tie as tie

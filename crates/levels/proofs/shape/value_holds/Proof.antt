@@ -1,8 +1,5 @@
 use Rattle.levels.proofs.Prelude.{_*_, _≤_, _≡_, sym, _∙_, arith, needs, true}
-use borrow.Author.Tests.{not-true, not-false, leb-true}
-use native.Mathlib.Nat.{mul-le-mul}
-use lib.Dec.{leb}
-use mir.Facts.{toZ-ofZ}
+use Rattle.integers.proofs.Kit.{mul-le-mul, leb-true, not-false, not-true, leb, toZ-ofZ}
 use Rattle.integers.proofs.Searches.{and-true}
 use Rattle.tables.specs.Limits.{maxEntry}
 use Rattle.plans.specs.Limits.{maxTotal}

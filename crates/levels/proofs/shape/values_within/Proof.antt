@@ -1,7 +1,6 @@
 use Rattle.levels.proofs.Prelude.{ℕ, _+_, _*_, _≤_, _-_, _≡_, sym, _∙_, arith, List, length, getD, totalTo, row-below, Verdict, Fine, unless, firstOf}
 use Rattle.levels.proofs.Prelude.{first-none, first-more, first-here, passed, failed, ℤ, pos, back, needs}
-use mathlib.Core.Path.{ap}
-use borrow.Author.Tests.{not-true, not-false}
+use Rattle.integers.proofs.Kit.{ap, not-false, not-true}
 use Rattle.levels.specs.Storage.{pointIn}
 use Rattle.levels.specs.Judged.{valueHolds, valuesWithin}
 use Rattle.levels.proofs.shape.values_within.Statement.{statement}

@@ -1,9 +1,6 @@
 use Rattle.levels.proofs.Prelude.{needs, ℕ, _+_, _≤_, _-_, _≡_, sym, _∙_, arith, true, ℤ, w64, toZ, answer}
 use Rattle.levels.proofs.Prelude.{ofZ, product}
-use mathlib.Core.Path.{ap}
-use mathlib.Core.Logic.{⊎-elim}
-use mathlib.Core.Bool.{false}
-use lib.Signed.{ltZ}
+use Rattle.integers.proofs.Kit.{ap, false, ⊎-elim, ltZ}
 use Rattle.integers.specs.Search.{firstLargest}
 use Rattle.integers.proofs.Searches.{largest-first, largest-later, largest-same}
 use Rattle.levels.proofs.Products.{worth, from-start, here}

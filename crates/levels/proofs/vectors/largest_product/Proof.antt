@@ -1,6 +1,5 @@
 use Rattle.levels.proofs.Prelude.{needs, _≤_, _-_, _≡_, _∙_, arith, w64, toZ, ofZ, answer}
-use mathlib.Core.Path.{ap}
-use mathlib.Core.Logic.{⊎-elim}
+use Rattle.integers.proofs.Kit.{ap, ⊎-elim}
 use Rattle.plans.specs.Rows.{highest}
 use Rattle.plans.proofs.Rows.{highest-first, highest-later, highest-same}
 use Rattle.levels.proofs.Products.{worth, from-start, here}

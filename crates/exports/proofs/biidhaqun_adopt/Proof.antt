@@ -1,0 +1,17 @@
+use Rattle.integers.proofs.Kit.{_∙_, ap, needs}
+use Rattle.solved.specs.declared.Adopted.{Adopted}
+use Rattle.exports.specs.Calls.{adoptionBy}
+use Rattle.exports.proofs.biidhaqun_adopt.Statement.{statement}
+use Rattle.exports.proofs.biidhaqun_adopt.Tie as tie
+
+returns : tie.Need-returns
+returns c =
+    let a = c .before .before .before .before .before .before .before .before .adopt .ensures in (
+      λ choices. rw (c .refusal-of .ensures) (ap adoptionBy (a .0 choices)),
+      (a .1 .0, λ choices fine. a .1 .1 choices (rw fine at (ap (λ (r : Adopted). r .verdict) (a .0 choices)))),
+    )
+
+pub biidhaqun-adopt-spec : {M : Type 1} → statement M
+biidhaqun-adopt-spec =
+    tie.close (tie.spec (λ c κs. search needs) (λ c κs. search needs) (λ c. search needs) (λ c. search needs) (λ c. search needs) (λ c. search needs)
+    (λ c. search needs) returns)

@@ -1,0 +1,19 @@
+use Rattle.integers.proofs.Kit.{_∙_, ap, needs}
+use Rattle.replay.specs.declared.Replayed.{Replayed}
+use Rattle.replay.specs.Replay.{answered}
+use Rattle.exports.specs.Calls.{replayBy}
+use Rattle.exports.proofs.biidhaqun_replay.Statement.{statement}
+use Rattle.exports.proofs.biidhaqun_replay.Tie as tie
+
+returns : tie.Need-returns
+unfolding answered
+returns c =
+    let a = c .before .before .before .before .before .before .before .before .before .before .before .before .before .before .replay .ensures in (
+      rw (c .refusal-of .ensures) (ap replayBy (a .0)),
+      (a .1 .0, λ x₀ ls o e fine. a .1 .1 x₀ ls o e (rw fine at (ap (λ (r : Replayed). r .verdict) (a .0)))),
+    )
+
+pub biidhaqun-replay-spec : {M : Type 1} → statement M
+biidhaqun-replay-spec =
+    tie.close (tie.spec (λ c κs. search needs) (λ c κs. search needs) (λ c. search needs) (λ c. search needs) (λ c. search needs) (λ c. search needs)
+    (λ c. search needs) (λ c. search needs) (λ c. search needs) (λ c. search needs) (λ c. search needs) returns)

@@ -1,0 +1,2 @@
+-- Laws of a list of offers.
+pub mod Runs

@@ -1,0 +1,108 @@
+use Rattle.integers.proofs.Kit.{_≡_, _≤_, _<_, _-_, _^_, arith, needs}
+use Rattle.tables.specs.Storage.{tablesIn}
+use Rattle.levels.specs.Storage.{Lent, cells, rows, lent}
+use Rattle.replay.specs.Replay.{packed}
+use Rattle.replay.proofs.Runs.{packs-less, SameLengths, same-lengths, longer, Running, counted-few, running-none, running-more}
+use Rattle.replay.proofs.offer_all.Statement.{statement}
+use Rattle.replay.proofs.offer_all.Tie as tie
+
+abbrev Inv-loop : tie.InvT-loop
+Inv-loop transition observation reward c state₀ actions₀ choices₀ entries₀ corners₀ weights₀ values₀ informed₀ qmdp₀ count v p vectors points newactions
+    newchoices newentries newcorners newweights newvalues accepted₀ i₀ state actions choices entries corners weights values informed qmdp accepted i =
+    let x₀ = lent state₀ (cells actions₀ choices₀ entries₀ corners₀ weights₀ values₀) (rows informed₀ qmdp₀) in
+    let x = lent state (cells actions choices entries corners weights values) (rows informed qmdp) in
+    (i ≤ count) × (SameLengths x₀ x × Running (tablesIn c transition observation reward)
+    (packed v p vectors points (cells newactions newchoices newentries newcorners newweights newvalues)) x₀ i x accepted)
+
+abbrev μ-loop : tie.MeasureT-loop
+μ-loop transition observation reward c state₀ actions₀ choices₀ entries₀ corners₀ weights₀ values₀ informed₀ qmdp₀ count v p vectors points newactions
+    newchoices newentries newcorners newweights newvalues accepted₀ i₀ state actions choices entries corners weights values informed qmdp accepted i =
+    count - i
+
+-- from each place to the one before it
+abbrev start : tie.At-loop Inv-loop μ-loop → tie.Start Inv-loop μ-loop
+start c = c .before .before .before .before .before .before .before .before .before .before .before .before
+
+abbrev in-turn : tie.After-offer-block Inv-loop μ-loop → tie.In-loop Inv-loop μ-loop
+in-turn c = c .before .before .before .before .before .before .before .before .before .before
+
+abbrev of-offer : tie.After-qmdp Inv-loop μ-loop → tie.After-offer-block Inv-loop μ-loop
+of-offer c = c .before .before .before .before .before .before .before .before .before .before .before .before .before
+
+-- the certifier as it came, at the loop, and after a turn
+abbrev came : tie.Start Inv-loop μ-loop → Lent
+came s =
+    let a = s .args in
+    lent (a .state .now) (cells (a .actions .now) (a .choices .now) (a .entries .now) (a .corners .now) (a .weights .now) (a .values .now))
+    (rows (a .informed .now) (a .qmdp .now))
+
+abbrev looped : tie.At-loop Inv-loop μ-loop → Lent
+looped c =
+    let l = c .loop in
+    lent (l .state) (cells (l .actions) (l .choices) (l .entries) (l .corners) (l .weights) (l .values)) (rows (l .informed) (l .qmdp))
+
+abbrev turned : tie.After-offer-block Inv-loop μ-loop → Lent
+turned c =
+    let l = c .offer-block .last .1 .1 .1 .1 in
+    lent (l .0) (cells (l .1 .0) (l .1 .1 .0) (l .1 .1 .1 .0) (l .1 .1 .1 .1 .0) (l .1 .1 .1 .1 .1 .0) (l .1 .1 .1 .1 .1 .1 .0))
+    (rows (l .1 .1 .1 .1 .1 .1 .1 .0) (l .1 .1 .1 .1 .1 .1 .1 .1 .0))
+
+-- a turn leaves the lengths
+turn-long : (c : tie.After-offer-block Inv-loop μ-loop) → SameLengths (looped (in-turn c .before)) (turned c)
+turn-long c =
+    let k = c .offer-block .kept .1 .1 .1 .1 in
+    record {
+      state = k .0;
+      cells = record {
+        actions = k .1 .0;
+        choices = k .1 .1 .0;
+        entries = k .1 .1 .1 .0;
+        corners = k .1 .1 .1 .1 .0;
+        weights = k .1 .1 .1 .1 .1 .0;
+        values = k .1 .1 .1 .1 .1 .1 .0;
+      };
+      informed = k .1 .1 .1 .1 .1 .1 .1 .0;
+      qmdp = k .1 .1 .1 .1 .1 .1 .1 .1 .0;
+    }
+
+loop-holds : tie.Need-loop-holds Inv-loop μ-loop
+loop-holds c = (omega arith, (same-lengths _, running-none _ _ _))
+
+offer-block-requires : tie.Need-offer-block-requires Inv-loop μ-loop
+offer-block-requires c κs =
+    let t = c .before .before .before .before .before .before .before .before .before in
+    packs-less (t .loop-test .taken) (start (t .before) .pre)
+
+-- the turn is one of a count that fits
+few-left : (c : tie.In-loop Inv-loop μ-loop) → (c .before .loop .i < start (c .before) .args .count) × (start (c .before) .args .count < 2 ^ 64)
+few-left c = (c .loop-test .taken, omega (arith, start (c .before) .fits .count))
+
+-- no more are accepted than offered
+add-accepted : tie.Need-add-accepted Inv-loop μ-loop
+add-accepted c =
+    let o = of-offer (c .before) in
+    let t = in-turn o in
+    omega (arith, t .before .loop .inv .1 .1 .few, few-left t, c .counted-of .ensures, counted-few (o .offer-block .result))
+
+loop-again : tie.Need-loop-again Inv-loop μ-loop
+loop-again c =
+    let o = of-offer (c .before) in
+    let t = in-turn o in
+    let i = t .before .loop .inv .1 in (
+      omega (arith, few-left t),
+      (longer (i .0) (turn-long o), running-more {z = turned o} (i .1) (o .offer-block .ensures .0) (o .offer-block .ensures .1) (c .counted-of .ensures)),
+    )
+
+returns : tie.Need-returns Inv-loop μ-loop
+returns c =
+    let l = c .before .loop in
+    let e : l .i ≡ start (c .before) .args .count = omega (arith, c .loop-test .left, l .inv .0) in
+    (rw e at (l .inv .1 .1 .accepted-is), rw e at (l .inv .1 .1 .left-is))
+
+pub offer-all-spec : {M : Type 1} → statement M
+offer-all-spec =
+    tie.close (tie.spec Inv-loop μ-loop loop-holds offer-block-requires (λ c κs. search needs) add-accepted
+    (λ c. omega (arith, few-left (in-turn (of-offer (c .before))))) (λ c. omega (arith, few-left (in-turn (of-offer (c .before))))) loop-again
+    (λ c. c .before .loop .inv .1 .0 .state) (λ c. c .before .loop .inv .1 .0 .cells .actions) (λ c. c .before .loop .inv .1 .0 .cells .choices)
+    (λ c. c .before .loop .inv .1 .0 .cells .entries) (λ c. c .before .loop .inv .1 .0 .cells .corners) (λ c. c .before .loop .inv .1 .0 .cells .weights)
+    (λ c. c .before .loop .inv .1 .0 .cells .values) (λ c. c .before .loop .inv .1 .0 .informed) (λ c. c .before .loop .inv .1 .0 .qmdp) returns)

@@ -1,0 +1,3 @@
+-- A list of offers in slices.
+pub mod Replay
+pub mod Steps

@@ -1,0 +1,51 @@
+use Rattle.solved.proofs.Prelude.{arith, sym, ap, _∙_, ℤ, getD, pos, padded-cong, padded-length, maxStates}
+use Rattle.integers.specs.Whole.{lesser}
+use Rattle.sums.proofs.Regroup.{transitions-fit, observations-fit, rewards-fit}
+use Rattle.solved.proofs.Vectors.{chosen-fit, foreseen-within, backed-is}
+use Rattle.solved.proofs.entries_of.Statement.{statement}
+use Rattle.solved.proofs.entries_of.Tie as tie
+
+foreseen-requires : tie.Need-foreseen-requires
+foreseen-requires c κs =
+    let a = c .before .before .before .args in
+    let p = c .before .before .before .pre in
+    let v = p .0 .valid in (
+      (v .few-states, (v .few-observations, omega (arith, v .few-actions, p .1 .0 .0))),
+      (
+        observations-fit (a .c) (a .transition .now) (a .observation .now) (a .reward .now) v (p .0 .stored) (a .a .0) (p .1 .0 .0),
+        chosen-fit (p .0) (a .chosen .now) (p .1 .0 .1) (p .1 .1),
+      ),
+    )
+
+foreseen-long : tie.Need-slice-aggregate-rounded
+foreseen-long c =
+    sym (rw (c .before .foreseen .ensures) (padded-length (pos 0) maxStates _ _ (c .before .before .before .before .before .pre .0 .valid .few-states)))
+
+rounded-requires : tie.Need-rounded-requires
+rounded-requires c κs =
+    let a = c .before .before .before .before .before .args in
+    let p = c .before .before .before .before .before .pre in
+    let v = p .0 .valid in (
+      (v .few-states, (omega (arith, v .few-actions, p .1 .0 .0), v .discount-limit)),
+      (
+        transitions-fit (a .c) (a .transition .now) (a .observation .now) (a .reward .now) v (p .0 .stored) (a .a .0) (p .1 .0 .0),
+        (
+          rewards-fit (a .c) (a .transition .now) (a .observation .now) (a .reward .now) v (p .0 .stored) (a .a .0) (p .1 .0 .0),
+          foreseen-within (p .0) (a .chosen .now) (p .1 .0 .1) (p .1 .1) (a .a .0) (p .1 .0 .0) (c .before .foreseen .ensures),
+        ),
+      ),
+    )
+
+lesser-each-requires : tie.Need-lesser-each-requires
+lesser-each-requires c κs = c .before .before .before .before .before .before .pre .0 .valid .few-states
+
+returns : tie.Need-returns
+returns c =
+    let a = c .before .before .before .before .before .before .before .args in
+    c .lesser-each .ensures
+    ∙ padded-cong (pos 0) maxStates (a .c .states) _ _ (λ s l. ap (λ (z : ℤ). lesser (getD (a .ticks) s (pos 0)) z)
+    (backed-is (a .c) (a .transition .now) (a .observation .now) (a .reward .now) (a .entries .now) (a .standing) (a .chosen .now) (a .a .0)
+    (c .before .before .before .foreseen .ensures) (c .before .rounded .ensures) s l))
+
+pub entries-of-spec : {M : Type 1} → statement M
+entries-of-spec = tie.close (tie.spec foreseen-requires foreseen-long rounded-requires lesser-each-requires returns)

@@ -1,0 +1,31 @@
+use Rattle.solved.proofs.Prelude.{ap, _∙_, padded-cong, maxObservations}
+use Rattle.solver.proofs.Files.{both-on}
+use Rattle.solved.specs.Solved.{chosenOver}
+use Rattle.solved.proofs.said_at.Statement.{statement}
+use Rattle.solved.proofs.said_at.Tie as tie
+
+alpha-at-requires : tie.Need-alpha-at-requires
+alpha-at-requires c κs = let p = c .before .before .pre in (p .1 .1 .vectors-stand .inside, p .0 .0)
+
+node-at-requires : tie.Need-node-at-requires
+node-at-requires c κs = let p = c .before .before .before .pre in (p .1 .1 .nodes-stand .inside, p .0 .1)
+
+choices-of-requires : tie.Need-choices-of-requires
+choices-of-requires c κs = c .before .before .before .before .before .before .pre .0 .1
+
+returns : tie.Need-returns
+returns c =
+    let a = c .before .before .before .before .before .before .before .args in
+    let p = c .before .before .before .before .before .before .before .pre in
+    let x = c .before .before .before .before .alpha-at in
+    let y = c .before .before .before .node-at in
+    let t = both-on (a .n) (a .k) (a .alpha .now) (a .graph .now) (p .1 .1) (p .1 .0) (x .result) (y .result) (x .ensures) (y .ensures) in
+    record {
+      action = t .action;
+      ticks = t .ticks;
+      chosen = c .choices-of .ensures ∙ padded-cong 0 maxObservations (a .k) _ _ (λ o l. ap (chosenOver (a .t)) (t .next o l));
+      onward = t .onward;
+    }
+
+pub said-at-spec : {M : Type 1} → statement M
+said-at-spec = tie.close (tie.spec alpha-at-requires node-at-requires choices-of-requires returns)

@@ -1,0 +1,4 @@
+-- Levels from a solver's files.
+pub mod Solved
+pub mod Claim
+pub mod Steps

@@ -1,0 +1,143 @@
+-- What a solver's two files are read as: an alpha file, of vectors with n entries, and a policy graph file, of nodes with a next node for each of k
+-- observations. A word that does not fit, or is missing, gets 19; files that differ in the number of vectors or in an action get 20.
+use Prim.Native.Nat.{ℕ, zero, suc, _+_, _-_}
+use mathlib.Core.Bool.{Bool, _&&_}
+use mathlib.Core.List.{List, [], _∷_, _++_}
+use lib.Dec.{eqb}
+use lib.ListN.{length, getD}
+use lib.IntN.{ℤ, pos}
+use Rattle.integers.specs.Whole.{floorDiv}
+use Rattle.integers.specs.Search.{every}
+use Rattle.tables.specs.declared.Verdict.{Verdict}
+use Rattle.tables.specs.declared.Verdict.the-variants.{Fine, Refused}
+use Rattle.tables.specs.Verdicts.{_before_, unless}
+use Rattle.words.specs.Words.{Words, wordsIn, between}
+use Rattle.numerals.specs.Numeral.{countForm, decimalForm, nodeForm}
+use Rattle.grammar.specs.Grammar.{Answer, got, refused, _then_, choose, unlessEnd, number, signedNumber, key}
+use Rattle.solver.specs.declared.Judged.{Judged}
+
+-- the most bytes of a file
+abbrev pub maxFile : ℕ
+maxFile = 32_768
+
+-- ---- one word
+
+-- an action, in one or two digits; that it exists is tested later
+abbrev pub mostAction : ℕ
+mostAction = 99
+
+unfoldable pub action : Words → Answer ℕ
+action = number countForm 0 mostAction
+
+-- decimals are in units of reward, are read in units of 10 ^ -12, and have at most six digits before the point
+abbrev pub mostDecimal : ℕ
+mostDecimal = 1_000_000_000_000_000_000
+
+-- units of 10 ^ -12 in a tick, which is a hundredth
+abbrev pub perTick : ℕ
+perTick = 10_000_000_000
+
+-- rounded down to ticks, towards minus infinity
+unfoldable pub decimal : Words → Answer ℤ
+decimal ws = signedNumber decimalForm mostDecimal ws then λ z ws. got (floorDiv z perTick) ws
+
+-- "-"
+abbrev pub hyphen : List ℕ
+hyphen = 45 ∷ []
+
+-- what a hyphen is read as: no node has this number, in one to three digits
+abbrev pub noNode : ℕ
+noNode = 1_000
+
+-- a next node by its number, or a hyphen
+unfoldable pub nextNode : Words → Answer ℕ
+nextNode ws = choose (key hyphen ws) (λ ws. got noNode ws) (number nodeForm 0 (noNode - 1) ws)
+
+-- ---- a vector, a node
+
+-- so many of one kind after each other
+unfoldable pub several : {A : Type 0} → (Words → Answer A) → ℕ → Words → Answer (List A)
+several one zero ws = got [] ws
+several one (suc count) ws = several one count ws then λ xs ws. one ws then λ x ws. got (xs ++ (x ∷ [])) ws
+
+pub record Alpha : Type 0 where
+  pub action : ℕ
+  pub ticks : List ℤ
+
+pub record Node : Type 0 where
+  pub action : ℕ
+  pub next : List ℕ
+
+-- an action and n decimals
+unfoldable pub alpha : ℕ → Words → Answer Alpha
+alpha n ws = action ws then λ a ws. several decimal n ws then λ ts ws. got (record { action = a; ticks = ts }) ws
+
+-- node i: its number, its action and k next nodes
+unfoldable pub node : ℕ → ℕ → Words → Answer Node
+node k i ws = number nodeForm i i ws then λ _ ws. action ws then λ a ws. several nextNode k ws then λ os ws. got (record { action = a; next = os }) ws
+
+-- ---- a file
+
+-- the one numbered i and those after it, up to the end of the file; each has a word, so that one more than the file has bytes are enough
+unfoldable pub allFrom : {A : Type 0} → (ℕ → Words → Answer A) → ℕ → ℕ → Words → Answer (List A)
+allFrom one zero i ws = unlessEnd ws (got [] ws) (refused 0 0)
+allFrom one (suc fuel) i ws = unlessEnd ws (got [] ws) (one i ws then λ x ws. allFrom one fuel (i + 1) ws then λ xs ws. got (x ∷ xs) ws)
+
+unfoldable pub allIn : {A : Type 0} → (ℕ → Words → Answer A) → List ℕ → Answer (List A)
+allIn one file = allFrom one (length file + 1) 0 (wordsIn between file 0)
+
+abbrev pub alphas : ℕ → List ℕ → Answer (List Alpha)
+alphas n = allIn (λ _. alpha n)
+
+abbrev pub nodes : ℕ → List ℕ → Answer (List Node)
+nodes k = allIn (node k)
+
+-- 19, whatever it is that a word does not fit
+abbrev pub readable : {A : Type 0} → Answer A → Verdict
+readable (got x ws) = Fine
+readable (refused number place) = Refused 19 place
+
+-- what is read; nothing of a file that is refused
+abbrev pub listOf : {A : Type 0} → Answer (List A) → List A
+listOf (got xs ws) = xs
+listOf (refused number place) = []
+
+-- ---- what the two files say
+
+abbrev pub vectorsIn : ℕ → List ℕ → ℕ
+vectorsIn n file = length (listOf (alphas n file))
+
+abbrev pub alphaAt : ℕ → List ℕ → ℕ → Alpha
+alphaAt n file v = getD (listOf (alphas n file)) v (record { action = 0; ticks = [] })
+
+abbrev pub nodeAt : ℕ → List ℕ → ℕ → Node
+nodeAt k file v = getD (listOf (nodes k file)) v (record { action = 0; next = [] })
+
+-- of vector v its action, its entry at s before any backup, and what it chooses after o
+abbrev pub actionAt : ℕ → List ℕ → ℕ → ℕ
+actionAt n file v = alphaAt n file v .action
+
+abbrev pub ticksAt : ℕ → List ℕ → ℕ → ℕ → ℤ
+ticksAt n file v s = getD (alphaAt n file v .ticks) s (pos 0)
+
+abbrev pub nextAt : ℕ → List ℕ → ℕ → ℕ → ℕ
+nextAt k file v o = getD (nodeAt k file v .next) o 0
+
+-- as many vectors as nodes, with the same actions
+unfoldable pub alike : ℕ → ℕ → List ℕ → List ℕ → Bool
+alike n k alphaFile graphFile =
+    eqb (vectorsIn n alphaFile) (length (listOf (nodes k graphFile)))
+    && every (vectorsIn n alphaFile) (λ v. eqb (actionAt n alphaFile v) (nodeAt k graphFile v .action))
+
+-- 19 of the alpha file, then 19 of the graph file, then 20
+unfoldable pub filesVerdict : ℕ → ℕ → List ℕ → List ℕ → Verdict
+filesVerdict n k alphaFile graphFile =
+    readable (alphas n alphaFile) before readable (nodes k graphFile) before unless (alike n k alphaFile graphFile) 20 0
+
+-- the number of vectors; 0 with a refusal
+abbrev pub counted : Verdict → ℕ → Judged
+counted Fine vectors = record { verdict = Fine; vectors = vectors }
+counted (Refused number place) vectors = record { verdict = Refused number place; vectors = 0 }
+
+abbrev pub filesJudged : ℕ → ℕ → List ℕ → List ℕ → Judged
+filesJudged n k alphaFile graphFile = counted (filesVerdict n k alphaFile graphFile) (vectorsIn n alphaFile)

@@ -1,0 +1,3 @@
+-- A solver's alpha file and policy graph file.
+pub mod Files
+pub mod Steps
