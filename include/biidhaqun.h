@@ -13,10 +13,10 @@
  * may be called from any thread, as long as no two calls at once are lent the same memory and one of them writes it.
  *
  * What is proved: whatever it is lent, a call ends without fault, answers, and leaves in every slice what the definitions
- * say (specs/ of crates/runs, crates/bounds, crates/worth, crates/modelfile and crates/exports). Where a certifier was opened
- * by biidhaqun_open, its slices were written by biidhaqun_offer alone, whatever was offered, and each call was lent the same
- * tables, its totals bracket every plan, and a level that is built is accepted if the certifier's slices have room for it.
- * The inline functions at the end, and what this file says, are not proved.
+ * say (specs/ of crates/runs, crates/bounds, crates/worth, crates/modelfile, crates/replay and crates/exports). Where a
+ * certifier was opened by biidhaqun_open, its slices were written by biidhaqun_offer and biidhaqun_replay alone, whatever
+ * was offered, and each call was lent the same tables, its totals bracket every plan, and a level that is built is accepted
+ * if the certifier's slices have room for it. The inline functions at the end, and what this file says, are not proved.
  *
  * SLICES. What a call is lent are slices: a pointer, and a length in elements. They are packed by the model's counts (n
  * states, m actions, k observations), the last index fastest, and may be longer: what lies behind is neither read nor
@@ -37,6 +37,9 @@
  *                corners      n           ticks, within 100,000 x t of 0
  *                weights      points x n  the weights of a point total 1 to 100
  *                values       points      ticks times the total of the point's weights, within 100,000 x t times that total
+ *   offers       vectors      count       how many vectors and points each offer has
+ *                points       count
+ *                the slices of a level, each in count blocks of one size (biidhaqun_replay)
  *   mixture      weights      n           0 to 1,000,000 each, not all 0
  *   plan graph   actions      nodes       next         nodes x k   the node to go on with after an observation
  *   start        numbers      n           hundredths; they total 100
@@ -63,7 +66,7 @@
  * here; a slice to be written is asked for room before anything is written.
  *
  *    number                           place
- *    1  BIIDHAQUN_FILE_LENGTH         0
+ *    1  BIIDHAQUN_FILE_LENGTH         0; either of a solver's files
  *    2  BIIDHAQUN_FORM                the bytes before the word; the file's length where a word is missing
  *    3  BIIDHAQUN_LIMIT               in a file the bytes before the word; on tables 0; also: a slice of the tables is short
  *    4  BIIDHAQUN_START_TOTAL         the file's length
@@ -72,8 +75,8 @@
  *    7  BIIDHAQUN_CERTIFIER           0; a slice is too short for the tables, for the level that stands (its choices, which
  *                                     no call reads, are not asked for), or for the rows
  *    8  BIIDHAQUN_LEVELS              0
- *    9  BIIDHAQUN_LEVEL_SIZE          0; a slice is too short for the level offered or to be built, for the points, for
- *                                     level 0 and its rows in biidhaqun_open, or for answers
+ *    9  BIIDHAQUN_LEVEL_SIZE          0; a slice is too short for the level offered, to be built or adopted, for a list of
+ *                                     offers, for the points, for level 0 and its rows in biidhaqun_open, or for answers
  *   10  BIIDHAQUN_NUMBERS             the vector
  *   11  BIIDHAQUN_RANGE               the first vector; else the first corner; else the first point, those that get 12 aside
  *   12  BIIDHAQUN_POINT_TOTAL         the point
@@ -83,6 +86,9 @@
  *   16  BIIDHAQUN_NO_LEVEL            0
  *   17  BIIDHAQUN_MIXTURE             0; the mixture has fewer weights than there are states, or several have too few
  *   18  BIIDHAQUN_GRAPH               the node; 0 for the node count, a short slice, or the node, state or steps asked for
+ *   19  BIIDHAQUN_SOLVER_FORM         the bytes before the word of the alpha file or, if all of its words fit, of the policy
+ *                                     graph; that file's length where a word is missing
+ *   20  BIIDHAQUN_SOLVER_FILES        0
  *  100  BIIDHAQUN_ROOM                the length that the first short slice of biidhaqun_read needs
  */
 #ifndef BIIDHAQUN_H
@@ -139,6 +145,8 @@ enum {
     BIIDHAQUN_NO_LEVEL = 16,
     BIIDHAQUN_MIXTURE = 17,
     BIIDHAQUN_GRAPH = 18,
+    BIIDHAQUN_SOLVER_FORM = 19,
+    BIIDHAQUN_SOLVER_FILES = 20,
     BIIDHAQUN_ROOM = 100
 };
 
@@ -166,6 +174,9 @@ static inline const char *biidhaqun_words(uint64_t number)
     case BIIDHAQUN_NO_LEVEL: return "there are no totals at level 0";
     case BIIDHAQUN_MIXTURE: return "a mixture's weight is missing or above 1,000,000, or all are 0";
     case BIIDHAQUN_GRAPH: return "a plan graph, or the node, state or steps asked for, are outside their limits";
+    case BIIDHAQUN_SOLVER_FORM: return "a word of the solver's files does not fit its form, or is missing, or a node is out "
+                                       "of order";
+    case BIIDHAQUN_SOLVER_FILES: return "the solver's files differ in the number of vectors, or in an action";
     case BIIDHAQUN_ROOM: return "a slice that the file is read into is too short";
     default: return "no such refusal is known";
     }
@@ -204,6 +215,20 @@ static inline int biidhaqun_informed_speaks(struct biidhaqun_bounds at)
 {
     return at.informed < at.sawtooth;
 }
+
+/* How the adoption of a solver's files ended, and how many vectors the level has that was made of them. */
+struct biidhaqun_adopted {
+    uint64_t number;
+    size_t place;
+    size_t vectors;
+};
+
+/* How a list of offers ended, and how many of them were accepted. */
+struct biidhaqun_replayed {
+    uint64_t number;
+    size_t place;
+    size_t accepted;
+};
 
 /* What a plan graph's node is worth. */
 struct biidhaqun_value {
@@ -253,6 +278,42 @@ struct biidhaqun_refusal biidhaqun_offer(
     const int64_t *new_entries, size_t new_entries_length, const int64_t *new_corners, size_t new_corners_length,
     const uint32_t *new_weights, size_t new_weights_length, const int64_t *new_values, size_t new_values_length);
 
+/*
+ * Offers `count` levels, one after the other: what biidhaqun_offer does with each of them, upon what the one before left. It is
+ * for levels that were stored: replayed upon a certifier that was just opened, they are tested anew, and its totals bracket
+ * every plan, whoever stored them. `accepted` is how many were accepted. One that is refused leaves the certifier as it was
+ * and is not counted, and those behind it are offered all the same.
+ *
+ * The levels lie in blocks, each with room for block_vectors vectors and block_points points (0 to 32, both):
+ *
+ *     block i of   new_actions   begins at   i x block_vectors
+ *                  new_choices               i x block_vectors x k
+ *                  new_entries               i x block_vectors x n
+ *                  new_corners               i x n
+ *                  new_weights               i x block_points x n
+ *                  new_values                i x block_points
+ *
+ * Offer i is the level of vectors[i] vectors and points[i] points, in the units of any level, that is packed at the front of
+ * block i; what lies behind it in the block is not read. One that has more of them than its block has room for is refused.
+ *
+ * Tests for the whole call: 7; 9 where block_vectors or block_points is above 32, vectors or points has fewer than count
+ * numbers, or another slice is shorter than count blocks. A slice of the certifier that is too short for an offer refuses
+ * that offer alone.
+ */
+struct biidhaqun_replayed biidhaqun_replay(
+    size_t states, size_t actions, size_t observations, uint64_t discount,
+    const uint16_t *transition, size_t transition_length, const uint16_t *observation, size_t observation_length,
+    const int64_t *reward, size_t reward_length, size_t *state, size_t state_length,
+    uint8_t *standing_actions, size_t standing_actions_length, uint16_t *choices, size_t choices_length,
+    int64_t *entries, size_t entries_length, int64_t *corners, size_t corners_length,
+    uint32_t *weights, size_t weights_length, int64_t *values, size_t values_length,
+    int64_t *informed, size_t informed_length, int64_t *qmdp, size_t qmdp_length,
+    size_t count, size_t block_vectors, size_t block_points,
+    const size_t *vectors, size_t vectors_length, const size_t *points, size_t points_length,
+    const uint8_t *new_actions, size_t new_actions_length, const uint16_t *new_choices, size_t new_choices_length,
+    const int64_t *new_entries, size_t new_entries_length, const int64_t *new_corners, size_t new_corners_length,
+    const uint32_t *new_weights, size_t new_weights_length, const int64_t *new_values, size_t new_values_length);
+
 /* The totals at a mixture. Tests: 7, 16, 17: a short mixture gets 16 at level 0. */
 struct biidhaqun_bounds biidhaqun_totals(
     size_t states, size_t actions, size_t observations, uint64_t discount,
@@ -293,6 +354,28 @@ struct biidhaqun_refusal biidhaqun_build(
     const int64_t *corners, size_t corners_length, const uint32_t *weights, size_t weights_length,
     const int64_t *values, size_t values_length, const int64_t *informed, size_t informed_length,
     const int64_t *qmdp, size_t qmdp_length, size_t count, const uint32_t *points, size_t points_length,
+    uint8_t *new_actions, size_t new_actions_length, uint16_t *new_choices, size_t new_choices_length,
+    int64_t *new_entries, size_t new_entries_length, int64_t *new_corners, size_t new_corners_length,
+    int64_t *new_values, size_t new_values_length);
+
+/*
+ * Makes a level of the two files that a POMDP solver saves for a step; it would be accepted. The alpha file has for each
+ * vector an action (one or two digits) and n decimals in units of reward (an optional minus, 1 to 6 digits, optionally a
+ * point and 1 to 12 digits); the policy graph has for each node its number (0, 1, .. in order, one to three digits), the
+ * action, and for each observation a next node or, upon level 0, a hyphen for vector 0. Words part as in a model file. Each
+ * entry is the lesser of the decimal rounded down to ticks and of its own backup rounded down; corners and values are those
+ * that biidhaqun_build makes at `count` points. The level has as many vectors as are answered and count points, and its
+ * weights are the points: they are not written anew. Tests: 1, 7, 19, 20, 8, 9, 10, 11, 12; with 10 before any backup.
+ */
+struct biidhaqun_adopted biidhaqun_adopt(
+    size_t states, size_t actions, size_t observations, uint64_t discount,
+    const uint16_t *transition, size_t transition_length, const uint16_t *observation, size_t observation_length,
+    const int64_t *reward, size_t reward_length, const size_t *state, size_t state_length,
+    const uint8_t *standing_actions, size_t standing_actions_length, const int64_t *entries, size_t entries_length,
+    const int64_t *corners, size_t corners_length, const uint32_t *weights, size_t weights_length,
+    const int64_t *values, size_t values_length, const int64_t *informed, size_t informed_length,
+    const int64_t *qmdp, size_t qmdp_length, const uint8_t *alpha, size_t alpha_length,
+    const uint8_t *graph, size_t graph_length, const uint32_t *points, size_t points_length, size_t count,
     uint8_t *new_actions, size_t new_actions_length, uint16_t *new_choices, size_t new_choices_length,
     int64_t *new_entries, size_t new_entries_length, int64_t *new_corners, size_t new_corners_length,
     int64_t *new_values, size_t new_values_length);
@@ -364,6 +447,29 @@ struct biidhaqun_level {
     const uint32_t *weights;
     size_t weights_length;
     int64_t *values;
+    size_t values_length;
+};
+
+/* A list of levels to be offered in turn, in `count` blocks. */
+struct biidhaqun_offers {
+    size_t count;
+    size_t block_vectors; /* that each block has room for */
+    size_t block_points;
+    const size_t *vectors; /* of each offer */
+    size_t vectors_length;
+    const size_t *points;
+    size_t points_length;
+    const uint8_t *actions;
+    size_t actions_length;
+    const uint16_t *choices;
+    size_t choices_length;
+    const int64_t *entries;
+    size_t entries_length;
+    const int64_t *corners;
+    size_t corners_length;
+    const uint32_t *weights;
+    size_t weights_length;
+    const int64_t *values;
     size_t values_length;
 };
 
@@ -502,6 +608,21 @@ static inline struct biidhaqun_refusal biidhaqun_offer_level(const struct biidha
         l->corners_length, l->weights, l->weights_length, l->values, l->values_length);
 }
 
+/* biidhaqun_replay */
+static inline struct biidhaqun_replayed biidhaqun_replay_offers(const struct biidhaqun_tables *t,
+                                                                struct biidhaqun_certifier *c,
+                                                                const struct biidhaqun_offers *l)
+{
+    return biidhaqun_replay(
+        t->states, t->actions, t->observations, t->discount, t->transition, t->transition_length, t->observation,
+        t->observation_length, t->reward, t->reward_length, c->state, 3, c->actions, c->actions_length, c->choices,
+        c->choices_length, c->entries, c->entries_length, c->corners, c->corners_length, c->weights, c->weights_length,
+        c->values, c->values_length, c->informed, c->informed_length, c->qmdp, c->qmdp_length, l->count, l->block_vectors,
+        l->block_points, l->vectors, l->vectors_length, l->points, l->points_length, l->actions, l->actions_length,
+        l->choices, l->choices_length, l->entries, l->entries_length, l->corners, l->corners_length, l->weights,
+        l->weights_length, l->values, l->values_length);
+}
+
 /* biidhaqun_totals */
 static inline struct biidhaqun_bounds biidhaqun_totals_at(const struct biidhaqun_tables *t,
                                                           const struct biidhaqun_certifier *c, const uint32_t *mixture,
@@ -552,6 +673,35 @@ static inline struct biidhaqun_refusal biidhaqun_build_level(const struct biidha
         l->weights_length = points_length;
     }
     return x;
+}
+
+/*
+ * biidhaqun_adopt, which also sets the counts of the level if it is served. Its weights are then the points themselves, which
+ * must outlive it.
+ */
+static inline struct biidhaqun_refusal biidhaqun_adopt_level(const struct biidhaqun_tables *t,
+                                                             const struct biidhaqun_certifier *c, const uint8_t *alpha,
+                                                             size_t alpha_length, const uint8_t *graph,
+                                                             size_t graph_length, size_t count, const uint32_t *points,
+                                                             size_t points_length, struct biidhaqun_level *l)
+{
+    struct biidhaqun_adopted x = biidhaqun_adopt(
+        t->states, t->actions, t->observations, t->discount, t->transition, t->transition_length, t->observation,
+        t->observation_length, t->reward, t->reward_length, c->state, 3, c->actions, c->actions_length, c->entries,
+        c->entries_length, c->corners, c->corners_length, c->weights, c->weights_length, c->values, c->values_length,
+        c->informed, c->informed_length, c->qmdp, c->qmdp_length, alpha, alpha_length, graph, graph_length, points,
+        points_length, count, l->actions, l->actions_length, l->choices, l->choices_length, l->entries,
+        l->entries_length, l->corners, l->corners_length, l->values, l->values_length);
+    struct biidhaqun_refusal refusal;
+    if (x.number == BIIDHAQUN_SERVED) {
+        l->vectors = x.vectors;
+        l->points = count;
+        l->weights = points;
+        l->weights_length = points_length;
+    }
+    refusal.number = x.number;
+    refusal.place = x.place;
+    return refusal;
 }
 
 /* biidhaqun_worth */

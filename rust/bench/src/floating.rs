@@ -235,6 +235,32 @@ pub fn build(certifier: &Certifier, points: &[Vec<f64>]) -> Level {
     level
 }
 
+/// A level of a solver's files, of which only the numbers are read: in ticks, with the builder's ceiling.
+pub fn adopt(certifier: &Certifier, alpha: &str, graph: &str, points: &[Vec<f64>]) -> Option<Level> {
+    let (tables, standing) = (&certifier.tables, &certifier.level);
+    let decimals: Option<Vec<f64>> = alpha.split_whitespace().map(|word| word.parse().ok()).collect();
+    let numbers: Option<Vec<usize>> = graph.split_whitespace().map(|word| word.parse().ok()).collect();
+    let (decimals, numbers) = (decimals?, numbers?);
+    let rows = decimals.chunks_exact(tables.states + 1).zip(numbers.chunks_exact(tables.observations + 2));
+    let vector = |(row, node): (&[f64], &[usize])| {
+        let (action, choices) = (node[1], node[2..].to_vec());
+        let backups = tables.backups(standing, action, &choices);
+        let entries = row[1..].iter().zip(backups).map(|(decimal, backup)| backup.min(100.0 * decimal)).collect();
+        Vector { action, choices, entries }
+    };
+    let corner = |s: usize| {
+        let mut b = vec![0.0; tables.states];
+        b[s] = 1.0;
+        tables.best_ceiling(standing, &b)
+    };
+    let point = |b: &Vec<f64>| Point { weights: b.clone(), value: tables.best_ceiling(standing, b) };
+    Some(Level {
+        vectors: rows.map(vector).collect(),
+        corners: (0..tables.states).map(corner).collect(),
+        points: points.iter().map(point).collect(),
+    })
+}
+
 fn best_vector(tables: &Tables, standing: &Level, b: &[f64]) -> Vector {
     let mut best = None;
     let mut most = f64::NEG_INFINITY;

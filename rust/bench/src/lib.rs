@@ -7,5 +7,6 @@ pub mod inputs;
 pub mod limits;
 pub mod plain;
 pub mod plain_file;
+pub mod solver_file;
 pub mod tuned;
 pub mod tuned_file;

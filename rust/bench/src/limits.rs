@@ -1,6 +1,6 @@
 //! What all forms in whole numbers share: document 01's limits, lent slices cut to their counts, and how a call ends.
 
-use biidhaqun::slices::{Answers, Certifier, Graph, Level, Reading, Refusal, Tables, Totals};
+use biidhaqun::slices::{Answers, Certifier, Graph, Level, Offers, Reading, Refusal, Replayed, Tables, Totals};
 pub use biidhaqun::slices::{
     ACTIONS, BUILT_POINTS, FILE_BYTES, LEVELS, NODES, OBSERVATIONS, POINTS, STATES, STEPS, VECTORS,
 };
@@ -157,6 +157,46 @@ pub fn open(model: Model, certifier: &mut Certifier) -> Answer<()> {
     }
     fresh.stand(0, certifier);
     Ok(())
+}
+
+/// The level of a block, in slices as long as the block; none where one is too short.
+pub fn block(offers: &Offers, at: usize, n: usize, k: usize) -> Option<Level> {
+    fn cut<Cell: Clone>(slice: &[Cell], at: usize, length: usize) -> Option<Vec<Cell>> {
+        slice.get(at.checked_mul(length)?..)?.get(..length).map(<[Cell]>::to_vec)
+    }
+    let (v, p) = (offers.block_vectors, offers.block_points);
+    Some(Level {
+        vectors: *offers.vectors.get(at)?,
+        points: *offers.points.get(at)?,
+        actions: cut(&offers.actions, at, v)?,
+        choices: cut(&offers.choices, at, v * k)?,
+        entries: cut(&offers.entries, at, v * n)?,
+        corners: cut(&offers.corners, at, n)?,
+        weights: cut(&offers.weights, at, p * n)?,
+        values: cut(&offers.values, at, p)?,
+    })
+}
+
+/// A list of offers upon a certifier that was examined, with the states and observations of its model: 9, or how many of them
+/// a form accepts.
+pub fn replay(
+    examined: Answer<(usize, usize)>,
+    offers: &Offers,
+    mut offer: impl FnMut(&Level) -> Answer<()>,
+) -> Replayed {
+    let run = |(n, k): (usize, usize)| {
+        let level = |at: usize| block(offers, at, n, k);
+        let fits = offers.block_vectors <= VECTORS && offers.block_points <= POINTS;
+        // All blocks are there if the last is.
+        if !fits || (offers.count > 0 && level(offers.count - 1).is_none()) {
+            return refused(9, 0);
+        }
+        Ok((0..offers.count).filter_map(level).filter(|level| offer(level).is_ok()).count())
+    };
+    match examined.and_then(run) {
+        Ok(accepted) => Replayed { accepted, ..Replayed::default() },
+        Err(Refusal { number, place }) => Replayed { number, place, accepted: 0 },
+    }
 }
 
 /// The answer at a mixture: the upper total is the lower of both ceilings.

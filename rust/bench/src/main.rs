@@ -7,11 +7,13 @@
 //! alike, or leave something else in a slice, the command ends with 1.
 
 use bench::inputs::{self, Counts, Standing};
-use bench::limits::{FILE_BYTES, NODES, POINTS, STEPS, TOTAL, VECTORS};
+use bench::limits::{self, FILE_BYTES, NODES, POINTS, STEPS, TOTAL, VECTORS};
 use bench::plain::Plain;
 use bench::tuned::Tuned;
 use bench::{convert, floating};
-use biidhaqun::slices::{self, Answers, Certifier, Graph, Level, Reading, Refusal, Tables, Totals, Worth};
+use biidhaqun::slices::{
+    self, Adopted, Answers, Certifier, Graph, Level, Offers, Reading, Refusal, Replayed, Tables, Totals, Worth,
+};
 use compare::gen::Question;
 use compare::lent::{Call, Library};
 use compare::rng::Rng;
@@ -43,6 +45,10 @@ impl Library for Linked {
         slices::offer(tables, certifier, level)
     }
 
+    fn replay(&self, tables: &Tables, certifier: &mut Certifier, offers: &Offers) -> Replayed {
+        slices::replay(tables, certifier, offers)
+    }
+
     fn totals(&self, tables: &Tables, certifier: &Certifier, mixture: &[u32]) -> Totals {
         slices::totals(tables, certifier, mixture)
     }
@@ -67,6 +73,17 @@ impl Library for Linked {
         level: &mut Level,
     ) -> Refusal {
         slices::build(tables, certifier, count, points, level)
+    }
+
+    fn adopt(
+        &self,
+        tables: &Tables,
+        certifier: &Certifier,
+        (alpha, graph): (&[u8], &[u8]),
+        (points, count): (&[u32], usize),
+        level: &mut Level,
+    ) -> Adopted {
+        slices::adopt(tables, certifier, alpha, graph, points, count, level)
     }
 
     fn worth(&self, tables: &Tables, graph: &Graph, asked: Question) -> Worth {
@@ -105,7 +122,7 @@ impl Form for Lent {
     }
 
     fn changes(&self) -> bool {
-        matches!(self.call, Call::Offer { .. })
+        matches!(self.call, Call::Offer { .. } | Call::Replay { .. })
     }
 
     fn call(&mut self) -> i64 {
@@ -113,12 +130,16 @@ impl Form for Lent {
             Call::Read { file, tables, start } => self.by.read(file, tables, start).number as i64,
             Call::Open { tables, certifier } => self.by.open(tables, certifier).number as i64,
             Call::Offer { tables, certifier, level } => self.by.offer(tables, certifier, level).number as i64,
+            Call::Replay { tables, certifier, offers } => self.by.replay(tables, certifier, offers).accepted as i64,
             Call::Totals { tables, certifier, mixture } => self.by.totals(tables, certifier, mixture).gap,
             Call::Each { tables, certifier, mixtures, count, answers } => {
                 self.by.each(tables, certifier, mixtures, *count, answers).number as i64
             }
             Call::Build { tables, certifier, count, points, level } => {
                 self.by.build(tables, certifier, *count, points, level).number as i64
+            }
+            Call::Adopt { tables, certifier, alpha, graph, points, count, level } => {
+                self.by.adopt(tables, certifier, (alpha, graph), (points, *count), level).number as i64
             }
             Call::Worth { tables, graph, asked } => self.by.worth(tables, graph, *asked).ticks,
         }
@@ -263,6 +284,16 @@ fn floating_form(call: &Call) -> Result<Box<dyn Form + '_>, String> {
             }
             Ok(form(standing, true, move |certifier| i64::from(floating::offer(certifier, &level))))
         }
+        Call::Replay { tables, certifier, offers } => {
+            let standing = convert::floating_certifier(tables, certifier);
+            let (n, k) = (tables.states, tables.observations);
+            let level = |at| limits::block(offers, at, n, k).map(|level| convert::floating_level(&level, n, k));
+            let levels: Vec<floating::Level> = (0..offers.count).filter_map(level).collect();
+            let call = move |certifier: &mut floating::Certifier| {
+                levels.iter().filter(|level| floating::offer(certifier, level)).count() as i64
+            };
+            Ok(form(standing, true, call))
+        }
         Call::Totals { tables, certifier, mixture } => {
             let standing = convert::floating_certifier(tables, certifier);
             let belief = convert::belief(mixture);
@@ -285,6 +316,21 @@ fn floating_form(call: &Call) -> Result<Box<dyn Form + '_>, String> {
                 close(level.corners[0] as f64, floating::build(&standing, &beliefs).corners[0])?;
             }
             Ok(form(standing, false, move |certifier| floating::build(certifier, &beliefs).corners[0] as i64))
+        }
+        Call::Adopt { tables, certifier, alpha, graph, points, .. } => {
+            let standing = convert::floating_certifier(tables, certifier);
+            let beliefs: Vec<Vec<f64>> = points.chunks(tables.states).map(convert::belief).collect();
+            let text = |file: &[u8]| String::from_utf8_lossy(file).into_owned();
+            let (alpha, graph) = (text(alpha), text(graph));
+            let made = floating::adopt(&standing, &alpha, &graph, &beliefs);
+            let made = made.ok_or("the floating form does not read the files")?;
+            if let Call::Adopt { level, .. } = after {
+                close(level.entries[0] as f64, made.vectors[0].entries[0])?;
+            }
+            let call = move |certifier: &mut floating::Certifier| {
+                floating::adopt(certifier, &alpha, &graph, &beliefs).map_or(-1, |level| level.corners[0] as i64)
+            };
+            Ok(form(standing, false, call))
         }
         Call::Worth { tables, graph, asked } => {
             let float = convert::floating_tables(tables);
@@ -358,6 +404,15 @@ fn building(Standing { tables, certifier }: Standing, count: usize) -> Call {
     Call::Build { tables, certifier, count, points, level }
 }
 
+/// A level as a solver saves it, at some points.
+fn adopting((Standing { tables, certifier }, level): (Standing, Level), count: usize) -> Call {
+    let (alpha, graph) = inputs::solver_files(&level, tables.states, tables.observations);
+    let points = inputs::points(&mut rng(), tables.states, count);
+    let room = Level::zeros(tables.states, tables.observations, level.vectors, count);
+    let (alpha, graph) = (alpha.into_bytes(), graph.into_bytes());
+    Call::Adopt { tables, certifier, alpha, graph, points, count, level: room }
+}
+
 /// What the first node is worth at the first state.
 fn valuing(counts: Counts, nodes: usize, steps: usize) -> Call {
     let graph = inputs::graph(&mut rng(), counts, nodes);
@@ -366,15 +421,16 @@ fn valuing(counts: Counts, nodes: usize, steps: usize) -> Call {
 }
 
 /// Every call at the limits, by name.
-fn calls() -> [(&'static str, Call); 7] {
+fn calls() -> [(&'static str, Call); 8] {
     let (standing, level) = inputs::offer(&mut rng(), LARGEST, VECTORS, POINTS, false);
     [
         ("reading", reading(&standing.tables)),
         ("opening", opening(&standing.tables)),
-        ("an offer, 32 vectors, 32 points", offering((standing.clone(), level))),
+        ("an offer, 32 vectors, 32 points", offering((standing.clone(), level.clone()))),
         ("totals", asking(standing.clone())),
         ("totals at 1,000 mixtures", asking_at(standing.clone(), 1_000)),
-        ("building at 16 points", building(standing, 16)),
+        ("building at 16 points", building(standing.clone(), 16)),
+        ("a solver's 32 vectors, 16 points", adopting((standing, level), 16)),
         ("a plan's worth, 32 nodes, 4 steps", valuing(LARGEST, NODES, STEPS)),
     ]
 }

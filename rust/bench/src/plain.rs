@@ -5,7 +5,10 @@
 
 use crate::limits::*;
 use crate::plain_file;
-use biidhaqun::slices::{Answers, Certifier, Graph, Level, Reading, Refusal, Tables, Totals, Worth};
+use crate::solver_file::{self, adopted};
+use biidhaqun::slices::{
+    Adopted, Answers, Certifier, Graph, Level, Offers, Reading, Refusal, Replayed, Tables, Totals, Worth,
+};
 use compare::gen::Question;
 use compare::lent::Library;
 
@@ -283,6 +286,25 @@ fn build(tables: &Tables, certifier: &Certifier, (count, points): (usize, &[u32]
     Ok(())
 }
 
+fn adopt(
+    tables: &Tables,
+    certifier: &Certifier,
+    (alpha, graph): (&[u8], &[u8]),
+    points: (&[u32], usize),
+    level: &mut Level,
+) -> Answer<usize> {
+    solver_file::lengths(alpha, graph)?;
+    let (model, number, standing) = examine(tables, certifier)?;
+    let files = solver_file::read(alpha, graph, model.n, model.k)?;
+    let backups = |action: usize, choices: &[u16], row: &mut [i64]| {
+        for (s, entry) in row.iter_mut().enumerate() {
+            *entry = model.vector_backup(standing.entries, s, action, choices).div_euclid(K);
+        }
+    };
+    let least = |p: &[u32]| least_value(&model, &standing, &whole(p));
+    solver_file::adopt((&model, number, standing.actions.len()), &files, points, level, backups, least)
+}
+
 /// The equation as it stands, for all nodes and states at each step.
 fn worth(tables: &Tables, graph: &Graph, asked: Question) -> Answer<i64> {
     let model = judge(tables)?;
@@ -316,6 +338,11 @@ impl Library for Plain {
         ended(offer(tables, certifier, level))
     }
 
+    fn replay(&self, tables: &Tables, certifier: &mut Certifier, offers: &Offers) -> Replayed {
+        let examined = examine(tables, certifier).map(|(model, ..)| (model.n, model.k));
+        replay(examined, offers, |level| offer(tables, certifier, level))
+    }
+
     fn totals(&self, tables: &Tables, certifier: &Certifier, mixture: &[u32]) -> Totals {
         totals(tables, certifier, mixture).unwrap_or_else(|Refusal { number, place }| Totals {
             number,
@@ -344,6 +371,17 @@ impl Library for Plain {
         level: &mut Level,
     ) -> Refusal {
         ended(build(tables, certifier, (count, points), level))
+    }
+
+    fn adopt(
+        &self,
+        tables: &Tables,
+        certifier: &Certifier,
+        files: (&[u8], &[u8]),
+        points: (&[u32], usize),
+        level: &mut Level,
+    ) -> Adopted {
+        adopted(adopt(tables, certifier, files, points, level))
     }
 
     fn worth(&self, tables: &Tables, graph: &Graph, asked: Question) -> Worth {

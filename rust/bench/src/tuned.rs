@@ -4,8 +4,11 @@
 //! division, and a point is left at the first state that shows that it cannot beat the largest drop so far.
 
 use crate::limits::*;
+use crate::solver_file::{self, adopted};
 use crate::tuned_file;
-use biidhaqun::slices::{Answers, Certifier, Graph, Level, Reading, Refusal, Tables, Totals, Worth};
+use biidhaqun::slices::{
+    Adopted, Answers, Certifier, Graph, Level, Offers, Reading, Refusal, Replayed, Tables, Totals, Worth,
+};
 use compare::gen::Question;
 use compare::lent::Library;
 
@@ -418,6 +421,39 @@ fn put_vector(model: &Model, standing: &Cut, sawtooth: &Sawtooth, p: &[i64], v: 
     value
 }
 
+fn adopt(
+    tables: &Tables,
+    certifier: &Certifier,
+    (alpha, graph): (&[u8], &[u8]),
+    points: (&[u32], usize),
+    level: &mut Level,
+) -> Answer<usize> {
+    solver_file::lengths(alpha, graph)?;
+    let (model, number, standing) = examine(tables, certifier)?;
+    let files = solver_file::read(alpha, graph, model.n, model.k)?;
+    let mut weights = [0; POINTS * STATES];
+    let sawtooth = Sawtooth::of(&standing, &mut weights);
+    let below = |action: usize, choices: &[u16], row: &mut [i64]| {
+        let mut room = [0; STATES];
+        let f = foreseen(&model, standing.entries, action, choices, &mut room);
+        for (entry, backup) in row.iter_mut().zip(backups(&model, action, f)) {
+            *entry = backup.div_euclid(K);
+        }
+    };
+    let least = |p: &[u32]| {
+        let mut room = [0; STATES];
+        let p = whole(p, &mut room);
+        let least = |a: usize| {
+            let (mut room, mut next) = ([0; STATES], [0; STATES]);
+            let u = moved(&model, p, a, &mut room);
+            let ceilings: i64 = (0..model.k).map(|o| sawtooth.ceiling(successor(&model, u, a, o, &mut next))).sum();
+            -(-(earned(&model, p, a) + model.g * ceilings)).div_euclid(K)
+        };
+        (0..model.m).map(least).max().unwrap_or(0)
+    };
+    solver_file::adopt((&model, number, standing.actions.len()), &files, points, level, below, least)
+}
+
 fn worth(tables: &Tables, graph: &Graph, asked: Question) -> Answer<i64> {
     let model = judge(tables)?;
     let (actions, next) = nodes(&model, graph)?;
@@ -452,6 +488,11 @@ impl Library for Tuned {
         ended(offer(tables, certifier, level))
     }
 
+    fn replay(&self, tables: &Tables, certifier: &mut Certifier, offers: &Offers) -> Replayed {
+        let examined = examine(tables, certifier).map(|(model, ..)| (model.n, model.k));
+        replay(examined, offers, |level| offer(tables, certifier, level))
+    }
+
     fn totals(&self, tables: &Tables, certifier: &Certifier, mixture: &[u32]) -> Totals {
         totals(tables, certifier, mixture).unwrap_or_else(|Refusal { number, place }| Totals {
             number,
@@ -480,6 +521,17 @@ impl Library for Tuned {
         level: &mut Level,
     ) -> Refusal {
         ended(build(tables, certifier, (count, points), level))
+    }
+
+    fn adopt(
+        &self,
+        tables: &Tables,
+        certifier: &Certifier,
+        files: (&[u8], &[u8]),
+        points: (&[u32], usize),
+        level: &mut Level,
+    ) -> Adopted {
+        adopted(adopt(tables, certifier, files, points, level))
     }
 
     fn worth(&self, tables: &Tables, graph: &Graph, asked: Question) -> Worth {

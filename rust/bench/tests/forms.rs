@@ -11,7 +11,7 @@ use compare::gen;
 use compare::lent::{self, Call, Library};
 use compare::rng::Rng;
 use compare::through::{self, Through};
-use compare::{bracket, calls, files, single};
+use compare::{adopting, bracket, calls, files, replaying, single};
 
 const FORMS: [(&str, &dyn Library); 2] = [("plain", &Plain), ("tuned", &Tuned)];
 
@@ -63,6 +63,28 @@ fn files_read_as_by_the_reference() {
     let random = (0..2_000).map(|number| files::random(&mut Rng::for_case(11, "random", number)));
     for case in files::fixed().into_iter().chain(random) {
         agree(&case.about, &single::reading(&case.file));
+    }
+}
+
+#[test]
+fn a_solvers_files_are_adopted_as_by_the_reference() {
+    for (number, case) in adopting::fixed().iter().enumerate() {
+        agree(&case.about, &case.call(&mut Rng::for_case(11, "adopted", number as u64)));
+    }
+    for number in 0..2_000 {
+        let mut rng = Rng::for_case(11, "adopt", number);
+        let call = adopting::random(&mut rng).call(&mut rng);
+        agree(&format!("adopt:{}", number), &single::touched(&mut rng, call));
+    }
+}
+
+#[test]
+fn lists_of_offers_are_replayed_as_by_the_reference() {
+    for number in 0..600 {
+        let mut rng = Rng::for_case(11, "replay", number);
+        let call = replaying::random(&mut rng);
+        agree(&format!("replay:{}", number), &call);
+        agree(&format!("replay:{}", number), &single::touched(&mut rng, call));
     }
 }
 

@@ -107,6 +107,51 @@ impl Certifier {
         Ok(Refusal::unless(ended, Handed::Other)?)
     }
 
+    /// Offers stored levels, one after the other, and tells how many were accepted: what [`Certifier::offer`] does with each of
+    /// them in turn, in one call. Upon a certifier that was just opened they are all tested anew, so that its totals bracket
+    /// every plan, whoever stored them.
+    ///
+    /// A level that is refused leaves the certifier as it was and is not counted, and those behind it are offered all the same;
+    /// so is one that has more vectors or points than a level may have. A list is not refused for what its levels hold: where
+    /// each of them matters, compare the number with theirs. Before any is offered, a level for a model of other counts ends the
+    /// call with [`Error::Length`].
+    ///
+    /// ```
+    /// use biidhaqun::{Certifier, Model, Points};
+    ///
+    /// # fn main() -> Result<(), Box<dyn std::error::Error>> {
+    /// let (model, start) = Model::read(&std::fs::read("../../examples/dough.pomdp")?)?;
+    /// let mut certifier = Certifier::open(&model)?;
+    /// let mut stored = Vec::new();
+    /// for _ in 0..3 {
+    ///     let level = certifier.build(&Points::one(&start.weights))?;
+    ///     certifier.offer(&level)?;
+    ///     stored.push(level);
+    /// }
+    ///
+    /// let mut again = Certifier::open(&model)?;
+    /// assert_eq!(again.replay(&stored)?, 3);
+    /// assert_eq!(again, certifier);
+    ///
+    /// // Nothing is accepted that was tampered with.
+    /// stored[2].entries_mut(0)[0] += 1;
+    /// let mut again = Certifier::open(&model)?;
+    /// assert_eq!(again.replay(&stored)?, 2);
+    /// # Ok(())
+    /// # }
+    /// ```
+    pub fn replay(&mut self, levels: &[Level]) -> Result<usize, Error> {
+        let Shape { states, observations, .. } = self.model.shape();
+        for (number, level) in levels.iter().enumerate() {
+            Length::test("states of level", Some(number), level.states, states)?;
+            Length::test("observations of level", Some(number), level.observations, observations)?;
+        }
+        let offers = slices::Offers::packed(levels.iter().map(|level| &level.slices), states, observations);
+        let ended = slices::replay(self.model.tables(), &mut self.slices, &offers);
+        Refusal::unless(slices::Refusal { number: ended.number, place: ended.place }, Handed::Other)?;
+        Ok(ended.accepted)
+    }
+
     /// The totals at a mixture. Refused with 16 or 17.
     pub fn totals(&self, mixture: &Mixture) -> Result<Totals, Error> {
         Length::test("weights of the mixture", None, mixture.weights.len(), self.model.shape().states)?;
@@ -148,6 +193,39 @@ impl Certifier {
         let ended = slices::build(self.model.tables(), &self.slices, count, &weights, &mut level);
         Refusal::unless(ended, Handed::Other)?;
         Ok(Level { states, observations, slices: slices::Level { vectors, points: count, weights, ..level } })
+    }
+
+    /// Makes a level of the two files that a POMDP solver saves for a step, to be offered to this certifier; it will be
+    /// accepted. The alpha file has for each vector an action and n decimals, in units of reward; the policy graph has for each
+    /// node its number, the action, and a next node for each observation, or hyphens at the first level.
+    ///
+    /// Each entry is the lesser of the decimal rounded down to ticks and of its own backup rounded down, so that a decimal
+    /// within its backup loses less than a tick. Corners and points are those that [`Certifier::build`] makes. Refused with
+    /// 1, 19, 20, 8 to 12, in this order.
+    ///
+    /// ```
+    /// use biidhaqun::{Certifier, Model, Points};
+    ///
+    /// # fn main() -> Result<(), Box<dyn std::error::Error>> {
+    /// let (model, start) = Model::read(&std::fs::read("../../examples/dough.pomdp")?)?;
+    /// let mut certifier = Certifier::open(&model)?;
+    /// let alpha = b"0\n-1.000000 -1.000000\n\n1\n-10.000000 6.000000\n\n";
+    /// let graph = b"0 0  - -\n1 1  - -\n";
+    /// let level = certifier.adopt(alpha, graph, &Points::one(&start.weights))?;
+    /// certifier.offer(&level)?;
+    /// assert_eq!(certifier.totals(&start)?.lower, -10_000);
+    /// # Ok(())
+    /// # }
+    /// ```
+    pub fn adopt(&self, alpha: &[u8], graph: &[u8], points: &Points) -> Result<Level, Error> {
+        let Shape { states, observations, .. } = self.model.shape();
+        let count = points.weights.len();
+        let weights = points.packed(states)?;
+        let mut level = slices::Level::roomy(states, observations);
+        let made = slices::adopt(self.model.tables(), &self.slices, alpha, graph, &weights, count, &mut level);
+        Refusal::unless(slices::Refusal { number: made.number, place: made.place }, Handed::Solver)?;
+        let level = slices::Level { vectors: made.vectors, points: count, weights, ..level };
+        Ok(Level::of(level, states, observations))
     }
 }
 

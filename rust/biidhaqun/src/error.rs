@@ -11,7 +11,8 @@ use std::fmt;
 pub enum Place {
     /// Nothing more is said than the rule; the number is 0.
     Whole,
-    /// So many bytes of the file stand before the word; or the file's length, where a word is missing or a total is wrong.
+    /// So many bytes of the file stand before the word; or the file's length, where a word is missing or a total is wrong. Of
+    /// a solver's two files the place does not tell which: it is the alpha file if that one breaks the rule, else the graph.
     Byte(usize),
     /// The row of T or of O with this number, action × states + state: that of the action and the state left (T) or reached
     /// (O).
@@ -71,6 +72,8 @@ pub(crate) enum Handed {
     File,
     /// Tables with so many states.
     Tables(usize),
+    /// A solver's two files.
+    Solver,
     Other,
 }
 
@@ -91,7 +94,8 @@ impl Refusal {
         let place = match (rule, handed) {
             (Rule::Room, _) => Place::Length(at),
             (Rule::FileLength, _) => Place::Whole,
-            (_, Handed::File) => Place::Byte(at),
+            (_, Handed::File) | (Rule::SolverForm, _) => Place::Byte(at),
+            (Rule::Range, Handed::Solver) => Place::Vector(at),
             (Rule::TransitionTotal | Rule::ObservationTotal, Handed::Tables(states)) => {
                 Place::Row { number: at, action: at / states.max(1), state: at % states.max(1) }
             }
@@ -111,7 +115,7 @@ impl fmt::Display for Refusal {
         let at = self.place.number();
         write!(f, "refused {} at {}: ", self.number(), at)?;
         match (self.rule, self.place) {
-            (Rule::FileLength, _) => write!(f, "the model file has more than 32,768 bytes"),
+            (Rule::FileLength, _) => write!(f, "a file has more than 32,768 bytes"),
             (Rule::Form, _) => write!(f, "the word after {} bytes does not fit its form, or is missing", at),
             (Rule::Limit, Place::Byte(_)) => write!(
                 f,
@@ -137,6 +141,7 @@ impl fmt::Display for Refusal {
                 "a level has 1 to 32 vectors and at most 32 points, and the builder is given at most 16 points"
             ),
             (Rule::Numbers, _) => write!(f, "vector {} names an action or a chosen vector that does not exist", at),
+            (Rule::Range, Place::Vector(_)) => write!(f, "an entry of vector {} is outside its level's range", at),
             (Rule::Range, _) => write!(
                 f,
                 "an entry of vector {0}, or corner {0}, or the value of point {0} is outside its level's range",
@@ -156,6 +161,15 @@ impl fmt::Display for Refusal {
                  the node, state or steps asked for are outside their limits",
                 at
             ),
+            (Rule::SolverForm, _) => write!(
+                f,
+                "of the solver's files the word after {} bytes does not fit its form, or is missing, or a node is out of \
+                 order; the alpha file is read first",
+                at
+            ),
+            (Rule::SolverFiles, _) => {
+                write!(f, "the solver's two files differ in the number of vectors, or in an action")
+            }
             (Rule::Room, _) => write!(f, "a slice lent for the answer is too short; it needs {}", at),
         }
     }

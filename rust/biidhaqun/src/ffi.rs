@@ -3,10 +3,12 @@
 //! A slice goes over as its pointer and its length. The library reads and writes inside these lengths only, writes nothing
 //! that is lent to be read, keeps no pointer, and answers whatever the content.
 
-use crate::slices::{Answers, Certifier, Graph, Level, Reading, Refusal, Tables, Totals, Worth};
+use crate::slices::{
+    Adopted, Answers, Certifier, Graph, Level, Offers, Reading, Refusal, Replayed, Tables, Totals, Worth,
+};
 
 mod library {
-    use super::{Reading, Refusal, Totals, Worth};
+    use super::{Adopted, Reading, Refusal, Replayed, Totals, Worth};
 
     extern "C" {
         pub fn biidhaqun_version() -> u64;
@@ -99,6 +101,56 @@ mod library {
             new_values: *const i64,
             new_values_length: usize,
         ) -> Refusal;
+
+        pub fn biidhaqun_replay(
+            states: usize,
+            actions: usize,
+            observations: usize,
+            discount: u64,
+            transition: *const u16,
+            transition_length: usize,
+            observation: *const u16,
+            observation_length: usize,
+            reward: *const i64,
+            reward_length: usize,
+            state: *mut usize,
+            state_length: usize,
+            standing_actions: *mut u8,
+            standing_actions_length: usize,
+            choices: *mut u16,
+            choices_length: usize,
+            entries: *mut i64,
+            entries_length: usize,
+            corners: *mut i64,
+            corners_length: usize,
+            weights: *mut u32,
+            weights_length: usize,
+            values: *mut i64,
+            values_length: usize,
+            informed: *mut i64,
+            informed_length: usize,
+            qmdp: *mut i64,
+            qmdp_length: usize,
+            count: usize,
+            block_vectors: usize,
+            block_points: usize,
+            vectors: *const usize,
+            vectors_length: usize,
+            points: *const usize,
+            points_length: usize,
+            new_actions: *const u8,
+            new_actions_length: usize,
+            new_choices: *const u16,
+            new_choices_length: usize,
+            new_entries: *const i64,
+            new_entries_length: usize,
+            new_corners: *const i64,
+            new_corners_length: usize,
+            new_weights: *const u32,
+            new_weights_length: usize,
+            new_values: *const i64,
+            new_values_length: usize,
+        ) -> Replayed;
 
         pub fn biidhaqun_totals(
             states: usize,
@@ -233,6 +285,52 @@ mod library {
             state: usize,
             steps: usize,
         ) -> Worth;
+
+        pub fn biidhaqun_adopt(
+            states: usize,
+            actions: usize,
+            observations: usize,
+            discount: u64,
+            transition: *const u16,
+            transition_length: usize,
+            observation: *const u16,
+            observation_length: usize,
+            reward: *const i64,
+            reward_length: usize,
+            state: *const usize,
+            state_length: usize,
+            standing_actions: *const u8,
+            standing_actions_length: usize,
+            entries: *const i64,
+            entries_length: usize,
+            corners: *const i64,
+            corners_length: usize,
+            weights: *const u32,
+            weights_length: usize,
+            values: *const i64,
+            values_length: usize,
+            informed: *const i64,
+            informed_length: usize,
+            qmdp: *const i64,
+            qmdp_length: usize,
+            alpha: *const u8,
+            alpha_length: usize,
+            graph: *const u8,
+            graph_length: usize,
+            points: *const u32,
+            points_length: usize,
+            count: usize,
+            new_actions: *mut u8,
+            new_actions_length: usize,
+            new_choices: *mut u16,
+            new_choices_length: usize,
+            new_entries: *mut i64,
+            new_entries_length: usize,
+            new_corners: *mut i64,
+            new_corners_length: usize,
+            new_values: *mut i64,
+            new_values_length: usize,
+        ) -> Adopted;
     }
 }
 
@@ -348,6 +446,62 @@ pub fn offer(tables: &Tables, certifier: &mut Certifier, level: &Level) -> Refus
             level.weights.len(),
             level.values.as_ptr(),
             level.values.len(),
+        )
+    }
+}
+
+/// Offers the levels of a list one after the other, each as by [`offer`], and answers how many were accepted: those that are
+/// refused leave the certifier as it was; or 7, 9 for them all.
+pub fn replay(tables: &Tables, certifier: &mut Certifier, offers: &Offers) -> Replayed {
+    unsafe {
+        library::biidhaqun_replay(
+            tables.states,
+            tables.actions,
+            tables.observations,
+            tables.discount,
+            tables.transition.as_ptr(),
+            tables.transition.len(),
+            tables.observation.as_ptr(),
+            tables.observation.len(),
+            tables.reward.as_ptr(),
+            tables.reward.len(),
+            certifier.state.as_mut_ptr(),
+            certifier.state.len(),
+            certifier.actions.as_mut_ptr(),
+            certifier.actions.len(),
+            certifier.choices.as_mut_ptr(),
+            certifier.choices.len(),
+            certifier.entries.as_mut_ptr(),
+            certifier.entries.len(),
+            certifier.corners.as_mut_ptr(),
+            certifier.corners.len(),
+            certifier.weights.as_mut_ptr(),
+            certifier.weights.len(),
+            certifier.values.as_mut_ptr(),
+            certifier.values.len(),
+            certifier.informed.as_mut_ptr(),
+            certifier.informed.len(),
+            certifier.qmdp.as_mut_ptr(),
+            certifier.qmdp.len(),
+            offers.count,
+            offers.block_vectors,
+            offers.block_points,
+            offers.vectors.as_ptr(),
+            offers.vectors.len(),
+            offers.points.as_ptr(),
+            offers.points.len(),
+            offers.actions.as_ptr(),
+            offers.actions.len(),
+            offers.choices.as_ptr(),
+            offers.choices.len(),
+            offers.entries.as_ptr(),
+            offers.entries.len(),
+            offers.corners.as_ptr(),
+            offers.corners.len(),
+            offers.weights.as_ptr(),
+            offers.weights.len(),
+            offers.values.as_ptr(),
+            offers.values.len(),
         )
     }
 }
@@ -505,6 +659,67 @@ pub fn worth(tables: &Tables, graph: &Graph, node: usize, state: usize, steps: u
             node,
             state,
             steps,
+        )
+    }
+}
+
+/// Makes the next level of a solver's alpha file and policy graph, with the builder's corners and so many points: its
+/// actions, choices, entries, corners and values are written, and the number of its vectors is answered; or 1, 7, 19, 20, 8
+/// to 12. Its points are count, its weights the points: that is left to the caller to say in the level.
+pub fn adopt(
+    tables: &Tables,
+    certifier: &Certifier,
+    alpha: &[u8],
+    graph: &[u8],
+    points: &[u32],
+    count: usize,
+    level: &mut Level,
+) -> Adopted {
+    unsafe {
+        library::biidhaqun_adopt(
+            tables.states,
+            tables.actions,
+            tables.observations,
+            tables.discount,
+            tables.transition.as_ptr(),
+            tables.transition.len(),
+            tables.observation.as_ptr(),
+            tables.observation.len(),
+            tables.reward.as_ptr(),
+            tables.reward.len(),
+            certifier.state.as_ptr(),
+            certifier.state.len(),
+            certifier.actions.as_ptr(),
+            certifier.actions.len(),
+            certifier.entries.as_ptr(),
+            certifier.entries.len(),
+            certifier.corners.as_ptr(),
+            certifier.corners.len(),
+            certifier.weights.as_ptr(),
+            certifier.weights.len(),
+            certifier.values.as_ptr(),
+            certifier.values.len(),
+            certifier.informed.as_ptr(),
+            certifier.informed.len(),
+            certifier.qmdp.as_ptr(),
+            certifier.qmdp.len(),
+            alpha.as_ptr(),
+            alpha.len(),
+            graph.as_ptr(),
+            graph.len(),
+            points.as_ptr(),
+            points.len(),
+            count,
+            level.actions.as_mut_ptr(),
+            level.actions.len(),
+            level.choices.as_mut_ptr(),
+            level.choices.len(),
+            level.entries.as_mut_ptr(),
+            level.entries.len(),
+            level.corners.as_mut_ptr(),
+            level.corners.len(),
+            level.values.as_mut_ptr(),
+            level.values.len(),
         )
     }
 }

@@ -53,6 +53,8 @@ rules! {
     16 NoLevel: "totals are asked above level 0",
     17 Mixture: "a mixture has a weight for each state, each is at most 1,000,000, and not all are 0",
     18 Graph: "a plan graph, and the node, state and steps asked for, are within their limits",
+    19 SolverForm: "each word of a solver's files fits its form, none is missing, and nodes are numbered in order",
+    20 SolverFiles: "a solver's two files have as many vectors, and the same actions",
     100 Room: "the slices that a file is read into have room",
 }
 

@@ -4,17 +4,18 @@
 //! nor written. n stands for the model's states, m for its actions, k for its observations.
 //!
 //! What is handed in may hold anything and have any length. With the feature `linked`, this module has the calls themselves
-//! too: [`version`], [`read`], [`open`], [`offer`], [`totals`], [`each`], [`build`] and [`worth`]. Each is proved to answer, and to leave in what
-//! it is lent, what its definitions say; one that is refused leaves all as it was.
+//! too: [`version`], [`read`], [`open`], [`offer`], [`replay`], [`totals`], [`each`], [`build`], [`adopt`] and [`worth`]. Each is
+//! proved to answer, and to leave in what it is lent, what its definitions say; one that is refused leaves all as it was.
 //!
 //! A slice that is too short is refused: one of the tables by 3 at 0 where they are opened or a worth is asked, else by 7;
 //! one of a certifier by 7 for what stands and for the rows (its choices are read by no call, and not asked for), by 9 for
 //! what is to stand;
-//! one of an offered level, of points, of a level to be built or of answers by 9; a mixture, or several, by 17; one of a plan graph by 18; one that
-//! a file is read into by 100, and the place is then the length that it needs.
+//! one of an offered level, of a list of offers, of points, of a level to be built or adopted, or of answers by 9; a mixture, or
+//! several, by 17; one of a plan graph by 18; one that a file is read into by 100, and the place is then the length that it
+//! needs.
 
 #[cfg(feature = "linked")]
-pub use crate::ffi::{build, each, offer, open, read, totals, version, worth};
+pub use crate::ffi::{adopt, build, each, offer, open, read, replay, totals, version, worth};
 
 /// The version of this layout, the C header's too. [`version`] is the linked library's.
 pub const VERSION: u64 = 3;
@@ -154,6 +155,76 @@ impl Level {
     }
 }
 
+/// A list of levels to be offered in turn, in blocks. The blocks of a slice are all of one length, and block i begins at i times
+/// that length. Offer i is the level of `vectors[i]` vectors and `points[i]` points at the front of block i; what lies behind it
+/// there is not read. One that has more of them than its block has room for is refused.
+#[derive(Clone, Debug, Default, PartialEq, Eq, Hash)]
+pub struct Offers {
+    /// How many offers there are.
+    pub count: usize,
+    /// How many vectors each block has room for: 0 to 32.
+    pub block_vectors: usize,
+    /// How many points each block has room for: 0 to 32.
+    pub block_points: usize,
+    /// By offer.
+    pub vectors: Vec<usize>,
+    /// By offer.
+    pub points: Vec<usize>,
+    /// By block and vector.
+    pub actions: Vec<u8>,
+    /// By block, vector and observation.
+    pub choices: Vec<u16>,
+    /// In ticks, by block, vector and state.
+    pub entries: Vec<i64>,
+    /// In ticks, by block and state.
+    pub corners: Vec<i64>,
+    /// By block, point and state.
+    pub weights: Vec<u32>,
+    /// In ticks times the point's total weight, by block and point.
+    pub values: Vec<i64>,
+}
+
+impl Offers {
+    /// The levels in blocks as large as the largest of them, for models with so many states and observations. No block is larger
+    /// than a level may be: of one that has more vectors or points than that, the front is kept and the count, so that it is
+    /// refused, and the others are not.
+    pub fn packed<'a>(
+        levels: impl IntoIterator<Item = &'a Level> + Clone,
+        states: usize,
+        observations: usize,
+    ) -> Offers {
+        let most = |count: fn(&Level) -> usize| levels.clone().into_iter().map(count).max().unwrap_or(0);
+        let mut offers = Offers {
+            block_vectors: most(|level| level.vectors).min(VECTORS),
+            block_points: most(|level| level.points).min(POINTS),
+            ..Offers::default()
+        };
+        for level in levels {
+            offers.push(level, states, observations);
+        }
+        offers
+    }
+
+    /// Adds a level, cut to the size of a block or filled up with zeros; its counts are kept.
+    pub fn push(&mut self, level: &Level, states: usize, observations: usize) {
+        fn block<Cell: Copy + Default>(cells: &mut Vec<Cell>, of: &[Cell], length: usize) {
+            let end = cells.len() + length;
+            cells.extend(of.iter().copied().take(length));
+            cells.resize(end, Cell::default());
+        }
+        let (vectors, points) = (self.block_vectors, self.block_points);
+        self.count += 1;
+        self.vectors.push(level.vectors);
+        self.points.push(level.points);
+        block(&mut self.actions, &level.actions, vectors);
+        block(&mut self.choices, &level.choices, vectors * observations);
+        block(&mut self.entries, &level.entries, vectors * states);
+        block(&mut self.corners, &level.corners, states);
+        block(&mut self.weights, &level.weights, points * states);
+        block(&mut self.values, &level.values, points);
+    }
+}
+
 /// A plan graph.
 #[derive(Clone, Debug, Default, PartialEq, Eq, Hash)]
 pub struct Graph {
@@ -171,6 +242,25 @@ pub struct Graph {
 pub struct Refusal {
     pub number: u64,
     pub place: usize,
+}
+
+/// How the adoption of a solver's files ended, and how many vectors the level has that was made of them; 0 where they are
+/// refused.
+#[repr(C)]
+#[derive(Clone, Copy, Debug, Default, PartialEq, Eq, Hash)]
+pub struct Adopted {
+    pub number: u64,
+    pub place: usize,
+    pub vectors: usize,
+}
+
+/// How a list of offers ended, and how many of them were accepted; 0 where the list is refused.
+#[repr(C)]
+#[derive(Clone, Copy, Debug, Default, PartialEq, Eq, Hash)]
+pub struct Replayed {
+    pub number: u64,
+    pub place: usize,
+    pub accepted: usize,
 }
 
 /// How reading a file ended, and the counts and discount that it read; these are 0 where it is refused.

@@ -215,6 +215,98 @@ fn a_hundred_levels() {
     assert!(certifier.totals(&start).is_ok());
 }
 
+/// Levels of one certifier, accepted and refused ones, and certifiers of several heights: a list leaves what the offers one
+/// after the other leave.
+#[test]
+fn a_list_of_levels_is_replayed() {
+    let (model, start, mut climbed) = standing(0);
+    let mut levels = vec![Level::new(model.shape())];
+    for points in [Points::one(&start.weights), Points { weights: vec![vec![1, 2]; 5] }, Points::default()] {
+        let built = climbed.build(&points).unwrap();
+        let mut high = built.clone();
+        high.entries_mut(1)[0] += 1;
+        let mut large = built.clone();
+        for _ in 0..slices::VECTORS {
+            large.add_vector(0, &[0, 0], &[-100, -100]).unwrap();
+        }
+        let mut pointed = built.clone();
+        for _ in 0..=slices::POINTS {
+            pointed.add_point(&[1, 1], 600).unwrap();
+        }
+        climbed.offer(&built).unwrap();
+        levels.extend([high, large, built, pointed]);
+    }
+    for levels in [&levels[..], &levels[1..], &levels[3..4], &levels[..1], &[]] {
+        for height in [0, 1, 2, 99, 100] {
+            let (_, _, mut at_once) = standing(height);
+            let mut in_turn = at_once.clone();
+            let accepted = levels.iter().filter(|level| in_turn.offer(level).is_ok()).count();
+            assert_eq!(at_once.replay(levels), Ok(accepted));
+            assert_eq!(at_once.slices(), in_turn.slices());
+            assert_eq!(at_once.level(), height + accepted);
+        }
+    }
+    let (_, _, mut again) = standing(0);
+    assert_eq!(again.replay(&levels), Ok(3));
+    assert_eq!(again, climbed);
+    let wide = Level::new(Shape { states: 3, ..model.shape() });
+    levels.insert(0, wide);
+    let error = again.replay(&levels).unwrap_err();
+    assert_eq!(error.to_string(), "the states of level 0 are 3, and the model wants 2");
+    assert_eq!(again, climbed);
+}
+
+/// What is asked of the slices of a list.
+#[test]
+fn a_list_in_blocks() {
+    let (model, start, fresh) = standing(0);
+    let mut climbed = fresh.clone();
+    let mut levels = Vec::new();
+    for _ in 0..2 {
+        let level = climbed.build(&Points::one(&start.weights)).unwrap();
+        climbed.offer(&level).unwrap();
+        levels.push(level);
+    }
+    let packed = || slices::Offers::packed(levels.iter().map(Level::slices), 2, 2);
+    let ended = |certifier: &slices::Certifier, offers: &slices::Offers| {
+        let mut left = certifier.clone();
+        let ended = slices::replay(model.tables(), &mut left, offers);
+        assert!(ended.accepted > 0 || left == *certifier);
+        (ended.number, ended.place, ended.accepted)
+    };
+    assert_eq!(ended(fresh.slices(), &packed()), (0, 0, 2));
+    let larger = slices::Offers { block_vectors: 32, block_points: 32, ..slices::Offers::default() };
+    let mut roomy = larger.clone();
+    levels.iter().for_each(|level| roomy.push(level.slices(), 2, 2));
+    assert_eq!(ended(fresh.slices(), &roomy), (0, 0, 2));
+    assert_eq!(ended(fresh.slices(), &slices::Offers { count: 1, ..roomy }), (0, 0, 1));
+    assert_eq!(ended(fresh.slices(), &larger), (0, 0, 0));
+    let short: [fn(&mut slices::Offers); 11] = [
+        |offers| offers.vectors.truncate(1),
+        |offers| offers.points.truncate(1),
+        |offers| offers.actions.truncate(5),
+        |offers| offers.choices.truncate(11),
+        |offers| offers.entries.truncate(11),
+        |offers| offers.corners.truncate(3),
+        |offers| offers.weights.truncate(3),
+        |offers| offers.values.truncate(1),
+        |offers| offers.count = 3,
+        |offers| offers.count = usize::MAX,
+        |offers| (offers.count, offers.block_vectors) = (0, 33),
+    ];
+    for change in short {
+        let mut offers = packed();
+        change(&mut offers);
+        assert_eq!(ended(fresh.slices(), &offers), (9, 0, 0), "{:?}", offers);
+    }
+    // 7 comes before 9, and an offer of more vectors than its block has room for is refused alone.
+    assert_eq!(ended(&slices::Certifier::default(), &larger), (7, 0, 0));
+    let mut offers = packed();
+    offers.vectors[0] = 4;
+    assert_eq!(ended(fresh.slices(), &offers).0, 0);
+    assert_eq!(ended(fresh.slices(), &slices::Offers { count: 1, ..offers }), (0, 0, 0));
+}
+
 #[test]
 fn a_fresh_certifier_has_no_totals_and_builds_at_sixteen_points() {
     let (_, start, certifier) = standing(0);
@@ -222,6 +314,52 @@ fn a_fresh_certifier_has_no_totals_and_builds_at_sixteen_points() {
     let many = |count| Points { weights: vec![start.weights.clone(); count] };
     assert_eq!(certifier.build(&many(16)).unwrap().points().count(), 16);
     assert_eq!(refusal(certifier.build(&many(17))), (9, 0));
+}
+
+/// A solver's files at the first level and at the second, of which the last entry is too high by a tenth.
+const FIRST: (&[u8], &[u8]) = (b"0\n-1.000 -1.000 \n\n1\n-10.000 6.000 \n\n", b"0 0  - - \n1 1  - - \n");
+const SECOND: (&[u8], &[u8]) = (b"0\n-0.505 2.610 \n\n", b"0 0  0 1 \n");
+
+#[test]
+fn levels_from_a_solvers_files() {
+    let (_, start, mut certifier) = standing(0);
+    let points = Points::one(&start.weights);
+    let first = certifier.adopt(FIRST.0, FIRST.1, &points).unwrap();
+    assert_eq!(
+        first.vectors().map(|vector| vector.entries.to_vec()).collect::<Vec<_>>(),
+        [[-100, -100], [-1_000, 600]]
+    );
+    assert_eq!(first.corners(), certifier.build(&points).unwrap().corners());
+    certifier.offer(&first).unwrap();
+    let second = certifier.adopt(SECOND.0, SECOND.1, &Points::default()).unwrap();
+    let vector = second.vector(0).unwrap();
+    assert_eq!((vector.action, vector.choices, vector.entries), (0, &[0, 1][..], &[-51, 251][..]));
+    assert_eq!(second.points().count(), 0);
+    certifier.offer(&second).unwrap();
+    assert_eq!(certifier.level(), 2);
+}
+
+#[test]
+fn a_solvers_files_are_refused() {
+    let (_, start, fresh) = standing(0);
+    let (_, _, raised) = standing(1);
+    let made = |certifier: &Certifier, alpha: &[u8], graph: &[u8]| {
+        refusal(certifier.adopt(alpha, graph, &Points::one(&start.weights)))
+    };
+    let long = vec![b' '; slices::FILE_BYTES + 1];
+    assert_eq!(made(&fresh, &long, FIRST.1), (1, 0));
+    assert_eq!(made(&fresh, FIRST.0, &long), (1, 0));
+    assert_eq!(made(&fresh, b"0 -1.0 x", FIRST.1), (19, 7));
+    assert_eq!(made(&fresh, FIRST.0, b"0 0 - - 2 1 - -"), (19, 8));
+    assert_eq!(made(&fresh, FIRST.0, b"0 0 - -"), (20, 0));
+    assert_eq!(made(&standing(100).2, FIRST.0, FIRST.1), (8, 0));
+    assert_eq!(made(&fresh, b"", b""), (9, 0));
+    assert_eq!(made(&raised, FIRST.0, FIRST.1), (10, 0));
+    assert_eq!(made(&fresh, b"0 -1 -1000.001", b"0 0 - -"), (11, 0));
+    let none = fresh.adopt(FIRST.0, FIRST.1, &Points::one(&[0, 0]));
+    assert_eq!(none, Err(Error::Refused(Refusal { rule: Rule::PointTotal, place: Place::Point(0) })));
+    let range = fresh.adopt(b"0 -1 -1000.001", b"0 0 - -", &Points::default());
+    assert_eq!(range, Err(Error::Refused(Refusal { rule: Rule::Range, place: Place::Vector(0) })));
 }
 
 #[test]
@@ -288,13 +426,13 @@ fn wrong_lengths_are_told() {
 
 #[test]
 fn every_refusal_has_a_rule_and_a_sentence() {
-    for number in (1..=18).chain([100]) {
+    for number in (1..=20).chain([100]) {
         let rule = Rule::of(number).unwrap();
         assert_eq!(rule.number(), number);
         let text = Refusal { rule, place: Place::Byte(3) }.to_string();
         assert!(text.starts_with(&format!("refused {} at 3: ", number)));
     }
-    assert_eq!((Rule::of(0), Rule::of(19), Rule::of(101)), (None, None, None));
+    assert_eq!((Rule::of(0), Rule::of(21), Rule::of(101)), (None, None, None));
 }
 
 /// The C header says the same numbers.

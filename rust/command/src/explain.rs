@@ -17,7 +17,7 @@ const LENGTH: &str = "the file's length";
 const EXPLANATIONS: &[Explanation] = &[
     Explanation {
         number: 1,
-        means: "The model file has more than 32,768 bytes.",
+        means: "The model file, or one of a solver's files, has more than 32,768 bytes.",
         place: NONE,
         causes: &[
             "Long comments, or columns lined up with blanks: shorten them.",
@@ -100,7 +100,11 @@ const EXPLANATIONS: &[Explanation] = &[
         number: 10,
         means: "A vector names an action, or a vector of the level below, that does not exist.",
         place: "the vector's number",
-        causes: &["Numbers that start at 1: all start at 0.", "Choices that point into the level itself."],
+        causes: &[
+            "Numbers that start at 1: all start at 0.",
+            "Choices that point into the level itself.",
+            "A solver's files offered out of turn: next nodes are those of the step before, and hyphens stand at the first.",
+        ],
     },
     Explanation {
         number: 11,
@@ -165,6 +169,27 @@ const EXPLANATIONS: &[Explanation] = &[
         causes: &["1 to 32 nodes, steps 0 to 4; every node is tested, reached or not."],
     },
     Explanation {
+        number: 19,
+        means: "A word of a solver's alpha file or policy graph does not fit its form, or is missing, or a node is out of order.",
+        place: "the bytes before the word, or the file's length if it is missing; of the alpha file if it is at fault, else of \
+                the policy graph",
+        causes: &[
+            "More than 12 digits behind a point: sed -E 's/(\\.[0-9]{12})[0-9]+/\\1/g' cuts them.",
+            "The policy graph before the alpha file: for each step the alpha file comes first.",
+            "Files of another model: the alpha file has a decimal for each state, the graph a next node for each observation.",
+            "Next nodes that are missing are written `-`.",
+        ],
+    },
+    Explanation {
+        number: 20,
+        means: "A solver's alpha file and policy graph have different numbers of vectors, or different actions.",
+        place: NONE,
+        causes: &[
+            "Files of two steps, or of two runs of the solver.",
+            "A policy graph in another order than the alpha file: node 0 is the first vector.",
+        ],
+    },
+    Explanation {
         number: 100,
         means: "A slice that a file is read into is too short. Only programs that call the library meet this.",
         place: "the length that it needs",
@@ -190,7 +215,7 @@ pub fn run(number: u64) -> i32 {
             exit::SERVED
         }
         None => {
-            eprintln!("biidhaqun: there is no refusal {}; they are 1 to 18, and 100", number);
+            eprintln!("biidhaqun: there is no refusal {}; they are 1 to 20, and 100", number);
             exit::USAGE
         }
     }
@@ -202,10 +227,10 @@ mod tests {
 
     #[test]
     fn every_refusal_is_explained() {
-        for number in (1..=18).chain([100]) {
+        for number in (1..=20).chain([100]) {
             assert!(text(number).unwrap().starts_with(&format!("{}. ", number)));
         }
         assert_eq!(text(0), None);
-        assert_eq!(text(19), None);
+        assert_eq!(text(21), None);
     }
 }

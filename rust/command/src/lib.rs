@@ -2,7 +2,7 @@
 //! shells around model files.
 //!
 //! Nothing here is proved, and nothing here decides: whether a file is read, a level accepted or a total certified is
-//! asked of the library. [`model_file`] only finds words for its refusals.
+//! asked of the library. [`model_file`] and [`solver_files`] only find words for its refusals.
 
 pub mod cassandra;
 pub mod explain;
@@ -11,6 +11,7 @@ pub mod model_file;
 pub mod names;
 pub mod numerals;
 pub mod options;
+pub mod solver_files;
 pub mod table;
 pub mod told;
 pub mod words;

@@ -42,15 +42,24 @@ pub enum Request {
         #[arg(long)]
         json: bool,
     },
-    /// Offer levels from a file in turn, and print what is certified
+    /// Offer levels from a solver's files, or from a JSON file, in turn, and print what is certified
     ///
-    /// The file is a JSON object as `levels --json` prints it: of each level its vectors, corners and points are read. A level
-    /// that is refused is shown with the state or action at fault and the ticks that are missing.
+    /// A POMDP solver saves an alpha file and a policy graph for each step: given in turn, ALPHA GRAPH ALPHA GRAPH .., they are
+    /// made into levels with the start mixture as their only point, and offered. For each a line is printed, as `levels` does;
+    /// a refusal is the last line.
+    ///
+    /// One file alone is a JSON object as `levels --json` prints it: of each level its vectors, corners and points are read. A
+    /// level that is refused is shown with the state or action at fault and the ticks that are missing.
     Certify {
         /// A model file
         file: PathBuf,
-        /// A file of levels, in JSON
-        levels: PathBuf,
+        /// An alpha file and a policy graph for each step, in turn; or one file of levels, in JSON
+        #[arg(required = true)]
+        levels: Vec<PathBuf>,
+        /// A point of each level from a solver: a weight for each state, 1 to 100 in total; up to 16 times [default: the start
+        /// mixture]
+        #[arg(long = "point", value_name = "W,W,..", value_parser = weights)]
+        points: Vec<Weights>,
         /// A mixture to ask at: a weight for each state, up to 1000000 [default: the start mixture]
         #[arg(long = "at", value_name = "W,W,..", value_parser = weights)]
         at: Vec<Weights>,
@@ -91,7 +100,7 @@ pub enum Request {
     },
     /// Explain a refusal
     Explain {
-        /// The number of the refusal, 1 to 18
+        /// The number of the refusal, 1 to 20
         number: u64,
     },
 }
@@ -130,7 +139,9 @@ impl Request {
         match self {
             Request::Levels { built, .. } | Request::Picture { built, .. } => vec![&built.file],
             Request::Check { file } | Request::Import { file, .. } => vec![file],
-            Request::Certify { file, levels, .. } => vec![file, levels],
+            Request::Certify { file, levels, .. } => {
+                std::iter::once(file).chain(levels).map(PathBuf::as_path).collect()
+            }
             Request::Explain { .. } => Vec::new(),
         }
     }

@@ -29,9 +29,11 @@ fn printed(folder: &Path, arguments: &[&str]) -> String {
 fn the_runs_of_the_front_page() {
     // The folder that the front page speaks of: the examples, and a dough model with a wrong row.
     let folder = Path::new(env!("CARGO_TARGET_TMPDIR")).join("front");
-    fs::create_dir_all(folder.join("examples")).unwrap();
-    for example in ["examples/dough.pomdp", "examples/tempering.pomdp"] {
-        fs::write(folder.join(example), text(example)).unwrap();
+    fs::create_dir_all(folder.join("examples/solver")).unwrap();
+    let models = ["dough", "tempering", "tiger"].map(|name| format!("examples/{}.pomdp", name));
+    let solver = (1..=3).flat_map(|t| ["alpha", "pg"].map(|kind| format!("examples/solver/tiger.{}{}", kind, t)));
+    for example in models.into_iter().chain(solver) {
+        fs::write(folder.join(&example), text(&example)).unwrap();
     }
     let dough = text("examples/dough.pomdp");
     fs::write(folder.join("dough.pomdp"), dough.replace("T: 0 : 1 0 1", "T: 0 : 1 0 0.9")).unwrap();
@@ -44,7 +46,7 @@ fn the_runs_of_the_front_page() {
             runs += 1;
         }
     }
-    assert_eq!(runs, 3);
+    assert_eq!(runs, 4);
 }
 
 /// The image in the front page is what the command beside it draws.
@@ -72,7 +74,7 @@ fn the_model_of_the_page_on_model_files() {
 #[test]
 fn the_refusals_of_the_header() {
     let header = text("include/biidhaqun.h");
-    for number in (1..=18).chain([100]) {
+    for number in (1..=20).chain([100]) {
         assert!(header.contains(&format!("\n * {:>4}  ", number)));
         assert!(command::explain::text(number).is_some());
     }

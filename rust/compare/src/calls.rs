@@ -12,6 +12,7 @@ pub trait Calls {
     fn offer(&self, certifier: &mut Certifier, level: &Level) -> Result<(), Refusal>;
     fn totals(&self, certifier: &Certifier, mixture: &[u64]) -> Result<Totals, Refusal>;
     fn build(&self, certifier: &Certifier, points: &Points) -> Result<Level, Refusal>;
+    fn adopt(&self, certifier: &Certifier, alpha: &[u8], graph: &[u8], points: &Points) -> Result<Level, Refusal>;
     fn worth(&self, tables: &Tables, graph: &Graph, asked: Question) -> Result<BigInt, Refusal>;
 }
 
@@ -31,6 +32,10 @@ impl Calls for Rules {
 
     fn build(&self, certifier: &Certifier, points: &Points) -> Result<Level, Refusal> {
         reference::build(certifier, points, self)
+    }
+
+    fn adopt(&self, certifier: &Certifier, alpha: &[u8], graph: &[u8], points: &Points) -> Result<Level, Refusal> {
+        reference::adopt(certifier, alpha, graph, points, self)
     }
 
     fn worth(&self, tables: &Tables, graph: &Graph, asked: Question) -> Result<BigInt, Refusal> {

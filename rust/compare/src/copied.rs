@@ -4,9 +4,14 @@
 //! without vectors (7 where it stands or its rows are too short, 9 where it is offered or has no room), too many points (9), no
 //! weights (17), no nodes (18). What is written is written at the front of the slices; the rest stays.
 
+mod adopting;
+mod replaying;
+
 use crate::gen::{Question, DOCUMENT};
 use crate::lent::{narrowed, stored, Cell, Library};
-use biidhaqun::slices::{Answers, Certifier, Graph, Level, Reading, Refusal, Tables, Totals, Worth};
+use biidhaqun::slices::{
+    Adopted, Answers, Certifier, Graph, Level, Offers, Reading, Refusal, Replayed, Tables, Totals, Worth,
+};
 use reference::{Rules, ACTIONS, BUILT_POINTS, NODES, OBSERVATIONS, POINTS, ROWS, STATES, VECTORS};
 
 /// Lists the slips with a sentence each.
@@ -66,6 +71,24 @@ slips! {
     LaterAnswersLeft: "what comes after a refused mixture is not answered",
     RefusedReading: "a refused reading carries counts",
     RefusedWorth: "a refused worth carries ticks",
+    AdoptedRoomFirst: "an adopted level's room is asked for before the files agree",
+    AdoptedRoomAtTheEnd: "an adopted level's room is asked for after 10, 11 and 12",
+    AdoptedRoomForMost: "an adopted level wants room for 32 vectors, however many there are",
+    RefusedAdoption: "a refused adoption carries a number of vectors",
+    AdoptedPointsCounted: "an adopted level's points count among its vectors",
+    RefusedOfferCounted: "a refused offer of a list counts as accepted",
+    ListStops: "a refused offer ends its list",
+    ListUndone: "a refused offer undoes its list",
+    FirstBlockOnly: "block 0 of a list is offered each time",
+    BlocksByCounts: "each block of a list is as long as its own offer",
+    BlocksRunOn: "an offer that is larger than its block goes on in the next one",
+    ShortListPasses: "a list's slice that is too short passes",
+    LargeBlocksPass: "blocks of over 32 vectors or points pass",
+    LargeOfferRefusesAll: "an offer that is larger than its block refuses its list by 9",
+    RoomForBlocksAsked: "a certifier must have room for a whole block of a list",
+    ListReopens: "a certifier is opened anew before a list",
+    ListBeforeCertifier: "a list is asked for its lengths before 7",
+    RefusedReplay: "a refused list carries a number of acceptances",
     RowsBySixteen: "entries and weights are packed by 16 states",
     StateInOtherOrder: "a state is the levels, the points, the vectors",
 }
@@ -502,6 +525,14 @@ impl Library for Copied {
         self.ended(answer, certifier)
     }
 
+    fn replay(&self, tables: &Tables, certifier: &mut Certifier, offers: &Offers) -> Replayed {
+        let answer = self.replayed(tables, certifier, offers);
+        let left = usize::from(self.has(Slip::RefusedReplay));
+        let accepted = *answer.as_ref().unwrap_or(&left);
+        let Refusal { number, place } = self.ended(answer.map(|_| ()), certifier);
+        Replayed { number, place, accepted }
+    }
+
     fn totals(&self, tables: &Tables, certifier: &Certifier, mixture: &[u32]) -> Totals {
         let standing = self.standing(tables, certifier);
         let n = standing.tables.states as usize;
@@ -559,6 +590,26 @@ impl Library for Copied {
                     level.corners.fill(0);
                 }
                 refused(refusal)
+            }
+        }
+    }
+
+    fn adopt(
+        &self,
+        tables: &Tables,
+        certifier: &Certifier,
+        files: (&[u8], &[u8]),
+        points: (&[u32], usize),
+        level: &mut Level,
+    ) -> Adopted {
+        match self.adopted(tables, certifier, files, points, level) {
+            Ok(vectors) => Adopted { vectors, ..Adopted::default() },
+            Err(refusal) => {
+                if self.has(Slip::RefusalClears) {
+                    level.corners.fill(0);
+                }
+                let Refusal { number, place } = refused(refusal);
+                Adopted { number, place, vectors: usize::from(self.has(Slip::RefusedAdoption)) }
             }
         }
     }

@@ -3,15 +3,18 @@
 use crate::files;
 use crate::gen::Question;
 use crate::rng::Rng;
-use biidhaqun::slices::{Answers, Certifier, Graph, Level, Reading, Refusal, Tables, Totals, Worth};
+use biidhaqun::slices::{
+    Adopted, Answers, Certifier, Graph, Level, Offers, Reading, Refusal, Replayed, Tables, Totals, Worth,
+};
 use reference::{BUILT_POINTS, NODES, POINTS, VECTORS};
 use std::fmt;
 
-/// The library's seven calls.
+/// The library's nine calls.
 pub trait Library {
     fn read(&self, file: &[u8], tables: &mut Tables, start: &mut [u16]) -> Reading;
     fn open(&self, tables: &Tables, certifier: &mut Certifier) -> Refusal;
     fn offer(&self, tables: &Tables, certifier: &mut Certifier, level: &Level) -> Refusal;
+    fn replay(&self, tables: &Tables, certifier: &mut Certifier, offers: &Offers) -> Replayed;
     fn totals(&self, tables: &Tables, certifier: &Certifier, mixture: &[u32]) -> Totals;
     fn each(
         &self,
@@ -23,6 +26,15 @@ pub trait Library {
     ) -> Refusal;
     fn build(&self, tables: &Tables, certifier: &Certifier, count: usize, points: &[u32], level: &mut Level)
         -> Refusal;
+    /// The alpha file and the graph; the points' weights and their count.
+    fn adopt(
+        &self,
+        tables: &Tables,
+        certifier: &Certifier,
+        files: (&[u8], &[u8]),
+        points: (&[u32], usize),
+        level: &mut Level,
+    ) -> Adopted;
     fn worth(&self, tables: &Tables, graph: &Graph, asked: Question) -> Worth;
 }
 
@@ -229,6 +241,11 @@ pub enum Call {
         certifier: Certifier,
         level: Level,
     },
+    Replay {
+        tables: Tables,
+        certifier: Certifier,
+        offers: Offers,
+    },
     Totals {
         tables: Tables,
         certifier: Certifier,
@@ -247,6 +264,16 @@ pub enum Call {
         certifier: Certifier,
         count: usize,
         points: Vec<u32>,
+        level: Level,
+    },
+    /// The counts and weights of the level are not lent.
+    Adopt {
+        tables: Tables,
+        certifier: Certifier,
+        alpha: Vec<u8>,
+        graph: Vec<u8>,
+        points: Vec<u32>,
+        count: usize,
         level: Level,
     },
     Worth {
@@ -275,6 +302,10 @@ impl Call {
             }
             Call::Open { tables, certifier } => ended(by.open(tables, certifier)),
             Call::Offer { tables, certifier, level } => ended(by.offer(tables, certifier, level)),
+            Call::Replay { tables, certifier, offers } => {
+                let Replayed { number, place, accepted } = by.replay(tables, certifier, offers);
+                vec![number.into(), place as i128, accepted as i128]
+            }
             Call::Totals { tables, certifier, mixture } => {
                 let at = by.totals(tables, certifier, mixture);
                 let Totals { number, place, lower, upper, gap, action, sawtooth, informed } = at;
@@ -287,6 +318,10 @@ impl Call {
             }
             Call::Build { tables, certifier, count, points, level } => {
                 ended(by.build(tables, certifier, *count, points, level))
+            }
+            Call::Adopt { tables, certifier, alpha, graph, points, count, level } => {
+                let made = by.adopt(tables, certifier, (alpha, graph), (points, *count), level);
+                vec![made.number.into(), made.place as i128, made.vectors as i128]
             }
             Call::Worth { tables, graph, asked } => {
                 let Worth { number, place, ticks } = by.worth(tables, graph, *asked);
@@ -368,6 +403,18 @@ impl Call {
                 slices.extend(standing(certifier, true));
                 slices.extend(of_level(level, true));
             }
+            Call::Replay { tables, certifier, offers } => {
+                slices.extend(of_tables(tables));
+                slices.extend(standing(certifier, true));
+                slices.push(("offers' vectors", &mut offers.vectors));
+                slices.push(("offers' points", &mut offers.points));
+                slices.push(("offers' actions", &mut offers.actions));
+                slices.push(("offers' choices", &mut offers.choices));
+                slices.push(("offers' entries", &mut offers.entries));
+                slices.push(("offers' corners", &mut offers.corners));
+                slices.push(("offers' weights", &mut offers.weights));
+                slices.push(("offers' values", &mut offers.values));
+            }
             Call::Totals { tables, certifier, mixture } => {
                 slices.extend(of_tables(tables));
                 slices.extend(standing(certifier, false));
@@ -382,7 +429,8 @@ impl Call {
                 slices.push(("answered upper", &mut answers.upper));
                 slices.push(("answered actions", &mut answers.actions));
             }
-            Call::Build { tables, certifier, points, level, .. } => {
+            Call::Build { tables, certifier, points, level, .. }
+            | Call::Adopt { tables, certifier, points, level, .. } => {
                 slices.extend(of_tables(tables));
                 slices.extend(standing(certifier, false));
                 slices.push(("points", points));
@@ -410,6 +458,9 @@ impl fmt::Display for Call {
             Call::Offer { tables, certifier, level } => {
                 writeln!(f, "  offer: {:?}\n  {:?}\n  {:?}", tables, certifier, level)
             }
+            Call::Replay { tables, certifier, offers } => {
+                writeln!(f, "  replay: {:?}\n  {:?}\n  {:?}", tables, certifier, offers)
+            }
             Call::Totals { tables, certifier, mixture } => {
                 writeln!(f, "  totals: {:?}\n  {:?}\n  mixture {:?}", tables, certifier, mixture)
             }
@@ -422,6 +473,11 @@ impl fmt::Display for Call {
             }
             Call::Build { tables, certifier, count, points, level } => {
                 writeln!(f, "  build: {:?}\n  {:?}\n  {} points {:?}\n  {:?}", tables, certifier, count, points, level)
+            }
+            Call::Adopt { tables, certifier, alpha, graph, points, count, level } => {
+                writeln!(f, "  adopt, alpha file of {} bytes: {}", alpha.len(), files::escaped(alpha))?;
+                writeln!(f, "  graph of {} bytes: {}", graph.len(), files::escaped(graph))?;
+                writeln!(f, "  {:?}\n  {:?}\n  {} points {:?}\n  {:?}", tables, certifier, count, points, level)
             }
             Call::Worth { tables, graph, asked } => {
                 writeln!(f, "  worth: {:?}\n  {:?}\n  {:?}", tables, graph, asked)

@@ -1,5 +1,6 @@
 //! Cases for whatever answers by document 01, random and repeatable, and their comparison with the reference.
 
+pub mod adopting;
 pub mod bracket;
 pub mod calls;
 pub mod ceilings;
@@ -11,9 +12,11 @@ pub mod lent;
 pub mod linked;
 pub mod options;
 pub mod program;
+pub mod replaying;
 pub mod rng;
 pub mod show;
 pub mod single;
+pub mod solved;
 pub mod suites;
 pub mod through;
 pub mod ticks;

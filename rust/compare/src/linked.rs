@@ -2,7 +2,9 @@
 
 use crate::gen::Question;
 use crate::lent::{Cell, Library};
-use biidhaqun::slices::{self, Answers, Certifier, Graph, Level, Reading, Refusal, Tables, Totals, Worth};
+use biidhaqun::slices::{
+    self, Adopted, Answers, Certifier, Graph, Level, Offers, Reading, Refusal, Replayed, Tables, Totals, Worth,
+};
 
 /// The number of a call that wrote past the end of a slice: none ends with it.
 const OUTSIDE: u64 = u64::MAX;
@@ -53,6 +55,26 @@ fn kept_certifier(certifier: &mut Certifier) -> bool {
         && kept(&mut certifier.qmdp)
 }
 
+/// A level to be written, with edges.
+fn edged_level(level: &Level) -> Level {
+    Level {
+        actions: edged(&level.actions),
+        choices: edged(&level.choices),
+        entries: edged(&level.entries),
+        corners: edged(&level.corners),
+        values: edged(&level.values),
+        ..level.clone()
+    }
+}
+
+fn kept_level(level: &mut Level) -> bool {
+    kept(&mut level.actions)
+        && kept(&mut level.choices)
+        && kept(&mut level.entries)
+        && kept(&mut level.corners)
+        && kept(&mut level.values)
+}
+
 /// Makes a call on a copy of a certifier with edges.
 fn lend(certifier: &mut Certifier, call: impl FnOnce(&mut Certifier) -> Refusal) -> Refusal {
     let mut copy = edged_certifier(certifier);
@@ -81,6 +103,16 @@ impl Library for Linked {
 
     fn offer(&self, tables: &Tables, certifier: &mut Certifier, level: &Level) -> Refusal {
         lend(certifier, |certifier| slices::offer(tables, certifier, level))
+    }
+
+    fn replay(&self, tables: &Tables, certifier: &mut Certifier, offers: &Offers) -> Replayed {
+        let mut accepted = 0;
+        let Refusal { number, place } = lend(certifier, |certifier| {
+            let ended = slices::replay(tables, certifier, offers);
+            accepted = ended.accepted;
+            Refusal { number: ended.number, place: ended.place }
+        });
+        Replayed { number, place, accepted }
     }
 
     fn totals(&self, tables: &Tables, certifier: &Certifier, mixture: &[u32]) -> Totals {
@@ -115,22 +147,26 @@ impl Library for Linked {
         points: &[u32],
         level: &mut Level,
     ) -> Refusal {
-        let mut copy = Level {
-            actions: edged(&level.actions),
-            choices: edged(&level.choices),
-            entries: edged(&level.entries),
-            corners: edged(&level.corners),
-            values: edged(&level.values),
-            ..level.clone()
-        };
+        let mut copy = edged_level(level);
         let ended = slices::build(tables, certifier, count, points, &mut copy);
-        let all = kept(&mut copy.actions)
-            && kept(&mut copy.choices)
-            && kept(&mut copy.entries)
-            && kept(&mut copy.corners)
-            && kept(&mut copy.values);
+        let all = kept_level(&mut copy);
         *level = copy;
         Refusal { number: if all { ended.number } else { OUTSIDE }, ..ended }
+    }
+
+    fn adopt(
+        &self,
+        tables: &Tables,
+        certifier: &Certifier,
+        (alpha, graph): (&[u8], &[u8]),
+        (points, count): (&[u32], usize),
+        level: &mut Level,
+    ) -> Adopted {
+        let mut copy = edged_level(level);
+        let made = slices::adopt(tables, certifier, alpha, graph, points, count, &mut copy);
+        let all = kept_level(&mut copy);
+        *level = copy;
+        Adopted { number: if all { made.number } else { OUTSIDE }, ..made }
     }
 
     fn worth(&self, tables: &Tables, graph: &Graph, asked: Question) -> Worth {

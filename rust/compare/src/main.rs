@@ -11,7 +11,12 @@
 //! - `calls`: storage of any content, lists of offers up to level 100 and past it, used with `--library` and `--traps`,
 //! - `ends`: storage with every number at an end of its range, for the largest sums, used with `--library`,
 //! - `slices`: one call on slices of any content and length, each compared whole, used with `--library`,
-//! - `lengths`: served calls with each slice in turn one short, empty, exact and longer, used with `--library`.
+//! - `lengths`: served calls with each slice in turn one short, empty, exact and longer, used with `--library`,
+//! - `adopted`: a solver's files that are the same for every seed: each word and byte damaged in turn, cut at every byte, lengths
+//!   and counts at and past the largest, used with `--library`,
+//! - `adopt`: random files of a solver, most of them damaged, upon certifiers of any content, used likewise,
+//! - `replay`: lists of offers in blocks, refused ones among them, upon certifiers of any content, used likewise,
+//! - `solved`: the steps that a float solver finds, each adopted and accepted, and what their entries lose.
 //!
 //! From the root of the repository: `rust/target/release/compare target/bin/ladder`; with the feature `library`,
 //! `rust/target/release/compare --library`. How often the informed ceiling is lower than the sawtooth on the examples, and by how
@@ -23,7 +28,7 @@ use compare::gen::DOCUMENT;
 use compare::options::{Options, USAGE};
 use compare::program::Answerer;
 use compare::rng::Rng;
-use compare::{bracket, calls, ceilings, files, show, ticks, traps};
+use compare::{adopting, bracket, calls, ceilings, files, show, solved, ticks, traps};
 use reference::{ladder, Rules};
 use std::collections::BTreeMap;
 use std::process::ExitCode;
@@ -34,6 +39,7 @@ use std::{env, fs, io};
 const FILES: u64 = 4_000;
 const PLANS: u64 = 600;
 const CLIMBS: u64 = 300;
+const SOLVED: u64 = 300;
 
 fn main() -> ExitCode {
     let options = match Options::parse(env::args().skip(1)) {
@@ -161,7 +167,7 @@ impl Comparison<'_> {
             self.plans.thirds,
             self.plans.informed
         );
-        if !self.climbs()? {
+        if !self.climbs()? || !self.solved()? {
             return Ok(false);
         }
         println!("{} s in all", start.elapsed().as_secs());
@@ -192,6 +198,34 @@ impl Comparison<'_> {
         for (t, loss) in &largest {
             println!("  {}: {:.3}", t, *loss as f64 / ticks::PARTS as f64);
         }
+        Ok(true)
+    }
+
+    /// The steps of a solver upon the examples and upon random models: each is certified, and what it loses is told.
+    fn solved(&self) -> io::Result<bool> {
+        let mut largest = solved::Losses::default();
+        let random = |number| {
+            let climb = solved::random(&mut Rng::for_case(self.options.seed, "solved", number));
+            (format!("solved:{}", number), climb)
+        };
+        let examples = solved::examples(&self.options.examples)?;
+        for (name, climb) in examples.into_iter().chain((0..SOLVED).map(random)) {
+            match solved::check(&climb, &DOCUMENT) {
+                Ok(losses) if name.starts_with("solved:") => largest.with(&losses),
+                Ok(losses) => {
+                    let mut own = solved::Losses::default();
+                    own.with(&losses);
+                    println!("{} as a solver has it, ticks lost at level t: {}", name, own.shown());
+                }
+                Err(message) => {
+                    println!("DIFFERENCE in {} (seed {}): {}\n{}", name, self.options.seed, message, climb.show());
+                    self.saved(climb.show().as_bytes())?;
+                    return Ok(false);
+                }
+            }
+        }
+        println!("random models as a solver has them: {}; the largest loss at level t, in ticks:", SOLVED);
+        println!("  {}", largest.shown());
         Ok(true)
     }
 
@@ -226,6 +260,16 @@ impl Comparison<'_> {
                     Ok(losses) => println!("losses in parts of a tick: {:?}", losses),
                     Err(message) => println!("DIFFERENCE: {}", message),
                 }
+                Ok(true)
+            }
+            "adopt" => {
+                print!("{}", adopting::random(&mut rng).show());
+                Ok(true)
+            }
+            "solved" => {
+                let climb = solved::random(&mut rng);
+                print!("{}", climb.show());
+                println!("{:?}", solved::check(&climb, &DOCUMENT));
                 Ok(true)
             }
             _ => Err(io::Error::new(io::ErrorKind::InvalidInput, "there is no such suite")),

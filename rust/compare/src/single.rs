@@ -5,6 +5,7 @@ use crate::files;
 use crate::gen::{self, Shape, Step};
 use crate::lent::{self, Call, Slice};
 use crate::rng::Rng;
+use crate::{adopting, replaying};
 use biidhaqun::slices::{Answers, Certifier, Level, Tables};
 use reference::{Points, STATES};
 
@@ -73,7 +74,7 @@ fn opening_room(rng: &mut Rng, tables: &Tables) -> Certifier {
 }
 
 /// Slices of a certifier that are as long as a level's, at least.
-fn sized(rng: &mut Rng, mut certifier: Certifier, level: &Level) -> Certifier {
+pub fn sized(rng: &mut Rng, mut certifier: Certifier, level: &Level) -> Certifier {
     fn grow(rng: &mut Rng, slice: &mut dyn Slice, length: usize) {
         slice.sized(slice.length().max(length), rng);
     }
@@ -121,6 +122,24 @@ fn building(rng: &mut Rng, shape: Shape, certifier: &reference::Certifier, point
     Call::Build { tables, certifier: lent::certifier(certifier), count, points, level }
 }
 
+/// Makes a level of so many vectors from a solver's files.
+pub fn adoption(
+    rng: &mut Rng,
+    certifier: &reference::Certifier,
+    (alpha, graph): (&[u8], &[u8]),
+    points: &Points,
+    vectors: usize,
+) -> Call {
+    let (n, k) = lent::counts(&certifier.tables);
+    let (count, points) = lent::points(points, n);
+    let few = count.min(reference::BUILT_POINTS + 1);
+    let room = sized(rng, Certifier::default(), &Level::zeros(n, k, vectors, few));
+    let Certifier { actions, choices, entries, corners, values, .. } = room;
+    let level = Level { actions, choices, entries, corners, values, ..Level::default() };
+    let (tables, certifier) = (lent::tables(&certifier.tables), lent::certifier(certifier));
+    Call::Adopt { tables, certifier, alpha: alpha.to_vec(), graph: graph.to_vec(), points, count, level }
+}
+
 /// Reads a random file, with slices as long as it needs.
 fn reading_exactly(rng: &mut Rng) -> Call {
     let file = files::random(rng).file;
@@ -166,7 +185,12 @@ fn followed(list: &gen::List) -> reference::Certifier {
 
 /// A random call: most slices are exact or longer, some one short or shorter, some with anything in a cell.
 pub fn random(rng: &mut Rng) -> Call {
-    let mut call = whole(rng);
+    let call = whole(rng);
+    touched(rng, call)
+}
+
+/// The call with some of its slices longer, shorter, or with anything in a cell.
+pub fn touched(rng: &mut Rng, mut call: Call) -> Call {
     let count = call.slices().len();
     // One slice in a few is touched, so that calls are served too.
     for (_, slice) in call.slices() {
@@ -218,6 +242,8 @@ fn served(rng: &mut Rng, kind: u64) -> Call {
                 building(rng, shape, &certifier, &points)
             }
             5 => asking(rng, shape, &certifier, 3),
+            6 => adopting::random(rng).call(rng),
+            7 => replaying::served(rng, shape, &certifier),
             _ => {
                 let graph = gen::graph(rng, shape);
                 let asked = gen::question(rng, &graph, shape);
@@ -253,19 +279,23 @@ fn if_short(call: &Call, name: &str, length: usize) -> Option<(u64, usize)> {
         Call::Read { .. } => return Some((100, length)),
         Call::Open { .. } if of_tables => 3,
         Call::Open { .. } => 9,
-        Call::Offer { .. } | Call::Totals { .. } | Call::Each { .. } | Call::Build { .. } if of_tables => 7,
+        Call::Worth { .. } if of_tables => 3,
+        _ if of_tables => 7,
         Call::Offer { .. } if level => 9,
         Call::Offer { level, .. } if name == "standing choices" && length > level.choices.len() => 0,
         Call::Offer { tables, certifier, .. } if length > stands(certifier, tables) => 9,
         Call::Offer { .. } => 7,
+        Call::Replay { .. } if name.starts_with("offers'") => 9,
+        // Room for an offer is asked of that offer alone.
+        Call::Replay { tables, certifier, .. } if length > stands(certifier, tables) => 0,
+        Call::Replay { .. } => 7,
         Call::Totals { .. } if name == "mixture" => 17,
         Call::Totals { .. } => 7,
         Call::Each { .. } if name == "mixtures" => 17,
         Call::Each { .. } if name.starts_with("answered") => 9,
         Call::Each { .. } => 7,
-        Call::Build { .. } if level || name == "points" => 9,
-        Call::Build { .. } => 7,
-        Call::Worth { .. } if of_tables => 3,
+        Call::Build { .. } | Call::Adopt { .. } if level || name == "points" => 9,
+        Call::Build { .. } | Call::Adopt { .. } => 7,
         Call::Worth { .. } => 18,
     };
     Some((number, 0))
@@ -274,7 +304,7 @@ fn if_short(call: &Call, name: &str, length: usize) -> Option<(u64, usize)> {
 /// A call that is served, and for each slice the same call with that slice one short, empty, and longer; with how the first
 /// of these ends by the header.
 pub fn lengths(rng: &mut Rng, number: u64) -> Vec<(Call, Option<(u64, usize)>)> {
-    let call = served(rng, number % 7);
+    let call = served(rng, number % 9);
     let mut calls = vec![(call.clone(), Some((0, 0)))];
     let count = call.clone().slices().len();
     for at in 0..count {

@@ -5,7 +5,7 @@ use crate::lent::{Call, Library};
 use crate::options::Options;
 use crate::rng::Rng;
 use crate::through::{self, Through};
-use crate::{bracket, calls, files, show, single, ticks};
+use crate::{adopting, bracket, calls, files, replaying, show, single, solved, ticks};
 use reference::Trap;
 use std::collections::BTreeMap;
 use std::time::{Duration, Instant};
@@ -16,16 +16,20 @@ const FILES: u64 = 10_000;
 const CALLS: u64 = 5_000;
 const ENDS: u64 = 1_500;
 const SLICES: u64 = 15_000;
-const LENGTHS: u64 = 600;
+const LENGTHS: u64 = 675;
 const PLANS: u64 = 1_000;
 const CLIMBS: u64 = 500;
+const ADOPTIONS: u64 = 5_000;
+const REPLAYS: u64 = 4_000;
+const SOLVED: u64 = 300;
 
 /// How many random cases a slip or a trap is looked for in.
 const HUNTED: u64 = 3_000;
 
 /// Does what was asked for; whether all was well.
 pub fn run(options: &Options, library: &dyn Library) -> io::Result<bool> {
-    let mut suites = Suites { options, linked: library, tally: BTreeMap::new() };
+    let (tally, losses, adopted) = (BTreeMap::new(), solved::Losses::default(), adopting::fixed());
+    let mut suites = Suites { options, linked: library, tally, losses, adopted };
     let well = if options.traps {
         suites.traps()
     } else if let Some(path) = &options.file {
@@ -46,6 +50,10 @@ struct Suites<'a> {
     linked: &'a dyn Library,
     /// How many single calls ended in which way.
     tally: BTreeMap<u64, u64>,
+    /// What entries of solved levels have lost.
+    losses: solved::Losses,
+    /// The fixed files of a solver.
+    adopted: Vec<adopting::Case>,
 }
 
 /// A copy with one mistake, and the first case that tells it from the library.
@@ -76,6 +84,22 @@ impl Suites<'_> {
             }
         }
         println!("fixed files: {}, examples: {}, {} s", fixed.len(), examples.len(), start.elapsed().as_secs());
+        let fixed = self.adopted.len() as u64;
+        for number in 0..fixed {
+            if !self.one("adopted", number)? {
+                return Ok(false);
+            }
+        }
+        println!("fixed files of a solver: {}, {} s", fixed, start.elapsed().as_secs());
+        for (name, climb) in solved::examples(&self.options.examples)? {
+            let losses = solved::check(&climb, &Through(self.linked));
+            if !self.told(&name, losses.as_ref().err().cloned(), || climb.show())? {
+                return Ok(false);
+            }
+            let mut shown = solved::Losses::default();
+            shown.with(&losses.unwrap_or_default());
+            println!("{} as a solver has it, ticks lost at level t: {}", name, shown.shown());
+        }
 
         let limit = self.options.seconds.map(Duration::from_secs);
         let shares = [
@@ -86,6 +110,9 @@ impl Suites<'_> {
             ("lengths", LENGTHS),
             ("plans", PLANS),
             ("ticks", CLIMBS),
+            ("adopt", ADOPTIONS),
+            ("replay", REPLAYS),
+            ("solved", SOLVED),
         ];
         let all: u64 = shares.iter().map(|(_, share)| share).sum();
         let mut done = shares.map(|(suite, share)| (suite, share, 0));
@@ -105,6 +132,7 @@ impl Suites<'_> {
         for (suite, _, count) in done {
             println!("{}: {}", suite, count);
         }
+        println!("solved: the largest loss at level t, in ticks: {}", self.losses.shown());
         println!("single calls, by the number that they end with:");
         for (number, count) in &self.tally {
             println!("  {}: {}", number, count);
@@ -131,6 +159,13 @@ impl Suites<'_> {
             "slices" => print!("{}", single::random(&mut rng)),
             "lengths" => print!("{}", single::lengths(&mut rng, number)[0].0),
             "ticks" => print!("{}", ticks::random(&mut rng).show()),
+            "adopted" => {
+                let index = usize::try_from(number).unwrap_or(usize::MAX);
+                print!("{}", self.adopted.get(index).ok_or_else(|| unknown("there is no such fixed case"))?.show());
+            }
+            "adopt" => print!("{}", adopting::random(&mut rng).show()),
+            "replay" => print!("{}", replaying::random(&mut rng)),
+            "solved" => print!("{}", solved::random(&mut rng).show()),
             _ => return Err(unknown("there is no such suite")),
         }
         self.one(suite, number)
@@ -159,6 +194,29 @@ impl Suites<'_> {
                     if suite == "calls" { calls::random(&mut rng, number) } else { calls::at_ends(&mut rng, number) };
                 let found = through::difference(&case, &BY_THE_DOCUMENT, self.linked, &mut rng);
                 self.told(&name, found, || case.show())
+            }
+            "adopted" => {
+                let case = match self.adopted.get(number as usize) {
+                    Some(case) => case.clone(),
+                    None => return Err(unknown("there is no such fixed case")),
+                };
+                self.call(&name, &case.call(&mut rng))
+            }
+            "adopt" => {
+                let call = adopting::random(&mut rng).call(&mut rng);
+                let call = if rng.once_in(2) { call } else { single::touched(&mut rng, call) };
+                self.call(&name, &call)
+            }
+            "replay" => {
+                let call = replaying::random(&mut rng);
+                let call = if rng.once_in(2) { call } else { single::touched(&mut rng, call) };
+                self.call(&name, &call)
+            }
+            "solved" => {
+                let climb = solved::random(&mut rng);
+                let losses = solved::check(&climb, &Through(self.linked));
+                self.losses.with(losses.as_deref().unwrap_or(&[]));
+                self.told(&name, losses.err(), || climb.show())
             }
             "ticks" => {
                 let climb = ticks::random(&mut rng);
@@ -196,7 +254,7 @@ impl Suites<'_> {
     }
 
     /// Whether the library differs from every copy with one mistake: slips of the interface in single calls, traps of the
-    /// reader in files, traps of the judging in calls on storage. In each case the library itself is held against the
+    /// reader in files, traps of a solver's files in adoptions, traps of the judging in calls on storage. In each case the library itself is held against the
     /// document first.
     fn traps(&self) -> bool {
         let slips = Slip::ALL.iter().map(|&slip| (format!("{:?} ({})", slip, slip.text()), Copied::slipping(slip)));
@@ -206,6 +264,18 @@ impl Suites<'_> {
         let mut all = true;
         let slips = slips.map(hunted).collect();
         all &= self.hunt("slips of the interface, by single calls", HUNTED, slips, &|number| {
+            if number % 20 == 10 {
+                let mut rng = self.rng("adopt", number);
+                let call = adopting::random(&mut rng).call(&mut rng);
+                let call = single::touched(&mut rng, call);
+                return (format!("adopt:{}", number), Box::new(move |one, other| call.difference(one, other)));
+            }
+            if number % 10 == 5 {
+                let mut rng = self.rng("replay", number);
+                let call = replaying::random(&mut rng);
+                let call = if rng.once_in(2) { call } else { single::touched(&mut rng, call) };
+                return (format!("replay:{}", number), Box::new(move |one, other| call.difference(one, other)));
+            }
             if number % 20 == 0 {
                 let calls = single::lengths(&mut self.rng("lengths", number / 20), number / 20);
                 let differs = move |one: &dyn Library, other: &dyn Library| {
@@ -224,6 +294,16 @@ impl Suites<'_> {
                 None => (format!("random:{}", number), files::random(&mut self.rng("random", number)).file),
             };
             let call = single::reading(&file);
+            (name, Box::new(move |one, other| call.difference(one, other)))
+        });
+        let cases = self.adopted.len() as u64 + HUNTED;
+        all &= self.hunt("traps of a solver's files, by adoptions", cases, traps(Trap::ADOPTING), &|number| {
+            let random = number.saturating_sub(self.adopted.len() as u64);
+            let (name, mut rng) = (format!("adopt:{}", random), self.rng("adopt", random));
+            let (name, call) = match self.adopted.get(number as usize) {
+                Some(case) => (format!("adopted:{}", number), case.call(&mut rng)),
+                None => (name, adopting::random(&mut rng).call(&mut rng)),
+            };
             (name, Box::new(move |one, other| call.difference(one, other)))
         });
         let judging = traps(Trap::JUDGING);
@@ -285,8 +365,9 @@ mod tests {
         let words = ["--library", "--examples", "nowhere"].iter().map(|word| word.to_string());
         let mut options = Options::parse(words).unwrap();
         let one = [("fixed", 3), ("random", 5), ("calls", 7), ("ends", 1), ("plans", 2), ("slices", 11), ("ticks", 3)];
-        let lengths = (0..6).map(|number| ("lengths", number));
-        for (suite, number) in one.into_iter().chain(lengths) {
+        let solver = [("adopted", 4), ("adopt", 9), ("solved", 2), ("replay", 6)];
+        let lengths = (0..9).map(|number| ("lengths", number));
+        for (suite, number) in one.into_iter().chain(solver).chain(lengths) {
             options.only = Some((suite.to_string(), number));
             assert!(run(&options, &BY_THE_DOCUMENT).unwrap(), "{}:{}", suite, number);
         }

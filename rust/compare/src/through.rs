@@ -188,6 +188,22 @@ impl Calls for Through<'_> {
         Ok(storage(&Level { vectors: n + count, points: count, weights, ..level }, n, k))
     }
 
+    fn adopt(
+        &self,
+        certifier: &reference::Certifier,
+        alpha: &[u8],
+        graph: &[u8],
+        points: &Points,
+    ) -> Result<reference::Level, Refusal> {
+        let (n, k) = lent::counts(&certifier.tables);
+        let (tables, slices) = (lent::tables(&certifier.tables), lent::certifier(certifier));
+        let (count, weights) = lent::points(points, n);
+        let mut level = Level::roomy(n, k);
+        let made = self.0.adopt(&tables, &slices, (alpha, graph), (&weights, count), &mut level);
+        served(made.number, made.place)?;
+        Ok(storage(&Level { vectors: made.vectors, points: count, weights, ..level }, n, k))
+    }
+
     fn worth(&self, tables: &reference::Tables, graph: &Graph, asked: Question) -> Result<BigInt, Refusal> {
         let (_, k) = lent::counts(tables);
         let worth = self.0.worth(&lent::tables(tables), &lent::graph(graph, k), asked);

@@ -50,12 +50,9 @@ pub fn build(certifier: &Certifier, points: &Points, rules: &Rules) -> Result<Le
         return Err(Refusal::at_index(12, point));
     }
 
-    let kept = (0..count).map(|j| weights(&points.weights[j * n..(j + 1) * n]));
-    let kept: Vec<Vec<BigInt>> = kept.collect();
-    let corners: Vec<Vec<BigInt>> = (0..n).map(|s| corner(n, s)).collect();
-
     let mut level = Level::zero();
-    for p in corners.iter().chain(&kept) {
+    let kept = (0..count).map(|j| weights(&points.weights[j * n..(j + 1) * n]));
+    for p in &(0..n).map(|s| corner(n, s)).chain(kept).collect::<Vec<_>>() {
         let made = best_vector(&model, &standing, p, rules);
         let v = level.vectors as usize;
         level.vectors += 1;
@@ -67,15 +64,22 @@ pub fn build(certifier: &Certifier, points: &Points, rules: &Rules) -> Result<Le
             level.entries[v * n + s] = stored(entry);
         }
     }
-    for (s, p) in corners.iter().enumerate() {
-        level.corners[s] = stored(&least_value(&model, &standing, p, rules));
-    }
-    for (j, p) in kept.iter().enumerate() {
-        level.points += 1;
-        level.weights[j * n..(j + 1) * n].copy_from_slice(&points.weights[j * n..(j + 1) * n]);
-        level.values[j] = stored(&least_value(&model, &standing, p, rules));
-    }
+    least_ceiling(&model, &standing, points, &mut level, rules);
     Ok(level)
+}
+
+/// Gives a level the builder's ceiling: at the corners and at these points, which it keeps, the least values.
+pub fn least_ceiling(model: &Model, standing: &Lists, points: &Points, level: &mut Level, rules: &Rules) {
+    let n = model.n;
+    for s in 0..n {
+        level.corners[s] = stored(&least_value(model, standing, &corner(n, s), rules));
+    }
+    for j in 0..points.count as usize {
+        let given = &points.weights[j * n..(j + 1) * n];
+        level.points += 1;
+        level.weights[j * n..(j + 1) * n].copy_from_slice(given);
+        level.values[j] = stored(&least_value(model, standing, &weights(given), rules));
+    }
 }
 
 /// The vector of one action at weights p: for each observation the first standing vector with the largest product with q,

@@ -16,7 +16,7 @@ pub const POINT_TOTAL: u64 = 100;
 /// At most so many levels are accepted.
 pub const LEVELS: u64 = 100;
 /// Entries and corners of level t lie within t times this of 0, a point's value within that times its weights' total.
-const TICKS: u64 = 100_000;
+pub const TICKS: u64 = 100_000;
 
 /// The rule for totals as it was when hundredths were all that a point could say.
 const HUNDRED_ONLY: Rules = Rules { trap: Some(Trap::HundredOnly) };

@@ -10,6 +10,9 @@
 //! [`Rules::default`] is the document. A [`Trap`] is one deliberate departure from it, so that a comparison can be shown
 //! to fail.
 
+mod adopt;
+#[cfg(test)]
+mod adopt_tests;
 mod build;
 #[cfg(test)]
 mod dough;
@@ -28,6 +31,7 @@ mod totals;
 mod words;
 mod worth;
 
+pub use adopt::{adopt, adopted_vectors};
 pub use build::{build, Points, BUILT_POINTS};
 pub use file::{read, Reading, FILE_BYTES};
 pub use ladder::ladder;

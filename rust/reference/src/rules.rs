@@ -4,17 +4,25 @@ use std::fmt;
 
 /// Defines the traps with a sentence each: those of the reader, and those of what comes after it.
 macro_rules! traps {
-    (reading { $($word:ident: $word_text:literal,)* } judging { $($name:ident: $text:literal,)* }) => {
+    (
+        reading { $($word:ident: $word_text:literal,)* }
+        adopting { $($file:ident: $file_text:literal,)* }
+        judging { $($name:ident: $text:literal,)* }
+    ) => {
         /// One deliberate departure from the document.
         #[derive(Clone, Copy, Debug, PartialEq, Eq)]
         pub enum Trap {
             $(#[doc = $word_text] $word,)*
+            $(#[doc = $file_text] $file,)*
             $(#[doc = $text] $name,)*
         }
 
         impl Trap {
             /// Those that only show in model files.
             pub const READING: &'static [Trap] = &[$(Trap::$word,)*];
+
+            /// Those that only show in a solver's files.
+            pub const ADOPTING: &'static [Trap] = &[$(Trap::$file,)*];
 
             /// All others.
             pub const JUDGING: &'static [Trap] = &[$(Trap::$name,)*];
@@ -23,6 +31,7 @@ macro_rules! traps {
             pub fn text(self) -> &'static str {
                 match self {
                     $(Trap::$word => $word_text,)*
+                    $(Trap::$file => $file_text,)*
                     $(Trap::$name => $text,)*
                 }
             }
@@ -76,6 +85,43 @@ traps! {
         RowTotalEarly: "a row's total is tested with its statement",
         UnstatedRowsPass: "a row of zeros in a file passes",
         RowPlaceInFile: "5 and 6 of a file have a row's place",
+    }
+    adopting {
+        // The order of the tests.
+        GraphOfAnyLength: "only the alpha file's length is tested",
+        SevenBeforeOne: "7 is tested before 1",
+        SevenAfterFiles: "7 is tested after 19 and 20",
+        EightBeforeFiles: "8 is tested before 19",
+        NineBeforeGraph: "over 32 vectors get 9 before the graph is read",
+        GraphFirst: "the graph is read before the alpha file",
+        TwentyFirst: "20 is tested before 19",
+        TenAfterEleven: "10 is tested after 11",
+        PointsBeforeEntries: "12 is tested before 11",
+        // Words of the two files.
+        NodesUnordered: "a node out of order passes",
+        NodeTwoDigits: "nodes have at most two digits",
+        NodeFourDigits: "nodes may have four digits",
+        ActionThreeDigits: "actions may have three digits",
+        StarForNone: "a star, or an X, stands for no next node too",
+        DecimalPlus: "a decimal may have a plus",
+        DecimalSevenDigits: "a decimal may have seven digits before the point",
+        ThirteenDecimals: "a decimal may have thirteen digits behind the point",
+        DecimalAsTyped: "a decimal may lack its whole part or its decimals",
+        // The two files side by side.
+        CountsApart: "the files may have different counts",
+        ActionsApart: "the files may have different actions",
+        // The level.
+        LaterHyphen: "a hyphen passes at a later level",
+        HyphenRefused: "a hyphen gets 10 at the first level too",
+        DecimalTowardsZero: "decimals are rounded towards zero",
+        BackupTowardsZero: "an adopted entry's backup is rounded towards zero",
+        DecimalUp: "decimals are rounded up",
+        DecimalNearest: "decimals are rounded to the nearest tick",
+        DecimalInTicks: "decimals are taken for ticks",
+        MinusDropped: "a decimal's minus is dropped",
+        DecimalAlone: "an entry is its decimal, whatever its backup",
+        BackupAlone: "an entry is its backup, whatever its decimal",
+        EntriesRaised: "an entry below its range is raised to it",
     }
     judging {
         // The five that the document names.

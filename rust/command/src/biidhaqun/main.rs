@@ -1,5 +1,6 @@
 //! The command `biidhaqun`: asks the proved library, and shows what it answers.
 
+mod adopting;
 mod building;
 mod certify;
 mod check;
@@ -22,7 +23,13 @@ fn main() {
     let ended = match options.request {
         Request::Explain { number } => process::exit(explain::run(number)),
         Request::Levels { built, json } => levels::run(&built, json),
-        Request::Certify { file, levels, at, json } => certify::run(&file, &levels, &at, json),
+        Request::Certify { file, levels, points, at, json } => match &levels[..] {
+            [levels] if points.is_empty() => certify::run(&file, levels, &at, json),
+            [_] => {
+                Err(Stop::Usage("--point is for a solver's files: levels in JSON have points of their own".to_string()))
+            }
+            files => adopting::run(&file, files, &points, &at, json),
+        },
         Request::Check { file } => check::run(&file),
         Request::Import { file, round, out } => import::run(&file, round, out.as_deref()),
         Request::Picture { built, out } => picture::run(&built, &out),
@@ -43,6 +50,18 @@ fn stopped(stop: &Stop, json: bool) -> i32 {
                 println!("refused {} at {}", refusal.number(), refusal.place.number());
             }
             report::model(path, file, refusal);
+            exit::REFUSED
+        }
+        Stop::Solver { path, file, refusal, told } => {
+            if json {
+                print!("{}", levels::refused(refusal));
+            } else {
+                println!("refused {} at {}", refusal.number(), refusal.place.number());
+            }
+            match told {
+                Some(told) => report::solver(path, file, refusal, told),
+                None => report::unexplained(path, file, refusal),
+            }
             exit::REFUSED
         }
         Stop::Refused { refusal, note } => {

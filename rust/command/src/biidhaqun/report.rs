@@ -29,6 +29,20 @@ pub fn model(path: &Path, file: &[u8], refusal: &Refusal) {
     }
 }
 
+/// A refused file of a solver, in the shell's words.
+pub fn solver(path: &Path, file: &[u8], refusal: &Refusal, told: &Told) {
+    let document = if refusal.number() > 18 { "02" } else { "01" };
+    let more = format!("refused by {} of document {}; `biidhaqun explain {0}` says more", refusal.number(), document);
+    show(path, file, told, Some(&refusal.number().to_string()), &[more]);
+}
+
+/// A refusal that the shell does not find.
+pub fn unexplained(path: &Path, file: &[u8], refusal: &Refusal) {
+    let told = Told { title: refusal.to_string(), marks: Vec::new(), notes: Vec::new() };
+    let ours = "the explanation finds nothing, which is an error of ours: please report it".to_string();
+    show(path, file, &told, Some(&refusal.number().to_string()), &[ours]);
+}
+
 /// What is wrong with a file in Cassandra's format: the first few.
 pub fn source(path: &Path, file: &[u8], all: &[Told]) {
     const FEW: usize = 4;

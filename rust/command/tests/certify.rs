@@ -1,0 +1,143 @@
+//! `certify` with a solver's files, as a user meets it.
+
+use assert_cmd::Command;
+use std::path::{Path, PathBuf};
+use std::{fs, str};
+
+/// How many steps the examples have.
+const STEPS: usize = 6;
+
+fn root() -> PathBuf {
+    Path::new(env!("CARGO_MANIFEST_DIR")).join("../..")
+}
+
+/// What a run printed on standard output and on standard error, and its exit status.
+fn run(arguments: &[&str]) -> (String, String, i32) {
+    let output = Command::cargo_bin("biidhaqun").unwrap().current_dir(root()).args(arguments).output().unwrap();
+    let text = |bytes: &[u8]| str::from_utf8(bytes).unwrap().to_string();
+    (text(&output.stdout), text(&output.stderr), output.status.code().unwrap())
+}
+
+fn example(name: &str) -> String {
+    fs::read_to_string(root().join("examples/solver").join(name)).unwrap()
+}
+
+/// `certify MODEL` and the files of so many steps.
+fn steps(model: &str, count: usize) -> Vec<String> {
+    let mut words = vec!["certify".to_string(), format!("examples/{}.pomdp", model)];
+    for t in 1..=count {
+        words.extend(["alpha", "pg"].map(|kind| format!("examples/solver/{}.{}{}", model, kind, t)));
+    }
+    words
+}
+
+fn words(list: &[String]) -> Vec<&str> {
+    list.iter().map(String::as_str).collect()
+}
+
+/// A file of the tests' own folder.
+fn temporary(name: &str, content: &str) -> String {
+    let path = Path::new(env!("CARGO_TARGET_TMPDIR")).join(name);
+    fs::write(&path, content).unwrap();
+    path.to_str().unwrap().to_string()
+}
+
+#[test]
+fn the_examples_are_certified() {
+    for model in ["dough", "tiger"] {
+        let served = (example(&format!("{}.expected", model)), String::new(), 0);
+        assert_eq!(run(&words(&steps(model, STEPS))), served, "{}", model);
+    }
+}
+
+#[test]
+fn points_and_mixtures() {
+    let two = steps("tiger", 3);
+    let gap = |more: &[&str]| {
+        let (out, _, status) = run(&[&words(&two)[..], more].concat());
+        assert_eq!(status, 0);
+        let line = out.lines().nth(2).unwrap().to_string();
+        line.split(' ').nth(3).unwrap().parse::<i64>().unwrap()
+    };
+    let more = ["--point", "50,50", "--point", "85,15", "--point", "15,85", "--point", "97,3", "--point", "3,97"];
+    assert!(gap(&more) < gap(&[]));
+    let (out, _, _) = run(&[&words(&two)[..], &["--at", "1,0", "--at", "0,1"]].concat());
+    let asked: Vec<&str> = out.lines().filter(|line| line.starts_with("at ")).collect();
+    assert_eq!(asked, ["at 1,0 (tiger-left 1)", "at 0,1 (tiger-right 1)"]);
+    // What is printed as one object is offered again.
+    let (out, _, _) = run(&[&words(&two)[..], &["--json"]].concat());
+    let path = temporary("solved.json", &out);
+    let (again, _, status) = run(&["certify", "examples/tiger.pomdp", &path]);
+    assert_eq!((again, status), (run(&words(&two)).0, 0));
+}
+
+/// The second step's files with one word replaced: the lines, and what is told.
+fn damaged(kind: &str, change: [&str; 2]) -> (String, String) {
+    let mut arguments = steps("dough", 2);
+    let at = if kind == "alpha" { 4 } else { 5 };
+    let text = example(&format!("dough.{}2", kind));
+    assert_ne!(text, text.replacen(change[0], change[1], 1), "{:?}", text);
+    arguments[at] = temporary(&format!("damaged.{}", kind), &text.replacen(change[0], change[1], 1));
+    let path = arguments[at].clone();
+    let (out, err, status) = run(&words(&arguments));
+    assert_eq!(status, 1, "{}", err);
+    (out, err.replace(&path, "FILE"))
+}
+
+#[test]
+fn what_is_refused_is_shown_at_its_word() {
+    let first = "1 -10000 -10000 0 0\n";
+    let text = example("dough.alpha2");
+    let word = text.split_whitespace().nth(1).unwrap();
+    let place = text.find(word).unwrap();
+    let (out, err) = damaged("alpha", [word, "0.1234567890123"]);
+    assert_eq!(out, format!("{}refused 19 at {}\n", first, place));
+    assert!(err.starts_with("error[19]: `0.1234567890123` does not fit here") && err.contains("FILE:2:1\n"), "{}", err);
+    assert!(err.contains("it has 13 digits behind the point") && err.contains("sed -E"), "{}", err);
+    let (out, err) = damaged("pg", ["1 0", "2 0"]);
+    assert!(out.starts_with(&format!("{}refused 19 at ", first)), "{}", out);
+    assert!(err.contains("FILE:2:1\n") && err.contains("this is node 2, out of order"), "{}", err);
+    let (out, err) = damaged("pg", ["0 0  ", "0 1  "]);
+    assert_eq!(out, format!("{}refused 20 at 0\n", first));
+    assert!(err.contains("vector 0 has action 0 in the alpha file, and 1 in the graph"), "{}", err);
+    let (out, err) = damaged("pg", ["0 0  0", "0 0  -"]);
+    assert_eq!(out, format!("{}refused 10 at 0\n", first));
+    assert!(err.contains("vector 0") && err.contains("a hyphen at level 2"), "{}", err);
+    let (out, err) = damaged("alpha", [word, "-2000.01"]);
+    assert_eq!(out, format!("{}refused 11 at 0\n", first));
+    assert!(err.contains("FILE:2:1\n") && err.contains("below the range of level 2"), "{}", err);
+    // The graph where the alpha file should be.
+    let mut arguments = steps("dough", 1);
+    arguments.swap(2, 3);
+    let (out, err, status) = run(&words(&arguments));
+    assert_eq!((out, status), ("refused 19 at 5\n".to_string(), 1));
+    assert!(err.contains("for each step the alpha file comes first"), "{}", err);
+}
+
+#[test]
+fn points_that_are_refused() {
+    let refused = |more: &[&str]| {
+        let (out, err, status) = run(&[&words(&steps("dough", 1))[..], more].concat());
+        assert_eq!(status, 1);
+        (out, err)
+    };
+    let (out, err) = refused(&["--point", "50,51"]);
+    assert!(out == "refused 12 at 0\n" && err.contains("point 0 is 50,51, which total 101"), "{}", err);
+    let (out, err) = refused(&["--point", "50,50"].repeat(17));
+    assert!(out == "refused 9 at 0\n" && err.contains("there are 17 points"), "{}", err);
+    let (out, _) = refused(&["--json", "--point", "0,0"]);
+    assert!(out.contains("\"number\": 12"), "{}", out);
+}
+
+#[test]
+fn wrong_usage() {
+    let mut odd = steps("dough", 1);
+    odd.push("examples/solver/dough.alpha2".to_string());
+    let (_, err, status) = run(&words(&odd));
+    assert!(status == 2 && err.contains("come in pairs"), "{}", err);
+    let (_, err, status) = run(&["certify", "examples/dough.pomdp", "levels.json", "--point", "50,50"]);
+    assert!(status == 2 && err.contains("--point is for a solver's files"), "{}", err);
+    let (_, err, status) = run(&["certify", "examples/dough.pomdp", "examples/solver/dough.alpha1", "nowhere"]);
+    assert!(status == 3 && err.contains("nowhere cannot be read"), "{}", err);
+    assert_eq!(run(&["certify", "examples/dough.pomdp"]).2, 2);
+}
