@@ -3,10 +3,14 @@ use Rattle.exports.specs.Calls.{refusalOf}
 use Rattle.exports.proofs.biidhaqun_build.Statement.{statement}
 use Rattle.exports.proofs.biidhaqun_build.Tie as tie
 
+-- where the certifier answered
+abbrev called : tie.After-refusal-of → tie.After-build
+called c = c .before .before .before .before .before .before .before .before
+
 returns : tie.Need-returns
 returns c =
-    let b = c .before .before .before .before .before .before .before .before .build .ensures in
-    let v = c .before .before .before .before .before .before .before .before .build .result in
+    let b = called c .build .ensures in
+    let v = called c .build .result in
     let same = c .refusal-of .ensures in (
       λ choices. same ∙ ap refusalOf (b .0 choices),
       (
@@ -18,5 +22,8 @@ returns c =
 
 pub biidhaqun-build-spec : {M : Type 1} → statement M
 biidhaqun-build-spec =
-    tie.close (tie.spec (λ c κs. search needs) (λ c κs. search needs) (λ c. search needs) (λ c. search needs) (λ c. search needs) (λ c. search needs)
-    (λ c. search needs) returns)
+    tie.close (tie.spec (λ c κs. search needs) (λ c κs. search needs)
+    (λ c. called c .build .kept .1 .1 .1 .1 .1 .1 .1 .1 .1 .1 .1 .1 .1 .1 .0) (λ c. called c .build .kept .1 .1 .1 .1 .1 .1 .1 .1 .1 .1 .1 .1 .1 .1 .1 .0)
+    (λ c. called c .build .kept .1 .1 .1 .1 .1 .1 .1 .1 .1 .1 .1 .1 .1 .1 .1 .1 .0)
+    (λ c. called c .build .kept .1 .1 .1 .1 .1 .1 .1 .1 .1 .1 .1 .1 .1 .1 .1 .1 .1 .0)
+    (λ c. called c .build .kept .1 .1 .1 .1 .1 .1 .1 .1 .1 .1 .1 .1 .1 .1 .1 .1 .1 .1 .0) returns)

@@ -5,15 +5,22 @@ use Rattle.exports.specs.Calls.{replayBy}
 use Rattle.exports.proofs.biidhaqun_replay.Statement.{statement}
 use Rattle.exports.proofs.biidhaqun_replay.Tie as tie
 
+-- where the call answered
+abbrev called : tie.After-refusal-of → tie.After-replay
+called c = c .before .before .before .before .before .before .before .before .before .before .before .before .before .before
+
 returns : tie.Need-returns
 unfolding answered
 returns c =
-    let a = c .before .before .before .before .before .before .before .before .before .before .before .before .before .before .replay .ensures in (
+    let a = called c .replay .ensures in (
       rw (c .refusal-of .ensures) (ap replayBy (a .0)),
       (a .1 .0, λ x₀ ls o e fine. a .1 .1 x₀ ls o e (rw fine at (ap (λ (r : Replayed). r .verdict) (a .0)))),
     )
 
 pub biidhaqun-replay-spec : {M : Type 1} → statement M
 biidhaqun-replay-spec =
-    tie.close (tie.spec (λ c κs. search needs) (λ c κs. search needs) (λ c. search needs) (λ c. search needs) (λ c. search needs) (λ c. search needs)
-    (λ c. search needs) (λ c. search needs) (λ c. search needs) (λ c. search needs) (λ c. search needs) returns)
+    tie.close (tie.spec (λ c κs. search needs) (λ c κs. search needs)
+    (λ c. called c .replay .kept .1 .1 .1 .1 .0) (λ c. called c .replay .kept .1 .1 .1 .1 .1 .0) (λ c. called c .replay .kept .1 .1 .1 .1 .1 .1 .0)
+    (λ c. called c .replay .kept .1 .1 .1 .1 .1 .1 .1 .0) (λ c. called c .replay .kept .1 .1 .1 .1 .1 .1 .1 .1 .0)
+    (λ c. called c .replay .kept .1 .1 .1 .1 .1 .1 .1 .1 .1 .0) (λ c. called c .replay .kept .1 .1 .1 .1 .1 .1 .1 .1 .1 .1 .0)
+    (λ c. called c .replay .kept .1 .1 .1 .1 .1 .1 .1 .1 .1 .1 .1 .0) (λ c. called c .replay .kept .1 .1 .1 .1 .1 .1 .1 .1 .1 .1 .1 .1 .0) returns)
