@@ -9,10 +9,12 @@ use Rattle.tables.specs.declared.Verdict.the-variants.{Fine, Refused}
 use Rattle.levels.specs.Storage.{Cells, LentLevel, Lent}
 use Rattle.runs.specs.declared.Bounds.{Bounds}
 use Rattle.runs.specs.Demand3.{TotalsHold, BuildHolds}
+use Rattle.reading.specs.declared.TablesRead.{TablesRead}
 use Rattle.worth.specs.declared.Valued.{Valued}
 use Rattle.solved.specs.declared.Adopted.{Adopted}
 use Rattle.replay.specs.declared.Replayed.{Replayed}
 use Rattle.exports.specs.declared.Refusal.{Refusal}
+use Rattle.exports.specs.declared.Reading.{Reading}
 use Rattle.exports.specs.declared.Totals.{Totals}
 use Rattle.exports.specs.declared.Worth.{Worth}
 use Rattle.exports.specs.declared.Adoption.{Adoption}
@@ -38,6 +40,16 @@ model n m k g transition observation reward = record {
 abbrev pub refusalOf : Verdict → Refusal
 refusalOf Fine = record { number = 0; place = 0 }
 refusalOf (Refused number place) = record { number = number; place = place }
+
+abbrev pub readingBy : TablesRead → Reading
+readingBy r = record {
+  number = refusalOf (r .verdict) .number;
+  place = refusalOf (r .verdict) .place;
+  states = r .counts .states;
+  actions = r .counts .actions;
+  observations = r .counts .observations;
+  discount = r .counts .discount;
+}
 
 abbrev pub totalsBy : Bounds → Totals
 totalsBy b = record {

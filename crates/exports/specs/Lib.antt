@@ -1,3 +1,2 @@
 -- What the exported calls answer.
 pub mod Calls
-pub mod Reading

@@ -3,12 +3,13 @@
 ghost use mathlib.Core.Path.{_≡_};
 ghost use mathlib.Core.Bool.{true};
 ghost use mathlib.Core.List.{List};
-ghost use Prim.Native.Nat.{ℕ, _*_, _≤_, _<_};
+ghost use Prim.Native.Nat.{ℕ, _<_};
 ghost use lib.ListN.{length};
-ghost use Rattle.tables.specs.Limits.{maxStates, maxActions, maxObservations, maxLevels};
+ghost use Rattle.tables.specs.Limits.{maxLevels};
 ghost use Rattle.levels.specs.Storage.{LentLevel, Lent, cells, rows, lent, lentFor};
 ghost use Rattle.levels.specs.Judged.{offerVerdict};
 ghost use Rattle.modelfile.specs.ModelFile.{modelFile};
+ghost use Rattle.reading.specs.Reading.{readVerdict, readOf, laidTransitions, laidObservations, laidRewards, laidStart};
 ghost use Rattle.runs.specs.State.{left, openVerdict, opened, offered, mixtureHolds, totalsOf, buildVerdict, builtOf};
 ghost use Rattle.mixtures.specs.Each.{answers, eachVerdict, eachOf};
 ghost use Rattle.runs.specs.Demand3.{ModelAccepted, after, steps, PointsHold};
@@ -20,9 +21,7 @@ ghost use Rattle.solved.specs.Claim.{AdoptHolds};
 ghost use Rattle.replay.specs.Replay.{packed, offersIn, replayVerdict, answered, replayed, ReplayHolds};
 ghost use Rattle.worth.specs.Storage.{lentGraph};
 ghost use Rattle.worth.specs.Judged.{worthAnswer};
-ghost use Rattle.exports.specs.Calls.{layoutVersion, model, refusalOf, totalsBy, adoptionBy, replayBy, worthBy, Brackets, Builds};
-ghost use Rattle.exports.specs.Reading.{roomVerdict, readVerdict, readingBy, readingOf, laidTransitions, laidObservations, laidRewards, laidStart};
-use integers::cells;
+ghost use Rattle.exports.specs.Calls.{layoutVersion, model, refusalOf, readingBy, totalsBy, adoptionBy, replayBy, worthBy, Brackets, Builds};
 use tables::Counts;
 use tables::State;
 use tables::Verdict;
@@ -52,10 +51,6 @@ pub struct Reading {
     pub actions: usize,
     pub observations: usize,
     pub discount: u64,
-}
-
-impl Reading {
-    pub const SHORT: u8 = 100; // a slice lent for what is read is too short
 }
 
 #[repr(C)]
@@ -106,49 +101,6 @@ fn refusal_of(v: Verdict) -> Refusal
     }
 }
 
-// The answer on a file whose reading is refused.
-fn no_reading(v: Verdict) -> Reading
-    ensures { λ r. ⌜ r ≡ readingBy (refusalOf v) 0 0 0 0 ⌝ }
-{
-    let refusal = refusal_of(v);
-    Reading {
-        number: refusal.number,
-        place: refusal.place,
-        states: 0,
-        actions: 0,
-        observations: 0,
-        discount: 0,
-    }
-}
-
-// Whether slices of such lengths have room for tables and start numbers: 100, with the length that the first short one needs.
-fn judge_room(
-    n: usize,
-    rows: usize,
-    k: usize,
-    transition: usize,
-    observation: usize,
-    reward: usize,
-    start: usize,
-) -> Verdict
-    requires { ⌜ (n ≤ maxStates) × ((rows ≤ maxActions * maxStates) × (k ≤ maxObservations)) ⌝ }
-    ensures { λ r. ⌜ r ≡ roomVerdict n rows k transition observation reward start ⌝ }
-{
-    if transition < rows * n {
-        return Verdict::Refused(Reading::SHORT, rows * n);
-    }
-    if observation < rows * k {
-        return Verdict::Refused(Reading::SHORT, rows * k);
-    }
-    if reward < rows {
-        return Verdict::Refused(Reading::SHORT, rows);
-    }
-    if start < n {
-        return Verdict::Refused(Reading::SHORT, n);
-    }
-    Verdict::Fine
-}
-
 // Reads a model file into tables and start numbers, in hundredths.
 #[no_mangle]
 pub extern "C" fn biidhaqun_read(
@@ -160,7 +112,7 @@ pub extern "C" fn biidhaqun_read(
 ) -> Reading
     ensures { λ r. ⌜ (let x = modelFile (now (file .entry)) in
         let v = readVerdict x (now (transition .entry)) (now (observation .entry)) (now (reward .entry)) (now (start .entry)) in
-        r ≡ readingOf v x) ⌝ }
+        r ≡ readingBy (readOf v x)) ⌝ }
     ensures { λ _. ⌜ (let x = modelFile (now (file .entry)) in
         let v = readVerdict x (now (transition .entry)) (now (observation .entry)) (now (reward .entry)) (now (start .entry)) in
         now (transition .exit) ≡ left v (laidTransitions x (now (transition .entry))) (now (transition .entry))) ⌝ }
@@ -174,37 +126,17 @@ pub extern "C" fn biidhaqun_read(
         let v = readVerdict x (now (transition .entry)) (now (observation .entry)) (now (reward .entry)) (now (start .entry)) in
         now (start .exit) ≡ left v (laidStart x (now (start .entry))) (now (start .entry))) ⌝ }
 {
-    let read = modelfile::read(file);
+    let read = reading::read(file, transition, observation, reward, start);
     let verdict = read.verdict;
-    let Verdict::Fine = verdict else {
-        return no_reading(verdict);
-    };
-    let m = read.tables;
-    let n = m.states;
-    let rows = m.actions * n;
-    let room = judge_room(
-        n,
-        rows,
-        m.observations,
-        transition.len(),
-        observation.len(),
-        reward.len(),
-        start.len(),
-    );
-    let Verdict::Fine = room else {
-        return no_reading(room);
-    };
-    cells::paste_u16(transition, 0, &m.transition, rows * n);
-    cells::paste_u16(observation, 0, &m.observation, rows * m.observations);
-    cells::paste_i64(reward, 0, &m.reward, rows);
-    cells::paste_u16(start, 0, &read.start, n);
+    let refusal = refusal_of(verdict);
+    let c = read.counts;
     Reading {
-        number: 0,
-        place: 0,
-        states: n,
-        actions: m.actions,
-        observations: m.observations,
-        discount: m.discount,
+        number: refusal.number,
+        place: refusal.place,
+        states: c.states,
+        actions: c.actions,
+        observations: c.observations,
+        discount: c.discount,
     }
 }
 

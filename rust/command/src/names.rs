@@ -1,7 +1,7 @@
 //! Names of states, actions and observations, as comments of a model file give them.
 //!
 //! An imported file keeps the names of its source in comments of the form `# states: tiger-left tiger-right`. They mean
-//! nothing to the reader; the command shows them beside the numbers.
+//! nothing to the reader; the command shows them in place of the numbers.
 
 /// Names for the numbers 0, 1, .. of one kind, or none.
 #[derive(Clone, Debug, Default, PartialEq, Eq)]
@@ -20,14 +20,6 @@ impl Names {
     /// All of them, in order.
     pub fn all(&self) -> &[String] {
         &self.0
-    }
-
-    /// A number with its name behind it: `1 (open-left)`.
-    pub fn with(&self, number: usize) -> String {
-        match self.get(number) {
-            Some(name) => format!("{} ({})", number, name),
-            None => number.to_string(),
-        }
     }
 
     /// The name, or else the number.
@@ -80,9 +72,9 @@ mod tests {
     fn names_in_comments() {
         let file = b"# states: left right\n#actions:one two three\n# observations: 0 1\nstates: 2\n";
         let named = Named::of(file, 2, 2, 2);
-        assert_eq!(named.states.with(1), "1 (right)");
+        assert_eq!(named.states.or_number(1), "right");
         assert_eq!(named.actions, Names::default());
-        assert_eq!(named.observations.with(1), "1");
-        assert_eq!(named.states.with(2), "2");
+        assert_eq!(named.observations.or_number(1), "1");
+        assert_eq!(named.states.or_number(2), "2");
     }
 }

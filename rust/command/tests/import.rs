@@ -151,11 +151,11 @@ fn names_are_shown() {
     };
     assert!(run(&["check"]).contains("3 actions: listen, open-left, open-right"));
     let levels = run(&["levels", "--levels", "1", "--at", "0,1"]);
-    assert!(levels.contains("at 0,1 (tiger-right 1)") && levels.contains("1 (open-left)"), "{}", levels);
+    assert!(levels.contains("at 0,1 (tiger-right 1)") && levels.contains("  open-left"), "{}", levels);
     assert!(run(&["levels", "--json"]).contains("\"action_name\": \"listen\""));
     fs::write(&path, text.replace("O: 0 : 1 0.15 0.85", "O: 0 : 1 0.15 0.8")).unwrap();
     assert!(
-        run(&["check"]).contains("O of action 0 (listen) at state 1 (tiger-right) totals 0.95"),
+        run(&["check"]).contains("O of action listen at state tiger-right totals 0.95"),
         "{}",
         run(&["check"])
     );

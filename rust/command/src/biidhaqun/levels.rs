@@ -83,7 +83,7 @@ fn tables(certified: &Certified) -> String {
                 at.lower,
                 at.upper,
                 by(at),
-                certified.named.actions.with(at.action)
+                certified.named.actions.or_number(at.action)
             ));
         }
     }

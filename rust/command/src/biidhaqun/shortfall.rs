@@ -28,7 +28,7 @@ pub fn told(model: &Model, named: &Named, certifier: &Certifier, level: &Level, 
             Some(format!(
                 "vector {}: the entry of state {} is {}, {} above its backup; {} would pass",
                 at,
-                named.states.with(state),
+                named.states.or_number(state),
                 entry,
                 counted(ticks),
                 i128::from(*entry) - ticks
@@ -39,10 +39,10 @@ pub fn told(model: &Model, named: &Named, certifier: &Certifier, level: &Level, 
             let corner = level.corners().get(at)?;
             Some(format!(
                 "corner {}: {} is {} below the backup of action {}; {} would pass",
-                named.states.with(at),
+                named.states.or_number(at),
                 corner,
                 counted(ticks),
-                named.actions.with(action),
+                named.actions.or_number(action),
                 i128::from(*corner) + ticks
             ))
         }
@@ -55,7 +55,7 @@ pub fn told(model: &Model, named: &Named, certifier: &Certifier, level: &Level, 
                 point.value,
                 point.weights.iter().sum::<u32>(),
                 short,
-                named.actions.with(action),
+                named.actions.or_number(action),
                 i128::from(point.value) + short
             ))
         }

@@ -242,10 +242,10 @@ fn totals(draft: &Draft, file: &[u8]) -> Result<(), Trouble> {
         None => Ok(()),
     };
     row(5, &draft.transitions, &|action, state| {
-        format!("T of action {} from state {}", named.actions.with(action), named.states.with(state))
+        format!("T of action {} from state {}", named.actions.or_number(action), named.states.or_number(state))
     })?;
     row(6, &draft.observations, &|action, state| {
-        format!("O of action {} at state {}", named.actions.with(action), named.states.with(state))
+        format!("O of action {} at state {}", named.actions.or_number(action), named.states.or_number(state))
     })
 }
 

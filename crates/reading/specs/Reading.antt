@@ -5,13 +5,13 @@ use lib.Dec.{leb}
 use lib.ListN.{length, getD}
 use lib.IntN.{ℤ, pos}
 use Rattle.integers.specs.Cells.{laid}
+use Rattle.tables.specs.declared.Counts.{Counts}
 use Rattle.tables.specs.declared.Verdict.{Verdict}
 use Rattle.tables.specs.declared.Verdict.the-variants.{Fine, Refused}
+use Rattle.tables.specs.Storage.{countsOf}
 use Rattle.tables.specs.Verdicts.{_before_, unless}
 use Rattle.modelfile.specs.declared.ModelFile.{ModelFile}
-use Rattle.exports.specs.declared.Refusal.{Refusal}
-use Rattle.exports.specs.declared.Reading.{Reading}
-use Rattle.exports.specs.Calls.{refusalOf}
+use Rattle.reading.specs.declared.TablesRead.{TablesRead}
 
 -- 100 where a slice of such a length is shorter than what is needed, with that as the place
 abbrev pub room : ℕ → ℕ → Verdict
@@ -29,12 +29,12 @@ readVerdict x transition observation reward start =
     x .verdict
     before roomVerdict (m .states) (m .actions * m .states) (m .observations) (length transition) (length observation) (length reward) (length start)
 
-abbrev pub readingBy : Refusal → ℕ → ℕ → ℕ → ℕ → Reading
-readingBy r n m k g = record { number = r .number; place = r .place; states = n; actions = m; observations = k; discount = g }
+abbrev pub noCounts : Counts
+noCounts = record { states = 0; actions = 0; observations = 0; discount = 0 }
 
-abbrev pub readingOf : Verdict → ModelFile → Reading
-readingOf Fine x = let m = x .tables in readingBy (refusalOf Fine) (m .states) (m .actions) (m .observations) (m .discount)
-readingOf (Refused number place) x = readingBy (refusalOf (Refused number place)) 0 0 0 0
+abbrev pub readOf : Verdict → ModelFile → TablesRead
+readOf Fine x = record { verdict = Fine; counts = countsOf (x .tables) }
+readOf (Refused number place) x = record { verdict = Refused number place; counts = noCounts }
 
 -- what is read, laid over the slices
 abbrev pub laidTransitions : ModelFile → List ℕ → List ℕ

@@ -1,8 +1,8 @@
 use Rattle.integers.proofs.Kit.{_≤_, _*_, arith, mul-le-mul, le-leb, lt-leb}
 use Rattle.tables.specs.Limits.{maxStates, maxActions, maxObservations}
-use Rattle.exports.specs.Reading.{roomVerdict}
-use Rattle.exports.proofs.judge_room.Statement.{statement}
-use Rattle.exports.proofs.judge_room.Tie as tie
+use Rattle.reading.specs.Reading.{roomVerdict}
+use Rattle.reading.proofs.judge_room.Statement.{statement}
+use Rattle.reading.proofs.judge_room.Tie as tie
 
 cells : (c : tie.Start) → c .args .rows * c .args .n ≤ maxActions * maxStates * maxStates
 cells c = mul-le-mul (c .pre .1 .0) (c .pre .0)

@@ -4,7 +4,7 @@ use Rattle.tables.specs.declared.Verdict.{Verdict}
 use Rattle.tables.specs.declared.Verdict.the-variants.{Fine, Refused}
 use Rattle.tables.proofs.Refusals.{before-fine, unless-fine}
 use Rattle.modelfile.specs.declared.ModelFile.{ModelFile}
-use Rattle.exports.specs.Reading.{roomVerdict, readVerdict}
+use Rattle.reading.specs.Reading.{roomVerdict, readVerdict}
 
 -- what `roomVerdict` tests
 pub record Room (n rows k transition observation reward start : ℕ) : Type 0 where

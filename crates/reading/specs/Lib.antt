@@ -1,0 +1,2 @@
+-- Reading a model file into lent slices.
+pub mod Reading
