@@ -17,10 +17,10 @@ use Rattle.plans.specs.Level.{product}
 use Rattle.plans.specs.Build.{entryFor, bestAction}
 use Rattle.plans.proofs.Agreement.{product-cong}
 use Rattle.plans.proofs.Built.{successor-limit, entry-range}
-use Rattle.checks.specs.Steps.{Light}
+use Rattle.backups.specs.Steps.{Light}
 use Rattle.builder.specs.declared.Candidate.{Candidate}
 use Rattle.builder.specs.Steps.{candidateIn, candidateOf, bestOf, uponIn, Upon, topBuilt}
-use Rattle.checks.proofs.Roofs.{seen-is}
+use Rattle.backups.proofs.Roofs.{seen-is}
 use Rattle.builder.proofs.Candidates.{candidate-is}
 
 -- what the search is handed

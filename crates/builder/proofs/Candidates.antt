@@ -16,7 +16,7 @@ use Rattle.sums.proofs.Regroup.{backup-regrouped}
 use Rattle.plans.specs.Level.{product, follows}
 use Rattle.plans.specs.Build.{chosen, entryFor}
 use Rattle.plans.proofs.Agreement.{product-cong, backup-cong}
-use Rattle.checks.proofs.Roofs.{successors-are}
+use Rattle.backups.proofs.Roofs.{successors-are}
 use Rattle.builder.specs.declared.Candidate.{Candidate}
 use Rattle.builder.specs.Steps.{choiceFor, candidateIn, candidateOf, uponIn}
 

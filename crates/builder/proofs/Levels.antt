@@ -24,8 +24,8 @@ use Rattle.plans.proofs.Ceiling.{corner-total}
 use Rattle.plans.proofs.Built.{action-exists, shaped-mono}
 use Rattle.levels.specs.Storage.{Cells, cells, LentLevel, roofIn, levelIn, levelOf, pointIn, over}
 use Rattle.levels.proofs.Over.{Readable}
-use Rattle.checks.specs.Steps.{Roofed}
-use Rattle.checks.proofs.Lent.{floor-shaped, roof-lent}
+use Rattle.backups.specs.Steps.{Roofed}
+use Rattle.backups.proofs.Lent.{floor-shaped, roof-lent}
 use Rattle.builder.specs.declared.Best.{Best}
 use Rattle.builder.specs.Steps.{topBuilt, candidateOf, bestOf, leastFrom, leastOf, uponIn, Upon, RowsFit, Filled}
 

@@ -1,7 +1,7 @@
 -- What more than one proof of this crate names.
 pub use Rattle.integers.proofs.Kit.{_≡_, ap, sym, ⊎-elim, _≤_, _<_, _-_, arith, needs, pos, w64, toZ}
 pub use Rattle.builder.proofs.Levels.{value-at}
-pub use Rattle.checks.proofs.Roofs.{corner-at, point-at}
+pub use Rattle.backups.proofs.Roofs.{corner-at, point-at}
 pub use Rattle.integers.proofs.Lists.{laid-long, laid-none, laid-turn}
 pub use Rattle.integers.specs.Cells.{laid}
 pub use Rattle.levels.specs.Storage.{pointIn, roofIn}

@@ -16,7 +16,7 @@ use Rattle.sums.specs.Steps.{foreseenIn, backupIn}
 use Rattle.plans.specs.Level.{Level, product, Shaped}
 use Rattle.plans.specs.Build.{chosen, entryFor, bestAction}
 use Rattle.levels.specs.Storage.{floorIn}
-use Rattle.checks.specs.Steps.{successorsIn}
+use Rattle.backups.specs.Steps.{successorsIn}
 use Rattle.builder.specs.declared.Candidate.{Candidate}
 use Rattle.builder.specs.declared.Best.{Best}
 

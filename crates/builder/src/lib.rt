@@ -15,7 +15,7 @@ ghost use Rattle.plans.specs.Limits.{maxBuilt, maxTotal, maxReached};
 ghost use Rattle.plans.specs.Level.{product, corner-weight, IsPoint};
 ghost use Rattle.plans.specs.Build.{seed, leastValue, built};
 ghost use Rattle.levels.specs.Storage.{cells, roofIn, levelIn, pointIn, lentFor, complete, over};
-ghost use Rattle.checks.specs.Steps.{Light, Roofed};
+ghost use Rattle.backups.specs.Steps.{Light, Roofed};
 ghost use Rattle.builder.specs.Steps.{candidateIn, bestOf, leastOf, uponIn, Upon, RowsFit, Filled};
 use integers::cells;
 use levels::shape;
@@ -185,7 +185,7 @@ fn seed_weights(weights: &[u32], n: usize, v: Vector) -> Weights
 {
     let i = v.0;
     if i < n {
-        return checks::corner_weights(State(i));
+        return backups::corner_weights(State(i));
     }
     shape::point_weights(weights, n, i - n)
 }
@@ -248,8 +248,8 @@ pub fn build_corners<'a, 'b>(
     let n = c.states;
     let gains = sawtooth::gains(corners, weights, values, points, n);
     for s in 0..n {
-        let p = checks::corner_weights(State(s));
-        let backups = checks::backups_at(
+        let p = backups::corner_weights(State(s));
+        let backups = backups::backups_at(
             transition,
             observation,
             reward,
@@ -291,7 +291,7 @@ pub fn build_values<'a, 'b>(
     let gains = sawtooth::gains(corners, weights, values, points, n);
     for i in 0..count {
         let p = shape::point_weights(given, n, i);
-        let backups = checks::backups_at(
+        let backups = backups::backups_at(
             transition,
             observation,
             reward,

@@ -28,7 +28,7 @@ use Rattle.levels.specs.Judged.{holds, numbersIn, rowsWithin, valuesWithin, ran
 use Rattle.levels.proofs.Laws.{numbers-in}
 use Rattle.levels.proofs.Over.{Complete, complete-true}
 use Rattle.runs.proofs.Judged.{Held, standing-true, weights-fine}
-use Rattle.checks.specs.Steps.{Roofed}
+use Rattle.backups.specs.Steps.{Roofed}
 use Rattle.builder.specs.Steps.{topBuilt, Upon, RowsFit, Filled}
 use Rattle.builder.proofs.Levels.{upon-lent, roofed-lent}
 use Rattle.solver.specs.declared.Judged.{Judged}

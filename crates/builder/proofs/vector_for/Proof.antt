@@ -3,7 +3,7 @@ use Rattle.integers.proofs.Lists.{filled-within, padded-length}
 use Rattle.tables.specs.Limits.{maxObservations}
 use Rattle.sums.specs.Steps.{foreseenIn, ChosenFit}
 use Rattle.sums.proofs.Regroup.{foreseen-limit}
-use Rattle.checks.proofs.Roofs.{weights-below, moved-below}
+use Rattle.backups.proofs.Roofs.{weights-below, moved-below}
 use Rattle.builder.proofs.Candidates.{chosen-fit, candidate-made}
 use Rattle.builder.proofs.vector_for.Statement.{statement}
 use Rattle.builder.proofs.vector_for.Tie as tie

@@ -1,9 +1,10 @@
-use Rattle.checks.proofs.Prelude.{_≤_, _-_, _≡_, sym, _∙_, arith, needs, w64, toZ, ofZ, sumTo, answer, ceilingIn, aheadAt, maxStates}
+use Rattle.backups.proofs.Prelude.{_≤_, _-_, _≡_, sym, _∙_, arith, w64, toZ, ofZ, sumTo, answer, ceilingIn, aheadAt, maxStates}
+use Rattle.integers.proofs.Kit.{needs}
 use Rattle.integers.proofs.Lists.{padded-length}
 use Rattle.integers.proofs.Sums.{sum-none, sum-step}
-use Rattle.checks.proofs.Roofs.{ahead-below, ahead-fits}
-use Rattle.checks.proofs.ceilings.Statement.{statement}
-use Rattle.checks.proofs.ceilings.Tie as tie
+use Rattle.backups.proofs.Roofs.{ahead-below, ahead-fits}
+use Rattle.backups.proofs.ceilings.Statement.{statement}
+use Rattle.backups.proofs.ceilings.Tie as tie
 
 abbrev Inv-loop : tie.InvT-loop
 Inv-loop observation u corners weights gains n k points a sum₀ o₀ sum o =

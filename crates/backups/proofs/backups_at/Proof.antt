@@ -1,11 +1,12 @@
-use Rattle.checks.proofs.Prelude.{_<_, _≤_, _-_, _≡_, sym, arith, pos, padded, answer, ceilingIn}
+use Rattle.backups.proofs.Prelude.{_≤_, _-_, _≡_, sym, arith, padded, answer, ceilingIn}
+use Rattle.integers.proofs.Kit.{_<_, pos}
 use Rattle.integers.proofs.Lists.{padded-none, padded-turn}
 use Rattle.tables.specs.Limits.{maxActions}
 use Rattle.sums.proofs.Regroup.{transitions-fit, observations-fit, rewards-fit}
-use Rattle.checks.specs.Steps.{backupAtIn}
-use Rattle.checks.proofs.Roofs.{light-below}
-use Rattle.checks.proofs.backups_at.Statement.{statement}
-use Rattle.checks.proofs.backups_at.Tie as tie
+use Rattle.backups.specs.Steps.{backupAtIn}
+use Rattle.backups.proofs.Roofs.{light-below}
+use Rattle.backups.proofs.backups_at.Statement.{statement}
+use Rattle.backups.proofs.backups_at.Tie as tie
 
 abbrev Inv-loop : tie.InvT-loop
 Inv-loop T O R corners weights gains p c points actions backups₀ a₀ backups a =

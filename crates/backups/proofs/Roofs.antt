@@ -1,33 +1,30 @@
 -- The backup at weights over storage: it is the backup of the level that is stored, and nothing overflows on the way. Assumes nothing.
-use Rattle.integers.proofs.Kit.{_≡_, _∙_, refl, ap, true, false, Bool, List, ℕ, _≤_, _<_, _+_, _*_, suc, zero, _^_, arith, length, getD, replicate}
-use Rattle.integers.proofs.Kit.{set, length-replicate, ℤ, pos, natAbs, _+ℤ_, negsuc, ltZ, leZ}
+use Rattle.integers.proofs.Kit.{_≡_, _∙_, refl, ap, List, ℕ, _≤_, _<_, _+_, _*_, suc, zero, _^_, arith, length, getD, replicate, set, length-replicate, ℤ}
+use Rattle.integers.proofs.Kit.{pos, natAbs, _+ℤ_, negsuc}
 use native.Mathlib.Nat as NatL
 use lib.ListN.{length-set}
 use Rattle.integers.specs.Whole.{_·_, sumTo, totalTo, Below}
-use Rattle.integers.specs.Search.{every}
 use Rattle.integers.specs.Cells.{padded}
 use Rattle.integers.proofs.Lists.{padded-at, padded-length, filled-below}
-use Rattle.integers.proofs.Parts.{up, dn, add-parts, abs-parts, le-by, lt-by, ltZ-true, ltZ-false, leZ-is, leZ-not}
-use Rattle.integers.proofs.Searches.{every-cong}
+use Rattle.integers.proofs.Parts.{up, dn, add-parts, abs-parts}
 use Rattle.integers.proofs.Sizes.{abs-times, sum-weighed}
 use Rattle.integers.proofs.Terms.{Terms, terms-limit}
 use Rattle.integers.proofs.Sums.{sum-cong, sum-more, total-cong, total-part, total-fewer}
 use Rattle.tables.specs.declared.Counts.{Counts}
 use Rattle.tables.specs.Limits.{maxStates, maxActions, maxWeight, maxReward, one, K, maxLevels}
-use Rattle.tables.specs.Model.{Model, successor, expectedReward}
+use Rattle.tables.specs.Model.{successor, expectedReward}
 use Rattle.tables.specs.Storage.{weightIn, rewardIn, modelIn}
 use Rattle.sums.specs.Steps.{movedIn, seenIn, expectedIn, TransitionsFit, RewardsFit, movedLimit}
 use Rattle.sums.proofs.Regroup.{moved-successor, expected-is, moved-limit}
 use Rattle.plans.specs.Limits.{maxPoints, maxTotal, maxReached, range}
 use Rattle.plans.specs.Level.{Level as Ideal, ceiling, backupAt, corner-weight, IsPoint}
-use Rattle.plans.proofs.Agreement.{ceiling-weights, backupAt-weights}
+use Rattle.plans.proofs.Agreement.{ceiling-weights}
 use Rattle.plans.proofs.Ceiling.{corner-total}
 use Rattle.plans.proofs.Built.{successor-total, successor-limit, ceiling-range}
 use Rattle.levels.specs.Storage.{pointIn, roofIn}
-use Rattle.levels.specs.Judged.{coversBackups}
 use Rattle.sawtooth.specs.Steps.{positive, gainIn, ceilingIn, CornersFit, PointsFit, ValuesFit, maxGain}
 use Rattle.sawtooth.proofs.Joined.{ceiling-is, gains-limit}
-use Rattle.checks.specs.Steps.{successorsIn, backupAtIn, maxAhead, Ahead, RoofFits, Roof, Light, Roofed}
+use Rattle.backups.specs.Steps.{successorsIn, backupAtIn, maxAhead, Ahead, RoofFits, Roof, Light, Roofed}
 
 -- ---- sums
 abs-second : (B : ℕ) (a b : ℤ) → natAbs a ≤ B → natAbs (a +ℤ b) ≤ B → natAbs b ≤ B + B
@@ -40,14 +37,6 @@ abs-second B a b h k = by-sign b (omega (arith, add-parts a b, abs-parts a, abs-
 -- a term, by the sums before and after it
 pub sum-next : (B : ℕ) (f : ℕ → ℤ) (i : ℕ) → natAbs (sumTo i f) ≤ B → natAbs (sumTo (i + 1) f) ≤ B → natAbs (f i) ≤ B + B
 sum-next B f i h k = abs-second B (sumTo i f) (f i) h (rw (sum-more i f) at k)
-
--- ---- one test, of numbers as the code has them, by what they are
-module _ {a b a' b' : ℤ} (left : a ≡ a') (right : b ≡ b') where
-  pub not-below : ltZ a b ≡ false → leZ b' a' ≡ true
-  not-below t = rw (← left, ← right) (leZ-is b a (le-by b a (ltZ-false a b t)))
-
-  pub is-below : ltZ a b ≡ true → leZ b' a' ≡ false
-  is-below t = rw (← left, ← right) (leZ-not b a (lt-by a b (ltZ-true a b t)))
 
 -- ---- weight 1 on one state
 zeros : (size i : ℕ) → _≡_ {A = ℕ} (getD (replicate size 0) i 0) 0
@@ -90,11 +79,6 @@ module _ (n : ℕ) (weights : List ℕ) (i : ℕ) {p : List ℕ} (e : p ≡ padd
     long = rw (point-long few) few;
     light = omega (arith, total-cong n (weightIn p) (pointIn n weights i) point-at);
   }
-
--- ---- an answer, by weights that agree
-pub covers-by : (M : Model) (L : Ideal) {p p' : ℕ → ℕ} {w w' : ℤ} {r : Bool} → ((s : ℕ) → s < M .states → p s ≡ p' s) → w ≡ w'
-    → r ≡ coversBackups M L p w → r ≡ coversBackups M L p' w'
-covers-by M L {p} {p'} h e f = f ∙ rw e (every-cong (M .actions) _ _ (λ a l. rw (backupAt-weights M L p p' a h)))
 
 -- ---- ceilings at the successor weights, as a loop adds them up
 abbrev pub aheadAt : ℕ → ℕ → List ℕ → List ℕ → (List ℕ → ℤ) → ℕ → ℕ → ℤ
@@ -245,7 +229,3 @@ module _ {c : Counts} {T O : List ℕ} {R corners : List ℤ} {points : ℕ} {we
 
       pub backups-long : length backups ≡ maxActions
       backups-long = rw listed (padded-length (pos 0) maxActions (c .actions) _ (h .valid .few-actions))
-
-      pub covers-said : (w : ℤ) {r : Bool} → r ≡ every (c .actions) (λ a. leZ (getD backups a (pos 0)) (K · w))
-          → r ≡ coversBackups (modelIn c T O R) level (weightIn p) w
-      covers-said w e = e ∙ every-cong (c .actions) _ _ (λ a la. rw (backups-at a la))

@@ -1,4 +1,4 @@
--- What tables and a level lend to the tests: parts that are stored, and within the limits if the whole is. Assumes nothing.
+-- What tables and a level lend: parts that are stored, and within the limits if the whole is. Assumes nothing.
 use Rattle.integers.proofs.Kit.{[], ℕ, _<_, arith}
 use Rattle.tables.specs.declared.Tables.{Tables}
 use Rattle.tables.specs.Limits.{maxLevels}
@@ -9,7 +9,7 @@ use Rattle.plans.specs.Limits.{range}
 use Rattle.plans.specs.Level.{Shaped}
 use Rattle.levels.specs.Storage.{LentLevel, levelOf, floorIn, roofIn}
 use Rattle.levels.proofs.Over.{Readable}
-use Rattle.checks.specs.Steps.{Roofed}
+use Rattle.backups.specs.Steps.{Roofed}
 
 -- ---- a part of a level is within the limits, if the whole is; what is not lent of it is 0 throughout
 module _ (m : Tables) (some : 0 < m .actions) (t : ℕ) (l : LentLevel) (shaped : Shaped (modelOf m) t (levelOf m l)) where

@@ -1,10 +1,13 @@
-use Rattle.checks.proofs.Prelude.{sym, _≡_, _∙_, arith, lit<, w64, toZ, ofZ, _·_, sumTo, padded, answer, maxStates, K, ceilingIn, aheadAt}
-use Rattle.sums.specs.Steps.{movedIn, expectedIn}
+use Rattle.backups.proofs.Prelude.{sym, _≡_, _∙_, arith, w64, toZ, ofZ, sumTo, padded, answer, maxStates, ceilingIn, aheadAt}
+use Rattle.integers.proofs.Kit.{lit<}
+use Rattle.integers.specs.Whole.{_·_}
 use Rattle.integers.proofs.Lists.{padded-length}
-use Rattle.checks.specs.Steps.{backupAtIn}
-use Rattle.checks.proofs.Roofs.{weights-below, moved-below, expected-fits, parts-fit}
-use Rattle.checks.proofs.backup_at.Statement.{statement}
-use Rattle.checks.proofs.backup_at.Tie as tie
+use Rattle.tables.specs.Limits.{K}
+use Rattle.sums.specs.Steps.{movedIn, expectedIn}
+use Rattle.backups.specs.Steps.{backupAtIn}
+use Rattle.backups.proofs.Roofs.{weights-below, moved-below, expected-fits, parts-fit}
+use Rattle.backups.proofs.backup_at.Statement.{statement}
+use Rattle.backups.proofs.backup_at.Tie as tie
 
 moved-requires : tie.Need-moved-requires
 moved-requires c κs =
