@@ -29,7 +29,8 @@ use Rattle.levels.proofs.Laws.{numbers-in}
 use Rattle.levels.proofs.Over.{Complete, complete-true}
 use Rattle.runs.proofs.Judged.{Held, standing-true, weights-fine}
 use Rattle.backups.specs.Steps.{Roofed}
-use Rattle.builder.specs.Steps.{topBuilt, Upon, RowsFit, Filled}
+use Rattle.candidates.specs.Steps.{topBuilt, Upon}
+use Rattle.builder.specs.Steps.{RowsFit, Filled}
 use Rattle.builder.proofs.Levels.{upon-lent, roofed-lent}
 use Rattle.solver.specs.declared.Judged.{Judged}
 use Rattle.solver.specs.Files.{maxFile, vectorsIn, filesVerdict, counted}

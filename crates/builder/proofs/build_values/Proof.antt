@@ -1,5 +1,5 @@
-use Rattle.builder.proofs.Prelude.{_-_, _≤_, _<_, _≡_, sym, arith, pos, laid, laid-none, laid-turn, laid-long, modelIn, maxPoints}
-use Rattle.builder.proofs.Prelude.{leastValue, roofIn, pointIn, point-at, value-at}
+use Rattle.builder.proofs.Prelude.{_-_, _≤_, _<_, _≡_, sym, arith, pos, laid, laid-none, laid-turn, laid-long, modelIn, maxPoints, leastValue}
+use Rattle.builder.proofs.Prelude.{roofIn, pointIn, point-at, value-at}
 use Rattle.integers.proofs.Kit.{_∙_, length}
 use Rattle.integers.proofs.Lists.{padded-length}
 use Rattle.tables.proofs.Fitting.{rows-stored}

@@ -1,13 +1,12 @@
-use Rattle.builder.proofs.Prelude.{_-_, _≤_, _≡_, sym, ap, arith, needs, maxStates}
-use Rattle.integers.proofs.Kit.{_∙_, ℕ, length, set}
+use Rattle.integers.proofs.Kit.{_-_, _≤_, _≡_, _∙_, sym, ap, ℕ, arith, needs, length, set}
 use Rattle.integers.specs.Cells.{padded}
 use Rattle.integers.proofs.Lists.{filled-below, padded-none, padded-turn, padded-length}
-use Rattle.tables.specs.Limits.{maxObservations}
+use Rattle.tables.specs.Limits.{maxStates, maxObservations}
 use Rattle.sums.specs.Steps.{seenIn}
 use Rattle.tables.proofs.Fitting.{row-alone}
-use Rattle.builder.proofs.Candidates.{picked, found-in, picked-from}
-use Rattle.builder.proofs.choose.Statement.{statement}
-use Rattle.builder.proofs.choose.Tie as tie
+use Rattle.candidates.proofs.Candidates.{picked, found-in, picked-from}
+use Rattle.candidates.proofs.choose.Statement.{statement}
+use Rattle.candidates.proofs.choose.Tie as tie
 
 abbrev Inv-loop : tie.InvT-loop
 Inv-loop observation entries u n k count a chosen₀ o₀ chosen o =

@@ -1,12 +1,12 @@
-use Rattle.builder.proofs.Prelude.{sym, maxStates}
+use Rattle.integers.proofs.Kit.{sym}
 use Rattle.integers.proofs.Lists.{filled-within, padded-length}
-use Rattle.tables.specs.Limits.{maxObservations}
+use Rattle.tables.specs.Limits.{maxStates, maxObservations}
 use Rattle.sums.specs.Steps.{foreseenIn, ChosenFit}
 use Rattle.sums.proofs.Regroup.{foreseen-limit}
 use Rattle.backups.proofs.Roofs.{weights-below, moved-below}
-use Rattle.builder.proofs.Candidates.{chosen-fit, candidate-made}
-use Rattle.builder.proofs.vector_for.Statement.{statement}
-use Rattle.builder.proofs.vector_for.Tie as tie
+use Rattle.candidates.proofs.Candidates.{chosen-fit, candidate-made}
+use Rattle.candidates.proofs.vector_for.Statement.{statement}
+use Rattle.candidates.proofs.vector_for.Tie as tie
 
 moved-requires : tie.Need-moved-requires
 moved-requires c κs = let p = c .before .before .before .pre in ((p .0 .0, p .0 .1 .1 .0), (weights-below (p .1 .1 .0), p .1 .1 .1 .0 .0))

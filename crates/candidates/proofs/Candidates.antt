@@ -1,4 +1,4 @@
--- Laws of the builder's steps: the candidates over storage are the model's, and what the steps are handed is within the limits. Assumes nothing.
+-- Laws of the candidates: over storage they are the model's, and what the steps are handed is within the limits. Assumes nothing.
 use Rattle.integers.proofs.Kit.{_≡_, _∙_, refl, ap, List, ℕ, _≤_, _<_, arith, getD, ℤ, pos}
 use Rattle.integers.specs.Whole.{floorDiv}
 use Rattle.integers.specs.Search.{firstLargest}
@@ -17,8 +17,8 @@ use Rattle.plans.specs.Level.{product, follows}
 use Rattle.plans.specs.Build.{chosen, entryFor}
 use Rattle.plans.proofs.Agreement.{product-cong, backup-cong}
 use Rattle.backups.proofs.Roofs.{successors-are}
-use Rattle.builder.specs.declared.Candidate.{Candidate}
-use Rattle.builder.specs.Steps.{choiceFor, candidateIn, candidateOf, uponIn}
+use Rattle.candidates.specs.declared.Candidate.{Candidate}
+use Rattle.candidates.specs.Steps.{choiceFor, candidateIn, candidateOf, uponIn}
 
 -- what a vector chooses, of a table of one row
 pub alone-at : (k : ℕ) (chosen : List ℕ) (o : ℕ) → choiceIn k chosen 0 o ≡ getD chosen o 0

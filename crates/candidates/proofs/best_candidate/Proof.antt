@@ -1,8 +1,8 @@
-use Rattle.builder.proofs.Prelude.{_-_, _≤_, sym, ap, ⊎-elim, arith, w64, toZ}
+use Rattle.integers.proofs.Kit.{_-_, _≤_, sym, ap, ⊎-elim, arith, w64, toZ}
 use Rattle.integers.proofs.Words.{answer}
-use Rattle.builder.proofs.Actions.{Asked, vector-fits, vector-long, vector-product, Best-of, best-first, best-larger, best-not-larger, best-found}
-use Rattle.builder.proofs.best_candidate.Statement.{statement}
-use Rattle.builder.proofs.best_candidate.Tie as tie
+use Rattle.candidates.proofs.Actions.{Asked, vector-fits, vector-long, vector-product, Best-of, best-first, best-larger, best-not-larger, best-found}
+use Rattle.candidates.proofs.best_candidate.Statement.{statement}
+use Rattle.candidates.proofs.best_candidate.Tie as tie
 
 abbrev Inv-loop : tie.InvT-loop
 Inv-loop T O R entries p c count n actions action₀ best₀ most₀ a₀ action best most a =

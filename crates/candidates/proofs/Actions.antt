@@ -18,10 +18,10 @@ use Rattle.plans.specs.Build.{entryFor, bestAction}
 use Rattle.plans.proofs.Agreement.{product-cong}
 use Rattle.plans.proofs.Built.{successor-limit, entry-range}
 use Rattle.backups.specs.Steps.{Light}
-use Rattle.builder.specs.declared.Candidate.{Candidate}
-use Rattle.builder.specs.Steps.{candidateIn, candidateOf, bestOf, uponIn, Upon, topBuilt}
+use Rattle.candidates.specs.declared.Candidate.{Candidate}
+use Rattle.candidates.specs.Steps.{candidateIn, candidateOf, bestOf, uponIn, Upon, topBuilt}
 use Rattle.backups.proofs.Roofs.{seen-is}
-use Rattle.builder.proofs.Candidates.{candidate-is}
+use Rattle.candidates.proofs.Candidates.{candidate-is}
 
 -- what the search is handed
 pub record Asked (c : Counts) (T O : List ℕ) (R entries : List ℤ) (vectors : ℕ) (p : List ℕ) : Type 0 where
