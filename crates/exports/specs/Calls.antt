@@ -10,7 +10,7 @@ use Rattle.levels.specs.Storage.{Cells, LentLevel, Lent}
 use Rattle.runs.specs.declared.Bounds.{Bounds}
 use Rattle.runs.specs.Demand3.{TotalsHold, BuildHolds}
 use Rattle.worth.specs.declared.Valued.{Valued}
-use Rattle.solved.specs.declared.Adopted.{Adopted}
+use Rattle.adopting.specs.declared.Adopted.{Adopted}
 use Rattle.replay.specs.declared.Replayed.{Replayed}
 use Rattle.exports.specs.declared.Refusal.{Refusal}
 use Rattle.exports.specs.declared.Totals.{Totals}

@@ -35,10 +35,11 @@ use Rattle.builder.proofs.Levels.{upon-lent, roofed-lent}
 use Rattle.solver.specs.declared.Judged.{Judged}
 use Rattle.solver.specs.Files.{maxFile, vectorsIn, filesVerdict, counted}
 use Rattle.solver.proofs.Files.{FilesRead, files-read}
-use Rattle.solved.specs.Solved.{solved, solvedFrom, adoptedLevel, adoptFits, adoptVerdict, adopted, answered}
-use Rattle.solved.specs.Claim.{AdoptHolds}
+use Rattle.solved.specs.Solved.{solved}
 use Rattle.solved.specs.Steps.{Files, vectorsOver, Solving}
-use Rattle.solved.proofs.Accepted.{roof-fine, adopt-holds}
+use Rattle.adopting.specs.Adopt.{solvedFrom, adoptedLevel, adoptFits, adoptVerdict, adopted, answered}
+use Rattle.adopting.specs.Claim.{AdoptHolds}
+use Rattle.adopting.proofs.Accepted.{roof-fine, adopt-holds}
 
 -- ---- a verdict with a count
 

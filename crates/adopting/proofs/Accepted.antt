@@ -6,7 +6,7 @@
 --   adopt-holds     the certifier accepts it, and decimals within their backups are kept
 use Rattle.integers.proofs.Kit.{_≡_, _∙_, ap, _&&_, List, ℕ, _≤_, _<_, _+_, _*_, arith, add-one, le-leb, leb-true, lt-ltb, ltb-true, leb, length, ℤ}
 use Rattle.integers.proofs.Kit.{Bool, true, false, natAbs}
-use Rattle.integers.specs.Whole.{_·_, totalTo}
+use Rattle.integers.specs.Whole.{totalTo}
 use Rattle.integers.proofs.Order.{≤-trans, ·-mono, lesser-right, lesser-is}
 use Rattle.integers.proofs.Rounding.{floor-≤}
 use Rattle.integers.proofs.Searches.{and-true, and-is, at-every}
@@ -30,8 +30,9 @@ use Rattle.levels.proofs.Laws.{fine-before, numbers-in}
 use Rattle.levels.proofs.Over.{Complete, complete-true, complete-long, over-agree, over-long}
 use Rattle.runs.proofs.Judged.{Held, rows-is, values-is, tests-shaped, standing-true, accepts}
 use Rattle.solver.specs.Files.{maxFile, vectorsIn, filesVerdict}
-use Rattle.solved.specs.Solved.{solved, solvedFrom, adoptedLevel, adoptFits, adoptVerdict, adopted}
-use Rattle.solved.specs.Claim.{AdoptHolds}
+use Rattle.solved.specs.Solved.{solved}
+use Rattle.adopting.specs.Adopt.{solvedFrom, adoptedLevel, adoptFits, adoptVerdict, adopted}
+use Rattle.adopting.specs.Claim.{AdoptHolds}
 
 -- ---- corners and values
 

@@ -1,8 +1,10 @@
-use Rattle.integers.proofs.Kit.{true, Bool, _&&_, [], _*_, le-leb, lt-leb, not-false, not-true, leb}
-use Rattle.solved.proofs.Prelude.{needs, ℕ, _≡_, refl, sym, ap, _∙_, List, length, ltb, Verdict, Fine, unless, _before_, breaks, passes}
+use Rattle.integers.proofs.Kit.{refl, true, Bool, _&&_, [], _*_, le-leb, lt-leb, not-false, not-true, leb, ltb, length}
+use Rattle.adopting.proofs.Prelude.{needs, ℕ, _≡_, sym, ap, _∙_, List, Fine, unless, breaks, passes}
 use Rattle.tables.specs.declared.Tables.{Tables}
+use Rattle.tables.specs.declared.Verdict.{Verdict}
 use Rattle.tables.specs.Limits.{maxVectors, maxLevels}
 use Rattle.tables.specs.Storage.{tablesIn}
+use Rattle.tables.specs.Verdicts.{_before_}
 use Rattle.tables.specs.Judged.{countWithin}
 use Rattle.tables.proofs.Refusals.{stops, goes}
 use Rattle.plans.specs.Limits.{maxBuilt}
@@ -12,9 +14,9 @@ use Rattle.levels.specs.Judged.{holds}
 use Rattle.runs.proofs.Judged.{Held, standing-true}
 use Rattle.solver.specs.declared.Judged.{Judged}
 use Rattle.solver.specs.Files.{maxFile, vectorsIn, filesVerdict, counted}
-use Rattle.solved.proofs.Adopting.{verdict-counted, vectors-counted, counted-back}
-use Rattle.solved.proofs.judge_files.Statement.{statement}
-use Rattle.solved.proofs.judge_files.Tie as tie
+use Rattle.adopting.proofs.Adopting.{verdict-counted, vectors-counted, counted-back}
+use Rattle.adopting.proofs.judge_files.Statement.{statement}
+use Rattle.adopting.proofs.judge_files.Tie as tie
 
 -- from each test that was passed to the one before it
 abbrev start : tie.Else2 → tie.Start

@@ -12,7 +12,7 @@ use Rattle.plans.specs.Level.{follows}
 use Rattle.levels.specs.Storage.{Cells, Lent, levelOf, complete, standingIn}
 use Rattle.runs.specs.State.{verdictOn}
 use Rattle.solver.specs.Files.{vectorsIn, ticksAt}
-use Rattle.solved.specs.Solved.{solvedFrom, adoptedLevel}
+use Rattle.adopting.specs.Adopt.{solvedFrom, adoptedLevel}
 
 -- slices y' that it was left in, of those that were lent, y: the same certifier accepts it, if its slices have room for it, so that 13 to 15 cannot meet it;
 -- and where a decimal is within its backup, the entry is that decimal in ticks

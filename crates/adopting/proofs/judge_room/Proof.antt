@@ -1,11 +1,11 @@
-use Rattle.solved.proofs.Prelude.{needs, arith, _≤_, _≡_, sym, _∙_, le-ltb, lt-ltb, breaks, passes, unless, Fine}
-use Rattle.integers.proofs.Kit.{true, false, Bool, _&&_, le-leb, leb-true, lt-leb, not-false, not-true, leb}
+use Rattle.adopting.proofs.Prelude.{needs, _≡_, sym, _∙_, breaks, passes, unless, Fine}
+use Rattle.integers.proofs.Kit.{true, false, Bool, _&&_, _≤_, arith, le-leb, leb-true, lt-leb, le-ltb, lt-ltb, not-false, not-true, leb}
 use Rattle.integers.proofs.Searches.{and-true}
 use Rattle.tables.specs.declared.Verdict.the-variants.{Refused}
 use Rattle.tables.specs.Limits.{maxVectors}
 use Rattle.tables.specs.Judged.{countWithin}
-use Rattle.solved.proofs.judge_room.Statement.{statement}
-use Rattle.solved.proofs.judge_room.Tie as tie
+use Rattle.adopting.proofs.judge_room.Statement.{statement}
+use Rattle.adopting.proofs.judge_room.Tie as tie
 
 -- the first of three tests that fails, or none
 first-fails : {a : Bool} (w : Bool) → a ≡ false → Refused 9 0 ≡ unless (a && w) 9 0

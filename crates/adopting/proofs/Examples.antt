@@ -1,5 +1,5 @@
 -- Small files, adopted by the prover over levels of the dough model of document 01: it computes the definitions that the contracts name. Assumes nothing.
-use Rattle.integers.proofs.Kit.{_≡_, refl, List, [], _∷_, ℕ, replicate, ℤ, pos, negsuc}
+use Rattle.integers.proofs.Kit.{_≡_, refl, List, [], _∷_, ℕ, replicate, pos, negsuc}
 use Rattle.integers.specs.Whole.{_·_, sumTo, totalTo, largestTo, lesser, floorDiv, ceilDiv}
 use Rattle.integers.specs.Search.{every, firstLargest}
 use Rattle.integers.specs.Cells.{listed, laid, laidRows}
@@ -9,16 +9,17 @@ use Rattle.tables.specs.Model.{successor, expectedReward, backup, backedUp}
 use Rattle.tables.specs.Verdicts.{firstOf}
 use Rattle.tables.specs.Judged.{limitsHold, rowsTotal, tablesVerdict}
 use Rattle.plans.specs.Limits.{range}
-use Rattle.plans.specs.Level.{level0, product, joined, smallest, orNone, drop, gain, ceiling, backupAt, corner-weight, follows}
+use Rattle.plans.specs.Level.{product, joined, smallest, orNone, drop, gain, ceiling, backupAt, corner-weight, follows}
 use Rattle.plans.specs.Build.{leastFor, leastValue}
-use Rattle.levels.specs.Storage.{Cells, rows, Lent, over}
+use Rattle.levels.specs.Storage.{rows, Lent, over}
 use Rattle.levels.specs.Judged.{rowsWithin, valuesWithin, rangesVerdict, weightsVerdict, holds, numbersIn, levelVerdict}
 use Rattle.runs.proofs.Dough.{dough, slices, rowsAt, fresh, half, one, standing}
 use Rattle.words.specs.Words.{run, wordsOf, wordsIn}
 use Rattle.numerals.specs.Numeral.{digits, value, amountOf, fraction, decimal as afterPoint, exponent}
 use Rattle.grammar.specs.Grammar.{number, magnitude, signedNumber, same, key}
 use Rattle.solver.specs.Files.{action, decimal, nextNode, several, alpha, node, allFrom, allIn, alike, filesVerdict}
-use Rattle.solved.specs.Solved.{solved, adoptVerdict, adopted}
+use Rattle.solved.specs.Solved.{solved}
+use Rattle.adopting.specs.Adopt.{adoptVerdict, adopted}
 
 -- ---- alpha files with two entries in a vector, then graph files with two observations; a slash stands for an LF
 
