@@ -32,9 +32,9 @@ use Rattle.levels.specs.Storage.{Lent, levelOf, pointIn, numberIn, standingIn, 
 use Rattle.levels.specs.Judged.{holds}
 use Rattle.sawtooth.specs.Steps.{positive, gainIn, ceilingIn}
 use Rattle.sawtooth.proofs.Joined.{ceiling-is}
-use Rattle.checks.specs.Steps.{Roofed}
-use Rattle.checks.proofs.Lent.{entries-lent, roof-lent}
-use Rattle.checks.proofs.Roofs.{corners-fit, points-fit, gains-below}
+use Rattle.backups.specs.Steps.{Roofed}
+use Rattle.backups.proofs.Lent.{entries-lent, roof-lent}
+use Rattle.backups.proofs.Roofs.{corners-fit, points-fit, gains-below}
 use Rattle.runs.specs.declared.Bounds.{Bounds}
 use Rattle.runs.specs.State.{mixtureHolds, totalsVerdict, boundsBy, totalsOf}
 use Rattle.runs.proofs.Judged.{Held, standing-true}

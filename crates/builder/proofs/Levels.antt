@@ -5,8 +5,8 @@ use lib.Arith.{le→nltb}
 use lib.Dec.{lt→ltb}
 use Rattle.integers.specs.Whole.{totalTo, floorDiv, ceilDiv}
 use Rattle.integers.specs.Cells.{laid}
-use Rattle.integers.proofs.Lists.{row-below, padded-at, padded-length, laid-none, laid-turn, laid-length, laid-self}
-use Rattle.integers.proofs.Lists.{laidRows-none, laidRows-more, laidRows-length, laidRows-flat}
+use Rattle.integers.proofs.Lists.{row-below, padded-at, padded-length, laid-none, laid-turn, laid-length, laid-self, laidRows-none, laidRows-more}
+use Rattle.integers.proofs.Lists.{laidRows-length, laidRows-flat}
 use Rattle.integers.proofs.Words.{answer}
 use Rattle.integers.proofs.Parts.{T-true, T-false}
 use Rattle.integers.proofs.Searches.{largest-cong, largest-in}
@@ -24,10 +24,11 @@ use Rattle.plans.proofs.Ceiling.{corner-total}
 use Rattle.plans.proofs.Built.{action-exists, shaped-mono}
 use Rattle.levels.specs.Storage.{Cells, cells, LentLevel, roofIn, levelIn, levelOf, pointIn, over}
 use Rattle.levels.proofs.Over.{Readable}
-use Rattle.checks.specs.Steps.{Roofed}
-use Rattle.checks.proofs.Lent.{floor-shaped, roof-lent}
-use Rattle.builder.specs.declared.Best.{Best}
-use Rattle.builder.specs.Steps.{topBuilt, candidateOf, bestOf, leastFrom, leastOf, uponIn, Upon, RowsFit, Filled}
+use Rattle.backups.specs.Steps.{Roofed}
+use Rattle.backups.proofs.Lent.{floor-shaped, roof-lent}
+use Rattle.candidates.specs.declared.Best.{Best}
+use Rattle.candidates.specs.Steps.{topBuilt, candidateOf, bestOf, uponIn, Upon}
+use Rattle.builder.specs.Steps.{leastFrom, leastOf, RowsFit, Filled}
 
 -- ---- the least value, from what each action allows
 pub least-is : (M : Model) (L : Level) (p : ℕ → ℕ) (backups : List ℤ) → ((a : ℕ) → a < M .actions → getD backups a (pos 0) ≡ backupAt M L p a)

@@ -1,5 +1,3 @@
--- Laws of the builder's steps: candidates, the best of them, and the parts of a level.
-pub mod Candidates
-pub mod Actions
+-- Laws of the builder's level.
 pub mod Levels
 pub mod Prelude

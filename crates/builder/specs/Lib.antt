@@ -1,2 +1,2 @@
--- The builder's steps over storage.
+-- The parts of a built level over storage.
 pub mod Steps

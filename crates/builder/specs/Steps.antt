@@ -1,55 +1,14 @@
--- The builder's steps: one action's vector at some weights, the best of the actions' vectors, and the parts of a level.
-use Prim.Native.Nat.{ℕ, _*_, _-_, _≤_}
+-- The parts of a built level: least values from what each action allows, and the rows of vectors.
+use Prim.Native.Nat.{ℕ, _*_, _≤_}
 use mathlib.Core.Path.{_≡_}
-use mathlib.Core.List.{List, []}
+use mathlib.Core.List.{List}
 use lib.ListN.{length, getD}
 use lib.IntN.{ℤ, pos}
-use Rattle.integers.specs.Whole.{floorDiv, ceilDiv}
+use Rattle.integers.specs.Whole.{ceilDiv}
 use Rattle.integers.specs.Search.{firstLargest}
-use Rattle.integers.specs.Cells.{padded, laid, laidRows}
-use Rattle.tables.specs.declared.Counts.{Counts}
-use Rattle.tables.specs.Limits.{maxStates, maxObservations, maxLevels, K}
-use Rattle.tables.specs.Model.{Model, Valid}
-use Rattle.tables.specs.Storage.{weightIn, entryIn, modelIn}
-use Rattle.tables.specs.Steps.{Stored}
-use Rattle.sums.specs.Steps.{foreseenIn, backupIn}
-use Rattle.plans.specs.Level.{Level, product, Shaped}
-use Rattle.plans.specs.Build.{chosen, entryFor, bestAction}
-use Rattle.levels.specs.Storage.{floorIn}
-use Rattle.checks.specs.Steps.{successorsIn}
-use Rattle.builder.specs.declared.Candidate.{Candidate}
-use Rattle.builder.specs.declared.Best.{Best}
-
--- a level that is built upon has fewer than 100 below it
-abbrev pub topBuilt : ℕ
-topBuilt = maxLevels - 1
-
--- the first previous vector with the largest product with the successor weights
-unfoldable pub choiceFor : ℕ → ℕ → List ℕ → List ℕ → List ℤ → ℕ → List ℕ → ℕ → ℕ → ℕ
-choiceFor n k transition observation entries vectors p a o =
-    firstLargest vectors (λ v. product n (weightIn (successorsIn n k transition observation p a o)) (entryIn n entries v))
-
--- an action's vector at weights p: each entry is the backup over K rounded towards minus infinity; its choices are a table of one row
-unfoldable pub candidateIn : Counts → List ℕ → List ℕ → List ℤ → List ℤ → ℕ → List ℕ → ℕ → Candidate
-candidateIn c transition observation reward entries vectors p a =
-    let n : ℕ = c .states in
-    let k : ℕ = c .observations in
-    let choices : List ℕ = padded 0 maxObservations k (choiceFor n k transition observation entries vectors p a) in
-    let foreseen : List ℤ = padded (pos 0) maxStates n (foreseenIn n k observation entries choices 0 a) in
-    record { chosen = choices; entries = padded (pos 0) maxStates n (λ s. floorDiv (backupIn n (c .discount) transition reward foreseen a s) K) }
-
--- the same, through the model and the level
-unfoldable pub candidateOf : Model → Level → List ℕ → ℕ → Candidate
-candidateOf M L p a = record {
-  chosen = padded 0 maxObservations (M .observations) (chosen M L (weightIn p) a);
-  entries = padded (pos 0) maxStates (M .states) (entryFor M L (weightIn p) a);
-}
-
--- the first action whose vector has the largest product with p, and its vector
-unfoldable pub bestOf : Model → Level → List ℕ → Best
-bestOf M L p =
-    let a : ℕ = bestAction M L (weightIn p) in
-    record { action = record { 0 = a }; candidate = candidateOf M L p a }
+use Rattle.integers.specs.Cells.{laid, laidRows}
+use Rattle.tables.specs.Limits.{K}
+use Rattle.plans.specs.Level.{Level}
 
 -- the least whole number that meets every action's inequality, from what each allows
 abbrev pub leastFrom : List ℤ → ℕ → ℤ
@@ -57,17 +16,6 @@ leastFrom backups a = ceilDiv (getD backups a (pos 0)) K
 
 abbrev pub leastOf : ℕ → List ℤ → ℤ
 leastOf actions backups = leastFrom backups (firstLargest actions (leastFrom backups))
-
--- the entries of a standing level, of which only the vectors are read
-abbrev pub uponIn : Counts → ℕ → List ℤ → Level
-uponIn c vectors entries = floorIn (c .states) (c .observations) vectors [] [] entries
-
--- tables that are not refused, and standing vectors that can be built upon
-pub record Upon (c : Counts) (transition observation : List ℕ) (reward entries : List ℤ) (vectors : ℕ) : Type 0 where
-  pub valid : Valid (modelIn c transition observation reward)
-  pub stored : Stored c transition observation reward
-  pub shaped : Shaped (modelIn c transition observation reward) topBuilt (uponIn c vectors entries)
-  pub entries-stored : vectors * c .states ≤ length entries
 
 -- slices are long enough for so many vectors
 pub record RowsFit (n k count : ℕ) (actions choices : List ℕ) (entries : List ℤ) : Type 0 where

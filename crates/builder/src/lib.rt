@@ -4,163 +4,25 @@ ghost use mathlib.Core.Bool.{true};
 ghost use mathlib.Core.List.{[]};
 ghost use Prim.Native.Nat.{ℕ, _+_, _*_, _-_, _≤_, _<_};
 ghost use lib.ListN.{length};
-ghost use Rattle.integers.specs.Whole.{Below};
-ghost use Rattle.integers.specs.Search.{firstLargest};
-ghost use Rattle.integers.specs.Cells.{padded, laid};
-ghost use Rattle.tables.specs.Limits.{maxStates, maxActions, maxObservations, one, K};
-ghost use Rattle.tables.specs.Storage.{weightIn, entryIn, modelIn, tablesIn};
-ghost use Rattle.tables.specs.Steps.{rowsTo, EntriesFit};
-ghost use Rattle.sums.specs.Steps.{movedIn, seenIn, TransitionsFit, ObservationsFit, RewardsFit, movedLimit};
-ghost use Rattle.plans.specs.Limits.{maxBuilt, maxTotal, maxReached};
-ghost use Rattle.plans.specs.Level.{product, corner-weight, IsPoint};
+ghost use Rattle.integers.specs.Cells.{laid};
+ghost use Rattle.tables.specs.Limits.{maxStates};
+ghost use Rattle.tables.specs.Storage.{weightIn, modelIn, tablesIn};
+ghost use Rattle.tables.specs.Steps.{rowsTo};
+ghost use Rattle.plans.specs.Limits.{maxBuilt};
+ghost use Rattle.plans.specs.Level.{corner-weight, IsPoint};
 ghost use Rattle.plans.specs.Build.{seed, leastValue, built};
 ghost use Rattle.levels.specs.Storage.{cells, roofIn, levelIn, pointIn, lentFor, complete, over};
-ghost use Rattle.checks.specs.Steps.{Light, Roofed};
-ghost use Rattle.builder.specs.Steps.{candidateIn, bestOf, leastOf, uponIn, Upon, RowsFit, Filled};
+ghost use Rattle.backups.specs.Steps.{Roofed};
+ghost use Rattle.candidates.specs.Steps.{uponIn, Upon};
+ghost use Rattle.builder.specs.Steps.{leastOf, RowsFit, Filled};
 use integers::cells;
 use levels::shape;
-use levels::vectors;
-use tables::Action;
 use tables::Counts;
-use tables::Foreseen;
-use tables::Observation;
 use tables::State;
 use tables::Tables;
 use tables::Vector;
 use tables::Weights;
 use tables::read;
-
-// What a vector chooses: a table of choices of one row.
-pub type Chosen = [u16; Tables::OBSERVATIONS];
-
-// One action's vector at some weights.
-pub struct Candidate {
-    pub chosen: Chosen,
-    pub entries: Foreseen,
-}
-
-// The first action whose vector has the largest product, with its vector.
-pub struct Best {
-    pub action: Action,
-    pub candidate: Candidate,
-}
-
-// For each observation, the first previous vector with the largest product with the successor weights.
-fn choose(
-    observation: &[u16],
-    entries: &[i64],
-    u: &[u64],
-    n: usize,
-    k: usize,
-    count: usize,
-    a: Action,
-) -> Chosen
-    requires { ⌜ (n ≤ maxStates) × ((k ≤ maxObservations) × ((a .0 < maxActions) × (0 < count))) ⌝ }
-    requires { ⌜ Below movedLimit n (now u) ⌝ }
-    requires { ⌜ ObservationsFit n k (now observation) (a .0) ⌝ }
-    requires { ⌜ ((o : ℕ) → o < k → (s : ℕ) → s < n → seenIn n k (now observation) (now u) (a .0) o s ≤ maxReached) ⌝ }
-    requires { ⌜ EntriesFit n count (now entries) ⌝ }
-    ensures { λ r. ⌜ r ≡ padded 0 maxObservations k (λ o. firstLargest count
-        (λ v. product n (weightIn (padded 0 maxStates n (seenIn n k (now (observation .entry)) (now (u .entry)) (a .0) o)))
-        (entryIn n (now (entries .entry)) v))) ⌝ }
-{
-    let mut chosen = [0u16; Tables::OBSERVATIONS];
-    for o in 0..k {
-        let q = sums::successors(observation, n, k, u, a, Observation(o));
-        let best = vectors::best_vector(&q, entries, n, count);
-        read::put_choice(&mut chosen, k, Vector(0), Observation(o), best);
-    }
-    chosen
-}
-
-// One action's vector at weights p.
-fn vector_for<'a>(
-    transition: &'a [u16],
-    observation: &'a [u16],
-    reward: &'a [i64],
-    entries: &[i64],
-    p: &[u64],
-    c: Counts,
-    count: usize,
-    a: Action,
-) -> Candidate
-    requires { ⌜ (c .states ≤ maxStates) × ((c .observations ≤ maxObservations) × ((a .0 < maxActions) × (c .discount ≤ one))) ⌝ }
-    requires { ⌜ 0 < count ⌝ }
-    requires { ⌜ Below maxTotal (c .states) (now p) ⌝ }
-    requires { ⌜ (TransitionsFit (c .states) (now transition) (a .0)) ×
-        ((ObservationsFit (c .states) (c .observations) (now observation) (a .0)) × (RewardsFit (c .states) (now reward) (a .0))) ⌝ }
-    requires { ⌜ ((o : ℕ) → o < c .observations → (s : ℕ) → s < c .states → seenIn (c .states) (c .observations) (now observation)
-        (padded 0 maxStates (c .states) (movedIn (c .states) (now transition) (now p) (a .0))) (a .0) o s ≤ maxReached) ⌝ }
-    requires { ⌜ EntriesFit (c .states) count (now entries) ⌝ }
-    ensures { λ r. ⌜ r ≡ candidateIn c (now (transition .entry)) (now (observation .entry)) (now (reward .entry)) (now (entries .entry)) count
-        (now (p .entry)) (a .0) ⌝ }
-{
-    let n = c.states;
-    let k = c.observations;
-    let u = sums::moved(transition, n, p, a);
-    let chosen = choose(observation, entries, &u, n, k, count, a);
-    let f = sums::foreseen(observation, n, k, entries, &chosen, Vector(0), a);
-    let e = sums::rounded(transition, reward, &f, n, c.discount, a);
-    Candidate {
-        chosen: chosen,
-        entries: e,
-    }
-}
-
-// The first action whose vector has the largest product with p.
-pub fn best_candidate<'a>(
-    transition: &'a [u16],
-    observation: &'a [u16],
-    reward: &'a [i64],
-    entries: &[i64],
-    p: &[u64],
-    c: Counts,
-    count: usize,
-) -> Best
-    requires { ⌜ Upon c (now transition) (now observation) (now reward) (now entries) count ⌝ }
-    requires { ⌜ Light (c .states) (now p) ⌝ }
-    ensures { λ r. ⌜ r ≡ bestOf (modelIn c (now (transition .entry)) (now (observation .entry)) (now (reward .entry)))
-        (uponIn c count (now (entries .entry))) (now (p .entry)) ⌝ }
-{
-    let n = c.states;
-    let actions = c.actions;
-    let mut action: usize = 0;
-    let mut best = vector_for(
-        transition,
-        observation,
-        reward,
-        entries,
-        p,
-        c,
-        count,
-        Action(0),
-    );
-    let first = best.entries;
-    let mut most = vectors::product(p, &first, 0, n);
-    for a in 1..actions {
-        let next = vector_for(
-            transition,
-            observation,
-            reward,
-            entries,
-            p,
-            c,
-            count,
-            Action(a),
-        );
-        let made = next.entries;
-        let here = vectors::product(p, &made, 0, n);
-        if most < here {
-            most = here;
-            action = a;
-            best = next;
-        }
-    }
-    Best {
-        action: Action(action),
-        candidate: best,
-    }
-}
 
 // The least whole number that meets the inequality of every action, from what each allows.
 fn least_of(backups: &[i64], actions: usize) -> i64
@@ -185,7 +47,7 @@ fn seed_weights(weights: &[u32], n: usize, v: Vector) -> Weights
 {
     let i = v.0;
     if i < n {
-        return checks::corner_weights(State(i));
+        return backups::corner_weights(State(i));
     }
     shape::point_weights(weights, n, i - n)
 }
@@ -217,7 +79,15 @@ fn build_vectors<'a>(
     let count = n + points;
     for v in 0..count {
         let p = seed_weights(weights, n, Vector(v));
-        let best = best_candidate(transition, observation, reward, standing, &p, c, vectors);
+        let best = candidates::best_candidate(
+            transition,
+            observation,
+            reward,
+            standing,
+            &p,
+            c,
+            vectors,
+        );
         let made = best.candidate;
         let chosen = made.chosen;
         let row = made.entries;
@@ -248,8 +118,8 @@ pub fn build_corners<'a, 'b>(
     let n = c.states;
     let gains = sawtooth::gains(corners, weights, values, points, n);
     for s in 0..n {
-        let p = checks::corner_weights(State(s));
-        let backups = checks::backups_at(
+        let p = backups::corner_weights(State(s));
+        let backups = backups::backups_at(
             transition,
             observation,
             reward,
@@ -291,7 +161,7 @@ pub fn build_values<'a, 'b>(
     let gains = sawtooth::gains(corners, weights, values, points, n);
     for i in 0..count {
         let p = shape::point_weights(given, n, i);
-        let backups = checks::backups_at(
+        let backups = backups::backups_at(
             transition,
             observation,
             reward,

@@ -1,5 +1,4 @@
 -- Laws of the backup inequalities, of vectors and of the ceiling.
 pub mod Floors
-pub mod Roofs
-pub mod Lent
+pub mod Covering
 pub mod Prelude

@@ -1,2 +1,2 @@
--- Backups at weights over storage.
+-- What the test of vectors is handed.
 pub mod Steps

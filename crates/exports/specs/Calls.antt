@@ -11,7 +11,7 @@ use Rattle.runs.specs.declared.Bounds.{Bounds}
 use Rattle.runs.specs.Demand3.{TotalsHold, BuildHolds}
 use Rattle.reading.specs.declared.TablesRead.{TablesRead}
 use Rattle.worth.specs.declared.Valued.{Valued}
-use Rattle.solved.specs.declared.Adopted.{Adopted}
+use Rattle.adopting.specs.declared.Adopted.{Adopted}
 use Rattle.replay.specs.declared.Replayed.{Replayed}
 use Rattle.exports.specs.declared.Refusal.{Refusal}
 use Rattle.exports.specs.declared.Reading.{Reading}

@@ -15,9 +15,9 @@ ghost use Rattle.mixtures.specs.Each.{answers, eachVerdict, eachOf};
 ghost use Rattle.runs.specs.Demand3.{ModelAccepted, after, steps, PointsHold};
 ghost use Rattle.tables.specs.declared.Verdict.the-variants.{Fine};
 ghost use Rattle.solver.specs.Files.{vectorsIn};
-ghost use Rattle.solved.specs.Solved.{adoptVerdict, adopted};
-ghost use Rattle.solved.specs.Solved.{answered as made};
-ghost use Rattle.solved.specs.Claim.{AdoptHolds};
+ghost use Rattle.adopting.specs.Adopt.{adoptVerdict, adopted};
+ghost use Rattle.adopting.specs.Adopt.{answered as made};
+ghost use Rattle.adopting.specs.Claim.{AdoptHolds};
 ghost use Rattle.replay.specs.Replay.{packed, offersIn, replayVerdict, answered, replayed, ReplayHolds};
 ghost use Rattle.worth.specs.Storage.{lentGraph};
 ghost use Rattle.worth.specs.Judged.{worthAnswer};
@@ -550,7 +550,7 @@ pub extern "C" fn biidhaqun_adopt<'a, 'b, 'c>(
         observations: k,
         discount: g,
     };
-    let made = solved::adopt(
+    let made = adopting::adopt(
         transition,
         observation,
         reward,

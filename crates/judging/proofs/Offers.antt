@@ -13,8 +13,9 @@ use Rattle.plans.proofs.Built.{shaped-mono}
 use Rattle.levels.specs.Storage.{LentLevel, Lent, levelOf, floorIn, roofIn, numberIn, standingIn}
 use Rattle.levels.specs.Judged.{floorsVerdict, cornersVerdict, pointsVerdict, shapeVerdict, backupsVerdict, offerVerdict}
 use Rattle.runs.proofs.Judged.{Fitting}
-use Rattle.checks.specs.Steps.{Judging, Roofed}
-use Rattle.checks.proofs.Lent.{entries-lent, roof-lent}
+use Rattle.backups.specs.Steps.{Roofed}
+use Rattle.checks.specs.Steps.{Judging}
+use Rattle.backups.proofs.Lent.{entries-lent, roof-lent}
 
 module _ (m : Tables) (x : Lent) (l : LentLevel) where
   abbrev M : Model

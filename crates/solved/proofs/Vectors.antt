@@ -26,9 +26,9 @@ use Rattle.plans.specs.Limits.{range}
 use Rattle.plans.specs.Level.{Level, follows}
 use Rattle.plans.proofs.Agreement.{backup-cong}
 use Rattle.levels.specs.Judged.{rowsWithin}
-use Rattle.builder.specs.Steps.{uponIn, Upon}
-use Rattle.builder.specs.declared.Best.{Best}
-use Rattle.builder.proofs.Candidates.{alone-at}
+use Rattle.candidates.specs.Steps.{uponIn, Upon}
+use Rattle.candidates.specs.declared.Best.{Best}
+use Rattle.candidates.proofs.Candidates.{alone-at}
 use Rattle.builder.proofs.Levels.{Made}
 use Rattle.solver.specs.Files.{noNode, actionAt}
 use Rattle.solved.specs.declared.Said.{Said}

@@ -9,7 +9,7 @@ use Rattle.tables.specs.declared.Counts.{Counts}
 use Rattle.tables.specs.Limits.{maxStates, maxObservations, maxVectors, maxLevels}
 use Rattle.tables.specs.Storage.{modelIn}
 use Rattle.plans.specs.Level.{Level}
-use Rattle.builder.specs.Steps.{uponIn, Upon}
+use Rattle.candidates.specs.Steps.{uponIn, Upon}
 use Rattle.solver.specs.Files.{vectorsIn, actionAt, ticksAt, nextAt}
 use Rattle.solver.specs.Steps.{BothAt}
 use Rattle.solved.specs.declared.Said.{Said}

@@ -1,33 +1,28 @@
-// The level that a solver's alpha file and policy graph file say, over the level that stands: judged, and written over lent slices.
+// The level that a solver's alpha file and policy graph file say, over the level that stands: its vectors read from both, judged by 10 to 12, and written
+// over lent slices.
 ghost use mathlib.Core.Path.{_≡_};
-ghost use mathlib.Core.Bool.{_&&_};
-ghost use mathlib.Core.List.{List};
 ghost use Prim.Native.Nat.{ℕ, _+_, _*_, _≤_, _<_};
-ghost use lib.Dec.{leb, ltb};
+ghost use lib.Dec.{ltb};
 ghost use lib.ListN.{length, getD};
 ghost use lib.IntN.{pos};
 ghost use Rattle.integers.specs.Whole.{lesser};
 ghost use Rattle.integers.specs.Cells.{padded};
-ghost use Rattle.tables.specs.declared.Verdict.the-variants.{Fine};
 ghost use Rattle.tables.specs.Limits.{maxStates, maxObservations, maxVectors, maxLevels};
 ghost use Rattle.tables.specs.Model.{backedUp};
-ghost use Rattle.tables.specs.Storage.{modelIn, tablesIn};
+ghost use Rattle.tables.specs.Storage.{modelIn};
 ghost use Rattle.tables.specs.Verdicts.{_before_, unless, firstOf};
-ghost use Rattle.tables.specs.Judged.{countWithin};
 ghost use Rattle.plans.specs.Limits.{maxBuilt, range};
 ghost use Rattle.plans.specs.Level.{follows};
-ghost use Rattle.levels.specs.Storage.{cells, rows, lent, standingAt, pointIn, longEnough};
-ghost use Rattle.levels.specs.Judged.{holds, rowsWithin, weightsVerdict, numbersIn};
-ghost use Rattle.builder.specs.Steps.{uponIn, Upon, RowsFit, Filled};
-ghost use Rattle.solver.specs.Files.{maxFile, vectorsIn, actionAt, filesVerdict, counted};
-ghost use Rattle.solved.specs.Solved.{chosenOver, adoptVerdict, adopted, answered};
-ghost use Rattle.solved.specs.Claim.{AdoptHolds};
+ghost use Rattle.levels.specs.Storage.{pointIn};
+ghost use Rattle.levels.specs.Judged.{rowsWithin, weightsVerdict, numbersIn};
+ghost use Rattle.candidates.specs.Steps.{uponIn, Upon};
+ghost use Rattle.builder.specs.Steps.{RowsFit, Filled};
+ghost use Rattle.solver.specs.Files.{vectorsIn, actionAt};
+ghost use Rattle.solved.specs.Solved.{chosenOver};
 ghost use Rattle.solved.specs.Steps.{choicesAt, ReadTo, Files, Says, vectorsOver, Solving, Gives};
-use builder::Chosen;
+use candidates::Chosen;
 use integers::cells;
-use levels::Level;
 use levels::shape;
-use solver::Judged;
 use solver::NextNodes;
 use solver::NodeAt;
 use solver::Ticks;
@@ -37,18 +32,7 @@ use tables::Foreseen;
 use tables::Tables;
 use tables::Vector;
 use tables::Verdict;
-use tables::judge;
 use tables::read;
-
-// What the files are refused for, and how many vectors the level has that was made of them; with a refusal 0.
-pub struct Adopted {
-    pub verdict: Verdict,
-    pub vectors: usize,
-}
-
-impl Adopted {
-    pub const FILE: usize = 32_768; // bytes of a file
-}
 
 // What both files say of a vector, and where they go on after it.
 pub struct Said {
@@ -314,7 +298,7 @@ fn entries_hold<'a, 'c>(
 }
 
 // 10 to 12 of the level, but for corners and values, which 11 cannot meet.
-fn judge_level<'a, 'c>(
+pub fn judge_level<'a, 'c>(
     transition: &'a [u16],
     observation: &'a [u16],
     reward: &'a [i64],
@@ -359,151 +343,10 @@ fn judge_level<'a, 'c>(
     shape::weights_hold(given, c.states, points)
 }
 
-// ---- 1 to 9
-
-// 8 and 9: the level that stands, and slices of such lengths for the level to be made.
-fn judge_room(
-    number: usize,
-    n: usize,
-    k: usize,
-    vectors: usize,
-    points: usize,
-    actions: usize,
-    choices: usize,
-    entries: usize,
-    corners: usize,
-    weights: usize,
-    values: usize,
-) -> Verdict
-    requires { ⌜ (n ≤ maxStates) × (k ≤ maxObservations) ⌝ }
-    ensures { λ r. ⌜ r ≡ (unless (ltb number maxLevels) 8 0 before unless (countWithin maxVectors vectors
-        && (leb points maxBuilt && (leb (vectors * k) choices && longEnough n vectors points actions entries corners weights values))) 9 0) ⌝ }
-{
-    if Level::LEVELS <= number {
-        return Verdict::Refused(8, 0);
-    }
-    if !judge::count_within(Tables::VECTORS, vectors) {
-        return Verdict::Refused(9, 0);
-    }
-    if Level::BUILT < points {
-        return Verdict::Refused(9, 0);
-    }
-    if !shape::complete(
-        n,
-        k,
-        vectors,
-        points,
-        actions,
-        choices,
-        entries,
-        corners,
-        weights,
-        values,
-    ) {
-        return Verdict::Refused(9, 0);
-    }
-    Verdict::Fine
-}
-
-fn refused(verdict: Verdict) -> Judged
-    ensures { λ r. ⌜ (r .verdict ≡ verdict) × (r .vectors ≡ 0) ⌝ }
-{
-    Judged {
-        verdict: verdict,
-        vectors: 0,
-    }
-}
-
-// 1 of either file, 7 of the certifier, 19 and 20 of the files, then 8 and 9.
-fn judge_files<'a, 'b, 'c>(
-    transition: &'a [u16],
-    observation: &'a [u16],
-    reward: &'a [i64],
-    c: Counts,
-    state: &'b [usize],
-    actions: &'b [u8],
-    entries: &'b [i64],
-    corners: &'b [i64],
-    weights: &'b [u32],
-    values: &'b [i64],
-    informed: &'b [i64],
-    qmdp: &'b [i64],
-    alpha: &'c [u8],
-    graph: &'c [u8],
-    count: usize,
-    newactions: usize,
-    newchoices: usize,
-    newentries: usize,
-    newcorners: usize,
-    given: usize,
-    newvalues: usize,
-) -> Judged
-    ensures { λ r. ⌜ ((choices : List ℕ) →
-        let m = tablesIn c (now (transition .entry)) (now (observation .entry)) (now (reward .entry)) in
-        let standing = lent (now (state .entry)) (cells (now (actions .entry)) choices (now (entries .entry)) (now (corners .entry))
-        (now (weights .entry)) (now (values .entry))) (rows (now (informed .entry)) (now (qmdp .entry))) in
-        let vectors = vectorsIn (c .states) (now (alpha .entry)) in
-        r ≡ counted (unless (leb (length (now (alpha .entry))) maxFile && leb (length (now (graph .entry))) maxFile) 1 0
-        before unless (holds m standing) 7 0
-        before filesVerdict (c .states) (c .observations) (now (alpha .entry)) (now (graph .entry))
-        before unless (ltb (standingAt (now (state .entry)) .number) maxLevels) 8 0
-        before unless (countWithin maxVectors vectors && (leb count maxBuilt && (leb (vectors * c .observations) newchoices
-        && longEnough (c .states) vectors count newactions newentries newcorners given newvalues))) 9 0) vectors) ⌝ }
-{
-    if Adopted::FILE < alpha.len() {
-        return refused(Verdict::Refused(1, 0));
-    }
-    if Adopted::FILE < graph.len() {
-        return refused(Verdict::Refused(1, 0));
-    }
-    if !judging::standing_holds(
-        transition,
-        observation,
-        reward,
-        c,
-        state,
-        actions,
-        entries,
-        corners,
-        weights,
-        values,
-        informed,
-        qmdp,
-    ) {
-        return refused(Verdict::Refused(7, 0));
-    }
-    let files = solver::judge_files(alpha, graph, c.states, c.observations);
-    let first = files.verdict;
-    let Verdict::Fine = first else {
-        return refused(first);
-    };
-    let s = levels::standing_in(state);
-    let room = judge_room(
-        s.number,
-        c.states,
-        c.observations,
-        files.vectors,
-        count,
-        newactions,
-        newchoices,
-        newentries,
-        newcorners,
-        given,
-        newvalues,
-    );
-    let Verdict::Fine = room else {
-        return refused(room);
-    };
-    Judged {
-        verdict: Verdict::Fine,
-        vectors: files.vectors,
-    }
-}
-
 // ---- the level
 
 // Its vectors, over slices that have room for them.
-fn write_vectors<'a, 'c>(
+pub fn write_vectors<'a, 'c>(
     transition: &'a [u16],
     observation: &'a [u16],
     reward: &'a [i64],
@@ -551,153 +394,5 @@ fn write_vectors<'a, 'c>(
         cells::paste_i64(newentries, read::start(v, n), &row, n);
         p = x.alpha;
         q = x.graph;
-    }
-}
-
-// Makes the level of a solver's files over the level that stands, with the builder's corners and its values at a count of points of any content: it is
-// accepted where it is offered to the same certifier; or refused by 1, 7, 19, 20 or 8 to 12.
-pub fn adopt<'a, 'b, 'c>(
-    transition: &'a [u16],
-    observation: &'a [u16],
-    reward: &'a [i64],
-    c: Counts,
-    state: &'b [usize],
-    actions: &'b [u8],
-    entries: &'b [i64],
-    corners: &'b [i64],
-    weights: &'b [u32],
-    values: &'b [i64],
-    informed: &'b [i64],
-    qmdp: &'b [i64],
-    alpha: &'c [u8],
-    graph: &'c [u8],
-    given: &[u32],
-    count: usize,
-    newactions: &mut [u8],
-    newchoices: &mut [u16],
-    newentries: &mut [i64],
-    newcorners: &mut [i64],
-    newvalues: &mut [i64],
-) -> Adopted
-    ensures { λ r. ⌜ ((choices : List ℕ) →
-        let m = tablesIn c (now (transition .entry)) (now (observation .entry)) (now (reward .entry)) in
-        let standing = lent (now (state .entry)) (cells (now (actions .entry)) choices (now (entries .entry)) (now (corners .entry))
-        (now (weights .entry)) (now (values .entry))) (rows (now (informed .entry)) (now (qmdp .entry))) in
-        let y = cells (now (newactions .entry)) (now (newchoices .entry)) (now (newentries .entry)) (now (newcorners .entry)) (now (given .entry))
-        (now (newvalues .entry)) in
-        r ≡ answered (adoptVerdict m standing (now (alpha .entry)) (now (graph .entry)) count y) (vectorsIn (c .states) (now (alpha .entry)))) ⌝ }
-    ensures { λ _. ⌜ ((choices : List ℕ) →
-        let m = tablesIn c (now (transition .entry)) (now (observation .entry)) (now (reward .entry)) in
-        let standing = lent (now (state .entry)) (cells (now (actions .entry)) choices (now (entries .entry)) (now (corners .entry))
-        (now (weights .entry)) (now (values .entry))) (rows (now (informed .entry)) (now (qmdp .entry))) in
-        let y = cells (now (newactions .entry)) (now (newchoices .entry)) (now (newentries .entry)) (now (newcorners .entry)) (now (given .entry))
-        (now (newvalues .entry)) in
-        let made = cells (now (newactions .exit)) (now (newchoices .exit)) (now (newentries .exit)) (now (newcorners .exit)) (now (given .entry))
-        (now (newvalues .exit)) in
-        made ≡ adopted m standing (now (alpha .entry)) (now (graph .entry)) count y) ⌝ }
-    ensures { λ r. ⌜ ((choices : List ℕ) →
-        let m = tablesIn c (now (transition .entry)) (now (observation .entry)) (now (reward .entry)) in
-        let standing = lent (now (state .entry)) (cells (now (actions .entry)) choices (now (entries .entry)) (now (corners .entry))
-        (now (weights .entry)) (now (values .entry))) (rows (now (informed .entry)) (now (qmdp .entry))) in
-        let y = cells (now (newactions .entry)) (now (newchoices .entry)) (now (newentries .entry)) (now (newcorners .entry)) (now (given .entry))
-        (now (newvalues .entry)) in
-        let made = cells (now (newactions .exit)) (now (newchoices .exit)) (now (newentries .exit)) (now (newcorners .exit)) (now (given .entry))
-        (now (newvalues .exit)) in
-        r .verdict ≡ Fine → AdoptHolds m standing (now (alpha .entry)) (now (graph .entry)) count y made) ⌝ }
-{
-    let files = judge_files(
-        transition,
-        observation,
-        reward,
-        c,
-        state,
-        actions,
-        entries,
-        corners,
-        weights,
-        values,
-        informed,
-        qmdp,
-        alpha,
-        graph,
-        count,
-        newactions.len(),
-        newchoices.len(),
-        newentries.len(),
-        newcorners.len(),
-        given.len(),
-        newvalues.len(),
-    );
-    let first = files.verdict;
-    let Verdict::Fine = first else {
-        return Adopted {
-            verdict: first,
-            vectors: 0,
-        };
-    };
-    let vectors = files.vectors;
-    let s = levels::standing_in(state);
-    let level = judge_level(
-        transition,
-        observation,
-        reward,
-        entries,
-        c,
-        s.vectors,
-        s.number,
-        alpha,
-        graph,
-        vectors,
-        given,
-        count,
-    );
-    let Verdict::Fine = level else {
-        return Adopted {
-            verdict: level,
-            vectors: 0,
-        };
-    };
-    write_vectors(
-        transition,
-        observation,
-        reward,
-        entries,
-        c,
-        s.vectors,
-        s.number,
-        alpha,
-        graph,
-        vectors,
-        newactions,
-        newchoices,
-        newentries,
-    );
-    builder::build_corners(
-        transition,
-        observation,
-        reward,
-        corners,
-        weights,
-        values,
-        c,
-        s.points,
-        newcorners,
-    );
-    builder::build_values(
-        transition,
-        observation,
-        reward,
-        corners,
-        weights,
-        values,
-        given,
-        c,
-        s.points,
-        count,
-        newvalues,
-    );
-    Adopted {
-        verdict: Verdict::Fine,
-        vectors: vectors,
     }
 }

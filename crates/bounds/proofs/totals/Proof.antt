@@ -1,6 +1,6 @@
 use Rattle.bounds.proofs.Prelude.{ℕ, _≡_, sym, _∙_, List, needs, [], Tables, tablesIn, Lent, cells, rows, lent, standingAt, stands}
 use Rattle.tables.specs.declared.Verdict.the-variants.{Fine}
-use Rattle.checks.proofs.Roofs.{corners-fit, points-fit, values-fit}
+use Rattle.backups.proofs.Roofs.{corners-fit, points-fit, values-fit}
 use Rattle.runs.specs.declared.Bounds.{Bounds}
 use Rattle.runs.specs.State.{totalsOf}
 use Rattle.runs.proofs.Demand3.{totals-demand}

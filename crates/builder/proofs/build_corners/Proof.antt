@@ -1,9 +1,10 @@
-use Rattle.builder.proofs.Prelude.{_-_, _≤_, _<_, _≡_, sym, arith, pos, laid, laid-none, laid-turn, laid-long, maxStates, maxPoints, modelIn}
-use Rattle.builder.proofs.Prelude.{leastValue, roofIn, corner-at, value-at}
+use Rattle.builder.proofs.Prelude.{_-_, _≤_, _<_, _≡_, sym, arith, pos, laid, laid-none, laid-turn, laid-long, maxPoints, modelIn, leastValue}
+use Rattle.builder.proofs.Prelude.{roofIn, corner-at, value-at}
 use Rattle.integers.proofs.Kit.{_∙_, length}
 use Rattle.integers.proofs.Lists.{padded-length}
+use Rattle.tables.specs.Limits.{maxStates}
 use Rattle.plans.specs.Level.{corner-weight}
-use Rattle.checks.proofs.Roofs.{corner-long, corner-light, corners-fit, points-fit, values-fit, roof-holds, backups-at, backups-long}
+use Rattle.backups.proofs.Roofs.{corner-long, corner-light, corners-fit, points-fit, values-fit, roof-holds, backups-at, backups-long}
 use Rattle.builder.proofs.Levels.{least-is}
 use Rattle.builder.proofs.build_corners.Statement.{statement}
 use Rattle.builder.proofs.build_corners.Tie as tie

@@ -1,10 +1,10 @@
-use Rattle.builder.proofs.Prelude.{_-_, _≤_, _<_, _≡_, sym, arith, pos, laid, laid-none, laid-turn, laid-long, modelIn, maxPoints}
-use Rattle.builder.proofs.Prelude.{leastValue, roofIn, pointIn, point-at, value-at}
+use Rattle.builder.proofs.Prelude.{_-_, _≤_, _<_, _≡_, sym, arith, pos, laid, laid-none, laid-turn, laid-long, modelIn, maxPoints, leastValue}
+use Rattle.builder.proofs.Prelude.{roofIn, pointIn, point-at, value-at}
 use Rattle.integers.proofs.Kit.{_∙_, length}
 use Rattle.integers.proofs.Lists.{padded-length}
 use Rattle.tables.proofs.Fitting.{rows-stored}
 use Rattle.plans.specs.Limits.{maxBuilt}
-use Rattle.checks.proofs.Roofs.{point-long, point-light, corners-fit, points-fit, values-fit, roof-holds, backups-at, backups-long}
+use Rattle.backups.proofs.Roofs.{point-long, point-light, corners-fit, points-fit, values-fit, roof-holds, backups-at, backups-long}
 use Rattle.builder.proofs.Levels.{least-is}
 use Rattle.builder.proofs.build_values.Statement.{statement}
 use Rattle.builder.proofs.build_values.Tie as tie

@@ -6,7 +6,8 @@ use Rattle.tables.specs.Limits.{maxVectors}
 use Rattle.tables.proofs.Fitting.{rows-stored}
 use Rattle.plans.specs.Level.{Level}
 use Rattle.plans.specs.Build.{built}
-use Rattle.builder.specs.Steps.{uponIn, Filled}
+use Rattle.candidates.specs.Steps.{uponIn}
+use Rattle.builder.specs.Steps.{Filled}
 use Rattle.builder.proofs.Levels.{seed-light, Made, vector-made, filled-none, SameLengths, filled-long, Room, rows-room, filled-more}
 use Rattle.builder.proofs.build_vectors.Statement.{statement}
 use Rattle.builder.proofs.build_vectors.Tie as tie

@@ -1,9 +1,10 @@
-use Rattle.builder.proofs.Prelude.{_-_, _≤_, ⊎-elim, _≡_, sym, ap, arith, needs, w64, toZ, K}
-use Rattle.integers.proofs.Kit.{_∙_, lit<, ℤ, ofZ}
+use Rattle.builder.proofs.Prelude.{_-_, _≤_, _≡_, sym, arith, needs}
+use Rattle.integers.proofs.Kit.{_∙_, lit<, ℤ, ofZ, ⊎-elim, ap, w64, toZ}
 use Rattle.integers.specs.Whole.{ceilDiv}
 use Rattle.integers.specs.Search.{firstLargest}
 use Rattle.integers.proofs.Searches.{largest-first}
 use Rattle.integers.proofs.Words.{answer, back}
+use Rattle.tables.specs.Limits.{K}
 use Rattle.plans.specs.Rows.{highest}
 use Rattle.plans.proofs.Rows.{highest-later, highest-same}
 use Rattle.builder.specs.Steps.{leastFrom}

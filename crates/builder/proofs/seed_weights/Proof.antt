@@ -1,5 +1,5 @@
 use Rattle.builder.proofs.Prelude.{_-_, arith, needs, pointIn, corner-at, point-at}
-use Rattle.checks.proofs.Roofs.{corner-long, point-long}
+use Rattle.backups.proofs.Roofs.{corner-long, point-long}
 use Rattle.builder.proofs.Levels.{seed-corner, seed-point}
 use Rattle.builder.proofs.seed_weights.Statement.{statement}
 use Rattle.builder.proofs.seed_weights.Tie as tie

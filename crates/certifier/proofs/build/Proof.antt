@@ -9,7 +9,7 @@ use Rattle.levels.specs.declared.Standing.{Standing}
 use Rattle.levels.specs.Storage.{Cells, Lent, cells, rows, lent, levelIn, levelOf, pointIn, over, standingAt, standingIn, numberIn}
 use Rattle.runs.specs.State.{buildVerdict, builtFrom, builtOf}
 use Rattle.runs.proofs.Demand3.{build-demand}
-use Rattle.builder.specs.Steps.{topBuilt}
+use Rattle.candidates.specs.Steps.{topBuilt}
 use Rattle.builder.proofs.Levels.{upon-lent, roofed-lent, built-read}
 use Rattle.certifier.proofs.Writing.{Buildable, buildable, built-refused, built-fine}
 use Rattle.certifier.proofs.build.Statement.{statement}

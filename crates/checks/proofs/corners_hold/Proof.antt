@@ -6,7 +6,8 @@ use Rattle.plans.specs.Limits.{maxPoints}
 use Rattle.plans.specs.Level.{corner-weight}
 use Rattle.levels.specs.Storage.{cornerIn}
 use Rattle.levels.specs.Judged.{cornersVerdict}
-use Rattle.checks.proofs.Roofs.{corner-at, corner-long, corner-light, corners-fit, points-fit, values-fit, roof-holds, backups-long, covers-said}
+use Rattle.backups.proofs.Roofs.{corner-at, corner-long, corner-light, corners-fit, points-fit, values-fit, roof-holds, backups-long}
+use Rattle.checks.proofs.Covering.{covers-said}
 use Rattle.checks.proofs.corners_hold.Statement.{statement}
 use Rattle.checks.proofs.corners_hold.Tie as tie
 

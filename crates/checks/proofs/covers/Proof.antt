@@ -2,7 +2,7 @@ use Rattle.checks.proofs.Prelude.{_≤_, _-_, _≡_, refl, sym, _∙_, 
 use Rattle.integers.proofs.Kit.{true, leZ}
 use Rattle.integers.specs.Search.{every}
 use Rattle.integers.proofs.Searches.{every-none, every-more, every-not}
-use Rattle.checks.proofs.Roofs.{not-below, is-below}
+use Rattle.checks.proofs.Covering.{not-below, is-below}
 use Rattle.checks.proofs.covers.Statement.{statement}
 use Rattle.checks.proofs.covers.Tie as tie
 

@@ -1,11 +1,12 @@
 use Rattle.checks.proofs.Prelude.{ℕ, _≤_, _<_, _-_, _≡_, sym, _∙_, List, arith, not-true, not-false, ℤ, pos, getD, back, Counts, Verdict, Fine}
-use Rattle.checks.proofs.Prelude.{modelIn, unless, firstOf, first-none, first-more, first-here, pointIn, roofIn, coversBackups, passed}
-use Rattle.checks.proofs.Prelude.{failed, covers-by}
+use Rattle.checks.proofs.Prelude.{modelIn, unless, firstOf, first-none, first-more, first-here, roofIn, coversBackups, passed, failed, covers-by}
 use Rattle.integers.proofs.Lists.{padded-length}
 use Rattle.tables.proofs.Fitting.{rows-stored}
 use Rattle.plans.specs.Limits.{maxPoints}
+use Rattle.levels.specs.Storage.{pointIn}
 use Rattle.levels.specs.Judged.{pointsVerdict}
-use Rattle.checks.proofs.Roofs.{point-at, point-long, point-light, corners-fit, points-fit, values-fit, roof-holds, backups-long, covers-said}
+use Rattle.backups.proofs.Roofs.{point-at, point-long, point-light, corners-fit, points-fit, values-fit, roof-holds, backups-long}
+use Rattle.checks.proofs.Covering.{covers-said}
 use Rattle.checks.proofs.points_hold.Statement.{statement}
 use Rattle.checks.proofs.points_hold.Tie as tie
 

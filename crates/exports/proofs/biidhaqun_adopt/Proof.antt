@@ -1,5 +1,5 @@
 use Rattle.integers.proofs.Kit.{_∙_, ap, needs}
-use Rattle.solved.specs.declared.Adopted.{Adopted}
+use Rattle.adopting.specs.declared.Adopted.{Adopted}
 use Rattle.exports.specs.Calls.{adoptionBy}
 use Rattle.exports.proofs.biidhaqun_adopt.Statement.{statement}
 use Rattle.exports.proofs.biidhaqun_adopt.Tie as tie

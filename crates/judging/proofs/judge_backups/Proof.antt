@@ -2,7 +2,7 @@ use Rattle.judging.proofs.Prelude.{_≡_, needs, Tables, tablesIn, cell
 use Rattle.levels.specs.declared.Standing.{Standing}
 use Rattle.levels.specs.Storage.{LentLevel, Lent, lentFor, standingAt}
 use Rattle.runs.proofs.Judged.{Fitting, fitting}
-use Rattle.checks.proofs.Roofs.{corners-fit, points-fit, values-fit}
+use Rattle.backups.proofs.Roofs.{corners-fit, points-fit, values-fit}
 use Rattle.judging.proofs.Offers.{refused-13, refused-14, left-15, judging, standing-roof, offered-roof, offered-shaped}
 use Rattle.judging.proofs.judge_backups.Statement.{statement}
 use Rattle.judging.proofs.judge_backups.Tie as tie

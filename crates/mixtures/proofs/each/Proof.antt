@@ -2,7 +2,7 @@ use Rattle.integers.proofs.Kit.{_≡_, _∙_, sym, true, List, [], ℕ, _<_, _*
 use Rattle.tables.specs.declared.Tables.{Tables}
 use Rattle.tables.specs.Storage.{tablesIn}
 use Rattle.levels.specs.Storage.{Lent, cells, rows, lent, standingAt}
-use Rattle.checks.proofs.Roofs.{corners-fit, points-fit, values-fit}
+use Rattle.backups.proofs.Roofs.{corners-fit, points-fit, values-fit}
 use Rattle.tables.specs.declared.Verdict.{Verdict}
 use Rattle.tables.specs.declared.Verdict.the-variants.{Fine, Refused}
 use Rattle.levels.specs.Judged.{holds}

@@ -1,6 +1,6 @@
-use Rattle.solved.proofs.Prelude.{needs, arith, ℕ, _+_, _-_, _≤_, _≡_, sym, ap, _∙_, pos, getD, Verdict, Fine, firstOf, unless}
+use Rattle.solved.proofs.Prelude.{needs, arith, ℕ, _-_, _≤_, _≡_, sym, ap, _∙_, pos, getD, Verdict, Fine, firstOf, unless}
 use Rattle.solved.proofs.Prelude.{first-none, first-more, first-here, padded-length, maxStates}
-use Rattle.integers.proofs.Kit.{leb, natAbs}
+use Rattle.integers.proofs.Kit.{_+_, leb, natAbs}
 use Rattle.tables.specs.Storage.{rowPlace}
 use Rattle.plans.specs.Limits.{range}
 use Rattle.plans.specs.Level.{Level}

@@ -1,4 +1,5 @@
-use Rattle.solved.proofs.Prelude.{arith, sym, ap, _∙_, ℤ, getD, pos, padded-cong, padded-length, maxStates}
+use Rattle.solved.proofs.Prelude.{arith, sym, ap, _∙_, getD, pos, padded-cong, padded-length, maxStates}
+use Rattle.integers.proofs.Kit.{ℤ}
 use Rattle.integers.specs.Whole.{lesser}
 use Rattle.sums.proofs.Regroup.{transitions-fit, observations-fit, rewards-fit}
 use Rattle.solved.proofs.Vectors.{chosen-fit, foreseen-within, backed-is}

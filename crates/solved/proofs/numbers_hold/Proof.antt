@@ -1,6 +1,7 @@
-use Rattle.solved.proofs.Prelude.{needs, arith, ℕ, _-_, _≤_, _≡_, sym, _∙_, List, ltb, Verdict, Fine, firstOf, unless, _before_}
+use Rattle.solved.proofs.Prelude.{needs, arith, ℕ, _-_, _≤_, _≡_, sym, _∙_, List, ltb, Verdict, Fine, firstOf, unless}
 use Rattle.solved.proofs.Prelude.{first-none, first-more, first-here, padded-length, maxObservations}
 use Rattle.tables.specs.declared.Counts.{Counts}
+use Rattle.tables.specs.Verdicts.{_before_}
 use Rattle.levels.specs.Judged.{numbersIn}
 use Rattle.solver.specs.Files.{actionAt}
 use Rattle.solved.specs.Steps.{choicesAt, ReadTo}

@@ -1,6 +1,7 @@
-use Rattle.solved.proofs.Prelude.{arith, _<_, _≡_, sym, ap, _∙_, ℕ, List, getD, pos, padded-at, padded-cong, padded-length, maxObservations, maxStates}
+use Rattle.solved.proofs.Prelude.{arith, _<_, _≡_, sym, ap, _∙_, ℕ, List, getD, pos, padded-cong, padded-length, maxObservations, maxStates}
+use Rattle.integers.proofs.Lists.{padded-at}
 use Rattle.tables.specs.Storage.{modelIn}
-use Rattle.builder.specs.Steps.{uponIn}
+use Rattle.candidates.specs.Steps.{uponIn}
 use Rattle.solved.specs.Solved.{solved}
 use Rattle.solved.specs.Steps.{choicesAt}
 use Rattle.solved.proofs.Vectors.{entry-said}

@@ -1,5 +1,8 @@
-use Rattle.solved.proofs.Prelude.{needs, arith, ℕ, _-_, _≤_, _≡_, sym, List, getD, ltb, lt-ltb, le-ltb, Verdict, Fine, firstOf, unless}
-use Rattle.solved.proofs.Prelude.{breaks, passes, passed, failed, first-none, first-more, first-here}
+use Rattle.solved.proofs.Prelude.{needs, arith, ℕ, _-_, _≤_, _≡_, sym, List, getD, ltb, Verdict, Fine, firstOf, unless}
+use Rattle.solved.proofs.Prelude.{first-none, first-more, first-here}
+use Rattle.integers.proofs.Kit.{lt-ltb, le-ltb}
+use Rattle.tables.proofs.Refusals.{breaks, passes}
+use Rattle.levels.proofs.Laws.{passed, failed}
 use Rattle.solved.proofs.vector_exists.Statement.{statement}
 use Rattle.solved.proofs.vector_exists.Tie as tie
 

@@ -1,0 +1,199 @@
+use Rattle.adopting.proofs.Prelude.{needs, ℕ, _≡_, sym, ap, _∙_, List, Fine}
+use mathlib.Core.List.{[]}
+use Rattle.tables.specs.declared.Tables.{Tables}
+use Rattle.tables.specs.Storage.{tablesIn}
+use Rattle.levels.specs.Storage.{Cells, Lent, cells, rows, lent, standingAt}
+use Rattle.solver.specs.declared.Judged.{Judged}
+use Rattle.solver.specs.Files.{vectorsIn}
+use Rattle.adopting.specs.Adopt.{adoptVerdict}
+use Rattle.adopting.proofs.Adopting.{verdict-counted, vectors-counted, answered-back, answered-fine, startVerdict, endVerdict, Started, started}
+use Rattle.adopting.proofs.Adopting.{adopt-first, adopt-then, level-asks, level-said, roof-asks, vectors-ask, points-are, level-laid}
+use Rattle.adopting.proofs.Adopting.{adopted-refused, adopted-fine, adopt-demand}
+use Rattle.adopting.proofs.adopt.Statement.{statement}
+use Rattle.adopting.proofs.adopt.Tie as tie
+
+-- from each place to one before it
+abbrev start : tie.After-judge-files → tie.Start
+start c = c .before .before .before .before .before .before .before .before .before .before .before
+
+abbrev of-files : tie.After-enum-told → tie.After-judge-files
+of-files c = c .before .before
+
+abbrev of-level : tie.After-enum-told3 → tie.After-judge-level
+of-level c = c .before .before
+
+abbrev of-vectors : tie.After-write-vectors → tie.After-enum-told3
+of-vectors c = c .before .before .before .before
+
+abbrev of-corners : tie.After-build-corners-arg → tie.After-write-vectors
+of-corners c = c .before .before .before .before .before .before
+
+abbrev of-values : tie.After-build-values-arg → tie.After-build-corners
+of-values c = c .before .before
+
+-- what is lent
+abbrev tables : tie.Start → Tables
+tables c = tablesIn (c .args .c) (c .args .transition .now) (c .args .observation .now) (c .args .reward .now)
+
+abbrev certifier : tie.Start → List ℕ → Lent
+certifier c choices =
+    let a = c .args in
+    lent (a .state .now) (cells (a .actions .now) choices (a .entries .now) (a .corners .now) (a .weights .now) (a .values .now))
+    (rows (a .informed .now) (a .qmdp .now))
+
+abbrev answer : tie.Start → Cells
+answer c =
+    let a = c .args in
+    cells (a .newactions .now) (a .newchoices .now) (a .newentries .now) (a .newcorners .now) (a .given .now) (a .newvalues .now)
+
+-- ---- 1 to 9
+first-said : (c : tie.After-judge-files) (choices : List ℕ) → let s = start c in let a = s .args in
+    c .judge-files .result .verdict ≡ startVerdict (tables s) (certifier s choices) (a .alpha .now) (a .graph .now) (a .count) (answer s)
+first-said c choices = ap (λ (j : Judged). j .verdict) (c .judge-files .ensures choices) ∙ verdict-counted _ _
+
+first-fine : (c : tie.After-enum-told) (choices : List ℕ) → let s = start (of-files c) in let a = s .args in
+    startVerdict (tables s) (certifier s choices) (a .alpha .now) (a .graph .now) (a .count) (answer s) ≡ Fine
+first-fine c choices = sym (first-said (of-files c) choices) ∙ c .enum-told .given .1
+
+known : (c : tie.After-enum-told) (choices : List ℕ) → let s = start (of-files c) in let a = s .args in
+    Started (tables s) (certifier s choices) (a .alpha .now) (a .graph .now) (a .count) (answer s)
+known c choices =
+    let s = start (of-files c) in
+    let a = s .args in started (tables s) (certifier s choices) (a .alpha .now) (a .graph .now) (a .count) (answer s) (first-fine c choices)
+
+vectors-are : (c : tie.After-enum-told) → let s = start (of-files c) in
+    of-files c .judge-files .result .vectors ≡ vectorsIn (s .args .c .states) (s .args .alpha .now)
+vectors-are c = vectors-counted (of-files c .judge-files .ensures []) (first-fine c [])
+
+stands : (c : tie.After-standing-in) → c .standing-in .result ≡ standingAt (start (of-files (c .before)) .args .state .now)
+stands c = c .standing-in .ensures
+
+-- ---- 10 to 12
+second-said : (c : tie.After-judge-level) (choices : List ℕ) → let s = start (of-files (c .before .before)) in let a = s .args in
+    c .judge-level .result ≡ endVerdict (tables s) (certifier s choices) (a .alpha .now) (a .graph .now) (a .count) (answer s)
+second-said c choices =
+    let e = c .before .before in
+    let s = start (of-files e) in
+    let a = s .args in
+    level-said (tables s) (certifier s choices) (a .alpha .now) (a .graph .now) (a .count) (answer s) (known e choices) (stands (c .before)) (vectors-are e)
+    (c .judge-level .ensures)
+
+second-fine : (c : tie.After-enum-told3) (choices : List ℕ) → let s = start (of-files (of-level c .before .before)) in let a = s .args in
+    endVerdict (tables s) (certifier s choices) (a .alpha .now) (a .graph .now) (a .count) (answer s) ≡ Fine
+second-fine c choices = sym (second-said (of-level c) choices) ∙ c .enum-told3 .given .1
+
+-- all of them
+said : (c : tie.After-judge-level) (choices : List ℕ) → let s = start (of-files (c .before .before)) in let a = s .args in
+    c .judge-level .result ≡ adoptVerdict (tables s) (certifier s choices) (a .alpha .now) (a .graph .now) (a .count) (answer s)
+said c choices =
+    let e = c .before .before in
+    let s = start (of-files e) in
+    let a = s .args in
+    adopt-then (tables s) (certifier s choices) (a .alpha .now) (a .graph .now) (a .count) (answer s) (first-fine e choices) (second-said c choices)
+
+returns : tie.Need-returns
+returns c =
+    let f = c .before .before in
+    let s = start f in
+    let a = s .args in
+    let told = c .enum-told2 .given .1 in
+    let v : (choices : List ℕ) → f .judge-files .result .verdict ≡ adoptVerdict (tables s) (certifier s choices) (a .alpha .now) (a .graph .now) (a .count)
+    (answer s) =
+    λ choices. adopt-first (tables s) (certifier s choices) (a .alpha .now) (a .graph .now) (a .count) (answer s) (first-said f choices) told in (
+      λ choices. answered-back _ (v choices) told,
+      (
+        λ choices. adopted-refused (tables s) (certifier s choices) (a .alpha .now) (a .graph .now) (a .count) (answer s) (v choices) told,
+        λ choices. adopt-demand (tables s) (certifier s choices) (a .alpha .now) (a .graph .now) (a .count) (answer s) (v choices)
+            (adopted-refused (tables s) (certifier s choices) (a .alpha .now) (a .graph .now) (a .count) (answer s) (v choices) told),
+      ),
+    )
+
+standing-in-requires : tie.Need-standing-in-requires
+standing-in-requires c κs = known c [] .standing .state-long
+
+judge-level-requires : tie.Need-judge-level-requires
+judge-level-requires c κs =
+    let e = c .before in
+    let s = start (of-files e) in
+    let a = s .args in
+    level-asks (tables s) (certifier s []) (a .alpha .now) (a .graph .now) (a .count) (answer s) (known e []) (stands c) (vectors-are e)
+
+returns-2 : tie.Need-returns-2
+returns-2 c =
+    let l = c .before .before in
+    let s = start (of-files (l .before .before)) in
+    let a = s .args in
+    let told = c .enum-told4 .given .1 in (
+      λ choices. answered-back _ (said l choices) told,
+      (
+        λ choices. adopted-refused (tables s) (certifier s choices) (a .alpha .now) (a .graph .now) (a .count) (answer s) (said l choices) told,
+        λ choices. adopt-demand (tables s) (certifier s choices) (a .alpha .now) (a .graph .now) (a .count) (answer s) (said l choices)
+            (adopted-refused (tables s) (certifier s choices) (a .alpha .now) (a .graph .now) (a .count) (answer s) (said l choices) told),
+      ),
+    )
+
+write-vectors-requires : tie.Need-write-vectors-requires
+write-vectors-requires c κs =
+    let t = c .before .before .before in
+    let n = of-level t .before in
+    let e = n .before in
+    let s = start (of-files e) in
+    let a = s .args in
+    vectors-ask (tables s) (certifier s []) (a .alpha .now) (a .graph .now) (a .count) (answer s) (known e []) (stands n) (vectors-are e) (second-fine t [])
+
+build-corners-requires : tie.Need-build-corners-requires
+build-corners-requires c κs =
+    let n = of-level (of-vectors (of-corners c)) .before in
+    let e = n .before in
+    let s = start (of-files e) in
+    let a = s .args in (
+      roof-asks (tables s) (certifier s []) (a .alpha .now) (a .graph .now) (a .count) (answer s) (known e []) (stands n) (vectors-are e),
+      known e [] .whole .read .corners,
+    )
+
+build-values-requires : tie.Need-build-values-requires
+build-values-requires c κs =
+    let t = of-vectors (of-corners (of-values c .before)) in
+    let n = of-level t .before in
+    let e = n .before in
+    let s = start (of-files e) in
+    let a = s .args in
+    let k = known e [] in (
+      roof-asks (tables s) (certifier s []) (a .alpha .now) (a .graph .now) (a .count) (answer s) k (stands n) (vectors-are e),
+      (
+        (k .few, k .whole .read .weights),
+        (
+          points-are (tables s) (certifier s []) (a .alpha .now) (a .graph .now) (a .count) (answer s) k (stands n) (vectors-are e) (second-fine t []),
+          k .whole .read .values,
+        ),
+      ),
+    )
+
+returns-3 : tie.Need-returns-3
+returns-3 c =
+    let b = of-values (c .before .before) in
+    let w = of-corners (b .before) in
+    let t = of-vectors w in
+    let l = of-level t in
+    let n = l .before in
+    let e = n .before in
+    let s = start (of-files e) in
+    let a = s .args in
+    let told = t .enum-told3 .given .1 in (
+      λ choices. answered-fine (sym (said l choices) ∙ told) (vectors-are e),
+      (
+        λ choices. adopted-fine (tables s) (certifier s choices) (a .alpha .now) (a .graph .now) (a .count) (answer s) (said l choices) told
+            (level-laid (tables s) (certifier s choices) (a .alpha .now) (a .graph .now) (a .count) (answer s) (known e choices) (stands n) (vectors-are e)
+            (second-fine t choices) (w .write-vectors .ensures) (b .build-corners .ensures) (c .before .build-values .ensures)),
+        λ choices h. adopt-demand (tables s) (certifier s choices) (a .alpha .now) (a .graph .now) (a .count) (answer s) (said l choices)
+            (adopted-fine (tables s) (certifier s choices) (a .alpha .now) (a .graph .now) (a .count) (answer s) (said l choices) told
+            (level-laid (tables s) (certifier s choices) (a .alpha .now) (a .graph .now) (a .count) (answer s) (known e choices) (stands n) (vectors-are e)
+            (second-fine t choices) (w .write-vectors .ensures) (b .build-corners .ensures) (c .before .build-values .ensures))) told,
+      ),
+    )
+
+pub adopt-spec : {M : Type 1} → statement M
+adopt-spec =
+    tie.close (tie.spec (λ c κs. search needs) (λ c. search needs) (λ c. search needs) returns standing-in-requires judge-level-requires
+    (λ c. search needs) (λ c. search needs) returns-2 write-vectors-requires build-corners-requires build-values-requires (λ c. search needs)
+    (λ c. search needs) (λ c. search needs) (λ c. search needs) (λ c. search needs) returns-3)

@@ -1,0 +1,55 @@
+-- What tables and a level lend: parts that are stored, and within the limits if the whole is. Assumes nothing.
+use Rattle.integers.proofs.Kit.{[], ℕ, _<_, arith}
+use Rattle.tables.specs.declared.Tables.{Tables}
+use Rattle.tables.specs.Limits.{maxLevels}
+use Rattle.tables.specs.Model.{Valid}
+use Rattle.tables.specs.Storage.{countsOf, modelOf}
+use Rattle.tables.specs.Steps.{EntriesFit, Stored}
+use Rattle.plans.specs.Limits.{range}
+use Rattle.plans.specs.Level.{Shaped}
+use Rattle.levels.specs.Storage.{LentLevel, levelOf, floorIn, roofIn}
+use Rattle.levels.proofs.Over.{Readable}
+use Rattle.backups.specs.Steps.{Roofed}
+
+-- ---- a part of a level is within the limits, if the whole is; what is not lent of it is 0 throughout
+module _ (m : Tables) (some : 0 < m .actions) (t : ℕ) (l : LentLevel) (shaped : Shaped (modelOf m) t (levelOf m l)) where
+  pub floor-shaped : Shaped (modelOf m) t (floorIn (m .states) (m .observations) (l .vectors) [] [] (l .cells .entries))
+  floor-shaped = record {
+    some-vectors = shaped .some-vectors;
+    few-vectors = shaped .few-vectors;
+    few-points = omega arith;
+    action-in = λ v b. some;
+    entry-in = shaped .entry-in;
+    corner-in = λ s b. omega arith;
+    value-in = λ i b. absurd (omega arith);
+    total = λ i b. absurd (omega arith);
+  }
+
+  pub roof-shaped : Shaped (modelOf m) t (roofIn (m .states) (l .cells .corners) (l .points) (l .cells .weights) (l .cells .values))
+  roof-shaped = record {
+    some-vectors = omega arith;
+    few-vectors = omega arith;
+    few-points = shaped .few-points;
+    action-in = λ v b. some;
+    entry-in = λ v b s r. omega arith;
+    corner-in = shaped .corner-in;
+    value-in = shaped .value-in;
+    total = shaped .total;
+  }
+
+-- ---- a level in slices that are long enough, over tables that are not refused
+module _ (m : Tables) (l : LentLevel) (valid : Valid (modelOf m)) (stored : Stored (countsOf m) (m .transition) (m .observation) (m .reward))
+    (long : Readable m l) (shaped : Shaped (modelOf m) maxLevels (levelOf m l)) where
+  pub entries-lent : EntriesFit (m .states) (l .vectors) (l .cells .entries)
+  unfolding range
+  entries-lent = record { few = shaped .few-vectors; stored = long .entries; entry = shaped .entry-in }
+
+  pub roof-lent : Roofed (countsOf m) (m .transition) (m .observation) (m .reward) (l .cells .corners) (l .points) (l .cells .weights) (l .cells .values)
+  roof-lent = record {
+    valid = valid;
+    stored = stored;
+    shaped = roof-shaped m (valid .some-actions) maxLevels l shaped;
+    corners-long = long .corners;
+    points-stored = long .weights;
+    values-long = long .values;
+  }

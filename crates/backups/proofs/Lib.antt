@@ -1,0 +1,4 @@
+-- Laws of backups at weights, and what tables and a level lend to them.
+pub mod Roofs
+pub mod Lent
+pub mod Prelude

@@ -1,0 +1,74 @@
+use Rattle.backups.proofs.Prelude.{sym, _≡_, _∙_, arith, w64, toZ, ofZ, sumTo, padded, answer, maxStates, ceilingIn, aheadAt}
+use Rattle.integers.proofs.Kit.{lit<}
+use Rattle.integers.specs.Whole.{_·_}
+use Rattle.integers.proofs.Lists.{padded-length}
+use Rattle.tables.specs.Limits.{K}
+use Rattle.sums.specs.Steps.{movedIn, expectedIn}
+use Rattle.backups.specs.Steps.{backupAtIn}
+use Rattle.backups.proofs.Roofs.{weights-below, moved-below, expected-fits, parts-fit}
+use Rattle.backups.proofs.backup_at.Statement.{statement}
+use Rattle.backups.proofs.backup_at.Tie as tie
+
+moved-requires : tie.Need-moved-requires
+moved-requires c κs =
+    let pre = c .before .before .before .before .before .pre in ((pre .0 .0, pre .0 .1 .1 .0), (weights-below (pre .1 .0), pre .1 .1 .0 .0))
+
+expected-reward-requires : tie.Need-expected-reward-requires
+expected-reward-requires c κs =
+    let pre = c .before .before .before .before .before .before .pre in ((pre .0 .0, pre .0 .1 .1 .0), (weights-below (pre .1 .0), pre .1 .1 .0 .1 .1))
+
+expected : (c : tie.After-expected-reward)
+    → let a = c .before .before .before .before .before .before .before .args in toZ w64 (ofZ w64 (c .expected-reward .result)) ≡ expectedIn (a .c .states)
+    (a .reward .now) (a .p .now) (a .a .0)
+expected c = answer (c .expected-reward .ok) (c .expected-reward .ensures)
+
+scaled-requires : tie.Need-scaled-requires
+unfolding K
+scaled-requires c κs =
+    let pre = c .before .before .before .before .before .before .before .pre in
+    (lit< tt, expected-fits (pre .0 .0) (pre .1 .0) (pre .1 .1 .0 .1 .1) (expected c))
+
+slice-aggregate-ceilings : tie.Need-slice-aggregate-ceilings
+slice-aggregate-ceilings c = sym (rw (c .before .before .before .moved .ensures)
+    (padded-length 0 maxStates _ _ (c .before .before .before .before .before .before .before .before .before .pre .0 .0)))
+
+ceilings-requires : tie.Need-ceilings-requires
+ceilings-requires c κs =
+    let pre = c .before .before .before .before .before .before .before .before .before .pre in
+    let u = c .before .before .before .moved .ensures in
+    let level = pre .1 .1 .1 .0 in (
+      (pre .0 .0, (pre .0 .1 .0, pre .0 .1 .1 .0)),
+      (
+        moved-below (pre .0 .0) (pre .1 .0) (pre .1 .1 .0 .0) u,
+        (pre .1 .1 .0 .1 .0, (level .0, (level .1 .0, (level .1 .1, rw u (pre .1 .1 .1 .1))))),
+      ),
+    )
+
+-- K × the expected reward
+now : (c : tie.After-scaled)
+    → let a = c .before .before .before .before .before .before .before .before .args in
+    toZ w64 (ofZ w64 (c .scaled .result)) ≡ K · expectedIn (a .c .states) (a .reward .now) (a .p .now) (a .a .0)
+unfolding K
+now c = answer (c .scaled .ok) (c .scaled .ensures ∙ rw (expected (c .before)))
+
+-- the sum of the ceilings
+ahead : (c : tie.After-ceilings)
+    → let a = c .before .before .before .before .before .before .before .before .before .before .args in
+    toZ w64 (ofZ w64 (c .ceilings .result))
+    ≡ sumTo (a .c .observations) (aheadAt (a .c .states) (a .c .observations) (a .observation .now)
+    (padded 0 maxStates (a .c .states) (movedIn (a .c .states) (a .transition .now) (a .p .now) (a .a .0)))
+    (ceilingIn (a .c .states) (a .corners .now) (a .weights .now) (a .gains .now) (a .points)) (a .a .0))
+ahead c = answer (c .ceilings .ok) (c .ceilings .ensures ∙ rw (c .before .before .before .before .moved .ensures))
+
+add-scaled-requires : tie.Need-add-scaled-requires
+add-scaled-requires c κs =
+    let pre = c .before .before .before .before .before .before .before .before .before .before .pre in
+    (omega arith, parts-fit (pre .0 .0) (pre .1 .0) (pre .1 .1 .0 .1 .1) (pre .0 .1 .1 .1) (pre .1 .1 .1 .1) (now (c .before .before)) (ahead c))
+
+returns : tie.Need-returns
+unfolding backupAtIn
+returns c = answer (c .add-scaled .ok) (c .add-scaled .ensures ∙ rw (now (c .before .before .before), ahead (c .before)))
+
+pub backup-at-spec : {M : Type 1} → statement M
+backup-at-spec =
+    tie.close (tie.spec moved-requires expected-reward-requires scaled-requires slice-aggregate-ceilings ceilings-requires add-scaled-requires returns)

@@ -1,0 +1,2 @@
+-- Backups at weights over storage.
+pub mod Steps

@@ -1,0 +1,100 @@
+-- Laws of the candidates: over storage they are the model's, and what the steps are handed is within the limits. Assumes nothing.
+use Rattle.integers.proofs.Kit.{_≡_, _∙_, refl, ap, List, ℕ, _≤_, _<_, arith, getD, ℤ, pos}
+use Rattle.integers.specs.Whole.{floorDiv}
+use Rattle.integers.specs.Search.{firstLargest}
+use Rattle.integers.specs.Cells.{padded}
+use Rattle.integers.proofs.Lists.{padded-at, padded-length, padded-cong}
+use Rattle.integers.proofs.Searches.{largest-in, largest-cong}
+use Rattle.tables.specs.declared.Counts.{Counts}
+use Rattle.tables.specs.Limits.{maxStates, maxObservations, maxVectors, K}
+use Rattle.tables.specs.Model.{backedUp}
+use Rattle.tables.specs.Storage.{weightIn, entryIn, choiceIn, modelIn}
+use Rattle.tables.specs.Steps.{EntriesFit}
+use Rattle.sums.specs.Steps.{movedIn, seenIn, foreseenIn, backupIn, ChosenFit}
+use Rattle.tables.proofs.Fitting.{row-alone}
+use Rattle.sums.proofs.Regroup.{backup-regrouped}
+use Rattle.plans.specs.Level.{product, follows}
+use Rattle.plans.specs.Build.{chosen, entryFor}
+use Rattle.plans.proofs.Agreement.{product-cong, backup-cong}
+use Rattle.backups.proofs.Roofs.{successors-are}
+use Rattle.candidates.specs.declared.Candidate.{Candidate}
+use Rattle.candidates.specs.Steps.{choiceFor, candidateIn, candidateOf, uponIn}
+
+-- what a vector chooses, of a table of one row
+pub alone-at : (k : ℕ) (chosen : List ℕ) (o : ℕ) → choiceIn k chosen 0 o ≡ getD chosen o 0
+alone-at k chosen o = ap (λ (i : ℕ). getD chosen i 0) (row-alone k o)
+
+-- ---- from storage to the model
+pub made-of : {c c' : List ℕ} {e e' : List ℤ} → c ≡ c' → e ≡ e'
+    → _≡_ {A = Candidate} (record { chosen = c; entries = e }) (record { chosen = c'; entries = e' })
+made-of f g = rw (f, g)
+
+module _ (c : Counts) (T O : List ℕ) (R entries : List ℤ) (vectors : ℕ) (p : List ℕ) (a : ℕ) where
+  choice-is : 0 < vectors → (o : ℕ)
+      → choiceFor (c .states) (c .observations) T O entries vectors p a o
+      ≡ chosen (modelIn c T O R) (uponIn c vectors entries) (weightIn p) a o
+  unfolding choiceFor chosen
+  choice-is some o =
+      largest-cong vectors _ _ some (λ v h. product-cong (c .states) _ _ _ _ (successors-are c T O R p a o) (λ s b. refl))
+
+  -- an entry, over the choices and what they foresee
+  entry-is : 0 < vectors → {choices : List ℕ} {foreseen : List ℤ}
+      → choices
+      ≡ padded 0 maxObservations (c .observations) (choiceFor (c .states) (c .observations) T O entries vectors p a)
+      → foreseen ≡ padded (pos 0) maxStates (c .states) (foreseenIn (c .states) (c .observations) O entries choices 0 a)
+      → (s : ℕ) → floorDiv (backupIn (c .states) (c .discount) T R foreseen a s) K
+      ≡ entryFor (modelIn c T O R) (uponIn c vectors entries) (weightIn p) a s
+  unfolding entryFor backedUp follows
+  entry-is some {choices} {foreseen} e f s =
+      ap (λ (z : ℤ). floorDiv z K)
+      (backup-regrouped c T O R entries choices 0 foreseen a s (λ s' h. rw f (padded-at (pos 0) maxStates (c .states) _ s' (pos 0) h))
+      ∙ backup-cong (modelIn c T O R) a _ _ s (λ o h s' b. ap (λ (v : ℕ). entryIn (c .states) entries v s')
+      (alone-at (c .observations) choices o ∙ rw e (padded-at 0 maxObservations (c .observations) _ o 0 h) ∙ choice-is some o)))
+
+  pub candidate-is : 0 < vectors
+      → candidateIn c T O R entries vectors p a ≡ candidateOf (modelIn c T O R) (uponIn c vectors entries) p a
+  unfolding candidateIn candidateOf
+  candidate-is some =
+      made-of (padded-cong 0 maxObservations (c .observations) _ _ (λ o h. choice-is some o))
+      (padded-cong (pos 0) maxStates (c .states) _ _ (λ s h. entry-is some refl refl s))
+
+-- ---- the steps' turns
+-- the vector chosen for an observation, from what moved to each state
+abbrev pub picked : ℕ → ℕ → List ℕ → List ℕ → List ℤ → ℕ → ℕ → ℕ → ℕ
+picked n k observation moved entries count a o =
+    firstLargest count (λ v. product n (weightIn (padded 0 maxStates n (seenIn n k observation moved a o))) (entryIn n entries v))
+
+-- the same, from the successor weights that it is found with
+pub picked-from : (n k : ℕ) (observation moved : List ℕ) (entries : List ℤ) (count a o : ℕ) {q : List ℕ} {v : ℕ}
+    → q ≡ padded 0 maxStates n (seenIn n k observation moved a o) → v ≡ firstLargest count (λ v. product n (weightIn q) (entryIn n entries v))
+    → v ≡ picked n k observation moved entries count a o
+picked-from n k observation moved entries count a o e f = f ∙ rw e
+
+-- it is one of the vectors that there is room for
+pub found-in : {v : ℕ} (count : ℕ) (f : ℕ → ℤ) → v ≡ firstLargest count f → 0 < count → count ≤ maxVectors → v < maxVectors
+found-in count f e some few = rw e (omega (arith, largest-in count f some))
+
+-- the vectors chosen are within the limits
+pub chosen-fit : (n k : ℕ) (observation u : List ℕ) (entries : List ℤ) (count a : ℕ) {chosen : List ℕ}
+    → chosen ≡ padded 0 maxObservations k (picked n k observation u entries count a) → k ≤ maxObservations → 0 < count → EntriesFit n count entries
+    → ChosenFit n k entries chosen 0
+chosen-fit n k observation u entries count a {chosen} e few some fit = record {
+  vectors = count;
+  entries-fit = fit;
+  row = omega arith;
+  stored = rw (e, padded-length 0 maxObservations k (picked n k observation u entries count a) few) (omega arith);
+  vector = λ o l. rw (alone-at k chosen o, is o l) (largest-in count _ some);
+}
+  where
+    is : (o : ℕ) → o < k → getD chosen o 0 ≡ picked n k observation u entries count a o
+    is o l = rw e (padded-at 0 maxObservations k (picked n k observation u entries count a) o 0 l)
+
+-- the candidate, from what each step gave
+pub candidate-made : (c : Counts) (a : ℕ) (T O p : List ℕ) (R entries : List ℤ) (count : ℕ) {u chosen : List ℕ} {f e : List ℤ}
+    → u ≡ padded 0 maxStates (c .states) (movedIn (c .states) T p a)
+    → chosen ≡ padded 0 maxObservations (c .observations) (picked (c .states) (c .observations) O u entries count a)
+    → f ≡ padded (pos 0) maxStates (c .states) (foreseenIn (c .states) (c .observations) O entries chosen 0 a)
+    → e ≡ padded (pos 0) maxStates (c .states) (λ s. floorDiv (backupIn (c .states) (c .discount) T R f a s) K)
+    → record { chosen = chosen; entries = e } ≡ candidateIn c T O R entries count p a
+unfolding candidateIn choiceFor
+candidate-made c a T O p R entries count moved h i j = made-of (h ∙ rw moved) (j ∙ rw (i, h, moved))

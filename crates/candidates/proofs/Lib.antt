@@ -1,0 +1,3 @@
+-- Laws of the candidates, and of the best of them.
+pub mod Candidates
+pub mod Actions

@@ -1,0 +1,2 @@
+-- The best action's vector over storage.
+pub mod Steps
