@@ -323,7 +323,7 @@ fn judge_build<'a, 'b>(
         && longEnough (c .states) (c .states + count) count newactions newentries newcorners (length (now (given .entry))) newvalues)) 9 0
         before weightsVerdict (c .states) count (pointIn (c .states) (now (given .entry))))) ⌝ }
 {
-    if !judging::standing_holds(
+    if !standing::standing_holds(
         transition,
         observation,
         reward,

@@ -1,9 +1,9 @@
-use Rattle.judging.proofs.Prelude.{_≤_, arith, needs}
+use Rattle.integers.proofs.Kit.{_≤_, arith, needs}
 use Rattle.tables.specs.Limits.{maxEntry}
 use Rattle.plans.proofs.Built.{range-limit}
-use Rattle.judging.proofs.Stages.{entries-refused, corners-refused, values-left}
-use Rattle.judging.proofs.ranges_hold.Statement.{statement}
-use Rattle.judging.proofs.ranges_hold.Tie as tie
+use Rattle.standing.proofs.Stages.{entries-refused, corners-refused, values-left}
+use Rattle.standing.proofs.ranges_hold.Statement.{statement}
+use Rattle.standing.proofs.ranges_hold.Tie as tie
 
 -- from each place to the one before it
 abbrev start : tie.After-range-of → tie.Start

@@ -1,20 +1,21 @@
-use Rattle.judging.proofs.Prelude.{ℕ, _*_, _≤_, _≡_, sym, _∙_, Bool, true, _&&_, arith, needs, leb, le-leb, lt-leb, not-true, not-false, Tables}
-use Rattle.judging.proofs.Prelude.{tablesIn, fails, holds-on, fine, not-fine, counts-few, Fine, levelIn}
-use Rattle.integers.proofs.Kit.{ap, List, [], leb-true, length, getD, ℤ}
-use Rattle.tables.specs.Limits.{maxStates, maxActions, maxVectors, maxLevels}
-use Rattle.tables.specs.Model.{Valid}
-use Rattle.tables.specs.Storage.{modelOf}
+use Rattle.integers.proofs.Kit.{_≡_, _∙_, ap, sym, true, Bool, _&&_, List, [], ℕ, _≤_, needs, le-leb, lt-leb, leb-true, not-false, not-true, leb, length}
+use Rattle.integers.proofs.Kit.{getD, ℤ}
+use Rattle.tables.specs.declared.Tables.{Tables}
 use Rattle.tables.specs.declared.Verdict.{Verdict}
+use Rattle.tables.specs.declared.Verdict.the-variants.{Fine}
+use Rattle.tables.specs.Limits.{maxStates, maxVectors, maxLevels}
+use Rattle.tables.specs.Model.{Valid}
+use Rattle.tables.specs.Storage.{modelOf, tablesIn}
 use Rattle.tables.specs.Judged.{tablesVerdict}
 use Rattle.tables.proofs.Accepted.{tables-valid}
 use Rattle.plans.specs.Limits.{maxPoints}
 use Rattle.levels.specs.declared.Standing.{Standing}
-use Rattle.levels.specs.Storage.{LentLevel, stateSize, standingAt, cells, lentFor, readable, pointIn}
+use Rattle.levels.specs.Storage.{LentLevel, stateSize, standingAt, cells, lentFor, levelIn, readable, pointIn}
 use Rattle.levels.specs.Judged.{countsHold, actionsExist, isFine, rangesVerdict, weightsVerdict, rowsHold, holds}
 use Rattle.levels.proofs.Over.{Readable, readable-true}
-use Rattle.judging.proofs.Stages.{ranges-read}
-use Rattle.judging.proofs.standing_holds.Statement.{statement}
-use Rattle.judging.proofs.standing_holds.Tie as tie
+use Rattle.standing.proofs.Stages.{fails, holds-on, fine, not-fine, counts-few, ranges-read}
+use Rattle.standing.proofs.standing_holds.Statement.{statement}
+use Rattle.standing.proofs.standing_holds.Tie as tie
 
 -- from each test that was passed to the one before it
 abbrev start : tie.After-judge-tables → tie.Start

@@ -1,11 +1,12 @@
-use Rattle.judging.proofs.Prelude.{_*_, _≤_, _≡_, sym, _∙_, arith, needs, mul-le-mul, lt-leb, le-leb, fails, holds-on, fine, not-fine}
+use Rattle.integers.proofs.Kit.{_≡_, _∙_, sym, _≤_, arith, mul-le-mul, needs, le-leb, lt-leb}
 use Rattle.tables.specs.Limits.{maxEntry}
 use Rattle.tables.specs.Storage.{entryIn}
 use Rattle.plans.specs.Limits.{range}
 use Rattle.plans.proofs.Built.{range-limit}
 use Rattle.levels.specs.Judged.{rowsWithin}
-use Rattle.judging.proofs.rows_hold.Statement.{statement}
-use Rattle.judging.proofs.rows_hold.Tie as tie
+use Rattle.standing.proofs.Stages.{fails, holds-on, fine, not-fine}
+use Rattle.standing.proofs.rows_hold.Statement.{statement}
+use Rattle.standing.proofs.rows_hold.Tie as tie
 
 abbrev start : tie.After-rows-within → tie.Start
 start c = c .before .before .before
