@@ -146,7 +146,7 @@ fn offer_block<'a, 'b>(
     let s = i * n;
     let w = i * weight;
     let u = i * p;
-    certifier::offer(
+    offering::offer(
         transition,
         observation,
         reward,

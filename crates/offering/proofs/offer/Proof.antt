@@ -8,10 +8,9 @@ use Rattle.levels.specs.Judged.{offerVerdict}
 use Rattle.runs.proofs.Judged.{RowsIn, Accepted, accepted}
 use Rattle.rows.specs.Steps.{Ready}
 use Rattle.rows.proofs.Stepped.{ready, seen}
-use Rattle.certifier.specs.Steps.{Lays}
-use Rattle.certifier.proofs.Writing.{offered-refused, offered-fine}
-use Rattle.certifier.proofs.offer.Statement.{statement}
-use Rattle.certifier.proofs.offer.Tie as tie
+use Rattle.offering.proofs.Offered.{offered-refused, offered-fine}
+use Rattle.offering.proofs.offer.Statement.{statement}
+use Rattle.offering.proofs.offer.Tie as tie
 
 -- from each place to the one before it
 abbrev start : tie.After-judge-offer → tie.Start

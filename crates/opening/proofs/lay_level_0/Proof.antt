@@ -1,9 +1,8 @@
-use Rattle.integers.proofs.Kit.{_≡_, _∙_, refl, sym, List, ℕ, _≤_, arith, needs, length, replicate, length-replicate, paste, pos}
-use Rattle.integers.specs.Cells.{laid}
+use Rattle.integers.proofs.Kit.{_∙_, refl, sym, needs, pos}
 use Rattle.integers.proofs.Lists.{laid-none, laid-turn, same-laid}
 use Rattle.tables.specs.Limits.{maxStates, maxObservations}
-use Rattle.certifier.proofs.lay_level_0.Statement.{statement}
-use Rattle.certifier.proofs.lay_level_0.Tie as tie
+use Rattle.opening.proofs.lay_level_0.Statement.{statement}
+use Rattle.opening.proofs.lay_level_0.Tie as tie
 
 -- from each slice that was written to the one before it
 abbrev start : tie.After-paste-u16 → tie.Start

@@ -9,9 +9,9 @@ use Rattle.levels.specs.declared.Standing.{Standing}
 use Rattle.levels.specs.Storage.{Lent, stateSize, cells, rows, lent}
 use Rattle.runs.specs.State.{openVerdict}
 use Rattle.runs.proofs.Demand3.{fine-tables, room-for-level-0}
-use Rattle.certifier.proofs.Writing.{opened-refused, opened-fine}
-use Rattle.certifier.proofs.open.Statement.{statement}
-use Rattle.certifier.proofs.open.Tie as tie
+use Rattle.opening.proofs.Opened.{opened-refused, opened-fine}
+use Rattle.opening.proofs.open.Statement.{statement}
+use Rattle.opening.proofs.open.Tie as tie
 
 -- from each place to the one before it
 abbrev start : tie.After-judge-open → tie.Start

@@ -2,14 +2,13 @@ use Rattle.integers.proofs.Kit.{_≡_, _∙_, sym, _&&_, _≤_, _*_, arith, mul
 use Rattle.tables.specs.declared.Tables.{Tables}
 use Rattle.tables.specs.declared.Verdict.the-variants.{Fine}
 use Rattle.tables.specs.Limits.{maxStates, maxActions}
-use Rattle.tables.specs.Model.{Valid}
-use Rattle.tables.specs.Storage.{modelOf, tablesIn}
+use Rattle.tables.specs.Storage.{tablesIn}
 use Rattle.tables.specs.Judged.{tablesVerdict}
-use Rattle.tables.proofs.Refusals.{stops, goes}
+use Rattle.tables.proofs.Refusals.{stops}
 use Rattle.tables.proofs.Accepted.{tables-valid}
 use Rattle.levels.specs.Storage.{longEnough}
-use Rattle.certifier.proofs.judge_open.Statement.{statement}
-use Rattle.certifier.proofs.judge_open.Tie as tie
+use Rattle.opening.proofs.judge_open.Statement.{statement}
+use Rattle.opening.proofs.judge_open.Tie as tie
 
 abbrev start : tie.After-judge-tables → tie.Start
 start c = c .before .before .before

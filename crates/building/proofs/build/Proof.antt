@@ -11,9 +11,9 @@ use Rattle.runs.specs.State.{buildVerdict, builtFrom, builtOf}
 use Rattle.runs.proofs.Demand3.{build-demand}
 use Rattle.builder.specs.Steps.{topBuilt}
 use Rattle.builder.proofs.Levels.{upon-lent, roofed-lent, built-read}
-use Rattle.certifier.proofs.Writing.{Buildable, buildable, built-refused, built-fine}
-use Rattle.certifier.proofs.build.Statement.{statement}
-use Rattle.certifier.proofs.build.Tie as tie
+use Rattle.building.proofs.Buildable.{Buildable, buildable, built-refused, built-fine}
+use Rattle.building.proofs.build.Statement.{statement}
+use Rattle.building.proofs.build.Tie as tie
 
 -- from each place to the one before it
 abbrev start : tie.After-judge-build → tie.Start

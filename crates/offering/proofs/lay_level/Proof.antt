@@ -1,10 +1,8 @@
-use Rattle.integers.proofs.Kit.{_∙_, _≤_, _*_, arith, mul-le-mul, needs, pos}
+use Rattle.integers.proofs.Kit.{_∙_, _*_, arith, mul-le-mul, needs, pos}
 use Rattle.integers.proofs.Lists.{paste-laid}
-use Rattle.tables.specs.Limits.{maxStates}
-use Rattle.plans.specs.Limits.{maxPoints}
 use Rattle.levels.proofs.Over.{cells-same}
-use Rattle.certifier.proofs.lay_level.Statement.{statement}
-use Rattle.certifier.proofs.lay_level.Tie as tie
+use Rattle.offering.proofs.lay_level.Statement.{statement}
+use Rattle.offering.proofs.lay_level.Tie as tie
 
 -- from each slice that was written to the one before it
 abbrev start : tie.After-paste-u8 → tie.Start

@@ -12,9 +12,9 @@ use Rattle.levels.specs.declared.Standing.{Standing}
 use Rattle.levels.specs.Storage.{Lent, cells, rows, lent, standingAt}
 use Rattle.levels.specs.Judged.{holds}
 use Rattle.runs.proofs.Judged.{Held, standing-true}
-use Rattle.certifier.proofs.Writing.{weights-long}
-use Rattle.certifier.proofs.judge_build.Statement.{statement}
-use Rattle.certifier.proofs.judge_build.Tie as tie
+use Rattle.building.proofs.Buildable.{weights-long}
+use Rattle.building.proofs.judge_build.Statement.{statement}
+use Rattle.building.proofs.judge_build.Tie as tie
 
 -- from each test that was passed to the one before it
 abbrev start : tie.After-standing-holds → tie.Start
