@@ -25,6 +25,9 @@ of-verdict c = c .before .before
 abbrev of-standing : tie.After-build-level → tie.After-standing-in
 of-standing c = c .before .before .before .before .before .before
 
+abbrev of-level : tie.After-newvalues → tie.After-build-level
+of-level c = c .before .before .before .before .before .before .before
+
 -- what is lent
 abbrev tables : tie.Start → Tables
 tables c = tablesIn (c .args .c) (c .args .transition .now) (c .args .observation .now) (c .args .reward .now)
@@ -106,7 +109,7 @@ build-level-requires c κs =
 
 returns-2 : tie.Need-returns-2
 returns-2 c =
-    let l = c .before .before .before .before .before .before .before in
+    let l = of-level c in
     let n = of-standing l in
     let f = n .before in
     let j = of-verdict f in
@@ -119,5 +122,8 @@ returns-2 c =
 
 pub build-spec : {M : Type 1} → statement M
 build-spec =
-    tie.close (tie.spec (λ c κs. search needs) (λ c. search needs) (λ c. search needs) returns standing-in-requires build-level-requires (λ c. search needs)
-    (λ c. search needs) (λ c. search needs) (λ c. search needs) (λ c. search needs) returns-2)
+    tie.close (tie.spec (λ c κs. search needs) (λ c. search needs) (λ c. search needs) returns standing-in-requires build-level-requires
+    (λ c. of-level c .build-level .kept .1 .1 .1 .1 .1 .1 .1 .1 .1 .1 .1 .1 .0) (λ c. of-level c .build-level .kept .1 .1 .1 .1 .1 .1 .1 .1 .1 .1 .1 .1 .1 .0)
+    (λ c. of-level c .build-level .kept .1 .1 .1 .1 .1 .1 .1 .1 .1 .1 .1 .1 .1 .1 .0)
+    (λ c. of-level c .build-level .kept .1 .1 .1 .1 .1 .1 .1 .1 .1 .1 .1 .1 .1 .1 .1 .0)
+    (λ c. of-level c .build-level .kept .1 .1 .1 .1 .1 .1 .1 .1 .1 .1 .1 .1 .1 .1 .1 .1 .0) returns-2)

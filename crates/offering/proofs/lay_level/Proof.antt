@@ -23,6 +23,10 @@ of-weights c = c .before .before .before
 abbrev of-values : tie.After-paste-i643 → tie.After-paste-u32
 of-values c = c .before .before .before .before
 
+-- from the last to the second
+abbrev to-choices : tie.After-paste-i643 → tie.After-paste-u16
+to-choices c = of-entries (of-corners (of-weights (of-values c)))
+
 mul-paste-u32 : tie.Need-mul-paste-u32
 mul-paste-u32 c =
     let p = start (of-choices (of-entries (of-corners (c .before .before)))) .pre .0 in
@@ -54,5 +58,7 @@ returns c =
 pub lay-level-spec : {M : Type 1} → statement M
 lay-level-spec =
     tie.close (tie.spec (λ c κs. search needs) (λ c. search needs) (λ c κs. search needs) (λ c. search needs) (λ c κs. search needs) (λ c κs. search needs)
-    mul-paste-u32 (λ c κs. search needs) paste-i64-requires-3 (λ c. search needs) (λ c. search needs) (λ c. search needs) (λ c. search needs)
-    (λ c. search needs) (λ c. search needs) returns)
+    mul-paste-u32 (λ c κs. search needs) paste-i64-requires-3 (λ c. of-choices (to-choices (c .before)) .paste-u8 .kept .0)
+    (λ c. to-choices (c .before) .paste-u16 .kept .0) (λ c. of-corners (of-weights (of-values (c .before))) .paste-i64 .kept .0)
+    (λ c. of-weights (of-values (c .before)) .paste-i642 .kept .0) (λ c. of-values (c .before) .paste-u32 .kept .0) (λ c. c .before .paste-i643 .kept .0)
+    returns)

@@ -1,4 +1,4 @@
-use Rattle.integers.proofs.Kit.{_≡_, _∙_, ap, sym, List, _∷_, ℕ, _+_, arith, needs, drop, ℤ}
+use Rattle.integers.proofs.Kit.{_≡_, _∙_, refl, ap, sym, List, _∷_, ℕ, _+_, arith, needs, drop, ℤ}
 use Rattle.tables.specs.declared.Tables.{Tables}
 use Rattle.tables.specs.declared.Verdict.the-variants.{Fine}
 use Rattle.tables.specs.Storage.{tablesIn}
@@ -26,6 +26,9 @@ of-standing c = c .before .before .before
 
 abbrev of-state : tie.After-lay-level → tie.After-put-standing
 of-state c = c .before .before .before .before .before .before .before .before .before
+
+abbrev of-level : tie.After-qmdp → tie.After-lay-level
+of-level c = c .before .before .before .before .before .before .before .before .before .before .before .before .before .before
 
 -- what is lent
 abbrev tables : tie.Start → Tables
@@ -125,8 +128,7 @@ step-requires c κs =
 
 returns-2 : tie.Need-returns-2
 returns-2 c =
-    let k = c .before .before in
-    let l = k .before .before .before .before .before .before .before .before .before .before .before .before in
+    let l = of-level c in
     let p = of-state l in
     let n = of-standing p in
     let g = n .before in
@@ -134,13 +136,15 @@ returns-2 c =
     let s = start j in (
       sym (fine g),
       offered-fine (tables s) (certifier s) (offered s) (said j) (g .before .enum-told .given .1)
-          (written p) (l .lay-level .ensures) (k .step .ensures .0) (k .step .ensures .1),
+          (written p) (l .lay-level .ensures) (c .before .before .step .ensures .0) (c .before .before .step .ensures .1),
     )
 
 pub offer-spec : {M : Type 1} → statement M
 offer-spec =
-    tie.close (tie.spec (λ c κs. search needs) (λ c. search needs) (λ c. search needs) (λ c. search needs) (λ c. search needs) (λ c. search needs)
-    (λ c. search needs) (λ c. search needs) (λ c. search needs) (λ c. search needs) (λ c. search needs) (λ c. search needs)
-    returns standing-in-requires add-t47 put-standing-requires
-    lay-level-requires step-requires (λ c. search needs) (λ c. search needs) (λ c. search needs) (λ c. search needs) (λ c. search needs) (λ c. search needs)
-    (λ c. search needs) (λ c. search needs) (λ c. search needs) returns-2)
+    tie.close (tie.spec (λ c κs. search needs) (λ c. search needs) (λ c. search needs) (λ c. refl) (λ c. refl) (λ c. refl)
+    (λ c. refl) (λ c. refl) (λ c. refl) (λ c. refl) (λ c. refl) (λ c. refl)
+    returns standing-in-requires add-t47 put-standing-requires lay-level-requires step-requires
+    (λ c. of-state (of-level c) .put-standing .kept .0) (λ c. of-level c .lay-level .kept .1 .1 .0) (λ c. of-level c .lay-level .kept .1 .1 .1 .0)
+    (λ c. of-level c .lay-level .kept .1 .1 .1 .1 .0) (λ c. of-level c .lay-level .kept .1 .1 .1 .1 .1 .0)
+    (λ c. of-level c .lay-level .kept .1 .1 .1 .1 .1 .1 .0) (λ c. of-level c .lay-level .kept .1 .1 .1 .1 .1 .1 .1 .0)
+    (λ c. c .before .before .step .kept .1 .1 .1 .1 .0) (λ c. c .before .before .step .kept .1 .1 .1 .1 .1 .0) returns-2)

@@ -86,6 +86,9 @@ rows-room c = let s = start (of-verdict c) in room-for-level-0 (tables s) (certi
 abbrev of-level : tie.After-clear → tie.After-lay-level-0
 of-level c = c .before .before .before .before .before .before .before .before .before
 
+abbrev of-informed : tie.After-qmdp → tie.After-clear
+of-informed c = c .before .before .before .before .before
+
 clear-requires : tie.Need-clear-requires
 clear-requires c κs = let f = of-state (c .before .before .before .before .before .before .before .before) .before in (few f, rows-room f .0)
 
@@ -94,7 +97,7 @@ clear-requires-2 c κs = let f = of-state (of-level (c .before .before .before))
 
 returns-2 : tie.Need-returns-2
 returns-2 c =
-    let k = c .before .before .before .before .before in
+    let k = of-informed c in
     let l = of-level k in
     let p = of-state l in
     let f = p .before in
@@ -110,5 +113,7 @@ pub open-spec : {M : Type 1} → statement M
 open-spec =
     tie.close (tie.spec (λ c κs. search needs) (λ c. search needs) (λ c. search needs) returns (λ c κs. search needs) put-standing-requires
     lay-level-0-requires (λ c. omega (arith, few (of-state (c .before .before .before .before .before .before .before .before) .before))) clear-requires
-    (λ c. omega (arith, few (of-state (of-level (c .before .before .before)) .before))) clear-requires-2 (λ c. search needs)
-    (λ c. search needs) (λ c. search needs) (λ c. search needs) (λ c. search needs) (λ c. search needs) (λ c. search needs) returns-2)
+    (λ c. omega (arith, few (of-state (of-level (c .before .before .before)) .before))) clear-requires-2
+    (λ c. of-state (of-level (of-informed c)) .put-standing .kept .0) (λ c. of-level (of-informed c) .lay-level-0 .kept .1 .1 .0)
+    (λ c. of-level (of-informed c) .lay-level-0 .kept .1 .1 .1 .0) (λ c. of-level (of-informed c) .lay-level-0 .kept .1 .1 .1 .1 .0)
+    (λ c. of-level (of-informed c) .lay-level-0 .kept .1 .1 .1 .1 .1 .0) (λ c. of-informed c .clear .kept .0) (λ c. c .before .clear2 .kept .0) returns-2)
