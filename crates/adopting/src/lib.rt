@@ -131,7 +131,7 @@ fn judge_files<'a, 'b, 'c>(
     if Adopted::FILE < graph.len() {
         return refused(Verdict::Refused(1, 0));
     }
-    if !judging::standing_holds(
+    if !standing::standing_holds(
         transition,
         observation,
         reward,

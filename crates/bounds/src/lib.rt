@@ -145,7 +145,7 @@ pub fn judge_standing<'a, 'b>(
         (lent (now (state .entry)) (cells (now (actions .entry)) choices (now (entries .entry)) (now (corners .entry)) (now (weights .entry))
         (now (values .entry))) (rows (now (informed .entry)) (now (qmdp .entry))))) ⌝ }
 {
-    if !judging::standing_holds(
+    if !standing::standing_holds(
         transition,
         observation,
         reward,

@@ -177,7 +177,7 @@ pub extern "C" fn biidhaqun_open<'a>(
         observations: k,
         discount: g,
     };
-    let verdict = certifier::open(
+    let verdict = opening::open(
         transition,
         observation,
         reward,
@@ -244,7 +244,7 @@ pub extern "C" fn biidhaqun_offer<'a, 'b>(
         observations: k,
         discount: g,
     };
-    let verdict = certifier::offer(
+    let verdict = offering::offer(
         transition,
         observation,
         reward,
@@ -465,7 +465,7 @@ pub extern "C" fn biidhaqun_build<'a, 'b>(
         observations: k,
         discount: g,
     };
-    let verdict = certifier::build(
+    let verdict = building::build(
         transition,
         observation,
         reward,

@@ -1,5 +1,5 @@
 -- An offer's tests in their two stages, and what the first leaves known for the second. Assumes nothing.
-use Rattle.integers.proofs.Kit.{_≡_, refl, [], ℕ, _<_, _+_, arith}
+use Rattle.integers.proofs.Kit.{_≡_, [], ℕ, _+_, arith}
 use Rattle.tables.specs.declared.Tables.{Tables}
 use Rattle.tables.specs.declared.Verdict.{Verdict}
 use Rattle.tables.specs.declared.Verdict.the-variants.{Fine, Refused}

@@ -166,7 +166,7 @@ fn rung<'a>(
         (cells (now (newactions .exit)) (now (newchoices .exit)) (now (newentries .exit)) (now (newcorners .exit)) (now (given .entry))
         (now (newvalues .exit))) ⌝ }
 {
-    let made = certifier::build(
+    let made = building::build(
         transition,
         observation,
         reward,
@@ -188,7 +188,7 @@ fn rung<'a>(
         newvalues,
     );
     served(made);
-    let accepted = certifier::offer(
+    let accepted = offering::offer(
         transition,
         observation,
         reward,
@@ -260,7 +260,7 @@ fn climb<'a>(
         (now weights) (now values)) (rows (now informed) (now qmdp))) 1
         (cells (now newactions) (now newchoices) (now newentries) (now newcorners) (now given) (now newvalues)) ⌝ }
 {
-    let opened = certifier::open(
+    let opened = opening::open(
         transition,
         observation,
         reward,

@@ -6,7 +6,7 @@ use Rattle.integers.proofs.Searches.{and-true, and-is}
 use Rattle.tables.specs.declared.Tables.{Tables}
 use Rattle.tables.specs.Storage.{entryIn, modelOf}
 use Rattle.plans.specs.Level.{Level, Agree}
-use Rattle.levels.specs.Storage.{Cells, cells, LentLevel, Rows, levelOf, readable, complete, over, overRows, lentFor}
+use Rattle.levels.specs.Storage.{Cells, cells, LentLevel, Rows, rows, lent, levelOf, readable, complete, over, overRows, lentFor}
 
 -- what `readable` and `complete` test
 pub record Readable (m : Tables) (l : LentLevel) : Type 0 where
@@ -125,6 +125,10 @@ long-long a b = record {
 pub cells-same : {a a' b b' : List ℕ} {e e' f f' : List ℤ} {w w' : List ℕ} {v v' : List ℤ} → a ≡ a' → b ≡ b' → e ≡ e' → f ≡ f' → w ≡ w' → v ≡ v'
     → cells a b e f w v ≡ cells a' b' e' f' w' v'
 cells-same p q r s t u = rw (p, q, r, s, t, u)
+
+-- and all that is lent, one by one
+pub lent-same : {s s' : List ℕ} {x x' : Cells} {f f' q q' : List ℤ} → s ≡ s' → x ≡ x' → f ≡ f' → q ≡ q' → lent s x (rows f q) ≡ lent s' x' (rows f' q')
+lent-same e c f q = rw (e, c, f, q)
 
 -- ---- rows
 module _ (m : Tables) (F Q : ℕ → ℕ → ℤ) (r : Rows) where

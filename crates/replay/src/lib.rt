@@ -146,7 +146,7 @@ fn offer_block<'a, 'b>(
     let s = i * n;
     let w = i * weight;
     let u = i * p;
-    certifier::offer(
+    offering::offer(
         transition,
         observation,
         reward,
@@ -300,7 +300,7 @@ pub fn replay<'a, 'b>(
         (x₀ : Lent) (ls : List LentLevel) → ModelAccepted m x₀ → x ≡ after m x₀ ls → r .verdict ≡ Fine
         → ReplayHolds m x₀ ls (offersIn m b count) y (r .accepted)) ⌝ }
 {
-    if !judging::standing_holds(
+    if !standing::standing_holds(
         transition,
         observation,
         reward,

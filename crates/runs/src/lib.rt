@@ -1,4 +1,4 @@
-// What the calls answer, and demand 3: what holds after any list of offers. The calls themselves are in `certifier`.
+// What the calls answer, and demand 3: what holds after any list of offers. The calls themselves are in `opening`, `offering` and `building`.
 use tables::Action;
 use tables::Verdict;
 

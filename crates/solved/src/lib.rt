@@ -267,7 +267,7 @@ fn entries_hold<'a, 'c>(
     ensures { λ r. ⌜ r ≡ rowsWithin 11 count (c .states) (range (t + 1)) (vectorsOver c (now (transition .entry)) (now (observation .entry))
         (now (reward .entry)) (now (entries .entry)) standing t (now (alpha .entry)) (now (graph .entry)) .entry) ⌝ }
 {
-    let limit = judging::range_of(t + 1);
+    let limit = standing::range_of(t + 1);
     let mut p: usize = 0;
     let mut q: usize = 0;
     for v in 0..count {

@@ -1,6 +1,7 @@
-use Rattle.judging.proofs.Prelude.{_≡_, needs, Tables, tablesIn, cells, rows, lent}
-use Rattle.levels.specs.declared.Standing.{Standing}
-use Rattle.levels.specs.Storage.{LentLevel, Lent, lentFor, standingAt}
+use Rattle.integers.proofs.Kit.{_≡_, needs}
+use Rattle.tables.specs.declared.Tables.{Tables}
+use Rattle.tables.specs.Storage.{tablesIn}
+use Rattle.levels.specs.Storage.{LentLevel, Lent, cells, rows, lent, lentFor, standingAt}
 use Rattle.runs.proofs.Judged.{Fitting, fitting}
 use Rattle.backups.proofs.Roofs.{corners-fit, points-fit, values-fit}
 use Rattle.judging.proofs.Offers.{refused-13, refused-14, left-15, judging, standing-roof, offered-roof, offered-shaped}

@@ -1,7 +1,9 @@
-use Rattle.judging.proofs.Prelude.{_≡_, _∙_, needs, Verdict, levelIn}
+use Rattle.integers.proofs.Kit.{_≡_, _∙_, needs}
+use Rattle.tables.specs.declared.Verdict.{Verdict}
 use Rattle.tables.proofs.Refusals.{stops, goes}
+use Rattle.levels.specs.Storage.{levelIn}
 use Rattle.levels.specs.Judged.{rangesVerdict, levelVerdict}
-use Rattle.judging.proofs.Stages.{ranges-read}
+use Rattle.standing.proofs.Stages.{ranges-read}
 use Rattle.judging.proofs.judge_level.Statement.{statement}
 use Rattle.judging.proofs.judge_level.Tie as tie
 

@@ -1,4 +1,4 @@
-use Rattle.judging.proofs.Prelude.{sym, _∙_, needs}
+use Rattle.integers.proofs.Kit.{_∙_, sym, needs}
 use Rattle.judging.proofs.Offers.{refused-shape, left-backups}
 use Rattle.judging.proofs.judge_offer.Statement.{statement}
 use Rattle.judging.proofs.judge_offer.Tie as tie

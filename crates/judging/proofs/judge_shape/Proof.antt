@@ -1,16 +1,18 @@
-use Rattle.judging.proofs.Prelude.{_≤_, _<_, _≡_, sym, _∙_, true, arith, needs, not-true, not-false, Tables, Verdict, Refused}
-use Rattle.judging.proofs.Prelude.{tablesIn, cells, rows, lent, counts-few}
-use Rattle.integers.proofs.Kit.{ap, lt-ltb, le-ltb, ltb}
+use Rattle.integers.proofs.Kit.{_≡_, _∙_, ap, sym, true, _≤_, _<_, arith, needs, not-false, not-true, lt-ltb, le-ltb, ltb}
 use Rattle.integers.proofs.Searches.{and-is}
+use Rattle.tables.specs.declared.Tables.{Tables}
+use Rattle.tables.specs.declared.Verdict.{Verdict}
 use Rattle.tables.specs.Limits.{maxStates, maxObservations, maxVectors, maxLevels}
+use Rattle.tables.specs.Storage.{tablesIn}
 use Rattle.tables.specs.Verdicts.{_before_, unless}
 use Rattle.tables.proofs.Refusals.{breaks, passes}
 use Rattle.plans.specs.Limits.{maxPoints}
 use Rattle.levels.specs.declared.Standing.{Standing}
-use Rattle.levels.specs.Storage.{LentLevel, Lent, lentFor, standingAt, complete}
-use Rattle.levels.specs.Judged.{countsHold, fits, holds, levelVerdict, shapeVerdict}
-use Rattle.levels.proofs.Over.{Complete, complete-true}
+use Rattle.levels.specs.Storage.{LentLevel, Lent, cells, rows, lent, lentFor, standingAt, complete}
+use Rattle.levels.specs.Judged.{countsHold, fits, holds, shapeVerdict}
+use Rattle.levels.proofs.Over.{complete-true}
 use Rattle.runs.proofs.Judged.{Held, standing-true}
+use Rattle.standing.proofs.Stages.{counts-few}
 use Rattle.judging.proofs.judge_shape.Statement.{statement}
 use Rattle.judging.proofs.judge_shape.Tie as tie
 

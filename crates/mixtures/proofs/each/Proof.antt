@@ -1,13 +1,15 @@
-use Rattle.integers.proofs.Kit.{_≡_, _∙_, sym, true, List, [], ℕ, _<_, _*_, needs, leb-true, not-false, not-true, leb, length}
+use Rattle.integers.proofs.Kit.{_≡_, _∙_, ap, sym, true, List, [], ℕ, _<_, _*_, needs, leb-true, not-false, not-true, leb, length}
 use Rattle.tables.specs.declared.Tables.{Tables}
 use Rattle.tables.specs.Storage.{tablesIn}
+use Rattle.levels.specs.declared.Standing.{Standing}
 use Rattle.levels.specs.Storage.{Lent, cells, rows, lent, standingAt}
 use Rattle.backups.proofs.Roofs.{corners-fit, points-fit, values-fit}
 use Rattle.tables.specs.declared.Verdict.{Verdict}
 use Rattle.tables.specs.declared.Verdict.the-variants.{Fine, Refused}
 use Rattle.levels.specs.Judged.{holds}
-use Rattle.bounds.specs.Steps.{standingVerdict}
+use Rattle.bounds.specs.Steps.{answerIn, standingVerdict}
 use Rattle.mixtures.specs.Each.{Answers, answers, mixtureAt, roomFor, eachVerdict}
+use Rattle.runs.specs.declared.Bounds.{Bounds}
 use Rattle.runs.specs.State.{totalsOf}
 use Rattle.bounds.proofs.Bounds.{stands, Gained, roofed, asked, gains-long, standing-holds, answered}
 use Rattle.mixtures.proofs.Answers.{enough, too-few, room-true, written-same, left-alone, refused-standing, refused-17, refused-9, given, all-written}
@@ -32,6 +34,9 @@ of-standing c = of-certifier (of-mixtures (of-room (c .before)))
 
 abbrev of-written : tie.After-write-answers → tie.After-gains
 of-written c = c .before .before .before .before .before .before
+
+abbrev of-answers : tie.After-slice-known4 → tie.After-write-answers
+of-answers c = c .before .before .before .before .before .before
 
 -- what is lent
 abbrev tables : tie.Start → Tables
@@ -130,9 +135,25 @@ write-answers-requires c κs =
       (leb-true _ _ (packed w), (r .verdicts, (r .lower, (r .upper, r .advice)))),
     )
 
+-- the answer at mixture i over what stands
+abbrev answer-at : tie.After-gains → Standing → ℕ → Bounds
+answer-at c t i =
+    let a = of-standing (c .before) .args in
+    answerIn (a .c .states) (a .c .actions) (t .vectors) (t .points) (a .actions .now) (a .entries .now) (a .corners .now) (a .weights .now)
+    (a .informed .now) (c .gains .result) (mixtureAt (a .c .states) (a .mixtures .now) i)
+
+answer-is : (c : tie.After-gains) (choices : List ℕ) (i : ℕ) → let s = of-standing (c .before) in
+    answer-at c (c .before .standing-in .result) i ≡ totalsOf (tables s) (certifier s choices) (mixtureAt (s .args .c .states) (s .args .mixtures .now) i)
+answer-is c choices i =
+    let n = c .before in
+    let s = of-standing n in
+    ap (λ (t : Standing). answer-at c t i) (said n)
+    ∙ answered (tables s) (certifier s choices) (mixtureAt (s .args .c .states) (s .args .mixtures .now) i)
+    (held (of-mixtures (of-room (n .before))) choices) (gained c)
+
 returns-4 : tie.Need-returns-4
 returns-4 c =
-    let a = c .before .before .before .before .before .before in
+    let a = of-answers c in
     let g = of-written a in
     let n = g .before in
     let w = of-room (n .before) in
@@ -142,13 +163,15 @@ returns-4 c =
     (k .before .before .judge-standing .ensures choices) (k .enum-told .given .1) (packed w) (room (n .before)) in (
       e,
       λ choices. all-written (tables s) (certifier s choices) (s .args .mixtures .now) (s .args .count) (lent-for s) (e choices)
-          (rw (said n) at (a .write-answers .ensures) ∙ written-same (s .args .count) _
-          (λ i. totalsOf (tables s) (certifier s choices) (mixtureAt (s .args .c .states) (s .args .mixtures .now) i)) (lent-for s)
-          (λ i. answered (tables s) (certifier s choices) (mixtureAt (s .args .c .states) (s .args .mixtures .now) i) (held k choices) (gained g))),
+          (a .write-answers .ensures ∙ written-same (s .args .count) (answer-at g (n .standing-in .result))
+          (λ i. totalsOf (tables s) (certifier s choices) (mixtureAt (s .args .c .states) (s .args .mixtures .now) i)) (lent-for s) (answer-is g choices)),
     )
 
 pub each-spec : {M : Type 1} → statement M
 each-spec =
     tie.close (tie.spec (λ c κs. search needs) (λ c. search needs) (λ c. search needs) returns some-states returns-2 (λ c κs. search needs) returns-3
-    standing-in-requires gains-requires as-long write-answers-requires (λ c. search needs) (λ c. search needs) (λ c. search needs) (λ c. search needs)
-    returns-4)
+    standing-in-requires gains-requires as-long write-answers-requires
+    (λ c. of-answers c .write-answers .kept .1 .1 .1 .1 .1 .1 .1 .1 .1 .1 .1 .1 .0)
+    (λ c. of-answers c .write-answers .kept .1 .1 .1 .1 .1 .1 .1 .1 .1 .1 .1 .1 .1 .0)
+    (λ c. of-answers c .write-answers .kept .1 .1 .1 .1 .1 .1 .1 .1 .1 .1 .1 .1 .1 .1 .0)
+    (λ c. of-answers c .write-answers .kept .1 .1 .1 .1 .1 .1 .1 .1 .1 .1 .1 .1 .1 .1 .1 .0) returns-4)

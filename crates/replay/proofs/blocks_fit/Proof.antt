@@ -1,7 +1,7 @@
 use Rattle.integers.proofs.Kit.{_≡_, _∙_, sym, Bool, _&&_, _≤_, _*_, arith, mul-le-mul, needs, le-leb, lt-leb, not-false, not-true, leb}
 use Rattle.tables.specs.Limits.{maxStates, maxObservations, maxVectors}
 use Rattle.plans.specs.Limits.{maxPoints}
-use Rattle.judging.proofs.Stages.{fails, holds-on}
+use Rattle.standing.proofs.Stages.{fails, holds-on}
 use Rattle.replay.proofs.blocks_fit.Statement.{statement}
 use Rattle.replay.proofs.blocks_fit.Tie as tie
 

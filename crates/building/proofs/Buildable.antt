@@ -1,0 +1,55 @@
+-- What the tests of building leave known; and what is written is what it is said to leave. Assumes nothing.
+use Rattle.integers.proofs.Kit.{_≡_, _∙_, sym, true, ℕ, _≤_, _<_, _*_, leb-true, ltb-true, leb}
+use Rattle.integers.proofs.Searches.{and-true}
+use Rattle.tables.specs.declared.Tables.{Tables}
+use Rattle.tables.specs.declared.Verdict.{Verdict}
+use Rattle.tables.specs.declared.Verdict.the-variants.{Fine, Refused}
+use Rattle.tables.specs.Limits.{maxLevels}
+use Rattle.tables.proofs.Refusals.{before-fine, unless-fine}
+use Rattle.plans.specs.Limits.{maxBuilt}
+use Rattle.plans.specs.Level.{IsPoint}
+use Rattle.levels.specs.Storage.{Cells, Lent, levelOf, pointIn, longEnough, complete, over, numberIn, standingIn}
+use Rattle.runs.specs.State.{answerFor, buildVerdict, builtFrom, builtOf}
+use Rattle.runs.proofs.Judged.{Held, standing-true, weights-fine}
+
+-- slices that are long enough have room for the points' weights
+pub weights-long : (n vectors points actions entries corners weights values : ℕ)
+    → longEnough n vectors points actions entries corners weights values ≡ true → points * n ≤ weights
+weights-long n vectors points actions entries corners weights values e =
+    let a = and-true (leb vectors actions) _ e in
+    let b = and-true (leb (vectors * n) entries) _ (a .1) in
+    let c = and-true (leb n corners) _ (b .1) in
+    leb-true _ _ (and-true (leb (points * n) weights) (leb points values) (c .1) .0)
+
+-- what 7, 8, 9 and 12 leave known
+pub record Buildable (m : Tables) (x : Lent) (count : ℕ) (y : Cells) : Type 0 where
+  pub standing : Held m x
+  pub room : numberIn x < maxLevels
+  pub few : count ≤ maxBuilt
+  pub whole : complete m (answerFor m count y) ≡ true
+  pub total : (i : ℕ) → i < count → IsPoint (m .states) (pointIn (m .states) (y .weights) i)
+
+module _ (m : Tables) (x : Lent) (count : ℕ) (y : Cells) where
+  pub buildable : buildVerdict m x count y ≡ Fine → Buildable m x count y
+  unfolding buildVerdict
+  buildable e =
+      let e8 = before-fine _ _ e in
+      let e9 = before-fine _ _ (e8 .1) in
+      let e12 = before-fine _ _ (e9 .1) in
+      let sizes = and-true (leb count maxBuilt) _ (unless-fine _ 9 0 (e12 .0)) in
+      record {
+        standing = standing-true m x (unless-fine _ 7 0 (e8 .0));
+        room = ltb-true _ _ (unless-fine _ 8 0 (e9 .0));
+        few = leb-true _ _ (sizes .0);
+        whole = sizes .1;
+        total = weights-fine _ _ _ (e12 .1);
+      }
+
+  pub built-refused : {k i : ℕ} {v : Verdict} → v ≡ buildVerdict m x count y → v ≡ Refused k i → y ≡ builtOf m x count y
+  unfolding builtOf
+  built-refused e f = rw (sym e ∙ f)
+
+  pub built-fine : {v : Verdict} → v ≡ buildVerdict m x count y → v ≡ Fine → {z : Cells}
+      → z ≡ over m (builtFrom m (levelOf m (standingIn x)) count y) y → z ≡ builtOf m x count y
+  unfolding builtOf
+  built-fine e f g = rw (sym e ∙ f) g

@@ -1,0 +1,2 @@
+-- Laws of what building tests and writes.
+pub mod Buildable

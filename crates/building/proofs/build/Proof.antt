@@ -1,0 +1,129 @@
+use Rattle.integers.proofs.Kit.{_≡_, _∙_, ap, sym, List, [], ℕ, arith, needs}
+use Rattle.tables.specs.declared.Tables.{Tables}
+use Rattle.tables.specs.declared.Verdict.the-variants.{Fine}
+use Rattle.tables.specs.Storage.{modelOf, tablesIn}
+use Rattle.plans.specs.Level.{Level}
+use Rattle.plans.specs.Build.{built}
+use Rattle.plans.proofs.Built.{shaped-mono}
+use Rattle.levels.specs.declared.Standing.{Standing}
+use Rattle.levels.specs.Storage.{Cells, Lent, cells, rows, lent, levelIn, levelOf, pointIn, over, standingAt, standingIn, numberIn}
+use Rattle.runs.specs.State.{buildVerdict, builtFrom, builtOf}
+use Rattle.runs.proofs.Demand3.{build-demand}
+use Rattle.candidates.specs.Steps.{topBuilt}
+use Rattle.builder.proofs.Levels.{upon-lent, roofed-lent, built-read}
+use Rattle.building.proofs.Buildable.{Buildable, buildable, built-refused, built-fine}
+use Rattle.building.proofs.build.Statement.{statement}
+use Rattle.building.proofs.build.Tie as tie
+
+-- from each place to the one before it
+abbrev start : tie.After-judge-build → tie.Start
+start c = c .before .before .before .before .before .before .before .before .before
+
+abbrev of-verdict : tie.After-enum-told → tie.After-judge-build
+of-verdict c = c .before .before
+
+abbrev of-standing : tie.After-build-level → tie.After-standing-in
+of-standing c = c .before .before .before .before .before .before
+
+abbrev of-level : tie.After-newvalues → tie.After-build-level
+of-level c = c .before .before .before .before .before .before .before
+
+-- what is lent
+abbrev tables : tie.Start → Tables
+tables c = tablesIn (c .args .c) (c .args .transition .now) (c .args .observation .now) (c .args .reward .now)
+
+abbrev certifier : tie.Start → List ℕ → Lent
+certifier c choices =
+    let a = c .args in
+    lent (a .state .now) (cells (a .actions .now) choices (a .entries .now) (a .corners .now) (a .weights .now) (a .values .now))
+    (rows (a .informed .now) (a .qmdp .now))
+
+abbrev answer : tie.Start → Cells
+answer c =
+    let a = c .args in
+    cells (a .newactions .now) (a .newchoices .now) (a .newentries .now) (a .newcorners .now) (a .given .now) (a .newvalues .now)
+
+said : (c : tie.After-judge-build) (choices : List ℕ)
+    → let s = start c in c .judge-build .result ≡ buildVerdict (tables s) (certifier s choices) (s .args .count) (answer s)
+unfolding buildVerdict
+said c choices = c .judge-build .ensures choices
+
+fine : (c : tie.After-enum-told) (choices : List ℕ)
+    → let s = start (of-verdict c) in buildVerdict (tables s) (certifier s choices) (s .args .count) (answer s) ≡ Fine
+fine c choices = sym (said (of-verdict c) choices) ∙ c .enum-told .given .1
+
+known : (c : tie.After-enum-told) → let s = start (of-verdict c) in Buildable (tables s) (certifier s []) (s .args .count) (answer s)
+known c = let s = start (of-verdict c) in buildable (tables s) (certifier s []) (s .args .count) (answer s) (fine c [])
+
+stands : (c : tie.After-standing-in) → c .standing-in .result ≡ standingAt (start (of-verdict (c .before)) .args .state .now)
+stands c = c .standing-in .ensures
+
+abbrev level : tie.Start → List ℕ → Level
+level s choices = levelOf (tables s) (standingIn (certifier s choices))
+
+-- what is left in the slices
+abbrev left : (s : tie.Start) → tie.After-build-level → Cells
+left s c =
+    let l = c .build-level .last .1 .1 .1 .1 .1 .1 .1 .1 .1 .1 .1 .1 in
+    cells (l .0) (l .1 .0) (l .1 .1 .0) (l .1 .1 .1 .0) (s .args .given .now) (l .1 .1 .1 .1 .0)
+
+laid : (c : tie.After-build-level) (choices : List ℕ) → let s = start (of-verdict (of-standing c .before)) in
+    left s c ≡ over (tables s) (builtFrom (tables s) (level s choices) (s .args .count) (answer s)) (answer s)
+laid c choices =
+    let s = start (of-verdict (of-standing c .before)) in
+    let a = s .args in
+    let m = tables s in
+    c .build-level .ensures
+    ∙ ap (λ (t : Standing). over m (built (modelOf m) (levelIn (a .c .states) (a .c .observations) (t .vectors) [] [] (a .entries .now) (a .corners .now)
+    (t .points) (a .weights .now) (a .values .now)) (a .count) (pointIn (a .c .states) (a .given .now))) (answer s)) (stands (of-standing c))
+    ∙ ap (λ (W : Level). over m W (answer s))
+    (built-read m (standingIn (certifier s choices)) (a .count) (pointIn (a .c .states) (a .given .now)))
+
+returns : tie.Need-returns
+returns c =
+    let j = c .before .before in
+    let s = start j in
+    let same : (choices : List ℕ) → answer s ≡ builtOf (tables s) (certifier s choices) (s .args .count) (answer s) =
+    λ choices. built-refused (tables s) (certifier s choices) (s .args .count) (answer s) (said j choices) (c .enum-told2 .given .1) in (
+      said j,
+      (same, λ choices. build-demand (tables s) (certifier s choices) (s .args .count) (answer s) _ (answer s) (said j choices) (same choices)),
+    )
+
+standing-in-requires : tie.Need-standing-in-requires
+standing-in-requires c κs = known c .standing .state-long
+
+build-level-requires : tie.Need-build-level-requires
+build-level-requires c κs =
+    let n = c .before .before .before .before .before in
+    let b = known (n .before) in
+    let s = start (of-verdict (n .before)) in
+    let shaped = shaped-mono (modelOf (tables s)) (level s []) (numberIn (certifier s [])) topBuilt (omega (arith, b .room)) (b .standing .shaped) in
+    let st = b .standing in
+    rw (stands n) (
+      upon-lent {m = tables s} {l = standingIn (certifier s [])} (st .valid-tables) (st .stored-tables) (st .read) shaped,
+      (
+        roofed-lent {m = tables s} {l = standingIn (certifier s [])} (st .valid-tables) (st .stored-tables) (st .read) shaped,
+        ((b .few, b .total), b .whole),
+      ),
+    )
+
+returns-2 : tie.Need-returns-2
+returns-2 c =
+    let l = of-level c in
+    let n = of-standing l in
+    let f = n .before in
+    let j = of-verdict f in
+    let s = start j in
+    let made : (choices : List ℕ) → left s l ≡ builtOf (tables s) (certifier s choices) (s .args .count) (answer s) =
+    λ choices. built-fine (tables s) (certifier s choices) (s .args .count) (answer s) (said j choices) (f .enum-told .given .1) (laid l choices) in (
+      λ choices. sym (fine f choices),
+      (made, λ choices. build-demand (tables s) (certifier s choices) (s .args .count) (answer s) Fine (left s l) (sym (fine f choices)) (made choices)),
+    )
+
+pub build-spec : {M : Type 1} → statement M
+build-spec =
+    tie.close (tie.spec (λ c κs. search needs) (λ c. search needs) (λ c. search needs) returns standing-in-requires build-level-requires
+    (λ c. of-level c .build-level .kept .1 .1 .1 .1 .1 .1 .1 .1 .1 .1 .1 .1 .0) (λ c. of-level c .build-level .kept .1 .1 .1 .1 .1 .1 .1 .1 .1 .1 .1 .1 .1 .0)
+    (λ c. of-level c .build-level .kept .1 .1 .1 .1 .1 .1 .1 .1 .1 .1 .1 .1 .1 .1 .0)
+    (λ c. of-level c .build-level .kept .1 .1 .1 .1 .1 .1 .1 .1 .1 .1 .1 .1 .1 .1 .1 .0)
+    (λ c. of-level c .build-level .kept .1 .1 .1 .1 .1 .1 .1 .1 .1 .1 .1 .1 .1 .1 .1 .1 .0) returns-2)

@@ -1,0 +1,187 @@
+// Building the next level over slices that are lent for it, or a refusal, which writes nothing.
+ghost use mathlib.Core.Path.{_≡_};
+ghost use mathlib.Core.Bool.{_&&_};
+ghost use mathlib.Core.List.{List};
+ghost use Prim.Native.Nat.{ℕ, _+_, _*_, _<_};
+ghost use lib.Dec.{leb, ltb};
+ghost use lib.ListN.{length};
+ghost use Rattle.tables.specs.Limits.{maxLevels};
+ghost use Rattle.tables.specs.Storage.{tablesIn};
+ghost use Rattle.tables.specs.Verdicts.{_before_, unless};
+ghost use Rattle.plans.specs.Limits.{maxBuilt};
+ghost use Rattle.levels.specs.Storage.{LentLevel, Lent, cells, rows, lent, standingAt, pointIn, longEnough};
+ghost use Rattle.levels.specs.Judged.{holds, weightsVerdict};
+ghost use Rattle.runs.specs.State.{buildVerdict, builtOf};
+ghost use Rattle.runs.specs.Demand3.{ModelAccepted, after, steps, PointsHold, BuildHolds};
+use levels::Level;
+use levels::shape;
+use tables::Counts;
+use tables::Verdict;
+
+// 7, 8, 9 and 12: the certifier, the points, and slices of such lengths for the level that is built of them.
+fn judge_build<'a, 'b>(
+    transition: &'a [u16],
+    observation: &'a [u16],
+    reward: &'a [i64],
+    c: Counts,
+    state: &'b [usize],
+    actions: &'b [u8],
+    entries: &'b [i64],
+    corners: &'b [i64],
+    weights: &'b [u32],
+    values: &'b [i64],
+    informed: &'b [i64],
+    qmdp: &'b [i64],
+    given: &[u32],
+    count: usize,
+    newactions: usize,
+    newchoices: usize,
+    newentries: usize,
+    newcorners: usize,
+    newvalues: usize,
+) -> Verdict
+    ensures { λ r. ⌜ ((choices : List ℕ) →
+        let m = tablesIn c (now (transition .entry)) (now (observation .entry)) (now (reward .entry)) in
+        let standing = lent (now (state .entry)) (cells (now (actions .entry)) choices (now (entries .entry)) (now (corners .entry))
+        (now (weights .entry)) (now (values .entry))) (rows (now (informed .entry)) (now (qmdp .entry))) in
+        r ≡ (unless (holds m standing) 7 0
+        before unless (ltb (standingAt (now (state .entry)) .number) maxLevels) 8 0
+        before unless (leb count maxBuilt && (leb ((c .states + count) * c .observations) newchoices
+        && longEnough (c .states) (c .states + count) count newactions newentries newcorners (length (now (given .entry))) newvalues)) 9 0
+        before weightsVerdict (c .states) count (pointIn (c .states) (now (given .entry))))) ⌝ }
+{
+    if !standing::standing_holds(
+        transition,
+        observation,
+        reward,
+        c,
+        state,
+        actions,
+        entries,
+        corners,
+        weights,
+        values,
+        informed,
+        qmdp,
+    ) {
+        return Verdict::Refused(7, 0);
+    }
+    let s = levels::standing_in(state);
+    if Level::LEVELS <= s.number {
+        return Verdict::Refused(8, 0);
+    }
+    if Level::BUILT < count {
+        return Verdict::Refused(9, 0);
+    }
+    if !shape::complete(
+        c.states,
+        c.observations,
+        c.states + count,
+        count,
+        newactions,
+        newchoices,
+        newentries,
+        newcorners,
+        given.len(),
+        newvalues,
+    ) {
+        return Verdict::Refused(9, 0);
+    }
+    shape::weights_hold(given, c.states, count)
+}
+
+// Builds the next level from a count of points of any content, whose weights are the level's own: it is accepted where it is offered to the same
+// certifier; or refused by 7, 8, 9 or 12.
+pub fn build<'a, 'b>(
+    transition: &'a [u16],
+    observation: &'a [u16],
+    reward: &'a [i64],
+    c: Counts,
+    state: &'b [usize],
+    actions: &'b [u8],
+    entries: &'b [i64],
+    corners: &'b [i64],
+    weights: &'b [u32],
+    values: &'b [i64],
+    informed: &'b [i64],
+    qmdp: &'b [i64],
+    given: &[u32],
+    count: usize,
+    newactions: &mut [u8],
+    newchoices: &mut [u16],
+    newentries: &mut [i64],
+    newcorners: &mut [i64],
+    newvalues: &mut [i64],
+) -> Verdict
+    ensures { λ r. ⌜ ((choices : List ℕ) →
+        let m = tablesIn c (now (transition .entry)) (now (observation .entry)) (now (reward .entry)) in
+        let standing = lent (now (state .entry)) (cells (now (actions .entry)) choices (now (entries .entry)) (now (corners .entry))
+        (now (weights .entry)) (now (values .entry))) (rows (now (informed .entry)) (now (qmdp .entry))) in
+        let y = cells (now (newactions .entry)) (now (newchoices .entry)) (now (newentries .entry)) (now (newcorners .entry)) (now (given .entry))
+        (now (newvalues .entry)) in
+        r ≡ buildVerdict m standing count y) ⌝ }
+    ensures { λ _. ⌜ ((choices : List ℕ) →
+        let m = tablesIn c (now (transition .entry)) (now (observation .entry)) (now (reward .entry)) in
+        let standing = lent (now (state .entry)) (cells (now (actions .entry)) choices (now (entries .entry)) (now (corners .entry))
+        (now (weights .entry)) (now (values .entry))) (rows (now (informed .entry)) (now (qmdp .entry))) in
+        let y = cells (now (newactions .entry)) (now (newchoices .entry)) (now (newentries .entry)) (now (newcorners .entry)) (now (given .entry))
+        (now (newvalues .entry)) in
+        let made = cells (now (newactions .exit)) (now (newchoices .exit)) (now (newentries .exit)) (now (newcorners .exit)) (now (given .entry))
+        (now (newvalues .exit)) in
+        made ≡ builtOf m standing count y) ⌝ }
+    ensures { λ r. ⌜ ((choices : List ℕ) (x : Lent) (ls : List LentLevel) →
+        let m = tablesIn c (now (transition .entry)) (now (observation .entry)) (now (reward .entry)) in
+        let standing = lent (now (state .entry)) (cells (now (actions .entry)) choices (now (entries .entry)) (now (corners .entry))
+        (now (weights .entry)) (now (values .entry))) (rows (now (informed .entry)) (now (qmdp .entry))) in
+        let y = cells (now (newactions .entry)) (now (newchoices .entry)) (now (newentries .entry)) (now (newcorners .entry)) (now (given .entry))
+        (now (newvalues .entry)) in
+        let made = cells (now (newactions .exit)) (now (newchoices .exit)) (now (newentries .exit)) (now (newcorners .exit)) (now (given .entry))
+        (now (newvalues .exit)) in
+        ModelAccepted m x → standing ≡ after m x ls → steps m x ls < maxLevels → PointsHold m x count y → BuildHolds m x ls count y r made) ⌝ }
+{
+    let verdict = judge_build(
+        transition,
+        observation,
+        reward,
+        c,
+        state,
+        actions,
+        entries,
+        corners,
+        weights,
+        values,
+        informed,
+        qmdp,
+        given,
+        count,
+        newactions.len(),
+        newchoices.len(),
+        newentries.len(),
+        newcorners.len(),
+        newvalues.len(),
+    );
+    let Verdict::Fine = verdict else {
+        return verdict;
+    };
+    let s = levels::standing_in(state);
+    builder::build_level(
+        transition,
+        observation,
+        reward,
+        c,
+        entries,
+        corners,
+        weights,
+        values,
+        s.vectors,
+        s.points,
+        given,
+        count,
+        newactions,
+        newchoices,
+        newentries,
+        newcorners,
+        newvalues,
+    );
+    Verdict::Fine
+}

@@ -1,2 +1,0 @@
--- Laws of what the calls write.
-pub mod Writing

@@ -1,0 +1,2 @@
+-- Laws of what an offer writes.
+pub mod Offered

@@ -1,0 +1,36 @@
+-- What is written is what an offer is said to leave. Assumes nothing.
+use Rattle.integers.proofs.Kit.{_≡_, _∙_, refl, sym, List, _∷_, ℕ, _+_, drop, ℤ, pos}
+use Rattle.integers.specs.Cells.{laidRows}
+use Rattle.integers.proofs.Lists.{laidRows-flat}
+use Rattle.tables.specs.declared.Tables.{Tables}
+use Rattle.tables.specs.declared.Verdict.{Verdict}
+use Rattle.tables.specs.declared.Verdict.the-variants.{Fine, Refused}
+use Rattle.tables.specs.Storage.{modelOf}
+use Rattle.plans.specs.Rows.{informedNext, qmdpNext}
+use Rattle.levels.specs.Storage.{Cells, LentLevel, rows, Lent, stateSize, lent, levelOf, over, numberIn, informedIn, qmdpIn}
+use Rattle.levels.specs.Judged.{offerVerdict}
+use Rattle.levels.proofs.Over.{cells-same, lent-same}
+use Rattle.runs.specs.State.{offered}
+use Rattle.offering.specs.Steps.{laidBy}
+
+module _ (m : Tables) (x : Lent) (l : LentLevel) where
+  pub offered-refused : {k i : ℕ} {v : Verdict} → v ≡ offerVerdict m x l → v ≡ Refused k i → x ≡ offered m x l
+  unfolding offered
+  offered-refused e f = rw (sym e ∙ f)
+
+  -- the cells of a level, laid as they lie, are its rows
+  laid-over : laidBy (m .states) (m .observations) (l .vectors) (l .points) (l .cells) (x .cells) ≡ over m (levelOf m l) (x .cells)
+  unfolding over
+  laid-over =
+      cells-same refl (sym (laidRows-flat (l .vectors) (m .observations) (l .cells .choices) (x .cells .choices) 0))
+      (sym (laidRows-flat (l .vectors) (m .states) (l .cells .entries) (x .cells .entries) (pos 0))) refl
+      (sym (laidRows-flat (l .points) (m .states) (l .cells .weights) (x .cells .weights) 0)) refl
+
+  pub offered-fine : {v : Verdict} → v ≡ offerVerdict m x l → v ≡ Fine → {state : List ℕ} {y : Cells} {f q : List ℤ}
+      → state ≡ (numberIn x + 1) ∷ l .vectors ∷ l .points ∷ drop stateSize (x .state)
+      → y ≡ laidBy (m .states) (m .observations) (l .vectors) (l .points) (l .cells) (x .cells)
+      → f ≡ laidRows (m .actions) (m .states) (informedNext (modelOf m) (informedIn m x)) (x .rows .informed)
+      → q ≡ laidRows (m .actions) (m .states) (qmdpNext (modelOf m) (qmdpIn m x)) (x .rows .qmdp)
+      → lent state y (rows f q) ≡ offered m x l
+  unfolding offered
+  offered-fine e fine s c f q = rw (sym e ∙ fine) (lent-same s (c ∙ laid-over) f q)

@@ -1,0 +1,150 @@
+use Rattle.integers.proofs.Kit.{_≡_, _∙_, refl, ap, sym, List, _∷_, ℕ, _+_, arith, needs, drop, ℤ}
+use Rattle.tables.specs.declared.Tables.{Tables}
+use Rattle.tables.specs.declared.Verdict.the-variants.{Fine}
+use Rattle.tables.specs.Storage.{tablesIn}
+use Rattle.levels.specs.declared.Standing.{Standing}
+use Rattle.levels.specs.Storage.{LentLevel, Lent, stateSize, cells, rows, lent, lentFor, standingAt}
+use Rattle.levels.specs.Judged.{offerVerdict}
+use Rattle.runs.proofs.Judged.{RowsIn, Accepted, accepted}
+use Rattle.rows.specs.Steps.{Ready}
+use Rattle.rows.proofs.Stepped.{ready, seen}
+use Rattle.offering.proofs.Offered.{offered-refused, offered-fine}
+use Rattle.offering.proofs.offer.Statement.{statement}
+use Rattle.offering.proofs.offer.Tie as tie
+
+-- from each place to the one before it
+abbrev start : tie.After-judge-offer → tie.Start
+start c =
+    let d = c .before .before .before .before .before .before .before .before .before .before .before .before in
+    d .before .before .before .before .before .before .before
+
+abbrev of-verdict : tie.After-standing-in-arg → tie.After-judge-offer
+of-verdict c = c .before .before .before
+
+abbrev of-standing : tie.After-put-standing → tie.After-standing-in
+of-standing c = c .before .before .before
+
+abbrev of-state : tie.After-lay-level → tie.After-put-standing
+of-state c = c .before .before .before .before .before .before .before .before .before
+
+abbrev of-level : tie.After-qmdp → tie.After-lay-level
+of-level c = c .before .before .before .before .before .before .before .before .before .before .before .before .before .before
+
+-- what is lent
+abbrev tables : tie.Start → Tables
+tables c = tablesIn (c .args .c) (c .args .transition .now) (c .args .observation .now) (c .args .reward .now)
+
+abbrev certifier : tie.Start → Lent
+certifier c =
+    let a = c .args in
+    lent (a .state .now) (cells (a .actions .now) (a .choices .now) (a .entries .now) (a .corners .now) (a .weights .now) (a .values .now))
+    (rows (a .informed .now) (a .qmdp .now))
+
+abbrev offered : tie.Start → LentLevel
+offered c =
+    let a = c .args in
+    lentFor (a .vectors) (a .points)
+    (cells (a .newactions .now) (a .newchoices .now) (a .newentries .now) (a .newcorners .now) (a .newweights .now) (a .newvalues .now))
+
+said : (c : tie.After-judge-offer) → let s = start c in c .judge-offer .result ≡ offerVerdict (tables s) (certifier s) (offered s)
+said c = c .judge-offer .ensures
+
+fine : (c : tie.After-standing-in-arg) → let s = start (of-verdict c) in offerVerdict (tables s) (certifier s) (offered s) ≡ Fine
+fine c = sym (said (of-verdict c)) ∙ c .before .enum-told .given .1
+
+passed : (c : tie.After-standing-in-arg) → let s = start (of-verdict c) in Accepted (tables s) (certifier s) (offered s)
+passed c = let s = start (of-verdict c) in accepted (tables s) (certifier s) (offered s) (fine c)
+
+returns : tie.Need-returns
+returns c =
+    let j = c .before .before in
+    let s = start j in
+    (said j, offered-refused (tables s) (certifier s) (offered s) (said j) (c .enum-told2 .given .1))
+
+standing-in-requires : tie.Need-standing-in-requires
+standing-in-requires c κs = passed c .standing .state-long
+
+number-is : (c : tie.After-standing-in) → c .standing-in .result .number ≡ standingAt (start (of-verdict (c .before)) .args .state .now) .number
+number-is c = ap (λ (s : Standing). s .number) (c .standing-in .ensures)
+
+written : (c : tie.After-put-standing) → let s = start (of-verdict (of-standing c .before)) in
+    c .put-standing .last .0 ≡ (standingAt (s .args .state .now) .number + 1) ∷ s .args .vectors ∷ s .args .points ∷ drop stateSize (s .args .state .now)
+written c =
+    let s = start (of-verdict (of-standing c .before)) in
+    c .put-standing .ensures
+    ∙ ap (λ (n : ℕ). (n + 1) ∷ s .args .vectors ∷ s .args .points ∷ drop stateSize (s .args .state .now)) (number-is (of-standing c))
+
+add-t47 : tie.Need-add-t47
+add-t47 c = let n = c .before .before in omega (arith, number-is n, passed (n .before) .room)
+
+put-standing-requires : tie.Need-put-standing-requires
+put-standing-requires c κs = passed (c .before .before .before) .standing .state-long
+
+lay-level-requires : tie.Need-lay-level-requires
+lay-level-requires c κs =
+    let p = passed (c .before .before .before .before .before .before .before .before .before .before .before .before) in
+    let v = p .standing .valid-tables in
+    let few = p .shaped in (
+      record {
+        few-states = v .few-states;
+        few-observations = v .few-observations;
+        few-vectors = few .few-vectors;
+        few-points = few .few-points;
+        actions-long = p .held .read .actions;
+        choices-long = p .held .choices;
+        entries-long = p .held .read .entries;
+        corners-long = p .held .read .corners;
+        weights-long = p .held .read .weights;
+        values-long = p .held .read .values;
+      },
+      record {
+        few-states = v .few-states;
+        few-observations = v .few-observations;
+        few-vectors = few .few-vectors;
+        few-points = few .few-points;
+        actions-long = p .given .read .actions;
+        choices-long = p .given .choices;
+        entries-long = p .given .read .entries;
+        corners-long = p .given .read .corners;
+        weights-long = p .given .read .weights;
+        values-long = p .given .read .values;
+      },
+    )
+
+-- the rows that stand are within the range of their level
+step-requires : tie.Need-step-requires
+step-requires c κs =
+    let l = c .before .before .before .before .before .before .before .before .before .before .before in
+    let n = of-standing (of-state l) .before in
+    let a = start (of-verdict n) .args in
+    let p = passed n .standing in
+    let made : (cells : List ℤ) → RowsIn (a .c .actions) (a .c .states) (standingAt (a .state .now) .number) cells
+    → Ready (a .c) (a .transition .now) (a .reward .now) cells = λ cells r.
+    ready (a .c) (a .transition .now) (a .observation .now) (a .reward .now) (p .valid-tables) (p .stored-tables) cells _ (p .few-levels) (r .long)
+    (r .entry) in (
+      (made (a .informed .now) (p .informed), made (a .qmdp .now) (p .qmdp)),
+      seen (a .c) (a .transition .now) (a .observation .now) (a .reward .now) (p .valid-tables) (p .stored-tables),
+    )
+
+returns-2 : tie.Need-returns-2
+returns-2 c =
+    let l = of-level c in
+    let p = of-state l in
+    let n = of-standing p in
+    let g = n .before in
+    let j = of-verdict g in
+    let s = start j in (
+      sym (fine g),
+      offered-fine (tables s) (certifier s) (offered s) (said j) (g .before .enum-told .given .1)
+          (written p) (l .lay-level .ensures) (c .before .before .step .ensures .0) (c .before .before .step .ensures .1),
+    )
+
+pub offer-spec : {M : Type 1} → statement M
+offer-spec =
+    tie.close (tie.spec (λ c κs. search needs) (λ c. search needs) (λ c. search needs) (λ c. refl) (λ c. refl) (λ c. refl)
+    (λ c. refl) (λ c. refl) (λ c. refl) (λ c. refl) (λ c. refl) (λ c. refl)
+    returns standing-in-requires add-t47 put-standing-requires lay-level-requires step-requires
+    (λ c. of-state (of-level c) .put-standing .kept .0) (λ c. of-level c .lay-level .kept .1 .1 .0) (λ c. of-level c .lay-level .kept .1 .1 .1 .0)
+    (λ c. of-level c .lay-level .kept .1 .1 .1 .1 .0) (λ c. of-level c .lay-level .kept .1 .1 .1 .1 .1 .0)
+    (λ c. of-level c .lay-level .kept .1 .1 .1 .1 .1 .1 .0) (λ c. of-level c .lay-level .kept .1 .1 .1 .1 .1 .1 .1 .0)
+    (λ c. c .before .before .step .kept .1 .1 .1 .1 .0) (λ c. c .before .before .step .kept .1 .1 .1 .1 .1 .0) returns-2)

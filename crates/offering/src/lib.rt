@@ -1,0 +1,143 @@
+// Offering a level: where it is accepted it is written over what is lent and the certifier stands one level higher; a refusal writes nothing.
+ghost use mathlib.Core.Path.{_≡_};
+ghost use Rattle.tables.specs.Storage.{tablesIn};
+ghost use Rattle.levels.specs.Storage.{cells, rows, lent, lentFor};
+ghost use Rattle.levels.specs.Judged.{offerVerdict};
+ghost use Rattle.runs.specs.State.{offered};
+ghost use Rattle.offering.specs.Steps.{Lays, laidBy};
+use integers::cells;
+use levels::Standing;
+use tables::Counts;
+use tables::Verdict;
+
+// A level over the slices.
+fn lay_level<'b>(
+    n: usize,
+    k: usize,
+    actions: &mut [u8],
+    choices: &mut [u16],
+    entries: &mut [i64],
+    corners: &mut [i64],
+    weights: &mut [u32],
+    values: &mut [i64],
+    vectors: usize,
+    points: usize,
+    newactions: &'b [u8],
+    newchoices: &'b [u16],
+    newentries: &'b [i64],
+    newcorners: &'b [i64],
+    newweights: &'b [u32],
+    newvalues: &'b [i64],
+)
+    requires { ⌜ Lays n k vectors points (now actions) (now choices) (now entries) (now corners) (now weights) (now values) ⌝ }
+    requires { ⌜ Lays n k vectors points (now newactions) (now newchoices) (now newentries) (now newcorners) (now newweights) (now newvalues) ⌝ }
+    ensures { λ _. ⌜ (let new = cells (now (newactions .entry)) (now (newchoices .entry)) (now (newentries .entry)) (now (newcorners .entry))
+        (now (newweights .entry)) (now (newvalues .entry)) in
+        let x = cells (now (actions .entry)) (now (choices .entry)) (now (entries .entry)) (now (corners .entry)) (now (weights .entry))
+        (now (values .entry)) in
+        cells (now (actions .exit)) (now (choices .exit)) (now (entries .exit)) (now (corners .exit)) (now (weights .exit)) (now (values .exit))
+        ≡ laidBy n k vectors points new x) ⌝ }
+{
+    cells::paste_u8(actions, 0, newactions, vectors);
+    cells::paste_u16(choices, 0, newchoices, vectors * k);
+    cells::paste_i64(entries, 0, newentries, vectors * n);
+    cells::paste_i64(corners, 0, newcorners, n);
+    cells::paste_u32(weights, 0, newweights, points * n);
+    cells::paste_i64(values, 0, newvalues, points);
+}
+
+// Offers a level of any content: the certifier then stands one level higher with it; or refused by 7 to 15 and unchanged.
+pub fn offer<'a, 'b>(
+    transition: &'a [u16],
+    observation: &'a [u16],
+    reward: &'a [i64],
+    c: Counts,
+    state: &mut [usize],
+    actions: &mut [u8],
+    choices: &mut [u16],
+    entries: &mut [i64],
+    corners: &mut [i64],
+    weights: &mut [u32],
+    values: &mut [i64],
+    informed: &mut [i64],
+    qmdp: &mut [i64],
+    vectors: usize,
+    points: usize,
+    newactions: &'b [u8],
+    newchoices: &'b [u16],
+    newentries: &'b [i64],
+    newcorners: &'b [i64],
+    newweights: &'b [u32],
+    newvalues: &'b [i64],
+) -> Verdict
+    ensures { λ r. ⌜ (let m = tablesIn c (now (transition .entry)) (now (observation .entry)) (now (reward .entry)) in
+        let x = lent (now (state .entry)) (cells (now (actions .entry)) (now (choices .entry)) (now (entries .entry)) (now (corners .entry))
+        (now (weights .entry)) (now (values .entry))) (rows (now (informed .entry)) (now (qmdp .entry))) in
+        let l = lentFor vectors points (cells (now (newactions .entry)) (now (newchoices .entry)) (now (newentries .entry))
+        (now (newcorners .entry)) (now (newweights .entry)) (now (newvalues .entry))) in
+        r ≡ offerVerdict m x l) ⌝ }
+    ensures { λ _. ⌜ (let m = tablesIn c (now (transition .entry)) (now (observation .entry)) (now (reward .entry)) in
+        let x = lent (now (state .entry)) (cells (now (actions .entry)) (now (choices .entry)) (now (entries .entry)) (now (corners .entry))
+        (now (weights .entry)) (now (values .entry))) (rows (now (informed .entry)) (now (qmdp .entry))) in
+        let l = lentFor vectors points (cells (now (newactions .entry)) (now (newchoices .entry)) (now (newentries .entry))
+        (now (newcorners .entry)) (now (newweights .entry)) (now (newvalues .entry))) in
+        lent (now (state .exit)) (cells (now (actions .exit)) (now (choices .exit)) (now (entries .exit)) (now (corners .exit))
+        (now (weights .exit)) (now (values .exit))) (rows (now (informed .exit)) (now (qmdp .exit)))
+        ≡ offered m x l) ⌝ }
+{
+    let verdict = judging::judge_offer(
+        transition,
+        observation,
+        reward,
+        c,
+        &state[..],
+        &actions[..],
+        &choices[..],
+        &entries[..],
+        &corners[..],
+        &weights[..],
+        &values[..],
+        &informed[..],
+        &qmdp[..],
+        vectors,
+        points,
+        newactions,
+        newchoices,
+        newentries,
+        newcorners,
+        newweights,
+        newvalues,
+    );
+    let Verdict::Fine = verdict else {
+        return verdict;
+    };
+    let s = levels::standing_in(&state[..]);
+    levels::put_standing(
+        state,
+        Standing {
+            number: s.number + 1,
+            vectors: vectors,
+            points: points,
+        },
+    );
+    lay_level(
+        c.states,
+        c.observations,
+        actions,
+        choices,
+        entries,
+        corners,
+        weights,
+        values,
+        vectors,
+        points,
+        newactions,
+        newchoices,
+        newentries,
+        newcorners,
+        newweights,
+        newvalues,
+    );
+    rows::step(transition, observation, reward, c, informed, qmdp);
+    Verdict::Fine
+}

@@ -1,0 +1,2 @@
+-- Laws of what opening writes.
+pub mod Opened

@@ -1,0 +1,147 @@
+// Opening a certifier: level 0 and its rows over what is lent, or a refusal, which writes nothing.
+ghost use mathlib.Core.Path.{_≡_};
+ghost use mathlib.Core.Bool.{_&&_};
+ghost use Prim.Native.Nat.{_*_, _≤_, _<_};
+ghost use lib.Dec.{leb};
+ghost use lib.ListN.{length};
+ghost use lib.IntN.{pos};
+ghost use Rattle.integers.specs.Cells.{laid};
+ghost use Rattle.tables.specs.Limits.{maxStates, maxObservations};
+ghost use Rattle.tables.specs.Storage.{tablesIn};
+ghost use Rattle.tables.specs.Verdicts.{_before_, unless};
+ghost use Rattle.tables.specs.Judged.{tablesVerdict};
+ghost use Rattle.levels.specs.Storage.{stateSize, cells, rows, lent, longEnough, longRows};
+ghost use Rattle.runs.specs.State.{openVerdict, opened};
+use integers::cells;
+use levels::Standing;
+use levels::shape;
+use tables::Counts;
+use tables::Tables;
+use tables::Verdict;
+use tables::judge;
+
+// 3, 5 and 6 of the tables; then 9 where slices of such lengths are too short for level 0.
+fn judge_open<'a>(
+    transition: &'a [u16],
+    observation: &'a [u16],
+    reward: &'a [i64],
+    c: Counts,
+    state: usize,
+    actions: usize,
+    choices: usize,
+    entries: usize,
+    corners: usize,
+    weights: usize,
+    values: usize,
+    informed: usize,
+    qmdp: usize,
+) -> Verdict
+    ensures { λ r. ⌜ r ≡ (tablesVerdict (tablesIn c (now (transition .entry)) (now (observation .entry)) (now (reward .entry))) before
+        unless (leb stateSize state && ((leb (1 * c .observations) choices && longEnough (c .states) 1 0 actions entries corners weights values)
+        && longRows (c .actions) (c .states) informed qmdp)) 9 0) ⌝ }
+{
+    let tables = judge::judge_tables(transition, observation, reward, c);
+    let Verdict::Fine = tables else {
+        return tables;
+    };
+    if state < Standing::SIZE {
+        return Verdict::Refused(9, 0);
+    }
+    let s = Standing::fresh();
+    if !shape::complete(
+        c.states,
+        c.observations,
+        s.vectors,
+        s.points,
+        actions,
+        choices,
+        entries,
+        corners,
+        weights,
+        values,
+    ) {
+        return Verdict::Refused(9, 0);
+    }
+    let cells = c.actions * c.states;
+    if informed < cells {
+        return Verdict::Refused(9, 0);
+    }
+    if qmdp < cells {
+        return Verdict::Refused(9, 0);
+    }
+    Verdict::Fine
+}
+
+// Level 0 over the slices: one zero vector, zero corners.
+fn lay_level_0(
+    n: usize,
+    k: usize,
+    actions: &mut [u8],
+    choices: &mut [u16],
+    entries: &mut [i64],
+    corners: &mut [i64],
+)
+    requires { ⌜ (n ≤ maxStates) × (k ≤ maxObservations) ⌝ }
+    requires { ⌜ (0 < length (now actions)) × ((k ≤ length (now choices)) × ((n ≤ length (now entries)) × (n ≤ length (now corners)))) ⌝ }
+    ensures { λ _. ⌜ now (actions .exit) ≡ laid 1 (λ v. 0) (now (actions .entry)) ⌝ }
+    ensures { λ _. ⌜ now (choices .exit) ≡ laid k (λ o. 0) (now (choices .entry)) ⌝ }
+    ensures { λ _. ⌜ now (entries .exit) ≡ laid n (λ s. pos 0) (now (entries .entry)) ⌝ }
+    ensures { λ _. ⌜ now (corners .exit) ≡ laid n (λ s. pos 0) (now (corners .entry)) ⌝ }
+{
+    actions[0] = 0;
+    cells::paste_u16(choices, 0, &[0u16; Tables::OBSERVATIONS], k);
+    cells::paste_i64(entries, 0, &[0i64; Tables::STATES], n);
+    cells::paste_i64(corners, 0, &[0i64; Tables::STATES], n);
+}
+
+// Opens a certifier on tables of any content: at level 0, or refused by 3, 5, 6 or 9.
+pub fn open<'a>(
+    transition: &'a [u16],
+    observation: &'a [u16],
+    reward: &'a [i64],
+    c: Counts,
+    state: &mut [usize],
+    actions: &mut [u8],
+    choices: &mut [u16],
+    entries: &mut [i64],
+    corners: &mut [i64],
+    weights: &[u32],
+    values: &[i64],
+    informed: &mut [i64],
+    qmdp: &mut [i64],
+) -> Verdict
+    ensures { λ r. ⌜ (let m = tablesIn c (now (transition .entry)) (now (observation .entry)) (now (reward .entry)) in
+        let x = lent (now (state .entry)) (cells (now (actions .entry)) (now (choices .entry)) (now (entries .entry)) (now (corners .entry))
+        (now (weights .entry)) (now (values .entry))) (rows (now (informed .entry)) (now (qmdp .entry))) in
+        r ≡ openVerdict m x) ⌝ }
+    ensures { λ _. ⌜ (let m = tablesIn c (now (transition .entry)) (now (observation .entry)) (now (reward .entry)) in
+        let x = lent (now (state .entry)) (cells (now (actions .entry)) (now (choices .entry)) (now (entries .entry)) (now (corners .entry))
+        (now (weights .entry)) (now (values .entry))) (rows (now (informed .entry)) (now (qmdp .entry))) in
+        lent (now (state .exit)) (cells (now (actions .exit)) (now (choices .exit)) (now (entries .exit)) (now (corners .exit))
+        (now (weights .entry)) (now (values .entry))) (rows (now (informed .exit)) (now (qmdp .exit)))
+        ≡ opened m x) ⌝ }
+{
+    let verdict = judge_open(
+        transition,
+        observation,
+        reward,
+        c,
+        state.len(),
+        actions.len(),
+        choices.len(),
+        entries.len(),
+        corners.len(),
+        weights.len(),
+        values.len(),
+        informed.len(),
+        qmdp.len(),
+    );
+    let Verdict::Fine = verdict else {
+        return verdict;
+    };
+    levels::put_standing(state, Standing::fresh());
+    lay_level_0(c.states, c.observations, actions, choices, entries, corners);
+    rows::clear(informed, c.actions * c.states);
+    rows::clear(qmdp, c.actions * c.states);
+    Verdict::Fine
+}
