@@ -33,38 +33,38 @@ use Rattle.candidates.specs.Steps.{topBuilt, Upon}
 use Rattle.builder.specs.Steps.{RowsFit, Filled}
 use Rattle.builder.proofs.Levels.{upon-lent, roofed-lent}
 use Rattle.solver.specs.declared.Judged.{Judged}
-use Rattle.solver.specs.Files.{maxFile, vectorsIn, filesVerdict, counted}
+use Rattle.solver.specs.Files.{maxFile, vectorsIn, filesVerdict, withCount}
 use Rattle.solver.proofs.Files.{FilesRead, files-read}
 use Rattle.solved.specs.Solved.{solved}
 use Rattle.solved.specs.Steps.{Files, vectorsOver, Solving}
-use Rattle.adopting.specs.Adopt.{solvedFrom, adoptedLevel, adoptFits, adoptVerdict, adopted, answered}
+use Rattle.adopting.specs.Adopt.{solvedFrom, adoptedLevel, adoptFits, adoptVerdict, adopted, adoptAnswer}
 use Rattle.adopting.specs.Claim.{AdoptHolds}
 use Rattle.adopting.proofs.Accepted.{roof-fine, adopt-holds}
 
 -- ---- a verdict with a count
 
-pub verdict-counted : (v : Verdict) (n : ℕ) → counted v n .verdict ≡ v
+pub verdict-counted : (v : Verdict) (n : ℕ) → withCount v n .verdict ≡ v
 verdict-counted Fine n = refl
 verdict-counted (Refused number place) n = refl
 
-pub vectors-counted : {j : Judged} {v : Verdict} {n : ℕ} → j ≡ counted v n → v ≡ Fine → j .vectors ≡ n
-vectors-counted {n = n} e f = ap (λ (j : Judged). j .vectors) e ∙ ap (λ (v : Verdict). counted v n .vectors) f
+pub vectors-counted : {j : Judged} {v : Verdict} {n : ℕ} → j ≡ withCount v n → v ≡ Fine → j .vectors ≡ n
+vectors-counted {n = n} e f = ap (λ (j : Judged). j .vectors) e ∙ ap (λ (v : Verdict). withCount v n .vectors) f
 
 -- a refusal, counted
 pub counted-back : {r : Judged} {v w : Verdict} {number place : ℕ} (n : ℕ) → (r .verdict ≡ v) × (r .vectors ≡ 0) → v ≡ Refused number place → v ≡ w
-    → r ≡ counted w n
+    → r ≡ withCount w n
 counted-back {r} {number = number} {place} n h e f =
     ap (λ (x : Verdict). record { verdict = x; vectors = r .vectors }) (h .0 ∙ e)
     ∙ ap (λ (m : ℕ). record { verdict = Refused number place; vectors = m }) (h .1)
-    ∙ ap (λ (x : Verdict). counted x n) (sym e ∙ f)
+    ∙ ap (λ (x : Verdict). withCount x n) (sym e ∙ f)
 
 -- and answered
-pub answered-back : {v w : Verdict} {number place : ℕ} (n : ℕ) → v ≡ w → v ≡ Refused number place → record { verdict = v; vectors = 0 } ≡ answered w n
+pub answered-back : {v w : Verdict} {number place : ℕ} (n : ℕ) → v ≡ w → v ≡ Refused number place → record { verdict = v; vectors = 0 } ≡ adoptAnswer w n
 answered-back n e f =
-    ap (λ (x : Verdict). record { verdict = x; vectors = 0 }) f ∙ ap (λ (x : Verdict). answered x n) (sym f ∙ e)
+    ap (λ (x : Verdict). record { verdict = x; vectors = 0 }) f ∙ ap (λ (x : Verdict). adoptAnswer x n) (sym f ∙ e)
 
-pub answered-fine : {w : Verdict} {n m : ℕ} → w ≡ Fine → m ≡ n → record { verdict = Fine; vectors = m } ≡ answered w n
-answered-fine {n = n} e f = ap (λ (m : ℕ). record { verdict = Fine; vectors = m }) f ∙ ap (λ (x : Verdict). answered x n) (sym e)
+pub answered-fine : {w : Verdict} {n m : ℕ} → w ≡ Fine → m ≡ n → record { verdict = Fine; vectors = m } ≡ adoptAnswer w n
+answered-fine {n = n} e f = ap (λ (m : ℕ). record { verdict = Fine; vectors = m }) f ∙ ap (λ (x : Verdict). adoptAnswer x n) (sym e)
 
 -- ---- stages, one after the other
 

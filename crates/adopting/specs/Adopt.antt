@@ -2,7 +2,7 @@
 --
 --   adoptVerdict       1, 7, 19, 20, then 8 to 12
 --   adopted            the level laid over the slices, or these as they were
---   answered           the verdict, with the number of vectors
+--   adoptAnswer           the verdict, with the number of vectors
 use Prim.Native.Nat.{ℕ, _+_}
 use mathlib.Core.Bool.{Bool, _&&_}
 use mathlib.Core.List.{List}
@@ -13,13 +13,12 @@ use Rattle.tables.specs.declared.Verdict.{Verdict}
 use Rattle.tables.specs.declared.Verdict.the-variants.{Fine, Refused}
 use Rattle.tables.specs.Limits.{maxVectors, maxLevels}
 use Rattle.tables.specs.Storage.{modelOf}
-use Rattle.tables.specs.Verdicts.{_before_, unless}
+use Rattle.tables.specs.Verdicts.{_before_, unless, left}
 use Rattle.tables.specs.Judged.{countWithin}
 use Rattle.plans.specs.Limits.{maxBuilt}
 use Rattle.plans.specs.Level.{Level}
 use Rattle.levels.specs.Storage.{Cells, LentLevel, Lent, levelOf, pointIn, complete, over, numberIn, standingIn, lentFor}
 use Rattle.levels.specs.Judged.{holds, levelVerdict}
-use Rattle.runs.specs.State.{left}
 use Rattle.solver.specs.Files.{maxFile, vectorsIn, filesVerdict}
 use Rattle.solved.specs.Solved.{solved}
 use Rattle.adopting.specs.declared.Adopted.{Adopted}
@@ -53,6 +52,6 @@ adopted m x alphaFile graphFile count y =
     left (adoptVerdict m x alphaFile graphFile count y) (over m (solvedFrom m x alphaFile graphFile count y) y) y
 
 -- what the call answers: the number of vectors is 0 with a refusal
-abbrev pub answered : Verdict → ℕ → Adopted
-answered Fine vectors = record { verdict = Fine; vectors = vectors }
-answered (Refused number place) vectors = record { verdict = Refused number place; vectors = 0 }
+abbrev pub adoptAnswer : Verdict → ℕ → Adopted
+adoptAnswer Fine vectors = record { verdict = Fine; vectors = vectors }
+adoptAnswer (Refused number place) vectors = record { verdict = Refused number place; vectors = 0 }

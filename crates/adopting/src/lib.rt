@@ -13,8 +13,8 @@ ghost use Rattle.tables.specs.Judged.{countWithin};
 ghost use Rattle.plans.specs.Limits.{maxBuilt};
 ghost use Rattle.levels.specs.Storage.{cells, rows, lent, standingAt, longEnough};
 ghost use Rattle.levels.specs.Judged.{holds};
-ghost use Rattle.solver.specs.Files.{maxFile, vectorsIn, filesVerdict, counted};
-ghost use Rattle.adopting.specs.Adopt.{adoptVerdict, adopted, answered};
+ghost use Rattle.solver.specs.Files.{maxFile, vectorsIn, filesVerdict, withCount};
+ghost use Rattle.adopting.specs.Adopt.{adoptVerdict, adopted, adoptAnswer};
 ghost use Rattle.adopting.specs.Claim.{AdoptHolds};
 use levels::Level;
 use levels::shape;
@@ -118,7 +118,7 @@ fn judge_files<'a, 'b, 'c>(
         let standing = lent (now (state .entry)) (cells (now (actions .entry)) choices (now (entries .entry)) (now (corners .entry))
         (now (weights .entry)) (now (values .entry))) (rows (now (informed .entry)) (now (qmdp .entry))) in
         let vectors = vectorsIn (c .states) (now (alpha .entry)) in
-        r ≡ counted (unless (leb (length (now (alpha .entry))) maxFile && leb (length (now (graph .entry))) maxFile) 1 0
+        r ≡ withCount (unless (leb (length (now (alpha .entry))) maxFile && leb (length (now (graph .entry))) maxFile) 1 0
         before unless (holds m standing) 7 0
         before filesVerdict (c .states) (c .observations) (now (alpha .entry)) (now (graph .entry))
         before unless (ltb (standingAt (now (state .entry)) .number) maxLevels) 8 0
@@ -208,7 +208,7 @@ pub fn adopt<'a, 'b, 'c>(
         (now (weights .entry)) (now (values .entry))) (rows (now (informed .entry)) (now (qmdp .entry))) in
         let y = cells (now (newactions .entry)) (now (newchoices .entry)) (now (newentries .entry)) (now (newcorners .entry)) (now (given .entry))
         (now (newvalues .entry)) in
-        r ≡ answered (adoptVerdict m standing (now (alpha .entry)) (now (graph .entry)) count y) (vectorsIn (c .states) (now (alpha .entry)))) ⌝ }
+        r ≡ adoptAnswer (adoptVerdict m standing (now (alpha .entry)) (now (graph .entry)) count y) (vectorsIn (c .states) (now (alpha .entry)))) ⌝ }
     ensures { λ _. ⌜ ((choices : List ℕ) →
         let m = tablesIn c (now (transition .entry)) (now (observation .entry)) (now (reward .entry)) in
         let standing = lent (now (state .entry)) (cells (now (actions .entry)) choices (now (entries .entry)) (now (corners .entry))

@@ -12,7 +12,6 @@ ghost use Rattle.runs.specs.Demand3.{ModelAccepted, after, steps, TotalsHold};
 ghost use Rattle.bounds.specs.Steps.{standingVerdict, noBounds, boundsIn, answerIn, Asked};
 use levels::Level;
 use levels::shape;
-use levels::vectors;
 use runs::Bounds;
 use tables::Action;
 use tables::Counts;
@@ -29,7 +28,7 @@ fn mixture_holds(mixture: &[u32], n: usize) -> bool
     }
     let mut total: u64 = 0;
     for s in 0..n {
-        let w = shape::weight(mixture[s]);
+        let w = ranges::weight(mixture[s]);
         if Level::WEIGHT < w {
             return false;
         }
@@ -72,11 +71,11 @@ fn bounds_at<'b>(
     ensures { λ r. ⌜ r ≡ boundsIn n m vectors points (now (actions .entry)) (now (entries .entry)) (now (corners .entry)) (now (weights .entry))
         (now (informed .entry)) (now (gains .entry)) (now (q .entry)) ⌝ }
 {
-    let v = vectors::best_vector(q, entries, n, vectors);
+    let v = products::best_vector(q, entries, n, vectors);
     let i = v.0;
-    let lower = vectors::product(q, entries, read::start(i, n), n);
+    let lower = products::product(q, entries, read::start(i, n), n);
     let saw = sawtooth::ceiling(q, corners, weights, gains, points, n);
-    let row = vectors::largest_product(q, informed, n, m);
+    let row = products::largest_product(q, informed, n, m);
     let upper = integers::lesser(saw, row);
     Bounds {
         verdict: Verdict::Fine,
@@ -110,7 +109,7 @@ pub fn answer<'b>(
     if !mixture_holds(mixture, n) {
         return no_bounds(Verdict::Refused(17, 0));
     }
-    let q = shape::point_weights(mixture, n, 0);
+    let q = ranges::point_weights(mixture, n, 0);
     bounds_at(
         actions,
         entries,

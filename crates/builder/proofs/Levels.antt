@@ -128,7 +128,7 @@ pub record Room (n k v : ℕ) (actions choices : List ℕ) (entries : List ℤ) 
   pub entries-fit : v * n + n ≤ length entries
 
 -- slices that are filled are as long as they were
-pub record SameLengths (actions choices : List ℕ) (entries : List ℤ) (actions' choices' : List ℕ) (entries' : List ℤ) : Type 0 where
+pub record VectorsAsLong (actions choices : List ℕ) (entries : List ℤ) (actions' choices' : List ℕ) (entries' : List ℤ) : Type 0 where
   pub actions-long : length actions' ≡ length actions
   pub choices-long : length choices' ≡ length choices
   pub entries-long : length entries' ≡ length entries
@@ -143,7 +143,7 @@ module _ (n k : ℕ) (W : Level) {actions choices : List ℕ} {entries : List �
 
   module _ {count v : ℕ} {actions' choices' : List ℕ} {entries' : List ℤ} (fit : RowsFit n k count actions choices entries)
       (h : Filled n k W v actions choices entries actions' choices' entries') where
-    pub filled-long : v ≤ count → SameLengths actions choices entries actions' choices' entries'
+    pub filled-long : v ≤ count → VectorsAsLong actions choices entries actions' choices' entries'
     filled-long b = record {
       actions-long = rw (h .actions-are) (laid-length v (W .action) actions (omega (arith, fit .actions-fit)));
       choices-long = rw (h .choices-are) (laidRows-length v k (W .choice) choices (omega (arith, fit .choices-fit, mul-le-mul-right k b)));

@@ -49,7 +49,7 @@ fn seed_weights(weights: &[u32], n: usize, v: Vector) -> Weights
     if i < n {
         return backups::corner_weights(State(i));
     }
-    shape::point_weights(weights, n, i - n)
+    ranges::point_weights(weights, n, i - n)
 }
 
 // A vector at each corner, then at each point.
@@ -160,7 +160,7 @@ pub fn build_values<'a, 'b>(
     let n = c.states;
     let gains = sawtooth::gains(corners, weights, values, points, n);
     for i in 0..count {
-        let p = shape::point_weights(given, n, i);
+        let p = ranges::point_weights(given, n, i);
         let backups = backups::backups_at(
             transition,
             observation,

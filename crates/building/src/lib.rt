@@ -87,7 +87,7 @@ fn judge_build<'a, 'b>(
     ) {
         return Verdict::Refused(9, 0);
     }
-    shape::weights_hold(given, c.states, count)
+    ranges::weights_hold(given, c.states, count)
 }
 
 // Builds the next level from a count of points of any content, whose weights are the level's own: it is accepted where it is offered to the same

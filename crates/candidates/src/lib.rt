@@ -12,7 +12,6 @@ ghost use Rattle.plans.specs.Limits.{maxTotal, maxReached};
 ghost use Rattle.plans.specs.Level.{product};
 ghost use Rattle.backups.specs.Steps.{Light};
 ghost use Rattle.candidates.specs.Steps.{candidateIn, bestOf, uponIn, Upon};
-use levels::vectors;
 use tables::Action;
 use tables::Counts;
 use tables::Foreseen;
@@ -58,7 +57,7 @@ fn choose(
     let mut chosen = [0u16; Tables::OBSERVATIONS];
     for o in 0..k {
         let q = sums::successors(observation, n, k, u, a, Observation(o));
-        let best = vectors::best_vector(&q, entries, n, count);
+        let best = products::best_vector(&q, entries, n, count);
         read::put_choice(&mut chosen, k, Vector(0), Observation(o), best);
     }
     chosen
@@ -127,7 +126,7 @@ pub fn best_candidate<'a>(
         Action(0),
     );
     let first = best.entries;
-    let mut most = vectors::product(p, &first, 0, n);
+    let mut most = products::product(p, &first, 0, n);
     for a in 1..actions {
         let next = vector_for(
             transition,
@@ -140,7 +139,7 @@ pub fn best_candidate<'a>(
             Action(a),
         );
         let made = next.entries;
-        let here = vectors::product(p, &made, 0, n);
+        let here = products::product(p, &made, 0, n);
         if most < here {
             most = here;
             action = a;

@@ -105,7 +105,7 @@ pub fn points_hold<'a, 'b, 'c>(
     let n = c.states;
     let gains = sawtooth::gains(corners, weights, values, points, n);
     for i in 0..count {
-        let p = shape::point_weights(offered, n, i);
+        let p = ranges::point_weights(offered, n, i);
         let backups = backups::backups_at(
             transition,
             observation,

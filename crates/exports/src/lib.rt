@@ -10,15 +10,16 @@ ghost use Rattle.levels.specs.Storage.{LentLevel, Lent, cells, rows, lent, lent
 ghost use Rattle.levels.specs.Judged.{offerVerdict};
 ghost use Rattle.modelfile.specs.ModelFile.{modelFile};
 ghost use Rattle.reading.specs.Reading.{readVerdict, readOf, laidTransitions, laidObservations, laidRewards, laidStart};
-ghost use Rattle.runs.specs.State.{left, openVerdict, opened, offered, mixtureHolds, totalsOf, buildVerdict, builtOf};
+ghost use Rattle.tables.specs.Verdicts.{left};
+ghost use Rattle.runs.specs.State.{openVerdict, opened, offered, mixtureHolds, totalsOf, buildVerdict, builtOf};
 ghost use Rattle.mixtures.specs.Each.{answers, eachVerdict, eachOf};
 ghost use Rattle.runs.specs.Demand3.{ModelAccepted, after, steps, PointsHold};
 ghost use Rattle.tables.specs.declared.Verdict.the-variants.{Fine};
 ghost use Rattle.solver.specs.Files.{vectorsIn};
 ghost use Rattle.adopting.specs.Adopt.{adoptVerdict, adopted};
-ghost use Rattle.adopting.specs.Adopt.{answered as made};
+ghost use Rattle.adopting.specs.Adopt.{adoptAnswer};
 ghost use Rattle.adopting.specs.Claim.{AdoptHolds};
-ghost use Rattle.replay.specs.Replay.{packed, offersIn, replayVerdict, answered, replayed, ReplayHolds};
+ghost use Rattle.replay.specs.Replay.{packed, offersIn, replayVerdict, replayAnswer, replayed, ReplayHolds};
 ghost use Rattle.worth.specs.Storage.{lentGraph};
 ghost use Rattle.worth.specs.Judged.{worthAnswer};
 ghost use Rattle.exports.specs.Calls.{layoutVersion, model, refusalOf, readingBy, totalsBy, adoptionBy, replayBy, worthBy, Brackets, Builds};
@@ -523,7 +524,7 @@ pub extern "C" fn biidhaqun_adopt<'a, 'b, 'c>(
         (now (weights .entry)) (now (values .entry))) (rows (now (informed .entry)) (now (qmdp .entry))) in
         let y = cells (now (newactions .entry)) (now (newchoices .entry)) (now (newentries .entry)) (now (newcorners .entry)) (now (given .entry))
         (now (newvalues .entry)) in
-        r ≡ adoptionBy (made (adoptVerdict tables standing (now (alpha .entry)) (now (graph .entry)) count y) (vectorsIn n (now (alpha .entry))))) ⌝ }
+        r ≡ adoptionBy (adoptAnswer (adoptVerdict tables standing (now (alpha .entry)) (now (graph .entry)) count y) (vectorsIn n (now (alpha .entry))))) ⌝ }
     ensures { λ _. ⌜ ((choices : List ℕ) →
         let tables = model n m k g (now (transition .entry)) (now (observation .entry)) (now (reward .entry)) in
         let standing = lent (now (state .entry)) (cells (now (actions .entry)) choices (now (entries .entry)) (now (corners .entry))
@@ -619,7 +620,7 @@ pub extern "C" fn biidhaqun_replay<'a, 'b>(
         (now (weights .entry)) (now (values .entry))) (rows (now (informed .entry)) (now (qmdp .entry))) in
         let b = packed v p (now (vectors .entry)) (now (points .entry)) (cells (now (newactions .entry)) (now (newchoices .entry))
         (now (newentries .entry)) (now (newcorners .entry)) (now (newweights .entry)) (now (newvalues .entry))) in
-        r ≡ replayBy (answered tables x b count)) ⌝ }
+        r ≡ replayBy (replayAnswer tables x b count)) ⌝ }
     ensures { λ _. ⌜ (let tables = model n m k g (now (transition .entry)) (now (observation .entry)) (now (reward .entry)) in
         let x = lent (now (state .entry)) (cells (now (actions .entry)) (now (choices .entry)) (now (entries .entry)) (now (corners .entry))
         (now (weights .entry)) (now (values .entry))) (rows (now (informed .entry)) (now (qmdp .entry))) in

@@ -59,7 +59,7 @@ fn judge_level<'a>(
     let Verdict::Fine = ranges else {
         return ranges;
     };
-    shape::weights_hold(weights, c.states, points)
+    ranges::weights_hold(weights, c.states, points)
 }
 
 // 7 to 12: the certifier and the offered level by themselves.

@@ -23,7 +23,7 @@ use Rattle.levels.specs.Judged.{offerVerdict}
 use Rattle.levels.proofs.Laws.{passed, fine-before}
 use Rattle.levels.proofs.Over.{Complete, complete-is, complete-true, complete-long, over-long}
 use Rattle.runs.specs.State.{openVerdict, opened, offered, mixtureHolds, answerFor, builtFrom}
-use Rattle.runs.specs.Demand3.{ModelAccepted, run, counted, acceptances, after, steps, last, BuildHolds, PointsHold}
+use Rattle.runs.specs.Demand3.{ModelAccepted, run, tally, acceptances, after, steps, last, BuildHolds, PointsHold}
 use Rattle.runs.proofs.Demand3.{fine-tables, run-append, acceptances-append}
 use Rattle.modelfile.specs.declared.ModelFile.{ModelFile}
 use Rattle.modelfile.specs.ModelFile.{modelFile}
@@ -36,7 +36,7 @@ unfolding run
 run-more m x ls l = run-append m x ls (l ∷ [])
 
 acceptances-more : (m : Tables) (x : Lent) (ls : List LentLevel) (l : LentLevel)
-    → acceptances m x (ls ++ (l ∷ [])) ≡ acceptances m x ls + counted (offerVerdict m (run m x ls) l)
+    → acceptances m x (ls ++ (l ∷ [])) ≡ acceptances m x ls + tally (offerVerdict m (run m x ls) l)
 unfolding acceptances
 acceptances-more m x ls l = acceptances-append m x ls (l ∷ []) ∙ ap (λ (n : ℕ). acceptances m x ls + n) (add-zero _)
 

@@ -2,5 +2,4 @@
 pub mod Laws
 pub mod Over
 pub mod Points
-pub mod Products
 pub mod Prelude

@@ -1,7 +1,6 @@
 // A level: alpha vectors, corner values and point values, in slices packed by the counts: actions by vector, choices by vector and observation, entries by
 // vector and state, corners by state, weights by point and state, values by point.
-pub mod shape; // 9 to 12
-pub mod vectors; // products with vectors, and the first largest
+pub mod shape; // 9 and 10, and lengths of slices
 
 ghost use mathlib.Core.Path.{_≡_};
 ghost use mathlib.Core.List.{_∷_};

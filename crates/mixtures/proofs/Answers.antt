@@ -12,7 +12,8 @@ use Rattle.levels.specs.Storage.{Lent}
 use Rattle.runs.specs.declared.Bounds.{Bounds}
 use Rattle.runs.specs.State.{totalsOf}
 use Rattle.bounds.specs.Steps.{standingVerdict}
-use Rattle.mixtures.specs.Each.{Answers, answers, mixtureAt, roomFor, refusalIn, written, eachVerdict, eachOf}
+use Rattle.tables.specs.Storage.{rowIn}
+use Rattle.mixtures.specs.Each.{Answers, answers, roomFor, refusalIn, written, eachVerdict, eachOf}
 
 -- ---- the mixtures
 module _ {n : ℕ} (count long : ℕ) (some : 0 < n) where
@@ -25,7 +26,7 @@ module _ {n : ℕ} (count long : ℕ) (some : 0 < n) where
 pub part-fits : (n count i long : ℕ) → count * n ≤ long → i < count → i * n + n ≤ long
 part-fits n count i long h l = omega (arith, row-below i count n l)
 
-pub part-is : (n i : ℕ) (packed : List ℕ) → take (i * n + n - i * n) (drop (i * n) packed) ≡ mixtureAt n packed i
+pub part-is : (n i : ℕ) (packed : List ℕ) → take (i * n + n - i * n) (drop (i * n) packed) ≡ rowIn n packed i
 part-is n i packed = ap (λ (j : ℕ). take j (drop (i * n) packed)) (let q : i * n + n - i * n ≡ n = omega arith in q)
 
 -- ---- the slices that are written
@@ -47,13 +48,13 @@ same : {v v' : List ℕ} {l l' u u' : List ℤ} {a a' : List ℕ} → v ≡ v' �
 same e f g h = rw (e, f, g, h)
 
 -- as long as they were
-pub record SameLengths (y z : Answers) : Type 0 where
+pub record AnswersAsLong (y z : Answers) : Type 0 where
   pub verdicts : length (z .verdicts) ≡ length (y .verdicts)
   pub lower : length (z .lower) ≡ length (y .lower)
   pub upper : length (z .upper) ≡ length (y .upper)
   pub advice : length (z .advice) ≡ length (y .advice)
 
-pub written-long : (answer : ℕ → Bounds) (y : Answers) {z : Answers} {i count : ℕ} → z ≡ written answer i y → Room count y → i ≤ count → SameLengths y z
+pub written-long : (answer : ℕ → Bounds) (y : Answers) {z : Answers} {i count : ℕ} → z ≡ written answer i y → Room count y → i ≤ count → AnswersAsLong y z
 written-long answer y {z} {i} e room b = rw e record {
   verdicts = laid-length i _ (y .verdicts) (omega (arith, room .verdicts));
   lower = laid-length i _ (y .lower) (omega (arith, room .lower));
@@ -111,7 +112,7 @@ module _ (m : Tables) (x : Lent) (packed : List ℕ) (count : ℕ) (y : Answers)
         unfolding eachVerdict
         given h = goes e f (passes 17 0 g (rw h))
 
-  pub all-written : {z : Answers} → Fine ≡ eachVerdict m x packed count y → z ≡ written (λ i. totalsOf m x (mixtureAt (m .states) packed i)) count y
+  pub all-written : {z : Answers} → Fine ≡ eachVerdict m x packed count y → z ≡ written (λ i. totalsOf m x (rowIn (m .states) packed i)) count y
       → z ≡ eachOf m x packed count y
   unfolding eachOf
   all-written e z = z ∙ rw (sym e)

@@ -3,17 +3,17 @@ use Prim.Native.Nat.{ℕ, _*_}
 use mathlib.Core.Bool.{Bool, _&&_}
 use mathlib.Core.List.{List}
 use lib.Dec.{leb}
-use lib.ListN.{length, take, drop}
+use lib.ListN.{length}
 use lib.IntN.{ℤ}
 use Rattle.integers.specs.Cells.{laid}
 use Rattle.tables.specs.declared.Tables.{Tables}
 use Rattle.tables.specs.declared.Verdict.{Verdict}
 use Rattle.tables.specs.declared.Verdict.the-variants.{Fine, Refused}
-use Rattle.tables.specs.Storage.{rowStart}
-use Rattle.tables.specs.Verdicts.{_before_, unless}
+use Rattle.tables.specs.Storage.{rowIn}
+use Rattle.tables.specs.Verdicts.{_before_, unless, left}
 use Rattle.levels.specs.Storage.{Lent}
 use Rattle.runs.specs.declared.Bounds.{Bounds}
-use Rattle.runs.specs.State.{left, totalsOf}
+use Rattle.runs.specs.State.{totalsOf}
 use Rattle.bounds.specs.Steps.{standingVerdict}
 
 -- the slices that the answers are written to, with a place for each mixture
@@ -25,10 +25,6 @@ pub record Answers : Type 0 where
 
 abbrev pub answers : List ℕ → List ℤ → List ℤ → List ℕ → Answers
 answers verdicts lower upper advice = record { verdicts = verdicts; lower = lower; upper = upper; advice = advice }
-
--- mixture i of those that lie packed, n weights each
-abbrev pub mixtureAt : ℕ → List ℕ → ℕ → List ℕ
-mixtureAt n packed i = take n (drop (rowStart n i) packed)
 
 -- slices of such lengths have a place for so many answers
 abbrev pub roomFor : ℕ → ℕ → ℕ → ℕ → ℕ → Bool
@@ -56,4 +52,4 @@ written answer count y = record {
 }
 
 unfoldable pub eachOf : Tables → Lent → List ℕ → ℕ → Answers → Answers
-eachOf m x packed count y = left (eachVerdict m x packed count y) (written (λ i. totalsOf m x (mixtureAt (m .states) packed i)) count y) y
+eachOf m x packed count y = left (eachVerdict m x packed count y) (written (λ i. totalsOf m x (rowIn (m .states) packed i)) count y) y

@@ -3,10 +3,10 @@ ghost use mathlib.Core.Path.{_≡_};
 ghost use mathlib.Core.List.{List};
 ghost use Prim.Native.Nat.{ℕ, _*_, _≤_};
 ghost use lib.ListN.{length};
-ghost use Rattle.tables.specs.Storage.{tablesIn};
+ghost use Rattle.tables.specs.Storage.{tablesIn, rowIn};
 ghost use Rattle.levels.specs.Storage.{cells, rows, lent};
 ghost use Rattle.bounds.specs.Steps.{answerIn, Asked};
-ghost use Rattle.mixtures.specs.Each.{answers, mixtureAt, roomFor, refusalIn, written, eachVerdict, eachOf};
+ghost use Rattle.mixtures.specs.Each.{answers, roomFor, refusalIn, written, eachVerdict, eachOf};
 use levels::shape;
 use tables::Counts;
 use tables::Verdict;
@@ -61,7 +61,7 @@ fn write_answers<'b>(
     requires { ⌜ (count ≤ length (now verdicts)) × ((count ≤ length (now lower)) × ((count ≤ length (now upper)) × (count ≤ length (now advice)))) ⌝ }
     ensures { λ _. ⌜ answers (now (verdicts .exit)) (now (lower .exit)) (now (upper .exit)) (now (advice .exit))
         ≡ written (λ i. answerIn n m vectors points (now (actions .entry)) (now (entries .entry)) (now (corners .entry)) (now (weights .entry))
-        (now (informed .entry)) (now (gains .entry)) (mixtureAt n (now (mixtures .entry)) i)) count
+        (now (informed .entry)) (now (gains .entry)) (rowIn n (now (mixtures .entry)) i)) count
         (answers (now (verdicts .entry)) (now (lower .entry)) (now (upper .entry)) (now (advice .entry))) ⌝ }
 {
     for i in 0..count {

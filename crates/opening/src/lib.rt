@@ -6,7 +6,7 @@ ghost use lib.Dec.{leb};
 ghost use lib.ListN.{length};
 ghost use lib.IntN.{pos};
 ghost use Rattle.integers.specs.Cells.{laid};
-ghost use Rattle.tables.specs.Limits.{maxStates, maxObservations};
+ghost use Rattle.tables.specs.Limits.{maxObservations};
 ghost use Rattle.tables.specs.Storage.{tablesIn};
 ghost use Rattle.tables.specs.Verdicts.{_before_, unless};
 ghost use Rattle.tables.specs.Judged.{tablesVerdict};
@@ -81,7 +81,7 @@ fn lay_level_0(
     entries: &mut [i64],
     corners: &mut [i64],
 )
-    requires { ⌜ (n ≤ maxStates) × (k ≤ maxObservations) ⌝ }
+    requires { ⌜ k ≤ maxObservations ⌝ }
     requires { ⌜ (0 < length (now actions)) × ((k ≤ length (now choices)) × ((n ≤ length (now entries)) × (n ≤ length (now corners)))) ⌝ }
     ensures { λ _. ⌜ now (actions .exit) ≡ laid 1 (λ v. 0) (now (actions .entry)) ⌝ }
     ensures { λ _. ⌜ now (choices .exit) ≡ laid k (λ o. 0) (now (choices .entry)) ⌝ }
@@ -90,8 +90,8 @@ fn lay_level_0(
 {
     actions[0] = 0;
     cells::paste_u16(choices, 0, &[0u16; Tables::OBSERVATIONS], k);
-    cells::paste_i64(entries, 0, &[0i64; Tables::STATES], n);
-    cells::paste_i64(corners, 0, &[0i64; Tables::STATES], n);
+    cells::clear_i64(entries, n);
+    cells::clear_i64(corners, n);
 }
 
 // Opens a certifier on tables of any content: at level 0, or refused by 3, 5, 6 or 9.
@@ -141,7 +141,7 @@ pub fn open<'a>(
     };
     levels::put_standing(state, Standing::fresh());
     lay_level_0(c.states, c.observations, actions, choices, entries, corners);
-    rows::clear(informed, c.actions * c.states);
-    rows::clear(qmdp, c.actions * c.states);
+    cells::clear_i64(informed, c.actions * c.states);
+    cells::clear_i64(qmdp, c.actions * c.states);
     Verdict::Fine
 }

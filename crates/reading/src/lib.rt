@@ -3,7 +3,7 @@ ghost use mathlib.Core.Path.{_≡_};
 ghost use Prim.Native.Nat.{_*_, _≤_};
 ghost use Rattle.tables.specs.Limits.{maxStates, maxActions, maxObservations};
 ghost use Rattle.modelfile.specs.ModelFile.{modelFile};
-ghost use Rattle.runs.specs.State.{left};
+ghost use Rattle.tables.specs.Verdicts.{left};
 ghost use Rattle.reading.specs.Reading.{roomVerdict, readVerdict, noCounts, readOf, laidTransitions, laidObservations, laidRewards, laidStart};
 use integers::cells;
 use tables::Counts;

@@ -3,7 +3,7 @@
 --   enough-none, enough-some         a length, tested by division
 --   packs, packs-less                what 9 leaves known, and of fewer blocks
 --   block-fits, partsOf, offer-is    a block, as a part of each slice
---   SameLengths, Running             what a loop over the blocks keeps
+--   LentAsLong, Running             what a loop over the blocks keeps
 --   refused, given                   each way out, with demand 3
 use Rattle.integers.proofs.Kit.{_≡_, _∙_, refl, ap, sym, true, List, [], _∷_, ℕ, _≤_, _<_, _+_, _*_, _-_, _/_, arith, add-one, decLt, le-leb}
 use Rattle.integers.proofs.Kit.{leb-true, lt-leb, leb, length, getD, drop, take}
@@ -20,10 +20,11 @@ use Rattle.levels.specs.Storage.{Cells, cells, LentLevel, Lent, lentFor}
 use Rattle.levels.specs.Judged.{offerVerdict}
 use Rattle.levels.proofs.Over.{AsLong, as-long, long-long, cells-same}
 use Rattle.runs.specs.State.{opened, offered}
-use Rattle.runs.specs.Demand3.{ModelAccepted, run, counted, acceptances, after, steps}
+use Rattle.runs.specs.Demand3.{ModelAccepted, run, tally, acceptances, after, steps}
 use Rattle.runs.proofs.Demand3.{run-append, acceptances-append, demand3}
 use Rattle.replay.specs.declared.Replayed.{Replayed}
-use Rattle.replay.specs.Replay.{Packed, block, offerIn, offersIn, packedFits, replayVerdict, answered, replayed, ReplayHolds}
+use Rattle.tables.specs.Storage.{rowIn}
+use Rattle.replay.specs.Replay.{Packed, offerIn, offersIn, packedFits, replayVerdict, replayAnswer, replayed, ReplayHolds}
 use Rattle.replay.specs.Steps.{Packs}
 
 -- ---- a length, tested by division
@@ -94,7 +95,7 @@ block-fits w i h = omega (arith, row-below i (i + 1) w (let l : i < i + 1 = omeg
 abbrev part : {A : Type 0} → ℕ → ℕ → List A → List A
 part w i xs = take (i * w + w - i * w) (drop (i * w) xs)
 
-block-is : {A : Type 0} (w i : ℕ) (xs : List A) → part w i xs ≡ block w xs i
+block-is : {A : Type 0} (w i : ℕ) (xs : List A) → part w i xs ≡ rowIn w xs i
 block-is w i xs = ap (λ (j : ℕ). take j (drop (i * w) xs)) (let e : i * w + w - i * w ≡ w = omega arith in e)
 
 -- an offer by its parts
@@ -116,16 +117,16 @@ offer-is m b i =
 
 -- ---- the offers, one after the other
 -- a certifier's slices are as long as they came
-pub record SameLengths (x y : Lent) : Type 0 where
+pub record LentAsLong (x y : Lent) : Type 0 where
   pub state : length (y .state) ≡ length (x .state)
   pub cells : AsLong (x .cells) (y .cells)
   pub informed : length (y .rows .informed) ≡ length (x .rows .informed)
   pub qmdp : length (y .rows .qmdp) ≡ length (x .rows .qmdp)
 
-pub same-lengths : (x : Lent) → SameLengths x x
+pub same-lengths : (x : Lent) → LentAsLong x x
 same-lengths x = record { state = refl; cells = as-long (x .cells); informed = refl; qmdp = refl }
 
-pub longer : {x y z : Lent} → SameLengths x y → SameLengths y z → SameLengths x z
+pub longer : {x y z : Lent} → LentAsLong x y → LentAsLong y z → LentAsLong x z
 longer a b = record {
   state = b .state ∙ a .state;
   cells = long-long (a .cells) (b .cells);
@@ -139,7 +140,7 @@ pub record Running (m : Tables) (b : Packed) (x : Lent) (i : ℕ) (y : Lent) (ac
   pub accepted-is : accepted ≡ acceptances m x (offersIn m b i)
   pub few : accepted ≤ i
 
-pub counted-few : (v : Verdict) → counted v ≤ 1
+pub counted-few : (v : Verdict) → tally v ≤ 1
 counted-few Fine = omega arith
 counted-few (Refused number place) = omega arith
 
@@ -148,12 +149,12 @@ unfolding run acceptances offersIn
 running-none m b x = record { left-is = refl; accepted-is = refl; few = omega arith }
 
 pub running-more : {m : Tables} {b : Packed} {x y z : Lent} {i a k : ℕ} {v : Verdict} → Running m b x i y a
-    → v ≡ offerVerdict m y (offerIn m b i) → z ≡ offered m y (offerIn m b i) → k ≡ counted v → Running m b x (i + 1) z (a + k)
+    → v ≡ offerVerdict m y (offerIn m b i) → z ≡ offered m y (offerIn m b i) → k ≡ tally v → Running m b x (i + 1) z (a + k)
 unfolding run acceptances offersIn
 running-more {m} {b} {x} {y} {z} {i} {a} {k} {v} r e f g =
     let ls = offersIn m b i in
     let l = offerIn m b i in
-    let said : k ≡ counted (offerVerdict m (run m x ls) l) = g ∙ (ap counted e ∙ ap (λ (y : Lent). counted (offerVerdict m y l)) (r .left-is)) in
+    let said : k ≡ tally (offerVerdict m (run m x ls) l) = g ∙ (ap tally e ∙ ap (λ (y : Lent). tally (offerVerdict m y l)) (r .left-is)) in
     rw (add-one i) record {
       left-is = f ∙ (ap (λ (y : Lent). offered m y l) (r .left-is) ∙ sym (run-append m x ls (l ∷ [])));
       accepted-is =
@@ -165,20 +166,20 @@ running-more {m} {b} {x} {y} {z} {i} {a} {k} {v} r e f g =
 -- ---- each way out
 abbrev pub Said : Tables → Lent → Packed → ℕ → Replayed → Lent → Type 0
 Said m x b count r y =
-    (r ≡ answered m x b count)
+    (r ≡ replayAnswer m x b count)
     × ((y ≡ replayed m x b count)
     × ((x₀ : Lent) (ls : List LentLevel) → ModelAccepted m x₀ → x ≡ after m x₀ ls → r .verdict ≡ Fine
     → ReplayHolds m x₀ ls (offersIn m b count) y (r .accepted)))
 
 module _ (m : Tables) (x : Lent) (b : Packed) (count : ℕ) where
   pub refused : {k : ℕ} → Refused k 0 ≡ replayVerdict m x b count → Said m x b count record { verdict = Refused k 0; accepted = 0 } x
-  unfolding answered replayed
+  unfolding replayAnswer replayed
   refused e = (rw (sym e), (rw (sym e), λ x₀ ls o q f. never f))
 
   -- A list that is offered to what another list left is offered after it, and demand 3 holds of every list: so of both together. Qed.
   pub given : Fine ≡ replayVerdict m x b count → {a : ℕ} {y : Lent} → a ≡ acceptances m x (offersIn m b count) → y ≡ run m x (offersIn m b count)
       → Said m x b count record { verdict = Fine; accepted = a } y
-  unfolding answered replayed
+  unfolding replayAnswer replayed
   given e {a} {y} f g =
       let ks = offersIn m b count in (
         rw (sym e, f),

@@ -9,17 +9,16 @@ use Prim.Native.Nat.{ℕ, zero, suc, _+_, _*_}
 use mathlib.Core.Bool.{Bool, _&&_}
 use mathlib.Core.List.{List, [], _∷_, _++_}
 use lib.Dec.{leb}
-use lib.ListN.{length, getD, take, drop}
+use lib.ListN.{length, getD}
 use Rattle.tables.specs.declared.Tables.{Tables}
 use Rattle.tables.specs.declared.Verdict.{Verdict}
 use Rattle.tables.specs.declared.Verdict.the-variants.{Fine, Refused}
 use Rattle.tables.specs.Limits.{maxVectors}
-use Rattle.tables.specs.Storage.{rowStart}
-use Rattle.tables.specs.Verdicts.{_before_, unless}
+use Rattle.tables.specs.Storage.{rowIn}
+use Rattle.tables.specs.Verdicts.{_before_, unless, left}
 use Rattle.plans.specs.Limits.{maxPoints}
 use Rattle.levels.specs.Storage.{Cells, cells, LentLevel, Lent, lentFor}
 use Rattle.levels.specs.Judged.{holds}
-use Rattle.runs.specs.State.{left}
 use Rattle.runs.specs.Demand3.{run, acceptances, after, steps, Demand3}
 use Rattle.replay.specs.declared.Replayed.{Replayed}
 
@@ -34,17 +33,14 @@ pub record Packed : Type 0 where
 abbrev pub packed : ℕ → ℕ → List ℕ → List ℕ → Cells → Packed
 packed v p vectors points x = record { v = v; p = p; vectors = vectors; points = points; cells = x }
 
--- block i of blocks of w cells
-abbrev pub block : {A : Type 0} → ℕ → List A → ℕ → List A
-block w xs i = take w (drop (rowStart w i) xs)
-
+-- what lies in block i
 abbrev pub offerIn : Tables → Packed → ℕ → LentLevel
 offerIn m b i =
     let n : ℕ = m .states in
     let x : Cells = b .cells in
     lentFor (getD (b .vectors) i 0) (getD (b .points) i 0)
-    (cells (block (b .v) (x .actions) i) (block (b .v * m .observations) (x .choices) i) (block (b .v * n) (x .entries) i) (block n (x .corners) i)
-    (block (b .p * n) (x .weights) i) (block (b .p) (x .values) i))
+    (cells (rowIn (b .v) (x .actions) i) (rowIn (b .v * m .observations) (x .choices) i) (rowIn (b .v * n) (x .entries) i) (rowIn n (x .corners) i)
+    (rowIn (b .p * n) (x .weights) i) (rowIn (b .p) (x .values) i))
 
 -- the first of them, in their order
 unfoldable pub offersIn : Tables → Packed → ℕ → List LentLevel
@@ -79,8 +75,8 @@ abbrev pub replayedBy : Verdict → ℕ → Replayed
 replayedBy Fine accepted = record { verdict = Fine; accepted = accepted }
 replayedBy (Refused number place) accepted = record { verdict = Refused number place; accepted = 0 }
 
-unfoldable pub answered : Tables → Lent → Packed → ℕ → Replayed
-answered m x b count = replayedBy (replayVerdict m x b count) (acceptances m x (offersIn m b count))
+unfoldable pub replayAnswer : Tables → Lent → Packed → ℕ → Replayed
+replayAnswer m x b count = replayedBy (replayVerdict m x b count) (acceptances m x (offersIn m b count))
 
 unfoldable pub replayed : Tables → Lent → Packed → ℕ → Lent
 replayed m x b count = left (replayVerdict m x b count) (run m x (offersIn m b count)) x

@@ -9,8 +9,8 @@ ghost use Rattle.tables.specs.Storage.{tablesIn};
 ghost use Rattle.levels.specs.Storage.{LentLevel, Lent, cells, rows, lent};
 ghost use Rattle.levels.specs.Judged.{offerVerdict};
 ghost use Rattle.runs.specs.State.{offered};
-ghost use Rattle.runs.specs.Demand3.{ModelAccepted, run, counted, acceptances, after};
-ghost use Rattle.replay.specs.Replay.{packed, offerIn, offersIn, blocksFit, answered, replayed, ReplayHolds};
+ghost use Rattle.runs.specs.Demand3.{ModelAccepted, run, tally, acceptances, after};
+ghost use Rattle.replay.specs.Replay.{packed, offerIn, offersIn, blocksFit, replayAnswer, replayed, ReplayHolds};
 ghost use Rattle.replay.specs.Steps.{Packs};
 use levels::Level;
 use tables::Counts;
@@ -84,7 +84,7 @@ fn blocks_fit(
 
 // 1 of an acceptance, 0 of a refusal.
 fn counted_of(v: Verdict) -> usize
-    ensures { λ r. ⌜ r ≡ counted v ⌝ }
+    ensures { λ r. ⌜ r ≡ tally v ⌝ }
 {
     match v {
         Verdict::Fine => 1,
@@ -281,7 +281,7 @@ pub fn replay<'a, 'b>(
         (now (weights .entry)) (now (values .entry))) (rows (now (informed .entry)) (now (qmdp .entry))) in
         let b = packed v p (now (vectors .entry)) (now (points .entry)) (cells (now (newactions .entry)) (now (newchoices .entry))
         (now (newentries .entry)) (now (newcorners .entry)) (now (newweights .entry)) (now (newvalues .entry))) in
-        r ≡ answered m x b count) ⌝ }
+        r ≡ replayAnswer m x b count) ⌝ }
     ensures { λ _. ⌜ (let m = tablesIn c (now (transition .entry)) (now (observation .entry)) (now (reward .entry)) in
         let x = lent (now (state .entry)) (cells (now (actions .entry)) (now (choices .entry)) (now (entries .entry)) (now (corners .entry))
         (now (weights .entry)) (now (values .entry))) (rows (now (informed .entry)) (now (qmdp .entry))) in

@@ -1,11 +1,11 @@
-// Upper bounds by rows, one for each action: the rows of level 0, and a step of the fast informed bound and of QMDP. A row lies as a vector's entries do.
+// Upper bounds by rows, one for each action: a step of the fast informed bound and of QMDP. A row lies as a vector's entries do.
 ghost use mathlib.Core.Path.{_≡_};
 ghost use mathlib.Core.List.{List};
 ghost use Prim.Native.Nat.{ℕ, _*_, _≤_, _<_};
 ghost use lib.ListN.{length};
 ghost use lib.IntN.{pos};
 ghost use Rattle.integers.specs.Whole.{sumTo, Below};
-ghost use Rattle.integers.specs.Cells.{padded, laid, laidRows};
+ghost use Rattle.integers.specs.Cells.{padded, laidRows};
 ghost use Rattle.tables.specs.Limits.{maxStates, maxActions, maxObservations, one};
 ghost use Rattle.tables.specs.Storage.{transitionIn, entryIn, modelIn};
 ghost use Rattle.tables.specs.Steps.{EntriesFit};
@@ -13,7 +13,6 @@ ghost use Rattle.sums.specs.Steps.{TransitionsFit, ObservationsFit};
 ghost use Rattle.plans.specs.Rows.{highest, informedNext, qmdpNext};
 ghost use Rattle.rows.specs.Steps.{bestIn, topIn, Ready, Seen};
 use integers::cells;
-use levels::vectors;
 use tables::Action;
 use tables::Counts;
 use tables::Foreseen;
@@ -56,7 +55,7 @@ fn ahead(
     let mut sum: i64 = 0;
     for o in 0..k {
         let q = sums::successors(observation, n, k, u, a, Observation(o));
-        sum = integers::plus(sum, vectors::largest_product(&q, rows, n, m));
+        sum = integers::plus(sum, products::largest_product(&q, rows, n, m));
     }
     sum
 }
@@ -175,14 +174,6 @@ pub fn step_qmdp<'a>(
 }
 
 // ---- the rows of a certifier
-
-// Zeros over the first cells of a slice.
-pub fn clear(rows: &mut [i64], count: usize)
-    requires { ⌜ (count ≤ maxActions * maxStates) × (count ≤ length (now rows)) ⌝ }
-    ensures { λ _. ⌜ now (rows .exit) ≡ laid count (λ i. pos 0) (now (rows .entry)) ⌝ }
-{
-    cells::paste_i64(rows, 0, &[0i64; Tables::ACTIONS * Tables::STATES], count);
-}
 
 // Both kinds of rows, a level above, over those that stand.
 pub fn step<'a>(

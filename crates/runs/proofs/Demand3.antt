@@ -30,9 +30,10 @@ use Rattle.levels.proofs.Laws.{passed, fine-before}
 use Rattle.levels.proofs.Over.{Complete, AsLong, as-long, long-long, complete-true, complete-long, over-agree, over-long, over-same}
 use Rattle.levels.proofs.Over.{informed-over, qmdp-over, informed-long, qmdp-long}
 use Rattle.runs.specs.declared.Bounds.{Bounds}
-use Rattle.runs.specs.State.{left, at, openVerdict, opened, verdictOn, raised, offered, mixtureHolds, totalsVerdict, totalsOf}
+use Rattle.tables.specs.Verdicts.{left}
+use Rattle.runs.specs.State.{at, openVerdict, opened, verdictOn, raised, offered, mixtureHolds, totalsVerdict, totalsOf}
 use Rattle.runs.specs.State.{answerFor, buildVerdict, builtFrom, builtOf}
-use Rattle.runs.specs.Demand3.{ModelAccepted, run, counted, acceptances, newer, lastOf, after, steps, last}
+use Rattle.runs.specs.Demand3.{ModelAccepted, run, tally, acceptances, newer, lastOf, after, steps, last}
 use Rattle.runs.specs.Demand3.{StateHolds, RowsAre, TotalsHold, BuildHolds, PointsHold, Demand3}
 use Rattle.runs.proofs.Judged.{Held, Accepted, standing-is, accepted, accepts, weights-is}
 
@@ -141,12 +142,12 @@ module _ {m : Tables} {x₀ : Cells} {t : ℕ} {L : Level} {x : Lent} (r : Reach
 
   -- one offer keeps it: a refused one leaves all as it was
   reached-step : (l : LentLevel)
-      → Reached m x₀ (t + counted (verdictOn m x l)) (newer (verdictOn m x l) (levelOf m l) L) (offered m x l)
+      → Reached m x₀ (t + tally (verdictOn m x l)) (newer (verdictOn m x l) (levelOf m l) L) (offered m x l)
   unfolding offered
   reached-step l = by (verdictOn m x l) (accepted m x l)
     where
       by : (v : Verdict) → (v ≡ Fine → Accepted m x l)
-          → Reached m x₀ (t + counted v) (newer v (levelOf m l) L) (left v (raised m x (levelOf m l)) x)
+          → Reached m x₀ (t + tally v) (newer v (levelOf m l) L) (left v (raised m x (levelOf m l)) x)
       by Fine a = rw (add-one t) (reached-next l (a refl))
       by (Refused number place) a = rw (add-zero t) r
 
@@ -227,7 +228,7 @@ pub acceptances-append : (m : Tables) (x : Lent) (ls ks : List LentLevel)
 unfolding run acceptances
 acceptances-append m x [] ks = sym (zero-add _)
 acceptances-append m x (l ∷ ls) ks =
-    ap (λ (n : ℕ). counted (verdictOn m x l) + n) (acceptances-append m (offered m x l) ls ks) ∙ sym (add-assoc _ _ _)
+    ap (λ (n : ℕ). tally (verdictOn m x l) + n) (acceptances-append m (offered m x l) ls ks) ∙ sym (add-assoc _ _ _)
 
 -- ---- a list of offers
 -- by induction over the list, each offer by `reached-step`
@@ -236,7 +237,7 @@ reached-run : (m : Tables) (x₀ : Cells) (ls : List LentLevel) (t : ℕ) (L : L
 unfolding run acceptances lastOf
 reached-run m x₀ [] t L x r = rw (add-zero t) r
 reached-run m x₀ (l ∷ ls) t L x r =
-    rw (← add-assoc t (counted (verdictOn m x l)) (acceptances m (offered m x l) ls))
+    rw (← add-assoc t (tally (verdictOn m x l)) (acceptances m (offered m x l) ls))
     (reached-run m x₀ ls _ _ (offered m x l) (reached-step r l))
 
 module _ (m : Tables) (x : Lent) (o : ModelAccepted m x) (ls : List LentLevel) where

@@ -18,7 +18,8 @@ use Rattle.plans.proofs.Built.{action-exists, chosen-exists}
 use Rattle.plans.proofs.Ticks.{BackedUp, low-next, high-next}
 use Rattle.levels.specs.Storage.{Cells, LentLevel, Lent, levelOf, pointIn, over, numberIn, standingIn}
 use Rattle.levels.proofs.Over.{over-agree}
-use Rattle.runs.specs.State.{left, raised, opened, verdictOn, offered, answerFor, buildVerdict, builtFrom, builtOf}
+use Rattle.tables.specs.Verdicts.{left}
+use Rattle.runs.specs.State.{raised, opened, verdictOn, offered, answerFor, buildVerdict, builtFrom, builtOf}
 use Rattle.runs.specs.Demand3.{ModelAccepted, run, newer, lastOf, after, steps, last}
 use Rattle.runs.specs.Ticks.{Points, builtLevel, unlessRefused, offers, stacked, levelsOf, levels, made, Ticks}
 use Rattle.runs.proofs.Judged.{accepted}

@@ -35,13 +35,13 @@ unfoldable pub run : Tables → Lent → List LentLevel → Lent
 run m x [] = x
 run m x (l ∷ ls) = run m (offered m x l) ls
 
-abbrev pub counted : Verdict → ℕ
-counted Fine = 1
-counted (Refused number place) = 0
+abbrev pub tally : Verdict → ℕ
+tally Fine = 1
+tally (Refused number place) = 0
 
 unfoldable pub acceptances : Tables → Lent → List LentLevel → ℕ
 acceptances m x [] = 0
-acceptances m x (l ∷ ls) = counted (verdictOn m x l) + acceptances m (offered m x l) ls
+acceptances m x (l ∷ ls) = tally (verdictOn m x l) + acceptances m (offered m x l) ls
 
 -- the later of two levels, if its offer was accepted
 abbrev pub newer : Verdict → Level → Level → Level

@@ -13,7 +13,7 @@ use Rattle.tables.specs.declared.Verdict.the-variants.{Fine, Refused}
 use Rattle.tables.specs.Limits.{maxWeight, maxLevels}
 use Rattle.tables.specs.Model.{Model}
 use Rattle.tables.specs.Storage.{weightIn, modelOf}
-use Rattle.tables.specs.Verdicts.{_before_, unless}
+use Rattle.tables.specs.Verdicts.{_before_, unless, left}
 use Rattle.tables.specs.Judged.{tablesVerdict}
 use Rattle.plans.specs.Limits.{maxBuilt}
 use Rattle.plans.specs.Level.{Level, level0, ceiling}
@@ -24,11 +24,6 @@ use Rattle.levels.specs.Storage.{Cells, LentLevel, Lent, stateSize, levelOf, po
 use Rattle.levels.specs.Storage.{informedIn, qmdpIn}
 use Rattle.levels.specs.Judged.{holds, weightsVerdict, offerVerdict}
 use Rattle.runs.specs.declared.Bounds.{Bounds}
-
--- what is lent, as a verdict leaves it: a refusal leaves it as it was
-abbrev pub left : {A : Type 0} → Verdict → A → A → A
-left Fine new old = new
-left (Refused number place) new old = old
 
 -- a certifier at level t: the level is laid over its slices, and the rows F and Q
 abbrev pub at : Tables → ℕ → Level → (ℕ → ℕ → ℤ) → (ℕ → ℕ → ℤ) → Lent → Lent

@@ -15,8 +15,6 @@ ghost use Rattle.plans.specs.Level.{product, smallest, orNone};
 ghost use Rattle.levels.specs.Storage.{cornerIn};
 ghost use Rattle.sawtooth.specs.Steps.{positive, gainIn, dropIn, ceilingIn, CornersFit, PointsFit, ValuesFit, maxGain, cap};
 use levels::Level;
-use levels::shape;
-use levels::vectors;
 use tables::read;
 
 pub type Gains = [u64; Level::POINTS];
@@ -32,7 +30,7 @@ fn gain_of(corners: &[i64], p: &[u64], value: i64, n: usize) -> u64
     requires { ⌜ natAbs value ≤ maxTotal * maxEntry ⌝ }
     ensures { λ r. ⌜ r ≡ positive (product n (weightIn (now (p .entry))) (cornerIn (now (corners .entry))) -ℤ value) ⌝ }
 {
-    let g = integers::minus(vectors::product(p, corners, 0, n), value);
+    let g = integers::minus(products::product(p, corners, 0, n), value);
     if g < 0 {
         return 0;
     }
@@ -55,7 +53,7 @@ pub fn gains<'a>(
 {
     let mut g = [0u64; Level::POINTS];
     for i in 0..points {
-        let p = shape::point_weights(weights, n, i);
+        let p = ranges::point_weights(weights, n, i);
         g[i] = gain_of(corners, &p, values[i], n);
     }
     g
@@ -85,7 +83,7 @@ fn reaches(q: &[u64], weights: &[u32], at: usize, gain: u64, n: usize, least: u6
     ensures { λ r. ⌜ r ≡ every n (λ s. leb (least * getD (now (weights .entry)) (at + s) 0) (getD (now (q .entry)) s 0 * gain)) ⌝ }
 {
     for s in 0..n {
-        let p = shape::weight(weights[at + s]);
+        let p = ranges::weight(weights[at + s]);
         if reach(q[s], gain) < wanted(least, p) {
             return false;
         }
@@ -111,7 +109,7 @@ fn drop_of(q: &[u64], weights: &[u32], at: usize, gain: u64, n: usize) -> u64
     let mut top: u64 = 1; // under no weight: any state with weight takes its place
     let mut under: u64 = 0;
     for s in 0..n {
-        let p = shape::weight(weights[at + s]);
+        let p = ranges::weight(weights[at + s]);
         let x = q[s];
         if cross(x, under) < cross(top, p) {
             top = x;
@@ -175,5 +173,5 @@ pub fn ceiling<'a>(
     ensures { λ r. ⌜ r ≡ ceilingIn n (now (corners .entry)) (now (weights .entry)) (now (gains .entry)) points (now (q .entry)) ⌝ }
 {
     let d = largest_drop(q, weights, gains, points, n);
-    integers::minus(vectors::product(q, corners, 0, n), d as i64)
+    integers::minus(products::product(q, corners, 0, n), d as i64)
 }

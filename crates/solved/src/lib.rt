@@ -287,7 +287,7 @@ fn entries_hold<'a, 'c>(
             q,
         );
         let row = x.entries;
-        let verdict = shape::rows_within(&row, 1, c.states, limit, 11);
+        let verdict = ranges::rows_within(&row, 1, c.states, limit, 11);
         let Verdict::Fine = verdict else {
             return Verdict::Refused(11, v);
         };
@@ -340,7 +340,7 @@ pub fn judge_level<'a, 'c>(
     let Verdict::Fine = ranges else {
         return ranges;
     };
-    shape::weights_hold(given, c.states, points)
+    ranges::weights_hold(given, c.states, points)
 }
 
 // ---- the level

@@ -1,7 +1,7 @@
 -- All the vectors or nodes of a file, one after the other. Assumes nothing.
 --
 --   Left       as a loop reads them for the first time: left-start, left-end, left-back, left-on
---   Standing   as a loop reads them once more: stands-read, standing-on
+--   GoesOn   as a loop reads them once more: stands-read, standing-on
 use Rattle.integers.proofs.Kit.{_≡_, _∙_, refl, ap, sym, subst, List, [], _∷_, ℕ, _≤_, _<_, _+_, suc, _-_, zero, arith, zero-add, add-one, length}
 use Rattle.integers.proofs.Kit.{getD, drop, take}
 use denote.Enum.Declared.{tagOf}
@@ -19,8 +19,8 @@ use Rattle.words.proofs.Word as word-type
 use Rattle.grammar.specs.Grammar.{Answer, got, refused, _then_, unlessEnd}
 use Rattle.grammar.proofs.Arms.{no-word}
 use Rattle.solver.specs.declared.Judged.{Judged}
-use Rattle.solver.specs.Files.{allFrom, allIn, readable, listOf, counted}
-use Rattle.solver.specs.Steps.{Gave, judgedFrom, Standing}
+use Rattle.solver.specs.Files.{allFrom, allIn, readable, listOf, withCount}
+use Rattle.solver.specs.Steps.{Gave, judgedFrom, GoesOn}
 
 module _ {A : Type 0} (one : ℕ → Words → Answer A) where
   -- the one numbered i, and those after it
@@ -43,9 +43,9 @@ module _ {A : Type 0} (one : ℕ → Words → Answer A) where
   -- ---- read for the first time
 
   abbrev whole : List ℕ → Judged
-  whole file = counted (readable (allIn one file)) (length (listOf (allIn one file)))
+  whole file = withCount (readable (allIn one file)) (length (listOf (allIn one file)))
 
-  judged-whole : (a : Answer (List A)) → judgedFrom 0 a ≡ counted (readable a) (length (listOf a))
+  judged-whole : (a : Answer (List A)) → judgedFrom 0 a ≡ withCount (readable a) (length (listOf a))
   judged-whole (got xs ws) = ap (λ (n : ℕ). record { verdict = Fine; vectors = n }) (zero-add (length xs))
   judged-whole (refused number place) = refl
 
@@ -162,15 +162,15 @@ module _ {A : Type 0} (one : ℕ → Words → Answer A) where
   first-of (suc fuel) i (end p) x xs last e = nothing e
   first-of (suc fuel) i (word p w rest) x xs last e = first-one i (word p w rest) x xs last fuel (one i (word p w rest)) refl e
 
-  stands : (file : List ℕ) (all : List A) (last : Words) → allIn one file ≡ got all last → Standing one file all 0 0
+  stands : (file : List ℕ) (all : List A) (last : Words) → allIn one file ≡ got all last → GoesOn one file all 0 0
   unfolding allIn
   stands file all last e = record { inside = omega arith; fuel = length file + 1; last = last; left = e }
 
   -- a file that is not refused
-  pub stands-read : (file : List ℕ) → readable (allIn one file) ≡ Fine → Standing one file (listOf (allIn one file)) 0 0
+  pub stands-read : (file : List ℕ) → readable (allIn one file) ≡ Fine → GoesOn one file (listOf (allIn one file)) 0 0
   stands-read file e = by (allIn one file) refl e
     where
-      by : (a : Answer (List A)) → allIn one file ≡ a → readable a ≡ Fine → Standing one file (listOf a) 0 0
+      by : (a : Answer (List A)) → allIn one file ≡ a → readable a ≡ Fine → GoesOn one file (listOf a) 0 0
       by (got xs last) q e = stands file xs last q
       by (refused number place) q e = never e
 
@@ -179,9 +179,9 @@ module _ {A : Type 0} (one : ℕ → Words → Answer A) where
     pub record Onward (i : ℕ) (verdict : Verdict) (stop : ℕ) (x : A) : Type 0 where
       pub fine : verdict ≡ Fine
       pub same : (d : A) → x ≡ getD all i d
-      pub next : Standing one file all (i + 1) stop
+      pub next : GoesOn one file all (i + 1) stop
 
-    pub standing-on : {i at : ℕ} → Standing one file all i at → i < length all → (verdict : Verdict) (stop : ℕ) (x : A)
+    pub standing-on : {i at : ℕ} → GoesOn one file all i at → i < length all → (verdict : Verdict) (stop : ℕ) (x : A)
         → Gave file at verdict stop x (one i (wordsIn between file at)) → Onward i verdict stop x
     standing-on {i} {at} standing h verdict stop x gave = by verdict gave
       where

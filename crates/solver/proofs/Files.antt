@@ -19,20 +19,20 @@ use Rattle.solver.specs.declared.Judged.{Judged}
 use Rattle.solver.specs.declared.AlphaAt.{AlphaAt}
 use Rattle.solver.specs.declared.NodeAt.{NodeAt}
 use Rattle.solver.specs.Files.{Alpha, Node, alpha, node, alphas, nodes, readable, listOf, vectorsIn, alphaAt, nodeAt, actionAt, ticksAt, nextAt}
-use Rattle.solver.specs.Files.{alike, filesVerdict, counted, filesJudged}
-use Rattle.solver.specs.Steps.{Gave, alphaOf, nodeOf, Standing, BothAt}
+use Rattle.solver.specs.Files.{alike, filesVerdict, withCount, filesJudged}
+use Rattle.solver.specs.Steps.{Gave, alphaOf, nodeOf, GoesOn, BothAt}
 use Rattle.solver.proofs.All.{stands-read, Onward, standing-on}
 
 -- ---- how one file is judged
 
-counted-verdict : (v : Verdict) (vectors : ℕ) → counted v vectors .verdict ≡ v
+counted-verdict : (v : Verdict) (vectors : ℕ) → withCount v vectors .verdict ≡ v
 counted-verdict Fine vectors = refl
 counted-verdict (Refused number place) vectors = refl
 
-count-of : {j : Judged} (v : Verdict) (vectors : ℕ) → j ≡ counted v vectors → v ≡ Fine → j .vectors ≡ vectors
-count-of v vectors e fine = ap (λ (j : Judged). j .vectors) e ∙ ap (λ (v : Verdict). counted v vectors .vectors) fine
+count-of : {j : Judged} (v : Verdict) (vectors : ℕ) → j ≡ withCount v vectors → v ≡ Fine → j .vectors ≡ vectors
+count-of v vectors e fine = ap (λ (j : Judged). j .vectors) e ∙ ap (λ (v : Verdict). withCount v vectors .vectors) fine
 
-counted-refused : (v w : Verdict) (vectors : ℕ) → tagOf verdict-type.the-type v ≡ 1 → record { verdict = v; vectors = 0 } ≡ counted (v before w) vectors
+counted-refused : (v w : Verdict) (vectors : ℕ) → tagOf verdict-type.the-type v ≡ 1 → record { verdict = v; vectors = 0 } ≡ withCount (v before w) vectors
 counted-refused Fine w vectors e = absurd (omega arith)
 counted-refused (Refused number place) w vectors e = refl
 
@@ -108,12 +108,12 @@ module _ (n k : ℕ) (alphaFile graphFile : List ℕ) where
   -- ---- as they are judged: x is what is said of the alpha file, y of the graph file
 
   abbrev judgedBy : Verdict → Verdict → Bool → Judged
-  judgedBy first second same = counted (first before second before unless same 20 0) (vectorsIn n alphaFile)
+  judgedBy first second same = withCount (first before second before unless same 20 0) (vectorsIn n alphaFile)
 
   abbrev sameActions : ℕ → Bool
   sameActions count = every count (λ v. eqb (actionAt n alphaFile v) (nodeAt k graphFile v .action))
 
-  module _ {x : Judged} (ex : x ≡ counted (readable (alphas n alphaFile)) (vectorsIn n alphaFile)) where
+  module _ {x : Judged} (ex : x ≡ withCount (readable (alphas n alphaFile)) (vectorsIn n alphaFile)) where
     first-is : x .verdict ≡ readable (alphas n alphaFile)
     first-is = ap (λ (j : Judged). j .verdict) ex ∙ counted-verdict (readable (alphas n alphaFile)) (vectorsIn n alphaFile)
 
@@ -123,11 +123,11 @@ module _ (n k : ℕ) (alphaFile graphFile : List ℕ) where
         counted-refused (x .verdict) (readable (nodes k graphFile) before unless (alike n k alphaFile graphFile) 20 0) (vectorsIn n alphaFile) t
         ∙ ap (λ (v : Verdict). judgedBy v (readable (nodes k graphFile)) (alike n k alphaFile graphFile)) first-is
 
-    module _ (fx : x .verdict ≡ Fine) {y : Judged} (ey : y ≡ counted (readable (nodes k graphFile)) (length (listOf (nodes k graphFile)))) where
+    module _ (fx : x .verdict ≡ Fine) {y : Judged} (ey : y ≡ withCount (readable (nodes k graphFile)) (length (listOf (nodes k graphFile)))) where
       second-is : y .verdict ≡ readable (nodes k graphFile)
       second-is = ap (λ (j : Judged). j .verdict) ey ∙ counted-verdict (readable (nodes k graphFile)) (length (listOf (nodes k graphFile)))
 
-      after-first : (same : Bool) → counted (y .verdict before unless same 20 0) (vectorsIn n alphaFile)
+      after-first : (same : Bool) → withCount (y .verdict before unless same 20 0) (vectorsIn n alphaFile)
           ≡ judgedBy (readable (alphas n alphaFile)) (readable (nodes k graphFile)) same
       after-first same =
           ap (λ (v : Verdict). judgedBy v (y .verdict) same) (sym fx ∙ first-is)
@@ -140,10 +140,10 @@ module _ (n k : ℕ) (alphaFile graphFile : List ℕ) where
 
       module _ (fy : y .verdict ≡ Fine) where
         after-second : (same : Bool) → alike n k alphaFile graphFile ≡ same
-            → counted (unless same 20 0) (vectorsIn n alphaFile) ≡ filesJudged n k alphaFile graphFile
+            → withCount (unless same 20 0) (vectorsIn n alphaFile) ≡ filesJudged n k alphaFile graphFile
         unfolding filesVerdict
         after-second same q =
-            ap (λ (v : Verdict). counted (v before unless same 20 0) (vectorsIn n alphaFile)) (sym fy) ∙ after-first same
+            ap (λ (v : Verdict). withCount (v before unless same 20 0) (vectorsIn n alphaFile)) (sym fy) ∙ after-first same
             ∙ ap (λ (b : Bool). judgedBy (readable (alphas n alphaFile)) (readable (nodes k graphFile)) b) (sym q)
 
         vectors-are : x .vectors ≡ vectorsIn n alphaFile

@@ -135,9 +135,9 @@ filesVerdict n k alphaFile graphFile =
     readable (alphas n alphaFile) before readable (nodes k graphFile) before unless (alike n k alphaFile graphFile) 20 0
 
 -- the number of vectors; 0 with a refusal
-abbrev pub counted : Verdict → ℕ → Judged
-counted Fine vectors = record { verdict = Fine; vectors = vectors }
-counted (Refused number place) vectors = record { verdict = Refused number place; vectors = 0 }
+abbrev pub withCount : Verdict → ℕ → Judged
+withCount Fine vectors = record { verdict = Fine; vectors = vectors }
+withCount (Refused number place) vectors = record { verdict = Refused number place; vectors = 0 }
 
 abbrev pub filesJudged : ℕ → ℕ → List ℕ → List ℕ → Judged
-filesJudged n k alphaFile graphFile = counted (filesVerdict n k alphaFile graphFile) (vectorsIn n alphaFile)
+filesJudged n k alphaFile graphFile = withCount (filesVerdict n k alphaFile graphFile) (vectorsIn n alphaFile)

@@ -58,7 +58,7 @@ judgedFrom i (refused number place) = record { verdict = Not 19 place; vectors =
 -- ---- a file that is read once more
 
 -- the words from `at` on are those of `all` from the one numbered i on
-pub record Standing {A : Type 0} (one : ℕ → Words → Answer A) (file : List ℕ) (all : List A) (i at : ℕ) : Type 0 where
+pub record GoesOn {A : Type 0} (one : ℕ → Words → Answer A) (file : List ℕ) (all : List A) (i at : ℕ) : Type 0 where
   pub inside : at ≤ length file
   pub fuel : ℕ
   pub last : Words
@@ -68,5 +68,5 @@ pub record Standing {A : Type 0} (one : ℕ → Words → Answer A) (file : List
 pub record BothAt (n k : ℕ) (alphaFile graphFile : List ℕ) (count v p q : ℕ) : Type 0 where
   pub as-many-vectors : count ≡ vectorsIn n alphaFile
   pub as-many-nodes : count ≡ length (listOf (nodes k graphFile))
-  pub vectors-stand : Standing (λ _. alpha n) alphaFile (listOf (alphas n alphaFile)) v p
-  pub nodes-stand : Standing (node k) graphFile (listOf (nodes k graphFile)) v q
+  pub vectors-stand : GoesOn (λ _. alpha n) alphaFile (listOf (alphas n alphaFile)) v p
+  pub nodes-stand : GoesOn (node k) graphFile (listOf (nodes k graphFile)) v q

@@ -10,7 +10,7 @@ ghost use Rattle.words.specs.Words.{wordsIn, between};
 ghost use Rattle.numerals.specs.Numeral.{signed};
 ghost use Rattle.grammar.specs.Steps.{Reads};
 ghost use Rattle.solver.specs.Files.{mostDecimal, perTick, decimal, nextNode, noNode, several, alpha, node, alphas, nodes, readable, listOf};
-ghost use Rattle.solver.specs.Files.{vectorsIn, actionAt, nodeAt, counted, filesJudged};
+ghost use Rattle.solver.specs.Files.{vectorsIn, actionAt, nodeAt, withCount, filesJudged};
 ghost use Rattle.solver.specs.Steps.{Lists, handed, Gave, alphaOf, nodeOf, BothAt};
 use grammar::Read;
 use numerals::Form;
@@ -230,7 +230,7 @@ pub fn node_at(file: &[u8], at: usize, i: usize, k: usize) -> NodeAt
 // The vectors of an alpha file, counted.
 fn judge_alphas(file: &[u8], n: usize) -> Judged
     requires { ⌜ n ≤ maxStates ⌝ }
-    ensures { λ r. ⌜ r ≡ counted (readable (alphas n (now (file .entry)))) (vectorsIn n (now (file .entry))) ⌝ }
+    ensures { λ r. ⌜ r ≡ withCount (readable (alphas n (now (file .entry)))) (vectorsIn n (now (file .entry))) ⌝ }
 {
     let mut at: usize = 0;
     let mut v: usize = 0;
@@ -258,7 +258,7 @@ fn judge_alphas(file: &[u8], n: usize) -> Judged
 // The nodes of a graph file, counted.
 fn judge_nodes(file: &[u8], k: usize) -> Judged
     requires { ⌜ k ≤ maxObservations ⌝ }
-    ensures { λ r. ⌜ r ≡ counted (readable (nodes k (now (file .entry)))) (length (listOf (nodes k (now (file .entry))))) ⌝ }
+    ensures { λ r. ⌜ r ≡ withCount (readable (nodes k (now (file .entry)))) (length (listOf (nodes k (now (file .entry))))) ⌝ }
 {
     let mut at: usize = 0;
     let mut v: usize = 0;

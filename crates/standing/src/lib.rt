@@ -43,15 +43,15 @@ pub fn ranges_hold<'a>(
         (now (values .entry))) ⌝ }
 {
     let limit = range_of(t);
-    let floor = shape::rows_within(entries, vectors, n, limit, 11);
+    let floor = ranges::rows_within(entries, vectors, n, limit, 11);
     let Verdict::Fine = floor else {
         return floor;
     };
-    let roof = shape::rows_within(corners, n, 1, limit, 11);
+    let roof = ranges::rows_within(corners, n, 1, limit, 11);
     let Verdict::Fine = roof else {
         return roof;
     };
-    shape::values_within(weights, values, n, points, limit)
+    ranges::values_within(weights, values, n, points, limit)
 }
 
 // Whether rows of m actions and n states are there and within the range of level t.
@@ -62,7 +62,7 @@ fn rows_hold(cells: &[i64], m: usize, n: usize, t: usize) -> bool
     if cells.len() < m * n {
         return false;
     }
-    let verdict = shape::rows_within(cells, m, n, range_of(t), 7);
+    let verdict = ranges::rows_within(cells, m, n, range_of(t), 7);
     let Verdict::Fine = verdict else {
         return false;
     };
@@ -130,7 +130,7 @@ pub fn standing_holds<'a, 'b>(
     let Verdict::Fine = ranges else {
         return false;
     };
-    let totals = shape::weights_hold(weights, c.states, s.points);
+    let totals = ranges::weights_hold(weights, c.states, s.points);
     let Verdict::Fine = totals else {
         return false;
     };

@@ -3,7 +3,7 @@
 --   T by a, s, s'     O by a, s', o     R by a, s     a vector's entries by v, s     its choices by v, o
 use Prim.Native.Nat.{ℕ, _+_, _*_}
 use mathlib.Core.List.{List}
-use lib.ListN.{getD}
+use lib.ListN.{getD, take, drop}
 use lib.IntN.{ℤ, pos}
 use Rattle.tables.specs.declared.Counts.{Counts}
 use Rattle.tables.specs.declared.Tables.{Tables}
@@ -15,6 +15,10 @@ rowStart w r = r * w
 
 abbrev pub rowPlace : ℕ → ℕ → ℕ → ℕ
 rowPlace w r x = rowStart w r + x
+
+-- row r of width w, as a list
+abbrev pub rowIn : {A : Type 0} → ℕ → List A → ℕ → List A
+rowIn w cells r = take w (drop (rowStart w r) cells)
 
 -- where place x, in rows of width w, of row s of block a lies, with n rows to a block
 abbrev pub cellPlace : ℕ → ℕ → ℕ → ℕ → ℕ → ℕ

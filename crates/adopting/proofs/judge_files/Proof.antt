@@ -13,7 +13,7 @@ use Rattle.levels.specs.Storage.{Lent, cells, rows, lent, standingAt, longEnoug
 use Rattle.levels.specs.Judged.{holds}
 use Rattle.runs.proofs.Judged.{Held, standing-true}
 use Rattle.solver.specs.declared.Judged.{Judged}
-use Rattle.solver.specs.Files.{maxFile, vectorsIn, filesVerdict, counted}
+use Rattle.solver.specs.Files.{maxFile, vectorsIn, filesVerdict, withCount}
 use Rattle.adopting.proofs.Adopting.{verdict-counted, vectors-counted, counted-back}
 use Rattle.adopting.proofs.judge_files.Statement.{statement}
 use Rattle.adopting.proofs.judge_files.Tie as tie
@@ -125,8 +125,8 @@ returns-6 c choices =
     let r = c .before .before in
     let e = r .before .before in
     let f = of-files e in
-    ap (λ (n : ℕ). counted Fine n) (vectors-are e)
-    ∙ ap (λ (w : Verdict). counted w (vectorsIn (start (of-certifier (f .before)) .args .c .states) (start (of-certifier (f .before)) .args .alpha .now)))
+    ap (λ (n : ℕ). withCount Fine n) (vectors-are e)
+    ∙ ap (λ (w : Verdict). withCount w (vectorsIn (start (of-certifier (f .before)) .args .c .states) (start (of-certifier (f .before)) .args .alpha .now)))
     (sym (c .enum-told3 .given .1) ∙ on-7 (f .before) choices (goes (files-said f) (e .enum-told .given .1) (room-said r)))
 
 pub judge-files-spec : {M : Type 1} → statement M

@@ -8,7 +8,7 @@ use Rattle.plans.specs.Level.{Level}
 use Rattle.plans.specs.Build.{built}
 use Rattle.candidates.specs.Steps.{uponIn}
 use Rattle.builder.specs.Steps.{Filled}
-use Rattle.builder.proofs.Levels.{seed-light, Made, vector-made, filled-none, SameLengths, filled-long, Room, rows-room, filled-more}
+use Rattle.builder.proofs.Levels.{seed-light, Made, vector-made, filled-none, VectorsAsLong, filled-long, Room, rows-room, filled-more}
 use Rattle.builder.proofs.build_vectors.Statement.{statement}
 use Rattle.builder.proofs.build_vectors.Tie as tie
 
@@ -128,7 +128,7 @@ loop-again c =
 long : (c : tie.After-loop Inv-loop μ-loop)
     → let a = c .before .before .before .before .before .before .before .args in
     let l = c .before .loop in
-    SameLengths (a .actions .now) (a .choices .now) (a .entries .now) (l .actions) (l .choices) (l .entries)
+    VectorsAsLong (a .actions .now) (a .choices .now) (a .entries .now) (l .actions) (l .choices) (l .entries)
 long c = filled-long _ _ _ (c .before .before .before .before .before .before .before .pre .1 .1 .1) (c .before .loop .inv .1) (c .before .loop .inv .0)
 
 returns : tie.Need-returns Inv-loop μ-loop

@@ -1,6 +1,6 @@
 use Rattle.integers.proofs.Kit.{_∙_, ap, needs}
 use Rattle.replay.specs.declared.Replayed.{Replayed}
-use Rattle.replay.specs.Replay.{answered}
+use Rattle.replay.specs.Replay.{replayAnswer}
 use Rattle.exports.specs.Calls.{replayBy}
 use Rattle.exports.proofs.biidhaqun_replay.Statement.{statement}
 use Rattle.exports.proofs.biidhaqun_replay.Tie as tie
@@ -10,7 +10,7 @@ abbrev called : tie.After-refusal-of → tie.After-replay
 called c = c .before .before .before .before .before .before .before .before .before .before .before .before .before .before
 
 returns : tie.Need-returns
-unfolding answered
+unfolding replayAnswer
 returns c =
     let a = called c .replay .ensures in (
       rw (c .refusal-of .ensures) (ap replayBy (a .0)),

@@ -1,6 +1,6 @@
 use Rattle.integers.proofs.Kit.{_≡_, _∙_, ap, sym, true, List, [], ℕ, _<_, _*_, needs, leb-true, not-false, not-true, leb, length}
 use Rattle.tables.specs.declared.Tables.{Tables}
-use Rattle.tables.specs.Storage.{tablesIn}
+use Rattle.tables.specs.Storage.{tablesIn, rowIn}
 use Rattle.levels.specs.declared.Standing.{Standing}
 use Rattle.levels.specs.Storage.{Lent, cells, rows, lent, standingAt}
 use Rattle.backups.proofs.Roofs.{corners-fit, points-fit, values-fit}
@@ -8,7 +8,7 @@ use Rattle.tables.specs.declared.Verdict.{Verdict}
 use Rattle.tables.specs.declared.Verdict.the-variants.{Fine, Refused}
 use Rattle.levels.specs.Judged.{holds}
 use Rattle.bounds.specs.Steps.{answerIn, standingVerdict}
-use Rattle.mixtures.specs.Each.{Answers, answers, mixtureAt, roomFor, eachVerdict}
+use Rattle.mixtures.specs.Each.{Answers, answers, roomFor, eachVerdict}
 use Rattle.runs.specs.declared.Bounds.{Bounds}
 use Rattle.runs.specs.State.{totalsOf}
 use Rattle.bounds.proofs.Bounds.{stands, Gained, roofed, asked, gains-long, standing-holds, answered}
@@ -140,15 +140,15 @@ abbrev answer-at : tie.After-gains → Standing → ℕ → Bounds
 answer-at c t i =
     let a = of-standing (c .before) .args in
     answerIn (a .c .states) (a .c .actions) (t .vectors) (t .points) (a .actions .now) (a .entries .now) (a .corners .now) (a .weights .now)
-    (a .informed .now) (c .gains .result) (mixtureAt (a .c .states) (a .mixtures .now) i)
+    (a .informed .now) (c .gains .result) (rowIn (a .c .states) (a .mixtures .now) i)
 
 answer-is : (c : tie.After-gains) (choices : List ℕ) (i : ℕ) → let s = of-standing (c .before) in
-    answer-at c (c .before .standing-in .result) i ≡ totalsOf (tables s) (certifier s choices) (mixtureAt (s .args .c .states) (s .args .mixtures .now) i)
+    answer-at c (c .before .standing-in .result) i ≡ totalsOf (tables s) (certifier s choices) (rowIn (s .args .c .states) (s .args .mixtures .now) i)
 answer-is c choices i =
     let n = c .before in
     let s = of-standing n in
     ap (λ (t : Standing). answer-at c t i) (said n)
-    ∙ answered (tables s) (certifier s choices) (mixtureAt (s .args .c .states) (s .args .mixtures .now) i)
+    ∙ answered (tables s) (certifier s choices) (rowIn (s .args .c .states) (s .args .mixtures .now) i)
     (held (of-mixtures (of-room (n .before))) choices) (gained c)
 
 returns-4 : tie.Need-returns-4
@@ -164,7 +164,7 @@ returns-4 c =
       e,
       λ choices. all-written (tables s) (certifier s choices) (s .args .mixtures .now) (s .args .count) (lent-for s) (e choices)
           (a .write-answers .ensures ∙ written-same (s .args .count) (answer-at g (n .standing-in .result))
-          (λ i. totalsOf (tables s) (certifier s choices) (mixtureAt (s .args .c .states) (s .args .mixtures .now) i)) (lent-for s) (answer-is g choices)),
+          (λ i. totalsOf (tables s) (certifier s choices) (rowIn (s .args .c .states) (s .args .mixtures .now) i)) (lent-for s) (answer-is g choices)),
     )
 
 pub each-spec : {M : Type 1} → statement M

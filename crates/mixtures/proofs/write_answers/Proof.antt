@@ -2,8 +2,9 @@ use Rattle.integers.proofs.Kit.{_≡_, _∙_, ap, List, ℕ, _≤_, _<_, _+_, _
 use Rattle.integers.proofs.Words.{back-small}
 use Rattle.runs.specs.declared.Bounds.{Bounds}
 use Rattle.bounds.specs.Steps.{answerIn}
-use Rattle.mixtures.specs.Each.{Answers, answers, mixtureAt, refusalIn, written}
-use Rattle.mixtures.proofs.Answers.{part-fits, part-is, Room, SameLengths, written-none, written-more, written-long}
+use Rattle.tables.specs.Storage.{rowIn}
+use Rattle.mixtures.specs.Each.{Answers, answers, refusalIn, written}
+use Rattle.mixtures.proofs.Answers.{part-fits, part-is, Room, AnswersAsLong, written-none, written-more, written-long}
 use Rattle.bounds.proofs.Bounds.{acts-within, sizes-within}
 use Rattle.mixtures.proofs.write_answers.Statement.{statement}
 use Rattle.mixtures.proofs.write_answers.Tie as tie
@@ -11,7 +12,7 @@ use Rattle.mixtures.proofs.write_answers.Tie as tie
 abbrev Inv-loop : tie.InvT-loop
 Inv-loop actions entries corners weights informed gains n m vectors points mixtures count verdicts₀ lower₀ upper₀ advice₀ i₀ verdicts lower upper advice i =
     (i ≤ count) × (answers verdicts lower upper advice
-    ≡ written (λ j. answerIn n m vectors points actions entries corners weights informed gains (mixtureAt n mixtures j))
+    ≡ written (λ j. answerIn n m vectors points actions entries corners weights informed gains (rowIn n mixtures j))
     i (answers verdicts₀ lower₀ upper₀ advice₀))
 
 abbrev μ-loop : tie.MeasureT-loop
@@ -36,7 +37,7 @@ abbrev Answer : tie.Start Inv-loop μ-loop → ℕ → Bounds
 Answer s j =
     let a = s .args in
     answerIn (a .n) (a .m) (a .vectors) (a .points) (a .actions .now) (a .entries .now) (a .corners .now) (a .weights .now) (a .informed .now)
-    (a .gains .now) (mixtureAt (a .n) (a .mixtures .now) j)
+    (a .gains .now) (rowIn (a .n) (a .mixtures .now) j)
 
 -- what is known of the slices
 abbrev lent : tie.Start Inv-loop μ-loop → Answers
@@ -56,7 +57,7 @@ fit : (c : tie.In-loop Inv-loop μ-loop) → c .before .loop .i * start c .args 
 fit c = let s = start c in part-fits (s .args .n) (s .args .count) (c .before .loop .i) (length (s .args .mixtures .now)) (s .pre .1 .0) (c .loop-test .taken)
 
 long : (c : tie.In-loop Inv-loop μ-loop) → let l = c .before .loop in
-    SameLengths (lent (start c)) (answers (l .verdicts) (l .lower) (l .upper) (l .advice))
+    AnswersAsLong (lent (start c)) (answers (l .verdicts) (l .lower) (l .upper) (l .advice))
 long c = written-long (Answer (start c)) _ (c .before .loop .inv .1) (room (start c)) (c .before .loop .inv .0)
 
 answer-is : (c : tie.After-answer Inv-loop μ-loop) → c .answer .result ≡ Answer (start (of-answer c)) (of-answer c .before .loop .i)
@@ -85,7 +86,7 @@ number-requires : tie.Need-number-requires Inv-loop μ-loop
 number-requires c κs =
     let k = of-refusal c in
     let s = start (of-answer k) in
-    rw (answer-is k) (acts-within (s .pre .0) (mixtureAt (s .args .n) (s .args .mixtures .now) (of-answer k .before .loop .i)))
+    rw (answer-is k) (acts-within (s .pre .0) (rowIn (s .args .n) (s .args .mixtures .now) (of-answer k .before .loop .i)))
 
 advice-write : tie.Need-slice-write-advice Inv-loop μ-loop
 advice-write c = let k = of-answer (of-number c) in omega (arith, long k .advice, room (start k) .advice, k .loop-test .taken)
@@ -96,7 +97,7 @@ loop-again c =
     let k = of-answer a in
     let e = answer-is a in
     let s = start k in
-    let small = sizes-within (s .pre .0) (mixtureAt (s .args .n) (s .args .mixtures .now) (k .before .loop .i)) in (
+    let small = sizes-within (s .pre .0) (rowIn (s .args .n) (s .args .mixtures .now) (k .before .loop .i)) in (
       omega (arith, k .loop-test .taken),
       written-more (Answer (start k)) _ _ _ _ (k .before .loop .inv .1) (room (start k)) (k .loop-test .taken)
           (c .before .refusal-of .ensures ∙ ap (λ (r : Bounds). refusalIn (r .verdict)) e)
@@ -106,7 +107,7 @@ loop-again c =
 
 left : (c : tie.After-loop Inv-loop μ-loop) → let l = c .before .loop in
     let s = c .before .before .before .before .before .before .before .before in
-    SameLengths (lent s) (answers (l .verdicts) (l .lower) (l .upper) (l .advice))
+    AnswersAsLong (lent s) (answers (l .verdicts) (l .lower) (l .upper) (l .advice))
 left c =
     let s = c .before .before .before .before .before .before .before .before in
     written-long (Answer s) _ (c .before .loop .inv .1) (room s) (c .before .loop .inv .0)

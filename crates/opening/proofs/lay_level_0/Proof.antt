@@ -1,6 +1,6 @@
-use Rattle.integers.proofs.Kit.{_∙_, refl, sym, needs, pos}
+use Rattle.integers.proofs.Kit.{_∙_, refl, sym, needs}
 use Rattle.integers.proofs.Lists.{laid-none, laid-turn, same-laid}
-use Rattle.tables.specs.Limits.{maxStates, maxObservations}
+use Rattle.tables.specs.Limits.{maxObservations}
 use Rattle.opening.proofs.lay_level_0.Statement.{statement}
 use Rattle.opening.proofs.lay_level_0.Tie as tie
 
@@ -8,10 +8,10 @@ use Rattle.opening.proofs.lay_level_0.Tie as tie
 abbrev start : tie.After-paste-u16 → tie.Start
 start c = c .before .before .before .before .before
 
-abbrev of-entries : tie.After-paste-i64 → tie.After-paste-u16
+abbrev of-entries : tie.After-clear-i64 → tie.After-paste-u16
 of-entries c = c .before .before .before .before .before
 
-abbrev of-corners : tie.After-paste-i642 → tie.After-paste-i64
+abbrev of-corners : tie.After-clear-i642 → tie.After-clear-i64
 of-corners c = c .before .before .before .before
 
 returns : tie.Need-returns
@@ -24,10 +24,10 @@ returns c =
     let p = s .pre in (
       laid-turn (λ v. 0) 0 (a .actions .now) 0 (sym (laid-none (λ v. 0) (a .actions .now))) refl (p .1 .0),
       (
-        h .paste-u16 .ensures ∙ same-laid 0 maxObservations (a .k) (a .choices .now) (p .0 .1),
+        h .paste-u16 .ensures ∙ same-laid 0 maxObservations (a .k) (a .choices .now) (p .0),
         (
-          e .paste-i64 .ensures ∙ same-laid (pos 0) maxStates (a .n) (a .entries .now) (p .0 .0),
-          r .paste-i642 .ensures ∙ same-laid (pos 0) maxStates (a .n) (a .corners .now) (p .0 .0),
+          e .clear-i64 .ensures,
+          r .clear-i642 .ensures,
         ),
       ),
     )

@@ -52,7 +52,7 @@ put-standing-requires c κs = let s = start (of-verdict c) in room-for-level-0 (
 abbrev Room : tie.Start → Type 0
 Room s =
     let a = s .args in
-    ((a .c .states ≤ maxStates) × (a .c .observations ≤ maxObservations)) × ((0 < length (a .actions .now)) ×
+    (a .c .observations ≤ maxObservations) × ((0 < length (a .actions .now)) ×
     ((a .c .observations ≤ length (a .choices .now)) × ((a .c .states ≤ length (a .entries .now)) × (a .c .states ≤ length (a .corners .now)))))
 
 room : (c : tie.After-fresh) → Room (start (of-verdict c))
@@ -61,7 +61,7 @@ room c =
     let s = start (of-verdict c) in
     let v = tables-valid (tables s) (fine-tables (tables s) (certifier s) (opens c)) in
     let r = room-for-level-0 (tables s) (certifier s) (opens c) .1 .0 in
-    ((v .few-states, v .few-observations), (omega (arith, r .read .actions), (omega (arith, r .choices), (omega (arith, r .read .entries), r .read .corners))))
+    (v .few-observations, (omega (arith, r .read .actions), (omega (arith, r .choices), (omega (arith, r .read .entries), r .read .corners))))
 
 lay-level-0-requires : tie.Need-lay-level-0-requires
 lay-level-0-requires c κs = room (c .before .before .before .before .before .before .before)
@@ -83,17 +83,17 @@ rows-room : (c : tie.After-fresh) → let a = start (of-verdict c) .args in
     (a .c .actions * a .c .states ≤ length (a .informed .now)) × (a .c .actions * a .c .states ≤ length (a .qmdp .now))
 rows-room c = let s = start (of-verdict c) in room-for-level-0 (tables s) (certifier s) (opens c) .1 .1
 
-abbrev of-level : tie.After-clear → tie.After-lay-level-0
+abbrev of-level : tie.After-clear-i64 → tie.After-lay-level-0
 of-level c = c .before .before .before .before .before .before .before .before .before
 
-abbrev of-informed : tie.After-qmdp → tie.After-clear
+abbrev of-informed : tie.After-qmdp → tie.After-clear-i64
 of-informed c = c .before .before .before .before .before
 
-clear-requires : tie.Need-clear-requires
-clear-requires c κs = let f = of-state (c .before .before .before .before .before .before .before .before) .before in (few f, rows-room f .0)
+clear-i64-requires : tie.Need-clear-i64-requires
+clear-i64-requires c κs = let f = of-state (c .before .before .before .before .before .before .before .before) .before in rows-room f .0
 
-clear-requires-2 : tie.Need-clear-requires-2
-clear-requires-2 c κs = let f = of-state (of-level (c .before .before .before)) .before in (few f, rows-room f .1)
+clear-i64-requires-2 : tie.Need-clear-i64-requires-2
+clear-i64-requires-2 c κs = let f = of-state (of-level (c .before .before .before)) .before in rows-room f .1
 
 returns-2 : tie.Need-returns-2
 returns-2 c =
@@ -106,14 +106,14 @@ returns-2 c =
     let e = l .lay-level-0 .ensures in (
       sym (opens f),
       opened-fine (tables s) (certifier s) (said j) (f .before .before .enum-told .given .1) (written p) (e .0)
-          (e .1 .0) (e .1 .1 .0) (e .1 .1 .1) (k .clear .ensures) (c .before .clear2 .ensures),
+          (e .1 .0) (e .1 .1 .0) (e .1 .1 .1) (k .clear-i64 .ensures) (c .before .clear-i642 .ensures),
     )
 
 pub open-spec : {M : Type 1} → statement M
 open-spec =
     tie.close (tie.spec (λ c κs. search needs) (λ c. search needs) (λ c. search needs) returns (λ c κs. search needs) put-standing-requires
-    lay-level-0-requires (λ c. omega (arith, few (of-state (c .before .before .before .before .before .before .before .before) .before))) clear-requires
-    (λ c. omega (arith, few (of-state (of-level (c .before .before .before)) .before))) clear-requires-2
+    lay-level-0-requires (λ c. omega (arith, few (of-state (c .before .before .before .before .before .before .before .before) .before))) clear-i64-requires
+    (λ c. omega (arith, few (of-state (of-level (c .before .before .before)) .before))) clear-i64-requires-2
     (λ c. of-state (of-level (of-informed c)) .put-standing .kept .0) (λ c. of-level (of-informed c) .lay-level-0 .kept .1 .1 .0)
     (λ c. of-level (of-informed c) .lay-level-0 .kept .1 .1 .1 .0) (λ c. of-level (of-informed c) .lay-level-0 .kept .1 .1 .1 .1 .0)
-    (λ c. of-level (of-informed c) .lay-level-0 .kept .1 .1 .1 .1 .1 .0) (λ c. of-informed c .clear .kept .0) (λ c. c .before .clear2 .kept .0) returns-2)
+    (λ c. of-level (of-informed c) .lay-level-0 .kept .1 .1 .1 .1 .1 .0) (λ c. of-informed c .clear-i64 .kept .0) (λ c. c .before .clear-i642 .kept .0) returns-2)

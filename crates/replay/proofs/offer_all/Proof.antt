@@ -2,7 +2,7 @@ use Rattle.integers.proofs.Kit.{_≡_, _≤_, _<_, _-_, _^_, arith, needs}
 use Rattle.tables.specs.Storage.{tablesIn}
 use Rattle.levels.specs.Storage.{Lent, cells, rows, lent}
 use Rattle.replay.specs.Replay.{packed}
-use Rattle.replay.proofs.Runs.{packs-less, SameLengths, same-lengths, longer, Running, counted-few, running-none, running-more}
+use Rattle.replay.proofs.Runs.{packs-less, LentAsLong, same-lengths, longer, Running, counted-few, running-none, running-more}
 use Rattle.replay.proofs.offer_all.Statement.{statement}
 use Rattle.replay.proofs.offer_all.Tie as tie
 
@@ -11,7 +11,7 @@ Inv-loop transition observation reward c state₀ actions₀ choices₀ entries�
     newchoices newentries newcorners newweights newvalues accepted₀ i₀ state actions choices entries corners weights values informed qmdp accepted i =
     let x₀ = lent state₀ (cells actions₀ choices₀ entries₀ corners₀ weights₀ values₀) (rows informed₀ qmdp₀) in
     let x = lent state (cells actions choices entries corners weights values) (rows informed qmdp) in
-    (i ≤ count) × (SameLengths x₀ x × Running (tablesIn c transition observation reward)
+    (i ≤ count) × (LentAsLong x₀ x × Running (tablesIn c transition observation reward)
     (packed v p vectors points (cells newactions newchoices newentries newcorners newweights newvalues)) x₀ i x accepted)
 
 abbrev μ-loop : tie.MeasureT-loop
@@ -48,7 +48,7 @@ turned c =
     (rows (l .1 .1 .1 .1 .1 .1 .1 .0) (l .1 .1 .1 .1 .1 .1 .1 .1 .0))
 
 -- a turn leaves the lengths
-turn-long : (c : tie.After-offer-block Inv-loop μ-loop) → SameLengths (looped (in-turn c .before)) (turned c)
+turn-long : (c : tie.After-offer-block Inv-loop μ-loop) → LentAsLong (looped (in-turn c .before)) (turned c)
 turn-long c =
     let k = c .offer-block .kept .1 .1 .1 .1 in
     record {

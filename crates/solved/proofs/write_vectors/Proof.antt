@@ -1,7 +1,7 @@
 use Rattle.solved.proofs.Prelude.{arith, _-_, _≤_, _<_, _≡_, sym}
 use Rattle.tables.specs.Limits.{maxVectors}
 use Rattle.builder.specs.Steps.{Filled}
-use Rattle.builder.proofs.Levels.{Made, filled-none, SameLengths, filled-long, Room, rows-room, filled-more}
+use Rattle.builder.proofs.Levels.{Made, filled-none, VectorsAsLong, filled-long, Room, rows-room, filled-more}
 use Rattle.solved.specs.Steps.{ReadTo, vectorsOver}
 use Rattle.solved.proofs.Vectors.{bestOf, row-made}
 use Rattle.solved.proofs.write_vectors.Statement.{statement}
@@ -99,7 +99,7 @@ loop-again c =
 -- the slices are as long as they were
 long : (c : tie.After-loop Inv-loop μ-loop) → let a = c .before .before .before .before .before .before .before .before .args in
     let l = c .before .loop in
-    SameLengths (a .newactions .now) (a .newchoices .now) (a .newentries .now) (l .newactions) (l .newchoices) (l .newentries)
+    VectorsAsLong (a .newactions .now) (a .newchoices .now) (a .newentries .now) (l .newactions) (l .newchoices) (l .newentries)
 long c = filled-long _ _ _ (c .before .before .before .before .before .before .before .before .pre .1) (c .before .loop .inv .1 .1) (c .before .loop .inv .0)
 
 returns : tie.Need-returns Inv-loop μ-loop

@@ -1,0 +1,2 @@
+-- Laws for this crate's proofs.
+pub mod Places
