@@ -24,7 +24,7 @@ pub type Start = [u16; Tables::STATES]; // in hundredths
 // A count is 1 or more.
 const LEAST: u64 = 1;
 
-// The start numbers are a table of one block of one row.
+// The start numbers are a table of one block of one row, its first.
 const ROWS: usize = 1;
 
 const FIRST: usize = 0;
@@ -114,11 +114,11 @@ fn body_at(file: &[u8], at: usize, discount: u64, n: usize, m: usize, k: usize) 
         file,
         p,
         &mut start,
-        1,
-        1,
+        ROWS,
+        ROWS,
         n,
-        0,
-        0,
+        FIRST,
+        FIRST,
         Form::START,
         ModelFile::START,
     );

@@ -9,10 +9,10 @@ abbrev start : tie.After-paste-u16 → tie.Start
 start c = c .before .before .before .before .before
 
 abbrev of-entries : tie.After-clear-i64 → tie.After-paste-u16
-of-entries c = c .before .before .before .before .before
+of-entries c = c .before .before .before .before
 
 abbrev of-corners : tie.After-clear-i642 → tie.After-clear-i64
-of-corners c = c .before .before .before .before
+of-corners c = c .before .before .before
 
 returns : tie.Need-returns
 returns c =
@@ -34,5 +34,5 @@ returns c =
 
 pub lay-level-0-spec : {M : Type 1} → statement M
 lay-level-0-spec =
-    tie.close (tie.spec (λ c. search needs) (λ c. search needs) (λ c κs. search needs) (λ c. search needs) (λ c κs. search needs) (λ c. search needs)
-    (λ c κs. search needs) (λ c. search needs) (λ c. search needs) (λ c. search needs) (λ c. search needs) returns)
+    tie.close (tie.spec (λ c. search needs) (λ c. search needs) (λ c κs. search needs) (λ c κs. search needs) (λ c κs. search needs) (λ c. search needs)
+    (λ c. search needs) (λ c. search needs) (λ c. search needs) returns)
