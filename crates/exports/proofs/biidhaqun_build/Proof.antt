@@ -1,5 +1,5 @@
 use Rattle.integers.proofs.Kit.{_∙_, ap, needs}
-use Rattle.exports.specs.Calls.{refusalOf}
+use Rattle.answers.specs.Calls.{refusalOf}
 use Rattle.exports.proofs.biidhaqun_build.Statement.{statement}
 use Rattle.exports.proofs.biidhaqun_build.Tie as tie
 

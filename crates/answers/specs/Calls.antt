@@ -13,12 +13,12 @@ use Rattle.reading.specs.declared.TablesRead.{TablesRead}
 use Rattle.worth.specs.declared.Valued.{Valued}
 use Rattle.adopting.specs.declared.Adopted.{Adopted}
 use Rattle.replay.specs.declared.Replayed.{Replayed}
-use Rattle.exports.specs.declared.Refusal.{Refusal}
-use Rattle.exports.specs.declared.Reading.{Reading}
-use Rattle.exports.specs.declared.Totals.{Totals}
-use Rattle.exports.specs.declared.Worth.{Worth}
-use Rattle.exports.specs.declared.Adoption.{Adoption}
-use Rattle.exports.specs.declared.Replay.{Replay}
+use Rattle.answers.specs.declared.Refusal.{Refusal}
+use Rattle.answers.specs.declared.Reading.{Reading}
+use Rattle.answers.specs.declared.Totals.{Totals}
+use Rattle.answers.specs.declared.Worth.{Worth}
+use Rattle.answers.specs.declared.Adoption.{Adoption}
+use Rattle.answers.specs.declared.Replay.{Replay}
 
 -- the version of the calls' names, parameters and answers
 abbrev pub layoutVersion : ℕ

@@ -1,8 +1,8 @@
 use Rattle.integers.proofs.Kit.{_∙_, ap, needs}
 use Rattle.adopting.specs.declared.Adopted.{Adopted}
-use Rattle.exports.specs.Calls.{adoptionBy}
-use Rattle.exports.proofs.biidhaqun_adopt.Statement.{statement}
-use Rattle.exports.proofs.biidhaqun_adopt.Tie as tie
+use Rattle.answers.specs.Calls.{adoptionBy}
+use Rattle.exports_files.proofs.biidhaqun_adopt.Statement.{statement}
+use Rattle.exports_files.proofs.biidhaqun_adopt.Tie as tie
 
 -- where the call answered
 abbrev called : tie.After-refusal-of → tie.After-adopt

@@ -1,8 +1,8 @@
 use Rattle.integers.proofs.Kit.{ap, _<_, _^_, needs, mag}
 use Rattle.integers.proofs.Words.{back}
-use Rattle.exports.specs.Calls.{worthBy}
-use Rattle.exports.proofs.biidhaqun_worth.Statement.{statement}
-use Rattle.exports.proofs.biidhaqun_worth.Tie as tie
+use Rattle.answers.specs.Calls.{worthBy}
+use Rattle.exports_totals.proofs.biidhaqun_worth.Statement.{statement}
+use Rattle.exports_totals.proofs.biidhaqun_worth.Tie as tie
 
 returns : tie.Need-returns
 returns c =

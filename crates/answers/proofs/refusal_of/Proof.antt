@@ -1,7 +1,7 @@
 use Rattle.integers.proofs.Kit.{ap, sym, needs}
-use Rattle.exports.specs.Calls.{refusalOf}
-use Rattle.exports.proofs.refusal_of.Statement.{statement}
-use Rattle.exports.proofs.refusal_of.Tie as tie
+use Rattle.answers.specs.Calls.{refusalOf}
+use Rattle.answers.proofs.refusal_of.Statement.{statement}
+use Rattle.answers.proofs.refusal_of.Tie as tie
 
 enum-told : tie.Need-enum-told
 enum-told c = search needs

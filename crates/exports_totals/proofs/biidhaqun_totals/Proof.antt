@@ -1,9 +1,9 @@
 use Rattle.integers.proofs.Kit.{_≡_, _∙_, refl, ap, sym, _<_, _^_, needs, mag}
 use Rattle.integers.proofs.Words.{back}
-use Rattle.exports.specs.Calls.{totalsBy}
-use Rattle.exports.specs.declared.Totals.{Totals}
-use Rattle.exports.proofs.biidhaqun_totals.Statement.{statement}
-use Rattle.exports.proofs.biidhaqun_totals.Tie as tie
+use Rattle.answers.specs.Calls.{totalsBy}
+use Rattle.answers.specs.declared.Totals.{Totals}
+use Rattle.exports_totals.proofs.biidhaqun_totals.Statement.{statement}
+use Rattle.exports_totals.proofs.biidhaqun_totals.Tie as tie
 
 returns : tie.Need-returns
 returns c =

@@ -1,7 +1,7 @@
 use Rattle.integers.proofs.Kit.{_∙_, ap, needs}
-use Rattle.exports.specs.Calls.{refusalOf}
-use Rattle.exports.proofs.biidhaqun_each.Statement.{statement}
-use Rattle.exports.proofs.biidhaqun_each.Tie as tie
+use Rattle.answers.specs.Calls.{refusalOf}
+use Rattle.exports_totals.proofs.biidhaqun_each.Statement.{statement}
+use Rattle.exports_totals.proofs.biidhaqun_each.Tie as tie
 
 -- where the call answered
 abbrev called : tie.After-refusal-of → tie.After-each

@@ -1,7 +1,7 @@
 use Rattle.integers.proofs.Kit.{ap, needs}
-use Rattle.exports.specs.Calls.{readingBy}
-use Rattle.exports.proofs.biidhaqun_read.Statement.{statement}
-use Rattle.exports.proofs.biidhaqun_read.Tie as tie
+use Rattle.answers.specs.Calls.{readingBy}
+use Rattle.exports_files.proofs.biidhaqun_read.Statement.{statement}
+use Rattle.exports_files.proofs.biidhaqun_read.Tie as tie
 
 -- where the call answered
 abbrev called : tie.After-c → tie.After-read

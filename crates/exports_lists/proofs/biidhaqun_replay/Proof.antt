@@ -1,9 +1,9 @@
 use Rattle.integers.proofs.Kit.{_∙_, ap, needs}
 use Rattle.replay.specs.declared.Replayed.{Replayed}
 use Rattle.replay.specs.Replay.{replayAnswer}
-use Rattle.exports.specs.Calls.{replayBy}
-use Rattle.exports.proofs.biidhaqun_replay.Statement.{statement}
-use Rattle.exports.proofs.biidhaqun_replay.Tie as tie
+use Rattle.answers.specs.Calls.{replayBy}
+use Rattle.exports_lists.proofs.biidhaqun_replay.Statement.{statement}
+use Rattle.exports_lists.proofs.biidhaqun_replay.Tie as tie
 
 -- where the call answered
 abbrev called : tie.After-refusal-of → tie.After-replay

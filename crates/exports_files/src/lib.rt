@@ -1,0 +1,148 @@
+// The interface for C and Rust: a model file, and a solver's files, read into slices that programs lend.
+ghost use mathlib.Core.Path.{_≡_};
+ghost use mathlib.Core.List.{List};
+ghost use Prim.Native.Nat.{ℕ};
+ghost use Rattle.levels.specs.Storage.{cells, rows, lent};
+ghost use Rattle.modelfile.specs.ModelFile.{modelFile};
+ghost use Rattle.reading.specs.Reading.{readVerdict, readOf, laidTransitions, laidObservations, laidRewards, laidStart};
+ghost use Rattle.tables.specs.Verdicts.{left};
+ghost use Rattle.tables.specs.declared.Verdict.the-variants.{Fine};
+ghost use Rattle.solver.specs.Files.{vectorsIn};
+ghost use Rattle.adopting.specs.Adopt.{adoptVerdict, adopted, adoptAnswer};
+ghost use Rattle.adopting.specs.Claim.{AdoptHolds};
+ghost use Rattle.answers.specs.Calls.{model, readingBy, adoptionBy};
+use answers::Adoption;
+use answers::Reading;
+use tables::Counts;
+
+// Reads a model file into tables and start numbers, in hundredths.
+#[no_mangle]
+pub extern "C" fn biidhaqun_read(
+    file: &[u8],
+    transition: &mut [u16],
+    observation: &mut [u16],
+    reward: &mut [i64],
+    start: &mut [u16],
+) -> Reading
+    ensures { λ r. ⌜ (let x = modelFile (now (file .entry)) in
+        let v = readVerdict x (now (transition .entry)) (now (observation .entry)) (now (reward .entry)) (now (start .entry)) in
+        r ≡ readingBy (readOf v x)) ⌝ }
+    ensures { λ _. ⌜ (let x = modelFile (now (file .entry)) in
+        let v = readVerdict x (now (transition .entry)) (now (observation .entry)) (now (reward .entry)) (now (start .entry)) in
+        now (transition .exit) ≡ left v (laidTransitions x (now (transition .entry))) (now (transition .entry))) ⌝ }
+    ensures { λ _. ⌜ (let x = modelFile (now (file .entry)) in
+        let v = readVerdict x (now (transition .entry)) (now (observation .entry)) (now (reward .entry)) (now (start .entry)) in
+        now (observation .exit) ≡ left v (laidObservations x (now (observation .entry))) (now (observation .entry))) ⌝ }
+    ensures { λ _. ⌜ (let x = modelFile (now (file .entry)) in
+        let v = readVerdict x (now (transition .entry)) (now (observation .entry)) (now (reward .entry)) (now (start .entry)) in
+        now (reward .exit) ≡ left v (laidRewards x (now (reward .entry))) (now (reward .entry))) ⌝ }
+    ensures { λ _. ⌜ (let x = modelFile (now (file .entry)) in
+        let v = readVerdict x (now (transition .entry)) (now (observation .entry)) (now (reward .entry)) (now (start .entry)) in
+        now (start .exit) ≡ left v (laidStart x (now (start .entry))) (now (start .entry))) ⌝ }
+{
+    let read = reading::read(file, transition, observation, reward, start);
+    let verdict = read.verdict;
+    let refusal = answers::refusal_of(verdict);
+    let c = read.counts;
+    Reading {
+        number: refusal.number,
+        place: refusal.place,
+        states: c.states,
+        actions: c.actions,
+        observations: c.observations,
+        discount: c.discount,
+    }
+}
+
+// Makes the next level of a certifier of a solver's alpha file and policy graph, and of a count of points, whose weights are the level's own.
+#[no_mangle]
+pub extern "C" fn biidhaqun_adopt<'a, 'b, 'c>(
+    n: usize,
+    m: usize,
+    k: usize,
+    g: u64,
+    transition: &'a [u16],
+    observation: &'a [u16],
+    reward: &'a [i64],
+    state: &'b [usize],
+    actions: &'b [u8],
+    entries: &'b [i64],
+    corners: &'b [i64],
+    weights: &'b [u32],
+    values: &'b [i64],
+    informed: &'b [i64],
+    qmdp: &'b [i64],
+    alpha: &'c [u8],
+    graph: &'c [u8],
+    given: &[u32],
+    count: usize,
+    newactions: &mut [u8],
+    newchoices: &mut [u16],
+    newentries: &mut [i64],
+    newcorners: &mut [i64],
+    newvalues: &mut [i64],
+) -> Adoption
+    ensures { λ r. ⌜ ((choices : List ℕ) →
+        let tables = model n m k g (now (transition .entry)) (now (observation .entry)) (now (reward .entry)) in
+        let standing = lent (now (state .entry)) (cells (now (actions .entry)) choices (now (entries .entry)) (now (corners .entry))
+        (now (weights .entry)) (now (values .entry))) (rows (now (informed .entry)) (now (qmdp .entry))) in
+        let y = cells (now (newactions .entry)) (now (newchoices .entry)) (now (newentries .entry)) (now (newcorners .entry)) (now (given .entry))
+        (now (newvalues .entry)) in
+        r ≡ adoptionBy (adoptAnswer (adoptVerdict tables standing (now (alpha .entry)) (now (graph .entry)) count y) (vectorsIn n (now (alpha .entry))))) ⌝ }
+    ensures { λ _. ⌜ ((choices : List ℕ) →
+        let tables = model n m k g (now (transition .entry)) (now (observation .entry)) (now (reward .entry)) in
+        let standing = lent (now (state .entry)) (cells (now (actions .entry)) choices (now (entries .entry)) (now (corners .entry))
+        (now (weights .entry)) (now (values .entry))) (rows (now (informed .entry)) (now (qmdp .entry))) in
+        let y = cells (now (newactions .entry)) (now (newchoices .entry)) (now (newentries .entry)) (now (newcorners .entry)) (now (given .entry))
+        (now (newvalues .entry)) in
+        let laid = cells (now (newactions .exit)) (now (newchoices .exit)) (now (newentries .exit)) (now (newcorners .exit)) (now (given .entry))
+        (now (newvalues .exit)) in
+        laid ≡ adopted tables standing (now (alpha .entry)) (now (graph .entry)) count y) ⌝ }
+    ensures { λ _. ⌜ ((choices : List ℕ) →
+        let tables = model n m k g (now (transition .entry)) (now (observation .entry)) (now (reward .entry)) in
+        let standing = lent (now (state .entry)) (cells (now (actions .entry)) choices (now (entries .entry)) (now (corners .entry))
+        (now (weights .entry)) (now (values .entry))) (rows (now (informed .entry)) (now (qmdp .entry))) in
+        let y = cells (now (newactions .entry)) (now (newchoices .entry)) (now (newentries .entry)) (now (newcorners .entry)) (now (given .entry))
+        (now (newvalues .entry)) in
+        let laid = cells (now (newactions .exit)) (now (newchoices .exit)) (now (newentries .exit)) (now (newcorners .exit)) (now (given .entry))
+        (now (newvalues .exit)) in
+        adoptVerdict tables standing (now (alpha .entry)) (now (graph .entry)) count y ≡ Fine
+        → AdoptHolds tables standing (now (alpha .entry)) (now (graph .entry)) count y laid) ⌝ }
+{
+    let c = Counts {
+        states: n,
+        actions: m,
+        observations: k,
+        discount: g,
+    };
+    let made = adopting::adopt(
+        transition,
+        observation,
+        reward,
+        c,
+        state,
+        actions,
+        entries,
+        corners,
+        weights,
+        values,
+        informed,
+        qmdp,
+        alpha,
+        graph,
+        given,
+        count,
+        newactions,
+        newchoices,
+        newentries,
+        newcorners,
+        newvalues,
+    );
+    let verdict = made.verdict;
+    let refusal = answers::refusal_of(verdict);
+    Adoption {
+        number: refusal.number,
+        place: refusal.place,
+        vectors: made.vectors,
+    }
+}

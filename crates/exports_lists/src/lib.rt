@@ -1,0 +1,108 @@
+// The interface for C and Rust: a list of offers in one call.
+ghost use mathlib.Core.Path.{_≡_};
+ghost use mathlib.Core.List.{List};
+ghost use Rattle.levels.specs.Storage.{LentLevel, Lent, cells, rows, lent};
+ghost use Rattle.runs.specs.Demand3.{ModelAccepted, after};
+ghost use Rattle.tables.specs.declared.Verdict.the-variants.{Fine};
+ghost use Rattle.replay.specs.Replay.{packed, offersIn, replayVerdict, replayAnswer, replayed, ReplayHolds};
+ghost use Rattle.answers.specs.Calls.{model, replayBy};
+use answers::Replay;
+use tables::Counts;
+
+// Offers each level of a list to a certifier, one after the other. Block i of each slice has room for v vectors and p points; the offer that lies there has
+// counts of its own.
+#[no_mangle]
+pub extern "C" fn biidhaqun_replay<'a, 'b>(
+    n: usize,
+    m: usize,
+    k: usize,
+    g: u64,
+    transition: &'a [u16],
+    observation: &'a [u16],
+    reward: &'a [i64],
+    state: &mut [usize],
+    actions: &mut [u8],
+    choices: &mut [u16],
+    entries: &mut [i64],
+    corners: &mut [i64],
+    weights: &mut [u32],
+    values: &mut [i64],
+    informed: &mut [i64],
+    qmdp: &mut [i64],
+    count: usize,
+    v: usize,
+    p: usize,
+    vectors: &'b [usize],
+    points: &'b [usize],
+    newactions: &'b [u8],
+    newchoices: &'b [u16],
+    newentries: &'b [i64],
+    newcorners: &'b [i64],
+    newweights: &'b [u32],
+    newvalues: &'b [i64],
+) -> Replay
+    ensures { λ r. ⌜ (let tables = model n m k g (now (transition .entry)) (now (observation .entry)) (now (reward .entry)) in
+        let x = lent (now (state .entry)) (cells (now (actions .entry)) (now (choices .entry)) (now (entries .entry)) (now (corners .entry))
+        (now (weights .entry)) (now (values .entry))) (rows (now (informed .entry)) (now (qmdp .entry))) in
+        let b = packed v p (now (vectors .entry)) (now (points .entry)) (cells (now (newactions .entry)) (now (newchoices .entry))
+        (now (newentries .entry)) (now (newcorners .entry)) (now (newweights .entry)) (now (newvalues .entry))) in
+        r ≡ replayBy (replayAnswer tables x b count)) ⌝ }
+    ensures { λ _. ⌜ (let tables = model n m k g (now (transition .entry)) (now (observation .entry)) (now (reward .entry)) in
+        let x = lent (now (state .entry)) (cells (now (actions .entry)) (now (choices .entry)) (now (entries .entry)) (now (corners .entry))
+        (now (weights .entry)) (now (values .entry))) (rows (now (informed .entry)) (now (qmdp .entry))) in
+        let b = packed v p (now (vectors .entry)) (now (points .entry)) (cells (now (newactions .entry)) (now (newchoices .entry))
+        (now (newentries .entry)) (now (newcorners .entry)) (now (newweights .entry)) (now (newvalues .entry))) in
+        lent (now (state .exit)) (cells (now (actions .exit)) (now (choices .exit)) (now (entries .exit)) (now (corners .exit))
+        (now (weights .exit)) (now (values .exit))) (rows (now (informed .exit)) (now (qmdp .exit)))
+        ≡ replayed tables x b count) ⌝ }
+    ensures { λ r. ⌜ (let tables = model n m k g (now (transition .entry)) (now (observation .entry)) (now (reward .entry)) in
+        let x = lent (now (state .entry)) (cells (now (actions .entry)) (now (choices .entry)) (now (entries .entry)) (now (corners .entry))
+        (now (weights .entry)) (now (values .entry))) (rows (now (informed .entry)) (now (qmdp .entry))) in
+        let b = packed v p (now (vectors .entry)) (now (points .entry)) (cells (now (newactions .entry)) (now (newchoices .entry))
+        (now (newentries .entry)) (now (newcorners .entry)) (now (newweights .entry)) (now (newvalues .entry))) in
+        (x₀ : Lent) (ls : List LentLevel) → ModelAccepted tables x₀ → x ≡ after tables x₀ ls → replayVerdict tables x b count ≡ Fine
+        → ReplayHolds tables x₀ ls (offersIn tables b count)
+        (lent (now (state .exit)) (cells (now (actions .exit)) (now (choices .exit)) (now (entries .exit)) (now (corners .exit))
+        (now (weights .exit)) (now (values .exit))) (rows (now (informed .exit)) (now (qmdp .exit))))
+        (r .accepted)) ⌝ }
+{
+    let c = Counts {
+        states: n,
+        actions: m,
+        observations: k,
+        discount: g,
+    };
+    let run = replay::replay(
+        transition,
+        observation,
+        reward,
+        c,
+        state,
+        actions,
+        choices,
+        entries,
+        corners,
+        weights,
+        values,
+        informed,
+        qmdp,
+        count,
+        v,
+        p,
+        vectors,
+        points,
+        newactions,
+        newchoices,
+        newentries,
+        newcorners,
+        newweights,
+        newvalues,
+    );
+    let verdict = run.verdict;
+    let refusal = answers::refusal_of(verdict);
+    Replay {
+        number: refusal.number,
+        place: refusal.place,
+        accepted: run.accepted,
+    }
+}

@@ -1,0 +1,202 @@
+// The interface for C and Rust: totals at one mixture and at many, and the worth of a plan graph. Nothing is kept.
+ghost use mathlib.Core.Path.{_≡_};
+ghost use mathlib.Core.Bool.{true};
+ghost use mathlib.Core.List.{List};
+ghost use Prim.Native.Nat.{ℕ, _<_};
+ghost use Rattle.levels.specs.Storage.{LentLevel, Lent, cells, rows, lent};
+ghost use Rattle.tables.specs.Verdicts.{left};
+ghost use Rattle.runs.specs.State.{mixtureHolds, totalsOf};
+ghost use Rattle.mixtures.specs.Each.{answers, eachVerdict, eachOf};
+ghost use Rattle.runs.specs.Demand3.{ModelAccepted, after, steps};
+ghost use Rattle.worth.specs.Storage.{lentGraph};
+ghost use Rattle.worth.specs.Judged.{worthAnswer};
+ghost use Rattle.answers.specs.Calls.{model, refusalOf, totalsBy, worthBy, Brackets};
+use answers::Refusal;
+use answers::Totals;
+use answers::Worth;
+use tables::Counts;
+use tables::State;
+use worth::Node;
+
+// The totals of a certifier at a mixture. The choices of what stands are not read.
+#[no_mangle]
+pub extern "C" fn biidhaqun_totals<'a, 'b>(
+    n: usize,
+    m: usize,
+    k: usize,
+    g: u64,
+    transition: &'a [u16],
+    observation: &'a [u16],
+    reward: &'a [i64],
+    state: &'b [usize],
+    actions: &'b [u8],
+    entries: &'b [i64],
+    corners: &'b [i64],
+    weights: &'b [u32],
+    values: &'b [i64],
+    informed: &'b [i64],
+    qmdp: &'b [i64],
+    mixture: &[u32],
+) -> Totals
+    ensures { λ r. ⌜ ((choices : List ℕ) →
+        let tables = model n m k g (now (transition .entry)) (now (observation .entry)) (now (reward .entry)) in
+        let standing = lent (now (state .entry)) (cells (now (actions .entry)) choices (now (entries .entry)) (now (corners .entry))
+        (now (weights .entry)) (now (values .entry))) (rows (now (informed .entry)) (now (qmdp .entry))) in
+        r ≡ totalsBy (totalsOf tables standing (now (mixture .entry)))) ⌝ }
+    ensures { λ r. ⌜ ((choices : List ℕ) (x : Lent) (ls : List LentLevel) →
+        let tables = model n m k g (now (transition .entry)) (now (observation .entry)) (now (reward .entry)) in
+        let standing = lent (now (state .entry)) (cells (now (actions .entry)) choices (now (entries .entry)) (now (corners .entry))
+        (now (weights .entry)) (now (values .entry))) (rows (now (informed .entry)) (now (qmdp .entry))) in
+        ModelAccepted tables x → standing ≡ after tables x ls → 0 < steps tables x ls → mixtureHolds n (now (mixture .entry)) ≡ true →
+        Brackets tables x ls (now (mixture .entry)) r) ⌝ }
+{
+    let c = Counts {
+        states: n,
+        actions: m,
+        observations: k,
+        discount: g,
+    };
+    let bounds = bounds::totals(
+        transition,
+        observation,
+        reward,
+        c,
+        state,
+        actions,
+        entries,
+        corners,
+        weights,
+        values,
+        informed,
+        qmdp,
+        mixture,
+    );
+    let verdict = bounds.verdict;
+    let refusal = answers::refusal_of(verdict);
+    let action = bounds.action;
+    Totals {
+        number: refusal.number,
+        place: refusal.place,
+        lower: bounds.lower,
+        upper: bounds.upper,
+        gap: bounds.gap,
+        action: action.0,
+        sawtooth: bounds.sawtooth,
+        informed: bounds.informed,
+    }
+}
+
+// The totals of a certifier at a count of mixtures, packed: it is judged once, and a mixture that is refused refuses its own answer alone.
+#[no_mangle]
+pub extern "C" fn biidhaqun_each<'a, 'b>(
+    n: usize,
+    m: usize,
+    k: usize,
+    g: u64,
+    transition: &'a [u16],
+    observation: &'a [u16],
+    reward: &'a [i64],
+    state: &'b [usize],
+    actions: &'b [u8],
+    entries: &'b [i64],
+    corners: &'b [i64],
+    weights: &'b [u32],
+    values: &'b [i64],
+    informed: &'b [i64],
+    qmdp: &'b [i64],
+    mixtures: &[u32],
+    count: usize,
+    verdicts: &mut [u8],
+    lower: &mut [i64],
+    upper: &mut [i64],
+    advice: &mut [u8],
+) -> Refusal
+    ensures { λ r. ⌜ ((choices : List ℕ) →
+        let tables = model n m k g (now (transition .entry)) (now (observation .entry)) (now (reward .entry)) in
+        let standing = lent (now (state .entry)) (cells (now (actions .entry)) choices (now (entries .entry)) (now (corners .entry))
+        (now (weights .entry)) (now (values .entry))) (rows (now (informed .entry)) (now (qmdp .entry))) in
+        r ≡ refusalOf (eachVerdict tables standing (now (mixtures .entry)) count
+        (answers (now (verdicts .entry)) (now (lower .entry)) (now (upper .entry)) (now (advice .entry))))) ⌝ }
+    ensures { λ _. ⌜ ((choices : List ℕ) →
+        let tables = model n m k g (now (transition .entry)) (now (observation .entry)) (now (reward .entry)) in
+        let standing = lent (now (state .entry)) (cells (now (actions .entry)) choices (now (entries .entry)) (now (corners .entry))
+        (now (weights .entry)) (now (values .entry))) (rows (now (informed .entry)) (now (qmdp .entry))) in
+        answers (now (verdicts .exit)) (now (lower .exit)) (now (upper .exit)) (now (advice .exit))
+        ≡ eachOf tables standing (now (mixtures .entry)) count
+        (answers (now (verdicts .entry)) (now (lower .entry)) (now (upper .entry)) (now (advice .entry)))) ⌝ }
+{
+    let c = Counts {
+        states: n,
+        actions: m,
+        observations: k,
+        discount: g,
+    };
+    let verdict = mixtures::each(
+        transition,
+        observation,
+        reward,
+        c,
+        state,
+        actions,
+        entries,
+        corners,
+        weights,
+        values,
+        informed,
+        qmdp,
+        mixtures,
+        count,
+        verdicts,
+        lower,
+        upper,
+        advice,
+    );
+    answers::refusal_of(verdict)
+}
+
+// The worth of a plan graph's node at a state with some steps left.
+#[no_mangle]
+pub extern "C" fn biidhaqun_worth<'a, 'b>(
+    n: usize,
+    m: usize,
+    k: usize,
+    g: u64,
+    transition: &'a [u16],
+    observation: &'a [u16],
+    reward: &'a [i64],
+    nodes: usize,
+    actions: &'b [u8],
+    next: &'b [u16],
+    node: usize,
+    state: usize,
+    steps: usize,
+) -> Worth
+    ensures { λ r. ⌜ (let tables = model n m k g (now (transition .entry)) (now (observation .entry)) (now (reward .entry)) in
+        r ≡ worthBy (worthAnswer tables (lentGraph nodes (now (actions .entry)) (now (next .entry))) node state steps)) ⌝ }
+{
+    let c = Counts {
+        states: n,
+        actions: m,
+        observations: k,
+        discount: g,
+    };
+    let valued = worth::worth(
+        transition,
+        observation,
+        reward,
+        c,
+        nodes,
+        actions,
+        next,
+        Node(node),
+        State(state),
+        steps,
+    );
+    let verdict = valued.verdict;
+    let refusal = answers::refusal_of(verdict);
+    Worth {
+        number: refusal.number,
+        place: refusal.place,
+        ticks: valued.ticks,
+    }
+}
