@@ -103,7 +103,7 @@ module _ (m : Tables) (x : Lent) (alphaFile graphFile : List ℕ) (count : ℕ) 
 
   -- what 7 to 12 test
   record Tested : Type 0 where
-    standing : Held m x
+    standing : Held maxVectors m x
     room : numberIn x < maxLevels
     given : Complete m (adoptedLevel m alphaFile count y)
     shaped : Shaped (modelOf m) (numberIn x + 1) W
@@ -123,10 +123,10 @@ module _ (m : Tables) (x : Lent) (alphaFile graphFile : List ℕ) (count : ℕ) 
       let points = and-true _ _ (sizes .1) in
       let numbers = numbers-in 10 (W .vectors) (m .actions) (m .observations) (standingIn x .vectors) (W .action) (W .choice) (ten .0) in
       record {
-        standing = standing-true m x (unless-fine (holds m x) 7 0 (seven .0));
+        standing = standing-true maxVectors m x (unless-fine (holds m x) 7 0 (seven .0));
         room = ltb-true (numberIn x) maxLevels (unless-fine _ 8 0 (eight .0));
         given = complete-true m (adoptedLevel m alphaFile count y) (points .1);
-        shaped = tests-shaped (modelOf m) (numberIn x + 1) W record {
+        shaped = tests-shaped maxVectors (modelOf m) (numberIn x + 1) W record {
           counts = and-is (sizes .0) (le-leb count maxPoints (few-points (leb-true count maxBuilt (points .0))));
           actions = at-every _ _ (λ v l. lt-ltb _ _ (numbers v l .0));
           ranges = eleven .0;
@@ -152,7 +152,7 @@ module _ (m : Tables) (x : Lent) (alphaFile graphFile : List ℕ) (count : ℕ) 
       let h = tested e in
       let agree = over-agree m W y in
       rw (laid e) record {
-        accepted = λ room. accepts m x (adoptedLevel m alphaFile count (over m W y)) record {
+        accepted = λ room. accepts maxVectors m x (adoptedLevel m alphaFile count (over m W y)) record {
           standing = h .standing;
           room = h .room;
           given = complete-long m (over-long m W y (h .given)) (h .given);

@@ -125,7 +125,7 @@ module _ (m : Tables) (x : Lent) (alphaFile graphFile : List ℕ) (count : ℕ) 
 
   -- what 1 to 9 leave known
   pub record Started : Type 0 where
-    pub standing : Held m x
+    pub standing : Held maxVectors m x
     pub read : FilesRead (m .states) (m .observations) alphaFile graphFile
     pub room : numberIn x < maxLevels
     pub few-vectors : vectorsIn (m .states) alphaFile ≤ maxVectors
@@ -141,7 +141,7 @@ module _ (m : Tables) (x : Lent) (alphaFile graphFile : List ℕ) (count : ℕ) 
       let sizes = and-true _ _ (unless-fine (adoptFits m alphaFile count y) 9 0 (e9 .1)) in
       let rest = and-true (leb count maxBuilt) _ (sizes .1) in
       record {
-        standing = standing-true m x (unless-fine _ 7 0 (e19 .0));
+        standing = standing-true maxVectors m x (unless-fine _ 7 0 (e19 .0));
         read = files-read (m .states) (m .observations) alphaFile graphFile (e8 .0);
         room = ltb-true _ _ (unless-fine _ 8 0 (e9 .0));
         few-vectors = leb-true _ _ (and-true (leb 1 (vectorsIn (m .states) alphaFile)) _ (sizes .0) .1);

@@ -12,7 +12,7 @@ use Rattle.plans.specs.Limits.{range}
 use Rattle.plans.specs.Level.{product, joined, smallest, orNone, drop, gain, ceiling, backupAt, corner-weight, follows}
 use Rattle.plans.specs.Build.{leastFor, leastValue}
 use Rattle.levels.specs.Storage.{rows, Lent, over}
-use Rattle.levels.specs.Judged.{rowsWithin, valuesWithin, rangesVerdict, weightsVerdict, holds, numbersIn, levelVerdict}
+use Rattle.levels.specs.Judged.{rowsWithin, valuesWithin, rangesVerdict, weightsVerdict, holdsUpTo, numbersIn, levelVerdict}
 use Rattle.runs.proofs.Dough.{dough, slices, rowsAt, fresh, half, one, standing}
 use Rattle.words.specs.Words.{run, wordsOf, wordsIn}
 use Rattle.numerals.specs.Numeral.{digits, value, amountOf, fraction, decimal as afterPoint, exponent}
@@ -107,7 +107,7 @@ record Table : Type 0 where
 
 table : Table
 unfolding dough slices rowsAt fresh half one standing
-    solved adoptVerdict adopted levelVerdict numbersIn holds over tablesVerdict limitsHold rowsTotal
+    solved adoptVerdict adopted levelVerdict numbersIn holdsUpTo over tablesVerdict limitsHold rowsTotal
     firstOf every totalTo rangesVerdict rowsWithin valuesWithin weightsVerdict range leastValue leastFor firstLargest
     product successor sumTo backedUp backup follows floorDiv ceilDiv backupAt expectedReward ceiling largestTo drop gain smallest joined orNone
     corner-weight laid laidRows listed lesser _·_ K

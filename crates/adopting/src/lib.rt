@@ -31,7 +31,7 @@ pub struct Adopted {
 }
 
 impl Adopted {
-    pub const FILE: usize = 32_768; // bytes of a file
+    pub const FILE: usize = 4_194_304; // bytes of a file
 }
 
 // ---- 1 to 9

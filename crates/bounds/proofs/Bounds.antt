@@ -14,7 +14,7 @@ use Rattle.integers.proofs.Sums.{total-bound}
 use Rattle.tables.specs.declared.Tables.{Tables}
 use Rattle.tables.specs.declared.Verdict.{Verdict}
 use Rattle.tables.specs.declared.Verdict.the-variants.{Fine, Refused}
-use Rattle.tables.specs.Limits.{maxStates, maxActions, maxWeight, maxEntry, maxLevels}
+use Rattle.tables.specs.Limits.{maxVectors, maxStates, maxActions, maxWeight, maxEntry, maxLevels}
 use Rattle.tables.specs.Model.{Model}
 use Rattle.tables.specs.Storage.{weightIn, countsOf, modelOf}
 use Rattle.tables.specs.Verdicts.{_before_, unless}
@@ -146,8 +146,8 @@ module _ (m : Tables) (x : Lent) (h : holds m x ≡ true) where
   abbrev F : ℕ → ℕ → ℤ
   F = informedIn m x
 
-  pub stands : Held m x
-  stands = standing-true m x h
+  pub stands : Held maxVectors m x
+  stands = standing-true maxVectors m x h
 
   some-vectors : 0 < L .vectors
   some-vectors = stands .shaped .some-vectors

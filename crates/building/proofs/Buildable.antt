@@ -4,7 +4,7 @@ use Rattle.integers.proofs.Searches.{and-true}
 use Rattle.tables.specs.declared.Tables.{Tables}
 use Rattle.tables.specs.declared.Verdict.{Verdict}
 use Rattle.tables.specs.declared.Verdict.the-variants.{Fine, Refused}
-use Rattle.tables.specs.Limits.{maxLevels}
+use Rattle.tables.specs.Limits.{maxVectors, maxLevels}
 use Rattle.tables.proofs.Refusals.{before-fine, unless-fine}
 use Rattle.plans.specs.Limits.{maxBuilt}
 use Rattle.plans.specs.Level.{IsPoint}
@@ -23,7 +23,7 @@ weights-long n vectors points actions entries corners weights values e =
 
 -- what 7, 8, 9 and 12 leave known
 pub record Buildable (m : Tables) (x : Lent) (count : ℕ) (y : Cells) : Type 0 where
-  pub standing : Held m x
+  pub standing : Held maxVectors m x
   pub room : numberIn x < maxLevels
   pub few : count ≤ maxBuilt
   pub whole : complete m (answerFor m count y) ≡ true
@@ -38,7 +38,7 @@ module _ (m : Tables) (x : Lent) (count : ℕ) (y : Cells) where
       let e12 = before-fine _ _ (e9 .1) in
       let sizes = and-true (leb count maxBuilt) _ (unless-fine _ 9 0 (e12 .0)) in
       record {
-        standing = standing-true m x (unless-fine _ 7 0 (e8 .0));
+        standing = standing-true maxVectors m x (unless-fine _ 7 0 (e8 .0));
         room = ltb-true _ _ (unless-fine _ 8 0 (e9 .0));
         few = leb-true _ _ (sizes .0);
         whole = sizes .1;

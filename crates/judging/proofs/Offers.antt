@@ -3,7 +3,7 @@ use Rattle.integers.proofs.Kit.{_≡_, [], ℕ, _+_, arith}
 use Rattle.tables.specs.declared.Tables.{Tables}
 use Rattle.tables.specs.declared.Verdict.{Verdict}
 use Rattle.tables.specs.declared.Verdict.the-variants.{Fine, Refused}
-use Rattle.tables.specs.Limits.{maxLevels}
+use Rattle.tables.specs.Limits.{maxVectors, maxLevels}
 use Rattle.tables.specs.Model.{Model}
 use Rattle.tables.specs.Storage.{countsOf, modelOf}
 use Rattle.tables.proofs.Fitting.{rows-stored}
@@ -11,7 +11,7 @@ use Rattle.tables.proofs.Refusals.{stops, goes}
 use Rattle.plans.specs.Level.{Level, Shaped, ceiling, gain, backupAt, follows}
 use Rattle.plans.proofs.Built.{shaped-mono}
 use Rattle.levels.specs.Storage.{LentLevel, Lent, levelOf, floorIn, roofIn, numberIn, standingIn}
-use Rattle.levels.specs.Judged.{floorsVerdict, cornersVerdict, pointsVerdict, shapeVerdict, backupsVerdict, offerVerdict}
+use Rattle.levels.specs.Judged.{floorsVerdict, cornersVerdict, pointsVerdict, shapeVerdict, backupsVerdict, offerVerdict, offerUpTo}
 use Rattle.runs.proofs.Judged.{Fitting}
 use Rattle.backups.specs.Steps.{Roofed}
 use Rattle.checks.specs.Steps.{Judging}
@@ -30,11 +30,11 @@ module _ (m : Tables) (x : Lent) (l : LentLevel) where
   -- ---- the stages as the code goes through them
   module _ {shape : Verdict} (e : shape ≡ shapeVerdict m x l) where
     pub refused-shape : {k i : ℕ} → shape ≡ Refused k i → shape ≡ offerVerdict m x l
-    unfolding offerVerdict
+    unfolding offerUpTo
     refused-shape f = stops _ e f
 
     pub left-backups : {backups : Verdict} → shape ≡ Fine → backups ≡ backupsVerdict M L W → backups ≡ offerVerdict m x l
-    unfolding offerVerdict
+    unfolding offerUpTo
     left-backups f g = goes e f g
 
   -- of the standing level and the offered one, each test of 13 to 15 reads a part
@@ -72,7 +72,7 @@ module _ (m : Tables) (x : Lent) (l : LentLevel) where
         left-15 h = goes floor-read f (goes roof-read h points-read)
 
   -- ---- what is lent to the tests of 13 to 15
-  module _ (f : Fitting m x l) where
+  module _ (f : Fitting maxVectors m x l) where
     standing-shaped : Shaped M maxLevels L
     standing-shaped = shaped-mono M L (numberIn x) maxLevels (f .standing .few-levels) (f .standing .shaped)
 

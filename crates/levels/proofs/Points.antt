@@ -12,7 +12,7 @@ use Rattle.tables.specs.Judged.{limitsHold, rowsTotal, tablesVerdict}
 use Rattle.plans.specs.Limits.{range}
 use Rattle.plans.specs.Level.{Level}
 use Rattle.levels.specs.Storage.{Lent, lent, rows, cells}
-use Rattle.levels.specs.Judged.{rowsWithin, valuesWithin, rangesVerdict, weightsVerdict, numbersIn, levelVerdict, holds}
+use Rattle.levels.specs.Judged.{rowsWithin, valuesWithin, rangesVerdict, weightsVerdict, numbersIn, levelVerdict, holds, holdsUpTo}
 
 -- weights on the three, and what one point has and the next
 three : ℕ → ℕ → ℕ → ℕ → ℕ
@@ -98,7 +98,7 @@ record Table : Type 0 where
   rows-short : holds forms (rowed (1 ∷ 1 ∷ 1 ∷ []) (pos 0) (replicate 3 (pos 0)) (replicate 2 (pos 0))) ≡ false
 
 table : Table
-unfolding forms rowed standing withRows three two level told alone levelVerdict holds tablesVerdict limitsHold rowsTotal
+unfolding forms rowed standing withRows three two level told alone levelVerdict holdsUpTo tablesVerdict limitsHold rowsTotal
     numbersIn rangesVerdict rowsWithin valuesWithin
     weightsVerdict firstOf every totalTo range
 table = record {

@@ -22,9 +22,9 @@ use Rattle.levels.specs.Storage.{LentLevel, Lent, stateSize, levelOf, re
 
 -- ---- a level by itself
 
--- 9: no vector, over 32 vectors, or over 32 points
-abbrev pub countsHold : ℕ → ℕ → Bool
-countsHold vectors points = countWithin maxVectors vectors && leb points maxPoints
+-- 9: no vector, more vectors than a level may have, or over 32 points
+abbrev pub countsHold : ℕ → ℕ → ℕ → Bool
+countsHold most vectors points = countWithin most vectors && leb points maxPoints
 
 -- the first row, of width w, with a number outside ± limit
 unfoldable pub rowsWithin : ℕ → ℕ → ℕ → ℕ → (ℕ → ℕ → ℤ) → Verdict
@@ -98,7 +98,7 @@ pointsVerdict M L W = firstOf (W .points) (λ i. unless (coversBackups M L (W .w
 unfoldable pub backupsVerdict : Model → Level → Level → Verdict
 backupsVerdict M L W = floorsVerdict M L W before cornersVerdict M L W before pointsVerdict M L W
 
--- ---- an offer to a certifier
+-- ---- an offer to a certifier whose levels have at most so many vectors
 
 -- rows of m actions and n states are there, and keep to a vector entry's range at level t
 abbrev pub rowsHold : ℕ → ℕ → ℕ → List ℤ → Bool
@@ -106,14 +106,14 @@ rowsHold m n t cells = leb (m * n) (length cells) && isFine (rowsWithin 7 m n (r
 
 -- 7: the tables, the standing level or the rows break a limit of 3, 5, 6, 9, 11 or 12 or name an action that does not exist, or the level is over 100; or
 -- a slice is too short for them
-unfoldable pub holds : Tables → Lent → Bool
-holds m x =
+unfoldable pub holdsUpTo : ℕ → Tables → Lent → Bool
+holdsUpTo most m x =
     let M : Model = modelOf m in
     let L : Level = levelOf m (standingIn x) in
     isFine (tablesVerdict m)
     && (leb stateSize (length (x .state))
     && (leb (numberIn x) maxLevels
-    && (countsHold (L .vectors) (L .points)
+    && (countsHold most (L .vectors) (L .points)
     && (readable m (standingIn x)
     && (actionsExist (M .actions) (L .vectors) (L .action)
     && (isFine (rangesVerdict (M .states) (numberIn x) L)
@@ -122,16 +122,26 @@ holds m x =
     && rowsHold (m .actions) (m .states) (numberIn x) (x .rows .qmdp)))))))))
 
 -- 9: no vector, too many vectors or points, or a slice too short for them: of the level that is offered, or of the certifier that is to hold it
-abbrev pub fits : Tables → Lent → LentLevel → Bool
-fits m x l = countsHold (l .vectors) (l .points) && (complete m l && complete m (lentFor (l .vectors) (l .points) (x .cells)))
+abbrev pub fits : ℕ → Tables → Lent → LentLevel → Bool
+fits most m x l = countsHold most (l .vectors) (l .points) && (complete m l && complete m (lentFor (l .vectors) (l .points) (x .cells)))
 
 -- 7 to 12: the certifier and the offered level by themselves; 7, 8 and 9 have no place
-unfoldable pub shapeVerdict : Tables → Lent → LentLevel → Verdict
-shapeVerdict m x l =
-    unless (holds m x) 7 0
+unfoldable pub shapeUpTo : ℕ → Tables → Lent → LentLevel → Verdict
+shapeUpTo most m x l =
+    unless (holdsUpTo most m x) 7 0
     before unless (ltb (numberIn x) maxLevels) 8 0
-    before unless (fits m x l) 9 0
+    before unless (fits most m x l) 9 0
     before levelVerdict (m .states) (m .actions) (m .observations) (numberIn x + 1) (standingIn x .vectors) (levelOf m l)
 
-unfoldable pub offerVerdict : Tables → Lent → LentLevel → Verdict
-offerVerdict m x l = shapeVerdict m x l before backupsVerdict (modelOf m) (levelOf m (standingIn x)) (levelOf m l)
+unfoldable pub offerUpTo : ℕ → Tables → Lent → LentLevel → Verdict
+offerUpTo most m x l = shapeUpTo most m x l before backupsVerdict (modelOf m) (levelOf m (standingIn x)) (levelOf m l)
+
+-- a level of this certifier has at most maxVectors
+abbrev pub holds : Tables → Lent → Bool
+holds = holdsUpTo maxVectors
+
+abbrev pub shapeVerdict : Tables → Lent → LentLevel → Verdict
+shapeVerdict = shapeUpTo maxVectors
+
+abbrev pub offerVerdict : Tables → Lent → LentLevel → Verdict
+offerVerdict = offerUpTo maxVectors

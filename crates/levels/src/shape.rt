@@ -20,7 +20,7 @@ use tables::read;
 
 // 9
 pub fn counts_hold(vectors: usize, points: usize) -> bool
-    ensures { λ r. ⌜ r ≡ countsHold vectors points ⌝ }
+    ensures { λ r. ⌜ r ≡ countsHold maxVectors vectors points ⌝ }
 {
     if !judge::count_within(Tables::VECTORS, vectors) {
         return false;

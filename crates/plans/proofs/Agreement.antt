@@ -6,7 +6,7 @@ use Rattle.integers.proofs.Sums.{sum-cong, total-cong, largestTo-cong}
 use Rattle.integers.proofs.Searches.{largest-in, largest-cong}
 use Rattle.tables.specs.Limits.{K}
 use Rattle.tables.specs.Model.{Model, successor, expectedReward, backup}
-use Rattle.plans.specs.Level.{Level, product, smallest, orNone, drop, gain, ceiling, backupAt, corner-weight, follows, Meets, Shaped, IsPoint, Agree}
+use Rattle.plans.specs.Level.{Level, product, smallest, orNone, drop, gain, ceiling, backupAt, corner-weight, follows, Meets, ShapedUpTo, IsPoint, Agree}
 use Rattle.plans.specs.Totals.{best, lower, advice}
 
 -- the best vector is one of them
@@ -90,7 +90,7 @@ module _ (M : Model) (W W' : Level) (e : Agree M W W') where
   total-same i l = total-cong (M .states) _ _ (e .weight-same i l)
 
   -- Each limit is of a part that agrees. Qed.
-  pub shaped-agree : (t : ℕ) → Shaped M t W → Shaped M t W'
+  pub shaped-agree : {most : ℕ} (t : ℕ) → ShapedUpTo most M t W → ShapedUpTo most M t W'
   shaped-agree t S = record {
     some-vectors = rw (e .vectors-same) (S .some-vectors);
     few-vectors = rw (e .vectors-same) (S .few-vectors);

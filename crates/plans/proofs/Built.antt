@@ -1,6 +1,6 @@
 -- The builder's level lies within the limits of its level and meets its inequalities. The laws of how large successor weights, backups and ceilings grow,
 -- of which that is made, also rule out overflow in code. Assumes nothing.
-use Rattle.integers.proofs.Kit.{_≡_, _∙_, ap, ℕ, _≤_, _<_, _*_, suc, arith, ℤ, pos, natAbs, _+ℤ_, negℤ, _≤ℤ_}
+use Rattle.integers.proofs.Kit.{_≡_, _∙_, ap, ℕ, _≤_, _+_, _<_, _*_, suc, arith, ℤ, pos, natAbs, _+ℤ_, negℤ, _≤ℤ_}
 use native.Mathlib.Nat as NatL
 use Rattle.integers.specs.Whole.{_·_, sumTo, totalTo, largestTo}
 use Rattle.integers.proofs.Order.{≤-trans, sub-≤, one-·, ·-mono}
@@ -8,10 +8,10 @@ use Rattle.integers.proofs.Sums.{sum-mono, total-cong, total-mul, total-mul-rig
 use Rattle.integers.proofs.Sizes.{abs-add, abs-times, times-bound, sum-weighed, abs-below, abs-above, multiple-above, multiple-between}
 use Rattle.integers.proofs.Rounding.{floor-≤, floor-range, ceil-≥, ceil-least, ceil-range}
 use Rattle.integers.proofs.Searches.{largest-in, largest-max}
-use Rattle.tables.specs.Limits.{one, maxReward, maxEntry, K, maxLevels}
+use Rattle.tables.specs.Limits.{maxStates, one, maxReward, maxEntry, K, maxLevels}
 use Rattle.tables.specs.Model.{Model, Valid, successor, expectedReward, backup, backedUp}
 use Rattle.plans.specs.Limits.{maxBuilt, range}
-use Rattle.plans.specs.Level.{Level, level0, product, drop, gain, ceiling, backupAt, corner-weight, follows, Meets, Shaped, IsPoint}
+use Rattle.plans.specs.Level.{Level, level0, product, drop, gain, ceiling, backupAt, corner-weight, follows, Meets, ShapedUpTo, Shaped, IsPoint}
 use Rattle.plans.specs.Build.{chosen, entryFor, bestAction, leastFor, leastValue, built}
 use Rattle.plans.proofs.Ceiling.{sawtooth, product-const, corner-total}
 
@@ -88,7 +88,7 @@ backup-within M t T a la next h s ls = omega (arith, within)
         (rw (chances M T a la s ls) at ahead)
 
 -- in particular those of a level t that is within its limits
-pub backup-range : (M : Model) (L : Level) (t : ℕ) → Valid M → Shaped M t L → (a : ℕ) → a < M .actions → (choice : ℕ → ℕ)
+pub backup-range : {most : ℕ} (M : Model) (L : Level) (t : ℕ) → Valid M → ShapedUpTo most M t L → (a : ℕ) → a < M .actions → (choice : ℕ → ℕ)
     → ((o : ℕ) → o < M .observations → choice o < L .vectors) → (s : ℕ) → s < M .states
     → natAbs (backup M a (follows L choice) s) ≤ K * range (suc t)
 unfolding follows
@@ -113,7 +113,8 @@ ceiling-below n L q = sub-≤ (product n q (L .corner)) (largestTo (L .points) (
 -- The ceiling at weights q lies within the total of q times the range.
 -- Above: it is at most corners · q, and each corner is at most the range. Below: minus the range is at most every corner, and at every point minus the
 -- range times the total of its weights is at most its value, whatever that total is; so `sawtooth` puts minus the range, at q, below the ceiling. Qed.
-pub ceiling-range : (M : Model) (L : Level) (t : ℕ) → Shaped M t L → (q : ℕ → ℕ) → natAbs (ceiling (M .states) L q) ≤ totalTo (M .states) q * range t
+pub ceiling-range : {most : ℕ} (M : Model) (L : Level) (t : ℕ) → ShapedUpTo most M t L → (q : ℕ → ℕ)
+    → natAbs (ceiling (M .states) L q) ≤ totalTo (M .states) q * range t
 unfolding product
 ceiling-range M L t S q = multiple-between (totalTo (M .states) q) (range t) (ceiling (M .states) L q) high low
   where
@@ -135,7 +136,7 @@ ceiling-range M L t S q = multiple-between (totalTo (M .states) q) (range t) (ce
 -- Backups at weights p lie within K times the range of level t + 1 times the total of p.
 -- As for `backup-within`: the expected reward is within the total of p times maxReward, the ceilings at the successor weights are within their totals
 -- times range t (`ceiling-range`), and those totals are one × one times the total of p (`successor-total`). Qed.
-pub backupAt-range : (M : Model) (L : Level) (t : ℕ) → Valid M → Shaped M t L → (p : ℕ → ℕ) (a : ℕ) → a < M .actions
+pub backupAt-range : {most : ℕ} (M : Model) (L : Level) (t : ℕ) → Valid M → ShapedUpTo most M t L → (p : ℕ → ℕ) (a : ℕ) → a < M .actions
     → natAbs (backupAt M L p a) ≤ K * (totalTo (M .states) p * range (suc t))
 unfolding backupAt expectedReward
 backupAt-range M L t T S p a la =
@@ -166,7 +167,7 @@ pub value-least : (M : Model) (L : Level) (p : ℕ → ℕ) → 0 < M .actions
 unfolding leastValue leastFor
 value-least M L p some w h = ceil-least K K-positive _ w (h _ (largest-in _ _ some))
 
-module _ (M : Model) (L : Level) (t : ℕ) (T : Valid M) (S : Shaped M t L) where
+module _ {most : ℕ} (M : Model) (L : Level) (t : ℕ) (T : Valid M) (S : ShapedUpTo most M t L) where
   pub entry-range : (p : ℕ → ℕ) (a : ℕ) → a < M .actions → (s : ℕ) → s < M .states → natAbs (entryFor M L p a s) ≤ range (suc t)
   unfolding entryFor backedUp
   entry-range p a la s ls =
@@ -181,12 +182,12 @@ module _ (M : Model) (L : Level) (t : ℕ) (T : Valid M) (S : Shaped M t L) wher
   module _ (points : ℕ) (weight : ℕ → ℕ → ℕ) (few : points ≤ maxBuilt)
       (total : (i : ℕ) → i < points → IsPoint (M .states) (weight i)) where
     -- The built level has the shape of level t + 1.
-    -- It has a vector for each state and each point, at most maxStates + maxBuilt = maxVectors. An entry is a backup over K, rounded down; a corner or
+    -- It has a vector for each state and each point, at most maxStates + maxBuilt. An entry is a backup over K, rounded down; a corner or
     -- value is the largest of the backups over K, rounded up. Backups lie within K × range (t + 1) times the total of the weights, which is 1 at a
     -- corner; rounding keeps a range with whole ends. Qed.
-    pub built-shaped : Shaped M (suc t) (built M L points weight)
+    pub built-shaped : maxStates + maxBuilt ≤ most → ShapedUpTo most M (suc t) (built M L points weight)
     unfolding built
-    built-shaped = record {
+    built-shaped enough = record {
       some-vectors = omega (arith, T .some-states);
       few-vectors = omega (arith, T .few-states);
       few-points = omega arith;
@@ -237,7 +238,7 @@ pub range-limit : (t : ℕ) → t ≤ maxLevels → range t ≤ maxEntry
 unfolding range
 range-limit t l = omega arith
 
-pub shaped-mono : (M : Model) (L : Level) (t t' : ℕ) → t ≤ t' → Shaped M t L → Shaped M t' L
+pub shaped-mono : {most : ℕ} (M : Model) (L : Level) (t t' : ℕ) → t ≤ t' → ShapedUpTo most M t L → ShapedUpTo most M t' L
 shaped-mono M L t t' l S = record {
   some-vectors = S .some-vectors;
   few-vectors = S .few-vectors;

@@ -100,16 +100,19 @@ pub record Meets (M : Model) (L W : Level) : Type 0 where
 abbrev pub IsPoint : ℕ → (ℕ → ℕ) → Type 0
 IsPoint n weight = (0 < totalTo n weight) × (totalTo n weight ≤ maxTotal)
 
--- level W is within the limits of level t
-pub record Shaped (M : Model) (t : ℕ) (W : Level) : Type 0 where
+-- level W is within the limits of level t, of at most so many vectors
+pub record ShapedUpTo (most : ℕ) (M : Model) (t : ℕ) (W : Level) : Type 0 where
   pub some-vectors : 0 < W .vectors
-  pub few-vectors : W .vectors ≤ maxVectors
+  pub few-vectors : W .vectors ≤ most
   pub few-points : W .points ≤ maxPoints
   pub action-in : (v : ℕ) → v < W .vectors → W .action v < M .actions
   pub entry-in : (v : ℕ) → v < W .vectors → (s : ℕ) → s < M .states → natAbs (W .entry v s) ≤ range t
   pub corner-in : (s : ℕ) → s < M .states → natAbs (W .corner s) ≤ range t
   pub value-in : (i : ℕ) → i < W .points → natAbs (W .value i) ≤ totalTo (M .states) (W .weight i) * range t
   pub total : (i : ℕ) → i < W .points → IsPoint (M .states) (W .weight i)
+
+abbrev pub Shaped : Model → ℕ → Level → Type 0
+Shaped M t W = ShapedUpTo maxVectors M t W
 
 -- two levels that agree in every part that is read
 pub record Agree (M : Model) (W W' : Level) : Type 0 where

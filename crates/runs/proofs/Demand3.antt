@@ -12,7 +12,7 @@ use Rattle.tables.specs.Storage.{weightIn, modelOf}
 use Rattle.tables.specs.Judged.{tablesVerdict}
 use Rattle.tables.proofs.Refusals.{before-fine, unless-fine}
 use Rattle.tables.proofs.Accepted.{tables-valid, tables-stored}
-use Rattle.tables.specs.Limits.{maxLevels}
+use Rattle.tables.specs.Limits.{maxVectors, maxLevels}
 use Rattle.plans.specs.Level.{Level, level0, Agree, ceiling}
 use Rattle.plans.specs.Build.{built}
 use Rattle.plans.specs.Rows.{bestRow, informed, qmdp, informedNext, qmdpNext}
@@ -27,7 +27,7 @@ use Rattle.levels.specs.Storage.{Cells, LentLevel, Lent, rows, stateSize, level
 use Rattle.levels.specs.Storage.{informedIn, qmdpIn}
 use Rattle.levels.specs.Judged.{holds}
 use Rattle.levels.proofs.Laws.{passed, fine-before}
-use Rattle.levels.proofs.Over.{Complete, AsLong, as-long, long-long, complete-true, complete-long, over-agree, over-long, over-same}
+use Rattle.levels.proofs.Over.{Complete, AsLong, as-long, long-long, complete-true, complete-is, complete-long, over-agree, over-long, over-same}
 use Rattle.levels.proofs.Over.{informed-over, qmdp-over, informed-long, qmdp-long}
 use Rattle.runs.specs.declared.Bounds.{Bounds}
 use Rattle.tables.specs.Verdicts.{left}
@@ -35,14 +35,15 @@ use Rattle.runs.specs.State.{at, openVerdict, opened, verdictOn, raised,
 use Rattle.runs.specs.State.{answerFor, buildVerdict, builtFrom, builtOf}
 use Rattle.runs.specs.Demand3.{ModelAccepted, run, tally, acceptances, newer, lastOf, after, steps, last}
 use Rattle.runs.specs.Demand3.{StateHolds, RowsAre, TotalsHold, BuildHolds, PointsHold, Demand3}
-use Rattle.runs.proofs.Judged.{Held, Accepted, standing-is, accepted, accepts, weights-is}
+use Rattle.runs.proofs.Judged.{Held, Accepted, standing-is, accepted, weights-is}
+use Rattle.runs.proofs.Vectors.{accepted-1000}
 
 -- what holds of slices x after t acceptances, the last of them of level L, of which the first had the cells x₀
 pub record Reached (m : Tables) (x₀ : Cells) (t : ℕ) (L : Level) (x : Lent) : Type 0 where
   pub number : numberIn x ≡ t
   pub certified : Certified (modelOf m) t L
   pub agrees : Agree (modelOf m) L (levelOf m (standingIn x))
-  pub stands : Held m x
+  pub stands : Held maxVectors m x
   pub as-lent : AsLong x₀ (x .cells)
   pub informed-is : (a : ℕ) → a < m .actions → (s : ℕ) → s < m .states → informedIn m x a s ≡ informed (modelOf m) t a s
   pub qmdp-is : (a : ℕ) → a < m .actions → (s : ℕ) → s < m .states → qmdpIn m x a s ≡ qmdp (modelOf m) t a s
@@ -105,7 +106,7 @@ module _ {m : Tables} {x₀ : Cells} {t : ℕ} {L : Level} {x : Lent} (r : Reach
   -- An accepted level meets its inequalities over the standing level; so it does over the last accepted one, with which that agrees, and is certified
   -- with one step more. It is laid over the slices: what is read of them agrees with it, and so has its shape. The rows that are laid are a step above
   -- those that stood, so they are those of the next level, within its range. Qed.
-  pub reached-next : (l : LentLevel) → Accepted m x l → Reached m x₀ (suc t) (levelOf m l) (raised m x (levelOf m l))
+  pub reached-next : (l : LentLevel) → Accepted maxVectors m x l → Reached m x₀ (suc t) (levelOf m l) (raised m x (levelOf m l))
   unfolding informed qmdp
   reached-next l a =
       let M : Model = modelOf m in
@@ -144,16 +145,16 @@ module _ {m : Tables} {x₀ : Cells} {t : ℕ} {L : Level} {x : Lent} (r : Reach
   reached-step : (l : LentLevel)
       → Reached m x₀ (t + tally (verdictOn m x l)) (newer (verdictOn m x l) (levelOf m l) L) (offered m x l)
   unfolding offered
-  reached-step l = by (verdictOn m x l) (accepted m x l)
+  reached-step l = by (verdictOn m x l) (accepted maxVectors m x l)
     where
-      by : (v : Verdict) → (v ≡ Fine → Accepted m x l)
+      by : (v : Verdict) → (v ≡ Fine → Accepted maxVectors m x l)
           → Reached m x₀ (t + tally v) (newer v (levelOf m l) L) (left v (raised m x (levelOf m l)) x)
       by Fine a = rw (add-one t) (reached-next l (a refl))
       by (Refused number place) a = rw (add-zero t) r
 
   -- ---- totals
   holds-true : holds m x ≡ true
-  holds-true = standing-is m x (r .stands)
+  holds-true = standing-is maxVectors m x (r .stands)
 
   pub some-vectors : 0 < L .vectors
   some-vectors = rw (r .agrees .vectors-same) at (r .stands .shaped .some-vectors)
@@ -198,23 +199,13 @@ module _ {m : Tables} {x₀ : Cells} {t : ℕ} {L : Level} {x : Lent} (r : Reach
           (fine-before (passed 9 0 (and-is (le-leb _ _ (points .few)) (points .answer-room))) (weights-is _ _ _ (points .total))))
 
       built-accepted : verdictOn m x (answerFor m count (over m (builtFrom m (levelOf m (standingIn x)) count y) y)) ≡ Fine
-      unfolding built
       built-accepted =
-          let M : Model = modelOf m in
-          let S : Level = levelOf m (standingIn x) in
-          let weight = pointIn (m .states) (y .weights) in
-          let W : Level = builtFrom m S count y in
-          let v = r .stands .valid-tables in
-          let room = complete-true m (answerFor m count y) (points .answer-room) in
-          let agree = over-agree m W y in
-          accepts m x (answerFor m count (over m W y)) record {
-            standing = r .stands;
-            room = omega (arith, r .number);
-            given = complete-long m (over-long m W y room) room;
-            held = complete-long m (r .as-lent) (complete-true m (answerFor m count x₀) (points .certifier-room));
-            shaped = rw (add-one (numberIn x)) (shaped-agree M W _ agree (suc (numberIn x))
-                (built-shaped M S (numberIn x) v (r .stands .shaped) count weight (points .few) (points .total)));
-            meets = meets-agree M S W _ agree (built-meets M S (numberIn x) v (r .stands .shaped) count weight (points .few) (points .total));
+          accepted-1000 m x holds-true (omega (arith, r .number)) count y record {
+            few = points .few;
+            total = points .total;
+            answer-room = points .answer-room;
+            certifier-room = complete-is m (answerFor m count (x .cells))
+                (complete-long m (r .as-lent) (complete-true m (answerFor m count x₀) (points .certifier-room)));
           }
 
 -- ---- a list after a list

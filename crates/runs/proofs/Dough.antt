@@ -23,8 +23,8 @@ use Rattle.plans.specs.Rows.{highest, bestRow, informedBackup, informedNext, in
 use Rattle.plans.specs.Totals.{best, lower, upper, advice}
 use Rattle.plans.specs.Build.{chosen, entryFor, bestAction, leastFor, leastValue, seed, built}
 use Rattle.levels.specs.Storage.{Cells, LentLevel, Rows, rows, Lent, levelOf, cornerIn, over}
-use Rattle.levels.specs.Judged.{rowsWithin, valuesWithin, rangesVerdict, weightsVerdict, holds, numbersIn, floorsVerdict, cornersVerdict, pointsVerdict}
-use Rattle.levels.specs.Judged.{levelVerdict, shapeVerdict, backupsVerdict, offerVerdict}
+use Rattle.levels.specs.Judged.{rowsWithin, valuesWithin, rangesVerdict, weightsVerdict, holdsUpTo, numbersIn, floorsVerdict, cornersVerdict, pointsVerdict}
+use Rattle.levels.specs.Judged.{levelVerdict, shapeUpTo, backupsVerdict, offerUpTo, offerVerdict}
 use Rattle.runs.specs.declared.Bounds.{Bounds}
 use Rattle.runs.specs.State.{openVerdict, opened, offered, totalsVerdict, totalsOf, buildVerdict, builtOf}
 
@@ -254,7 +254,7 @@ record Table : Type 0 where
 
 table : Table
 unfolding dough slices rowsAt blank fresh half one two three level standing alone changed mixture pair
-    openVerdict opened offered offerVerdict shapeVerdict levelVerdict backupsVerdict floorsVerdict cornersVerdict pointsVerdict numbersIn holds over level0
+    openVerdict opened offered offerUpTo shapeUpTo levelVerdict backupsVerdict floorsVerdict cornersVerdict pointsVerdict numbersIn holdsUpTo over level0
     totalsOf totalsVerdict best lower upper advice builtOf buildVerdict tablesVerdict limitsHold rowsTotal
     firstOf every totalTo rangesVerdict rowsWithin valuesWithin weightsVerdict range built seed bestAction chosen entryFor leastValue leastFor firstLargest
     product successor sumTo backedUp backup follows floorDiv ceilDiv backupAt expectedReward ceiling largestTo drop gain smallest joined orNone

@@ -1,4 +1,5 @@
--- From verdicts to facts, and back: what a standing level that holds, and an offer that is fine, are known to have. Assumes nothing.
+-- From verdicts to facts, and back: what a standing level that holds, and an offer that is fine, are known to have, where a level has at most `most`
+-- vectors. Assumes nothing.
 use Rattle.integers.proofs.Kit.{_≡_, refl, true, false, Bool, _||_, List, ℕ, _≤_, _<_, _+_, _*_, arith, le-leb, leb-true, lt-ltb, ltb-true, leb}
 use Rattle.integers.proofs.Kit.{length, ℤ, natAbs, _≤ℤ_}
 use mathlib.Core.Bool.{not}
@@ -16,10 +17,10 @@ use Rattle.tables.specs.Judged.{tablesVerdict}
 use Rattle.tables.proofs.Refusals.{before-fine, unless-fine, fine-at, at-fine}
 use Rattle.tables.proofs.Accepted.{tables-valid, tables-stored, tables-fine}
 use Rattle.plans.specs.Limits.{maxTotal, range}
-use Rattle.plans.specs.Level.{Level, backupAt, corner-weight, follows, Meets, Shaped, IsPoint}
-use Rattle.levels.specs.Judged.{countsHold, rowsWithin, totalHolds, valuesWithin, rangesVerdict, weightsVerdict, actionsExist, isFine, rowsHold, holds, fits}
-use Rattle.levels.specs.Judged.{numbersIn, numbersVerdict, floorsVerdict, coversBackups, cornersVerdict, pointsVerdict, levelVerdict, shapeVerdict}
-use Rattle.levels.specs.Judged.{backupsVerdict, offerVerdict}
+use Rattle.plans.specs.Level.{Level, backupAt, corner-weight, follows, Meets, ShapedUpTo, IsPoint}
+use Rattle.levels.specs.Judged.{countsHold, rowsWithin, totalHolds, valuesWithin, rangesVerdict, weightsVerdict, actionsExist, isFine, rowsHold, holdsUpTo, fits}
+use Rattle.levels.specs.Judged.{numbersIn, numbersVerdict, floorsVerdict, coversBackups, cornersVerdict, pointsVerdict, levelVerdict, shapeUpTo}
+use Rattle.levels.specs.Judged.{backupsVerdict, offerUpTo}
 use Rattle.levels.specs.Storage.{LentLevel, Lent, stateSize, levelOf, readable, complete, numberIn, standingIn, lentFor}
 use Rattle.levels.proofs.Laws.{passed, fine-before, numbers-in}
 use Rattle.levels.proofs.Over.{Readable, Complete, readable-true, readable-is, complete-true, complete-is}
@@ -87,14 +88,14 @@ module _ (n points limit : ℕ) (weight : ℕ → ℕ → ℕ) (value : ℕ → 
   values-is h = at-fine _ points (λ i l. passed 11 i (if-so (totalHolds (totalTo n (weight i))) _ (le-leb _ _ (h i l))))
 
 -- the tests of a level by itself, in the order of the standing level's
-pub record Tests (M : Model) (t : ℕ) (W : Level) : Type 0 where
-  pub counts : countsHold (W .vectors) (W .points) ≡ true
+pub record Tests (most : ℕ) (M : Model) (t : ℕ) (W : Level) : Type 0 where
+  pub counts : countsHold most (W .vectors) (W .points) ≡ true
   pub actions : actionsExist (M .actions) (W .vectors) (W .action) ≡ true
   pub ranges : rangesVerdict (M .states) t W ≡ Fine
   pub weights : weightsVerdict (M .states) (W .points) (W .weight) ≡ Fine
 
-module _ (M : Model) (t : ℕ) (W : Level) where
-  pub tests-shaped : Tests M t W → Shaped M t W
+module _ (most : ℕ) (M : Model) (t : ℕ) (W : Level) where
+  pub tests-shaped : Tests most M t W → ShapedUpTo most M t W
   unfolding rangesVerdict
   tests-shaped e =
       let c = and-true _ _ (e .counts) in
@@ -112,7 +113,7 @@ module _ (M : Model) (t : ℕ) (W : Level) where
         total = weights-fine _ _ _ (e .weights);
       }
 
-  shaped-tests : Shaped M t W → Tests M t W
+  shaped-tests : ShapedUpTo most M t W → Tests most M t W
   unfolding rangesVerdict
   shaped-tests S = record {
     counts = and-is (and-is (le-leb 1 (W .vectors) (omega (arith, S .some-vectors))) (le-leb _ _ (S .few-vectors))) (le-leb _ _ (S .few-points));
@@ -140,37 +141,37 @@ module _ (m n t : ℕ) (cells : List ℤ) where
   rows-in h = and-is (le-leb _ _ (h .long)) (fine-is (rows-is 7 m n (range t) (entryIn n cells) (h .entry)))
 
 -- what 7 tests
-pub record Held (m : Tables) (x : Lent) : Type 0 where
+pub record Held (most : ℕ) (m : Tables) (x : Lent) : Type 0 where
   pub valid-tables : Valid (modelOf m)
   pub stored-tables : Stored (countsOf m) (m .transition) (m .observation) (m .reward)
   pub state-long : stateSize ≤ length (x .state)
   pub few-levels : numberIn x ≤ maxLevels
   pub read : Readable m (standingIn x)
-  pub shaped : Shaped (modelOf m) (numberIn x) (levelOf m (standingIn x))
+  pub shaped : ShapedUpTo most (modelOf m) (numberIn x) (levelOf m (standingIn x))
   pub informed : RowsIn (m .actions) (m .states) (numberIn x) (x .rows .informed)
   pub qmdp : RowsIn (m .actions) (m .states) (numberIn x) (x .rows .qmdp)
 
 -- what 7 to 15 test
-pub record Accepted (m : Tables) (x : Lent) (l : LentLevel) : Type 0 where
-  pub standing : Held m x
+pub record Accepted (most : ℕ) (m : Tables) (x : Lent) (l : LentLevel) : Type 0 where
+  pub standing : Held most m x
   pub room : numberIn x < maxLevels
   pub given : Complete m l
   pub held : Complete m (lentFor (l .vectors) (l .points) (x .cells))
-  pub shaped : Shaped (modelOf m) (numberIn x + 1) (levelOf m l)
+  pub shaped : ShapedUpTo most (modelOf m) (numberIn x + 1) (levelOf m l)
   pub meets : Meets (modelOf m) (levelOf m (standingIn x)) (levelOf m l)
 
 -- what 7 to 12 test
-pub record Fitting (m : Tables) (x : Lent) (l : LentLevel) : Type 0 where
-  pub standing : Held m x
+pub record Fitting (most : ℕ) (m : Tables) (x : Lent) (l : LentLevel) : Type 0 where
+  pub standing : Held most m x
   pub room : numberIn x < maxLevels
   pub given : Complete m l
   pub held : Complete m (lentFor (l .vectors) (l .points) (x .cells))
-  pub shaped : Shaped (modelOf m) (numberIn x + 1) (levelOf m l)
+  pub shaped : ShapedUpTo most (modelOf m) (numberIn x + 1) (levelOf m l)
   pub chosen : (v : ℕ) → v < l .vectors → (o : ℕ) → o < m .observations → levelOf m l .choice v o < standingIn x .vectors
 
-module _ (m : Tables) (x : Lent) where
-  pub standing-true : holds m x ≡ true → Held m x
-  unfolding holds
+module _ (most : ℕ) (m : Tables) (x : Lent) where
+  pub standing-true : holdsUpTo most m x ≡ true → Held most m x
+  unfolding holdsUpTo
   standing-true e =
       let tables = and-true _ _ e in
       let state = and-true _ _ (tables .1) in
@@ -188,7 +189,7 @@ module _ (m : Tables) (x : Lent) where
         state-long = leb-true _ _ (state .0);
         few-levels = leb-true _ _ (number .0);
         read = readable-true m (standingIn x) (read .0);
-        shaped = tests-shaped (modelOf m) (numberIn x) (levelOf m (standingIn x)) record {
+        shaped = tests-shaped most (modelOf m) (numberIn x) (levelOf m (standingIn x)) record {
           counts = counts .0;
           actions = actions .0;
           ranges = fine-true _ (ranges .0);
@@ -198,10 +199,10 @@ module _ (m : Tables) (x : Lent) where
         qmdp = rows-true (m .actions) (m .states) (numberIn x) (x .rows .qmdp) (rows .1);
       }
 
-  pub standing-is : Held m x → holds m x ≡ true
-  unfolding holds
+  pub standing-is : Held most m x → holdsUpTo most m x ≡ true
+  unfolding holdsUpTo
   standing-is s =
-      let e = shaped-tests (modelOf m) (numberIn x) (levelOf m (standingIn x)) (s .shaped) in
+      let e = shaped-tests most (modelOf m) (numberIn x) (levelOf m (standingIn x)) (s .shaped) in
       and-is (fine-is (tables-fine m (s .valid-tables) (s .stored-tables))) (and-is (le-leb _ _ (s .state-long)) (and-is (le-leb _ _ (s .few-levels))
       (and-is (e .counts) (and-is (readable-is m (standingIn x) (s .read)) (and-is (e .actions) (and-is (fine-is (e .ranges))
       (and-is (fine-is (e .weights)) (and-is (rows-in (m .actions) (m .states) (numberIn x) (x .rows .informed) (s .informed))
@@ -237,8 +238,8 @@ module _ (m : Tables) (x : Lent) where
     points-fine e i l = covers-true M L (W .weight i) (W .value i) (unless-fine _ _ _ (fine-at _ (W .points) e i l))
 
     -- Each stage of a fine verdict is fine, so each of its tests passed: the tests of 9 to 12 are the limits of `Shaped`, with the actions of 10. Qed.
-    pub fitting : shapeVerdict m x l ≡ Fine → Fitting m x l
-    unfolding shapeVerdict levelVerdict
+    pub fitting : shapeUpTo most m x l ≡ Fine → Fitting most m x l
+    unfolding shapeUpTo levelVerdict
     fitting e =
         let e8 = before-fine _ _ e in
         let e9 = before-fine _ _ (e8 .1) in
@@ -246,14 +247,14 @@ module _ (m : Tables) (x : Lent) where
         let e11 = before-fine _ _ (e10 .1) in
         let e12 = before-fine _ _ (e11 .1) in
         let numbers = numbers-fine (e11 .0) in
-        let sizes = and-true _ _ (unless-fine (fits m x l) 9 0 (e10 .0)) in
+        let sizes = and-true _ _ (unless-fine (fits most m x l) 9 0 (e10 .0)) in
         let slices = and-true _ _ (sizes .1) in
         record {
           standing = standing-true (unless-fine _ _ _ (e8 .0));
           room = ltb-true _ _ (unless-fine _ _ _ (e9 .0));
           given = complete-true m l (slices .0);
           held = complete-true m (lentFor (l .vectors) (l .points) (x .cells)) (slices .1);
-          shaped = tests-shaped M (numberIn x + 1) W record {
+          shaped = tests-shaped most M (numberIn x + 1) W record {
             counts = sizes .0;
             actions = at-every _ _ (λ v l. lt-ltb _ _ (numbers v l .0));
             ranges = e12 .0;
@@ -264,8 +265,8 @@ module _ (m : Tables) (x : Lent) where
 
     -- An accepted offer has the shape of the next level and meets its inequalities over the standing one: the tests of 10 and 13 to 15 are the conditions
     -- of `Meets`. Qed.
-    pub accepted : offerVerdict m x l ≡ Fine → Accepted m x l
-    unfolding offerVerdict backupsVerdict
+    pub accepted : offerUpTo most m x l ≡ Fine → Accepted most m x l
+    unfolding offerUpTo backupsVerdict
     accepted e =
         let stages = before-fine _ _ e in
         let f = fitting (stages .0) in
@@ -285,10 +286,10 @@ module _ (m : Tables) (x : Lent) where
         }
 
     -- The other way round: every test of every stage passes. Qed.
-    pub accepts : Accepted m x l → offerVerdict m x l ≡ Fine
-    unfolding offerVerdict shapeVerdict levelVerdict backupsVerdict numbersIn floorsVerdict cornersVerdict pointsVerdict
+    pub accepts : Accepted most m x l → offerUpTo most m x l ≡ Fine
+    unfolding offerUpTo shapeUpTo levelVerdict backupsVerdict numbersIn floorsVerdict cornersVerdict pointsVerdict
     accepts a =
-        let e = shaped-tests M (numberIn x + 1) W (a .shaped) in
+        let e = shaped-tests most M (numberIn x + 1) W (a .shaped) in
         let h = a .meets in
         fine-before (fine-before (passed 7 0 (standing-is (a .standing)))
         (fine-before (passed 8 0 (lt-ltb _ _ (a .room)))

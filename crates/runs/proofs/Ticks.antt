@@ -5,7 +5,7 @@ use Rattle.integers.proofs.Order.{≤-of, <-≤, ·-zero}
 use Rattle.tables.specs.declared.Tables.{Tables}
 use Rattle.tables.specs.declared.Verdict.{Verdict}
 use Rattle.tables.specs.declared.Verdict.the-variants.{Fine, Refused}
-use Rattle.tables.specs.Limits.{K}
+use Rattle.tables.specs.Limits.{maxVectors, K}
 use Rattle.tables.specs.Model.{Model, Valid, backedUp}
 use Rattle.tables.specs.Storage.{modelOf}
 use Rattle.tables.proofs.Accepted.{tables-valid}
@@ -66,7 +66,7 @@ module _ (m : Tables) (valid-tables : Valid (modelOf m)) (x₀ : Cells) where
     stacked-next : (l : LentLevel) → verdictOn m x l ≡ Fine → Agree (modelOf m) (builtFrom m L (p .count) (p .cells)) (levelOf m l)
         → Stacked m x₀ (levelOf m l ∷ below) (levelOf m l) (raised m x (levelOf m l))
     stacked-next l fine agree = record {
-      reached = reached-next (k .reached) l (accepted m x l fine);
+      reached = reached-next (k .reached) l (accepted maxVectors m x l fine);
       low = low;
       high = λ v b s d. <-≤ (high v b s d);
       strict = λ h. high;

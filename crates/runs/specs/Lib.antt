@@ -2,3 +2,4 @@
 pub mod State
 pub mod Demand3
 pub mod Ticks
+pub mod Vectors

@@ -18,7 +18,7 @@ use Rattle.solver.specs.declared.Judged.{Judged}
 
 -- the most bytes of a file
 abbrev pub maxFile : ℕ
-maxFile = 32_768
+maxFile = 4_194_304
 
 -- ---- one word
 

@@ -26,7 +26,7 @@ pub not-fine : {v : Verdict} {k i : ℕ} → v ≡ Refused k i → isFine v ≡ 
 not-fine e = rw e
 
 -- what 9 says of the counts
-pub counts-few : (vectors points : ℕ) → countsHold vectors points ≡ true → (vectors ≤ maxVectors) × (points ≤ maxPoints)
+pub counts-few : (vectors points : ℕ) → countsHold maxVectors vectors points ≡ true → (vectors ≤ maxVectors) × (points ≤ maxPoints)
 counts-few vectors points e =
     let h = and-true (countWithin maxVectors vectors) (leb points maxPoints) e in
     (leb-true vectors maxVectors (and-true (leb 1 vectors) (leb vectors maxVectors) (h .0) .1), leb-true points maxPoints (h .1))

@@ -11,7 +11,11 @@ abbrev pub maxObservations : ℕ
 maxObservations = 8
 
 abbrev pub maxVectors : ℕ
-maxVectors = 32
+maxVectors = 1_000
+
+-- the most rows that lie packed in one slice: the vectors of a level; tables, points and graphs have fewer
+abbrev pub maxRows : ℕ
+maxRows = maxVectors
 
 -- the total of a row, and the largest probability and discount: 1, in thousandths
 abbrev pub one : ℕ

@@ -48,7 +48,7 @@ impl Tables {
 
     pub const OBSERVATIONS: usize = 8;
 
-    pub const VECTORS: usize = 32;
+    pub const VECTORS: usize = 1_000;
 
     pub const ONE: u64 = 1_000; // in thousandths
 

@@ -2,7 +2,7 @@
 ghost use mathlib.Core.Path.{_≡_};
 ghost use Prim.Native.Nat.{_+_, _*_, _≤_, _<_};
 ghost use lib.ListN.{length, set};
-ghost use Rattle.tables.specs.Limits.{maxStates, maxActions, maxObservations, maxVectors};
+ghost use Rattle.tables.specs.Limits.{maxStates, maxActions, maxObservations, maxVectors, maxRows};
 ghost use Rattle.tables.specs.Storage.{rowStart, rowPlace, transitionIn, observationIn, rewardIn, entryIn, choiceIn};
 ghost use Rattle.tables.specs.Steps.{rowsTo, cellsTo};
 use super::Action;
@@ -24,7 +24,7 @@ fn index(x: u16) -> usize
 
 // Where row r of width w starts.
 pub fn start(r: usize, w: usize) -> usize
-    requires { ⌜ (r < maxActions * maxStates) × (w ≤ maxStates) ⌝ }
+    requires { ⌜ (r < maxRows) × (w ≤ maxStates) ⌝ }
     ensures { λ out. ⌜ out ≡ rowStart w r ⌝ }
 {
     r * w
@@ -32,7 +32,7 @@ pub fn start(r: usize, w: usize) -> usize
 
 // Place x of row r of width w: of a block of a table, or of a vector.
 pub fn row(r: usize, w: usize, x: usize) -> usize
-    requires { ⌜ (r < maxVectors) × ((w ≤ maxStates) × (x < w)) ⌝ }
+    requires { ⌜ (r < maxRows) × ((w ≤ maxStates) × (x < w)) ⌝ }
     ensures { λ out. ⌜ (out ≡ rowPlace w r x) × (out < (r + 1) * maxStates) ⌝ }
 {
     start(r, w) + x

@@ -45,8 +45,8 @@ small c =
 holds-here : (c : tie.Else3) (choices : List ℕ) → holds (tables (start (of-certifier c))) (certifier (start (of-certifier c)) choices) ≡ true
 holds-here c choices = sym (c .before .standing-holds .ensures choices) ∙ not-false _ (c .if3 .left)
 
-known : (c : tie.Else3) → Held (tables (start (of-certifier c))) (certifier (start (of-certifier c)) [])
-known c = standing-true (tables (start (of-certifier c))) (certifier (start (of-certifier c)) []) (holds-here c [])
+known : (c : tie.Else3) → Held maxVectors (tables (start (of-certifier c))) (certifier (start (of-certifier c)) [])
+known c = standing-true maxVectors (tables (start (of-certifier c))) (certifier (start (of-certifier c)) []) (holds-here c [])
 
 -- 19 and 20
 files-said : (c : tie.After-judge-files) → let a = start (of-certifier (c .before)) .args in

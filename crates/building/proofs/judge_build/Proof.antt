@@ -3,7 +3,7 @@ use Rattle.integers.proofs.Kit.{lt-ltb, le-ltb, leb, ltb, length}
 use Rattle.integers.proofs.Searches.{and-true}
 use Rattle.tables.specs.declared.Tables.{Tables}
 use Rattle.tables.specs.declared.Verdict.{Verdict}
-use Rattle.tables.specs.Limits.{maxStates, maxLevels}
+use Rattle.tables.specs.Limits.{maxVectors, maxStates, maxLevels}
 use Rattle.tables.specs.Storage.{tablesIn}
 use Rattle.tables.specs.Verdicts.{_before_, unless}
 use Rattle.tables.proofs.Refusals.{breaks, passes}
@@ -45,8 +45,8 @@ certifier c choices =
 holds-here : (c : tie.Else1) (choices : List ℕ) → holds (tables (of-certifier c)) (certifier (of-certifier c) choices) ≡ true
 holds-here c choices = sym (c .before .standing-holds .ensures choices) ∙ not-false _ (c .if1 .left)
 
-known : (c : tie.Else1) → Held (tables (of-certifier c)) (certifier (of-certifier c) [])
-known c = standing-true (tables (of-certifier c)) (certifier (of-certifier c) []) (holds-here c [])
+known : (c : tie.Else1) → Held maxVectors (tables (of-certifier c)) (certifier (of-certifier c) [])
+known c = standing-true maxVectors (tables (of-certifier c)) (certifier (of-certifier c) []) (holds-here c [])
 
 number-is : (c : tie.After-standing-in) → c .standing-in .result .number ≡ standingAt (of-certifier (c .before) .args .state .now) .number
 number-is c = ap (λ (s : Standing). s .number) (c .standing-in .ensures)

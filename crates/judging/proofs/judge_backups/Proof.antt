@@ -1,4 +1,5 @@
 use Rattle.integers.proofs.Kit.{_≡_, needs}
+use Rattle.tables.specs.Limits.{maxVectors}
 use Rattle.tables.specs.declared.Tables.{Tables}
 use Rattle.tables.specs.Storage.{tablesIn}
 use Rattle.levels.specs.Storage.{LentLevel, Lent, cells, rows, lent, lentFor, standingAt}
@@ -34,8 +35,8 @@ offered c =
     lentFor (a .vectors) (a .points)
     (cells (a .newactions .now) (a .newchoices .now) (a .newentries .now) (a .newcorners .now) (a .newweights .now) (a .newvalues .now))
 
-known : (c : tie.Start) → Fitting (tables c) (certifier c) (offered c)
-known c = fitting (tables c) (certifier c) (offered c) (c .pre)
+known : (c : tie.Start) → Fitting maxVectors (tables c) (certifier c) (offered c)
+known c = fitting maxVectors (tables c) (certifier c) (offered c) (c .pre)
 
 stands : (c : tie.After-standing-in) → c .standing-in .result ≡ standingAt (start c .args .state .now)
 stands c = c .standing-in .ensures

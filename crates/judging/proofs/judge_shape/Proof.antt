@@ -9,7 +9,7 @@ use Rattle.tables.proofs.Refusals.{breaks, passes}
 use Rattle.plans.specs.Limits.{maxPoints}
 use Rattle.levels.specs.declared.Standing.{Standing}
 use Rattle.levels.specs.Storage.{LentLevel, Lent, cells, rows, lent, lentFor, standingAt, complete}
-use Rattle.levels.specs.Judged.{countsHold, fits, holds, shapeVerdict}
+use Rattle.levels.specs.Judged.{countsHold, fits, holds, shapeVerdict, shapeUpTo}
 use Rattle.levels.proofs.Over.{complete-true}
 use Rattle.runs.proofs.Judged.{Held, standing-true}
 use Rattle.standing.proofs.Stages.{counts-few}
@@ -58,8 +58,8 @@ said-7 c = c .standing-holds .ensures (start c .args .choices .now)
 holds-here : (c : tie.Else1) → holds (tables (of-certifier c)) (certifier (of-certifier c)) ≡ true
 holds-here c = sym (said-7 (c .before)) ∙ not-false _ (c .if1 .left)
 
-known : (c : tie.Else1) → Held (tables (of-certifier c)) (certifier (of-certifier c))
-known c = standing-true (tables (of-certifier c)) (certifier (of-certifier c)) (holds-here c)
+known : (c : tie.Else1) → Held maxVectors (tables (of-certifier c)) (certifier (of-certifier c))
+known c = standing-true maxVectors (tables (of-certifier c)) (certifier (of-certifier c)) (holds-here c)
 
 stands : (c : tie.After-standing-in) → c .standing-in .result ≡ standingAt (of-certifier (c .before) .args .state .now)
 stands c = c .standing-in .ensures
@@ -67,7 +67,7 @@ stands c = c .standing-in .ensures
 number-is : (c : tie.After-standing-in) → c .standing-in .result .number ≡ standingAt (of-certifier (c .before) .args .state .now) .number
 number-is c = ap (λ (s : Standing). s .number) (stands c)
 
-counted : (c : tie.Else3) → let a = of-certifier (of-number (of-counts c)) .args in countsHold (a .vectors) (a .points) ≡ true
+counted : (c : tie.Else3) → let a = of-certifier (of-number (of-counts c)) .args in countsHold maxVectors (a .vectors) (a .points) ≡ true
 counted c = sym (c .before .counts-hold .ensures) ∙ not-false _ (c .if3 .left)
 
 few : (c : tie.Else3) → let a = of-certifier (of-number (of-counts c)) .args in (a .vectors ≤ maxVectors) × (a .points ≤ maxPoints)
@@ -96,23 +96,23 @@ on-8 : (c : tie.Else2) {u w : Verdict} → u ≡ w → u ≡ To8 (of-certifier (
 on-8 c e = on-7 (of-number c) (passes 8 0 (lt-ltb _ _ (below c)) e)
 
 returns : tie.Need-returns
-unfolding shapeVerdict
+unfolding shapeUpTo
 returns c = breaks _ (sym (said-7 (c .before)) ∙ not-true _ (c .if1 .taken))
 
 standing-in-requires : tie.Need-standing-in-requires
 standing-in-requires c κs = known c .state-long
 
 returns-2 : tie.Need-returns-2
-unfolding shapeVerdict
+unfolding shapeUpTo
 returns-2 c =
     let n = c .before .before in
     on-7 (n .before) (breaks _ (rw (number-is n) at (le-ltb _ _ (c .if2 .taken))))
 
 returns-3 : tie.Need-returns-3
-unfolding shapeVerdict
+unfolding shapeUpTo
 returns-3 c =
     let s = of-certifier (of-number (c .before .before)) in
-    on-8 (c .before .before) (breaks {b = fits (tables s) (certifier s) (offered s)} _
+    on-8 (c .before .before) (breaks {b = fits maxVectors (tables s) (certifier s) (offered s)} _
     (rw (sym (c .before .counts-hold .ensures) ∙ not-true _ (c .if3 .taken))))
 
 small : (c : tie.Else3) → let a = of-certifier (of-number (of-counts c)) .args in
@@ -123,23 +123,23 @@ complete-requires : tie.Need-complete-requires
 complete-requires c κs = small c
 
 returns-4 : tie.Need-returns-4
-unfolding shapeVerdict
+unfolding shapeUpTo
 returns-4 c =
     let e = c .before .before in
     let s = of-certifier (of-number (of-counts e)) in
-    on-8 (of-counts e) (breaks {b = fits (tables s) (certifier s) (offered s)} _
+    on-8 (of-counts e) (breaks {b = fits maxVectors (tables s) (certifier s) (offered s)} _
     (rw (counted e, sym (c .before .complete .ensures) ∙ not-true _ (c .if4 .taken))))
 
 complete-requires-2 : tie.Need-complete-requires-2
 complete-requires-2 c κs = small (of-offered c)
 
 returns-5 : tie.Need-returns-5
-unfolding shapeVerdict
+unfolding shapeUpTo
 returns-5 c =
     let e = c .before .before in
     let s = of-certifier (of-number (of-counts (of-offered e))) in
     on-8 (of-counts (of-offered e))
-    (breaks {b = fits (tables s) (certifier s) (offered s)} _
+    (breaks {b = fits maxVectors (tables s) (certifier s) (offered s)} _
     (rw (counted (of-offered e), offered-complete e, sym (c .before .complete2 .ensures) ∙ not-true _ (c .if5 .taken))))
 
 judge-level-requires : tie.Need-judge-level-requires
@@ -155,7 +155,7 @@ judge-level-requires c κs =
     )
 
 returns-6 : tie.Need-returns-6
-unfolding shapeVerdict
+unfolding shapeUpTo
 returns-6 c =
     let r = c .before .before in
     let e = of-offered (of-room r) in

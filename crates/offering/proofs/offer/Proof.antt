@@ -1,4 +1,5 @@
 use Rattle.integers.proofs.Kit.{_≡_, _∙_, refl, ap, sym, List, _∷_, ℕ, _+_, arith, needs, drop, ℤ}
+use Rattle.tables.specs.Limits.{maxVectors}
 use Rattle.tables.specs.declared.Tables.{Tables}
 use Rattle.tables.specs.declared.Verdict.the-variants.{Fine}
 use Rattle.tables.specs.Storage.{tablesIn}
@@ -52,8 +53,8 @@ said c = c .judge-offer .ensures
 fine : (c : tie.After-standing-in-arg) → let s = start (of-verdict c) in offerVerdict (tables s) (certifier s) (offered s) ≡ Fine
 fine c = sym (said (of-verdict c)) ∙ c .before .enum-told .given .1
 
-passed : (c : tie.After-standing-in-arg) → let s = start (of-verdict c) in Accepted (tables s) (certifier s) (offered s)
-passed c = let s = start (of-verdict c) in accepted (tables s) (certifier s) (offered s) (fine c)
+passed : (c : tie.After-standing-in-arg) → let s = start (of-verdict c) in Accepted maxVectors (tables s) (certifier s) (offered s)
+passed c = let s = start (of-verdict c) in accepted maxVectors (tables s) (certifier s) (offered s) (fine c)
 
 returns : tie.Need-returns
 returns c =

@@ -1,4 +1,5 @@
 use Rattle.integers.proofs.Kit.{_≡_, _∙_, sym, true, needs, not-false, not-true}
+use Rattle.tables.specs.Limits.{maxVectors}
 use Rattle.tables.specs.declared.Tables.{Tables}
 use Rattle.tables.specs.declared.Verdict.the-variants.{Fine, Refused}
 use Rattle.tables.specs.Storage.{tablesIn}
@@ -55,8 +56,8 @@ offers s =
 holds-here : (c : tie.Else1) → holds (tables (of-certifier c)) (certifier (of-certifier c)) ≡ true
 holds-here c = sym (c .before .standing-holds .ensures (of-certifier c .args .choices .now)) ∙ not-false _ (c .if1 .left)
 
-known : (c : tie.Else1) → Held (tables (of-certifier c)) (certifier (of-certifier c))
-known c = standing-true (tables (of-certifier c)) (certifier (of-certifier c)) (holds-here c)
+known : (c : tie.Else1) → Held maxVectors (tables (of-certifier c)) (certifier (of-certifier c))
+known c = standing-true maxVectors (tables (of-certifier c)) (certifier (of-certifier c)) (holds-here c)
 
 fits-here : (c : tie.Else2) → let s = of-certifier (of-blocks c) in packedFits (tables s) (offers s) (s .args .count) ≡ true
 fits-here c = sym (c .before .blocks-fit .ensures) ∙ not-false _ (c .if2 .left)

@@ -11,7 +11,7 @@ use Rattle.tables.proofs.Accepted.{tables-valid}
 use Rattle.plans.specs.Limits.{maxPoints}
 use Rattle.levels.specs.declared.Standing.{Standing}
 use Rattle.levels.specs.Storage.{LentLevel, stateSize, standingAt, cells, lentFor, levelIn, readable, pointIn}
-use Rattle.levels.specs.Judged.{countsHold, actionsExist, isFine, rangesVerdict, weightsVerdict, rowsHold, holds}
+use Rattle.levels.specs.Judged.{countsHold, actionsExist, isFine, rangesVerdict, weightsVerdict, rowsHold, holds, holdsUpTo}
 use Rattle.levels.proofs.Over.{Readable, readable-true}
 use Rattle.standing.proofs.Stages.{fails, holds-on, fine, not-fine, counts-few, ranges-read}
 use Rattle.standing.proofs.standing_holds.Statement.{statement}
@@ -87,35 +87,35 @@ after-state c e = holds-on (fine (fine-tables (of-state (c .before)))) (holds-on
 after-number : (c : tie.Else2) {b x : Bool} → x ≡ b → x ≡ Tests (of-number c) (leb (state (of-number c) .number) maxLevels && b)
 after-number c e = after-state (of-number c) (holds-on (few-levels c) e)
 
-counts-said : (c : tie.After-counts-hold) → let s = state (of-number (c .before)) in c .counts-hold .result ≡ countsHold (s .vectors) (s .points)
+counts-said : (c : tie.After-counts-hold) → let s = state (of-number (c .before)) in c .counts-hold .result ≡ countsHold maxVectors (s .vectors) (s .points)
 counts-said c = rw (stands (of-number (c .before))) at (c .counts-hold .ensures)
 
-counted : (c : tie.Else3) → let s = state (of-number (of-counts c)) in countsHold (s .vectors) (s .points) ≡ true
+counted : (c : tie.Else3) → let s = state (of-number (of-counts c)) in countsHold maxVectors (s .vectors) (s .points) ≡ true
 counted c = sym (counts-said (c .before)) ∙ not-false _ (c .if3 .left)
 
 after-counts : (c : tie.Else3) {b x : Bool} → x ≡ b → let s = state (of-number (of-counts c)) in
-    x ≡ Tests (of-number (of-counts c)) (leb (s .number) maxLevels && (countsHold (s .vectors) (s .points) && b))
+    x ≡ Tests (of-number (of-counts c)) (leb (s .number) maxLevels && (countsHold maxVectors (s .vectors) (s .points) && b))
 after-counts c e = after-number (of-counts c) (holds-on (counted c) e)
 
 few : (c : tie.Else3) → let s = state (of-number (of-counts c)) in (s .vectors ≤ maxVectors) × (s .points ≤ maxPoints)
 few c = let s = state (of-number (of-counts c)) in counts-few (s .vectors) (s .points) (counted c)
 
 returns : tie.Need-returns
-unfolding holds
+unfolding holdsUpTo
 returns c choices = fails _ (not-fine (sym (c .before .before .judge-tables .ensures) ∙ c .enum-told2 .given .1))
 
 returns-2 : tie.Need-returns-2
-unfolding holds
+unfolding holdsUpTo
 returns-2 c choices = holds-on (fine (fine-tables (c .before))) (fails _ (lt-leb _ _ (c .if1 .taken)))
 
 returns-3 : tie.Need-returns-3
-unfolding holds
+unfolding holdsUpTo
 returns-3 c choices =
     let n = c .before .before in
     after-state n (fails _ (rw (ap (λ (s : Standing). s .number) (stands n)) at (lt-leb _ _ (c .if2 .taken))))
 
 returns-4 : tie.Need-returns-4
-unfolding holds
+unfolding holdsUpTo
 returns-4 c choices = after-number (c .before .before) (fails _ (sym (counts-said (c .before)) ∙ not-true _ (c .if3 .taken)))
 
 readable-requires : tie.Need-readable-requires
@@ -143,13 +143,13 @@ long c = readable-true (model (of-read c)) (level (of-read c)) (is-read c)
 abbrev TestsRead : tie.Else3 → Bool → Bool
 TestsRead c b =
     let s = state (of-number (of-counts c)) in
-    Tests (of-number (of-counts c)) (leb (s .number) maxLevels && (countsHold (s .vectors) (s .points) && (readable (model c) (level c) && b)))
+    Tests (of-number (of-counts c)) (leb (s .number) maxLevels && (countsHold maxVectors (s .vectors) (s .points) && (readable (model c) (level c) && b)))
 
 after-read : (c : tie.Else4) {b x : Bool} → x ≡ b → x ≡ TestsRead (of-read c) b
 after-read c e = after-counts (of-read c) (holds-on (is-read c) e)
 
 returns-5 : tie.Need-returns-5
-unfolding holds
+unfolding holdsUpTo
 returns-5 c choices = after-counts (c .before .before) (fails _ (sym (read-said (c .before)) ∙ not-true _ (c .if4 .taken)))
 
 actions-exist-requires : tie.Need-actions-exist-requires
@@ -167,7 +167,7 @@ after-actions : (c : tie.Else5) {b x : Bool} → x ≡ b → x ≡ TestsRead (of
 after-actions c e = after-read (of-actions c) (holds-on (sym (actions-said (c .before)) ∙ not-false _ (c .if5 .left)) e)
 
 returns-6 : tie.Need-returns-6
-unfolding holds
+unfolding holdsUpTo
 returns-6 c choices = after-read (c .before .before) (fails _ (sym (actions-said (c .before)) ∙ not-true _ (c .if5 .taken)))
 
 ranges-hold-requires : tie.Need-ranges-hold-requires
@@ -199,7 +199,7 @@ ranges-said c choices =
     (a .weights .now) (a .values .now)
 
 returns-7 : tie.Need-returns-7
-unfolding holds
+unfolding holdsUpTo
 returns-7 c choices =
     let r = c .before .before in
     after-actions (r .before) (fails _ (not-fine (sym (ranges-said r choices) ∙ c .enum-told4 .given .1)))
@@ -224,7 +224,7 @@ totals-said : (c : tie.After-weights-hold) → c .weights-hold .result ≡ Total
 totals-said c = rw (stands (of-number (of-counts (of-read (of-actions (of-ranges (c .before))))))) at (c .weights-hold .ensures)
 
 returns-8 : tie.Need-returns-8
-unfolding holds
+unfolding holdsUpTo
 returns-8 c choices =
     let w = c .before .before in
     after-ranges (w .before) choices (fails _ (not-fine (sym (totals-said w) ∙ c .enum-told6 .given .1)))
@@ -254,14 +254,14 @@ informed-said : (c : tie.After-rows-hold) → let a = of-tables (of-state (of-st
 informed-said c = rw (number-is (of-standing (c .before))) at (c .rows-hold .ensures)
 
 returns-9 : tie.Need-returns-9
-unfolding holds
+unfolding holdsUpTo
 returns-9 c choices = let r = c .before in after-weights (r .before) choices (fails _ (sym (informed-said r) ∙ not-true _ (c .if6 .taken)))
 
 rows-hold-requires-2 : tie.Need-rows-hold-requires-2
 rows-hold-requires-2 c κs = rows-hold-requires (c .before .before) κs
 
 returns-10 : tie.Need-returns-10
-unfolding holds
+unfolding holdsUpTo
 returns-10 c choices =
     let r = c .before .before in
     after-weights (r .before) choices (holds-on (sym (informed-said r) ∙ not-false _ (c .before .if6 .left))

@@ -1,5 +1,5 @@
 use Rattle.worth.proofs.Prelude.{_≡_, sym, _∙_, needs, maxNodes, modelOf, worthVerdict}
-use Rattle.integers.proofs.Kit.{true, Bool, _&&_, not-false, not-true}
+use Rattle.integers.proofs.Kit.{arith, true, Bool, _&&_, not-false, not-true}
 use Rattle.integers.proofs.Searches.{and-true}
 use Rattle.tables.specs.declared.Verdict.the-variants.{Fine}
 use Rattle.tables.specs.declared.Tables.{Tables}
@@ -53,7 +53,7 @@ numbers-exist-requires : tie.Need-numbers-exist-requires
 numbers-exist-requires c κs =
     let h = and-true (countWithin maxNodes (of-count c .args .nodes)) _ (count c) in
     let g = graph-stored (of-count c .args .c .observations) (graph (of-count c)) (h .1) in
-    ((count-true _ _ (h .0) .1, valid-tables (c .before .before) .few-observations), (g .actions-long, g .next-stored))
+    ((omega (arith, count-true maxNodes (of-count c .args .nodes) (h .0) .1), valid-tables (c .before .before) .few-observations), (g .actions-long, g .next-stored))
 
 returns-3 : tie.Need-returns-3
 unfolding worthVerdict
