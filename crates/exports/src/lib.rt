@@ -20,13 +20,13 @@ ghost use Rattle.adopting.specs.Adopt.{adoptVerdict, adopted};
 ghost use Rattle.adopting.specs.Adopt.{adoptAnswer};
 ghost use Rattle.adopting.specs.Claim.{AdoptHolds};
 ghost use Rattle.replay.specs.Replay.{packed, offersIn, replayVerdict, replayAnswer, replayed, ReplayHolds};
-ghost use Rattle.worth.specs.Storage.{lentGraph};
+ghost use Rattle.worths.specs.Storage.{lentGraph};
 ghost use Rattle.worth.specs.Judged.{worthAnswer};
 ghost use Rattle.exports.specs.Calls.{layoutVersion, model, refusalOf, readingBy, totalsBy, adoptionBy, replayBy, worthBy, Brackets, Builds};
 use tables::Counts;
 use tables::State;
 use tables::Verdict;
-use worth::Node;
+use worths::Node;
 
 // The version of what follows: it rises where slices, their order or an answer's parts change.
 #[no_mangle]

@@ -1,11 +1,10 @@
-use Rattle.worth.proofs.Prelude.{_≤_, _≡_, sym, arith, needs}
-use Rattle.integers.proofs.Kit.{_-_, length, pos}
+use Rattle.integers.proofs.Kit.{_≡_, sym, _≤_, _-_, arith, needs, length, pos}
 use Rattle.integers.proofs.Lists.{padded-length, row-below}
 use Rattle.tables.specs.Limits.{maxStates}
-use Rattle.worth.specs.Steps.{backedUpOf, worthsBy}
-use Rattle.worth.proofs.Laws.{few-states, room, worths-none-yet, worths-long, worths-more}
-use Rattle.worth.proofs.step.Statement.{statement}
-use Rattle.worth.proofs.step.Tie as tie
+use Rattle.worths.specs.Steps.{backedUpOf, worthsBy}
+use Rattle.worths.proofs.Laws.{few-states, room, worths-none-yet, worths-long, worths-more}
+use Rattle.worths.proofs.step.Statement.{statement}
+use Rattle.worths.proofs.step.Tie as tie
 
 abbrev Inv-loop : tie.InvT-loop
 Inv-loop T O R actions next c nodes earlier n worths₀ v₀ worths v =

@@ -1,7 +1,7 @@
-use Rattle.worth.proofs.Prelude.{arith}
-use Rattle.worth.proofs.Laws.{few-states, action-below, chosen, observed, transitions, rewards, foreseen-long, foreseen-within, row-is}
-use Rattle.worth.proofs.worths_of.Statement.{statement}
-use Rattle.worth.proofs.worths_of.Tie as tie
+use Rattle.integers.proofs.Kit.{arith}
+use Rattle.worths.proofs.Laws.{few-states, action-below, chosen, observed, transitions, rewards, foreseen-long, foreseen-within, row-is}
+use Rattle.worths.proofs.worths_of.Statement.{statement}
+use Rattle.worths.proofs.worths_of.Tie as tie
 
 -- the start, from where the action was read
 abbrev begun : tie.After-action-at → tie.Start

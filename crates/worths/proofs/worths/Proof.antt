@@ -1,12 +1,11 @@
-use Rattle.worth.proofs.Prelude.{_≤_, _≡_, arith, needs}
-use Prim.Native.Nat.{_-_}
+use Rattle.integers.proofs.Kit.{_≡_, _≤_, _-_, arith, needs}
 use Rattle.tables.specs.Storage.{modelIn}
-use Rattle.worth.specs.Graph.{worthOf}
-use Rattle.worth.specs.Storage.{graphIn}
-use Rattle.worth.specs.Steps.{worthsBy}
-use Rattle.worth.proofs.Laws.{worths-none, worths-fit, worths-step}
-use Rattle.worth.proofs.worths.Statement.{statement}
-use Rattle.worth.proofs.worths.Tie as tie
+use Rattle.worths.specs.Graph.{worthOf}
+use Rattle.worths.specs.Storage.{graphIn}
+use Rattle.worths.specs.Steps.{worthsBy}
+use Rattle.worths.proofs.Laws.{worths-none, worths-fit, worths-step}
+use Rattle.worths.proofs.worths.Statement.{statement}
+use Rattle.worths.proofs.worths.Tie as tie
 
 abbrev Inv-loop : tie.InvT-loop
 Inv-loop T O R actions next c nodes d worths₀ i₀ worths i =

@@ -9,9 +9,9 @@ use Rattle.tables.specs.Limits.{maxStates}
 use Rattle.tables.specs.Model.{backedUp}
 use Rattle.tables.specs.Storage.{entryIn, modelIn}
 use Rattle.tables.specs.Steps.{Stored}
-use Rattle.worth.specs.Limits.{maxNodes}
-use Rattle.worth.specs.Graph.{Sound}
-use Rattle.worth.specs.Storage.{graphIn}
+use Rattle.worths.specs.Limits.{maxNodes}
+use Rattle.worths.specs.Graph.{Sound}
+use Rattle.worths.specs.Storage.{graphIn}
 
 -- numbers by node and state, as they are stored
 abbrev pub worthsBy : ℕ → ℕ → (ℕ → ℕ → ℤ) → List ℤ

@@ -5,7 +5,7 @@ use mathlib.Core.List.{List}
 use lib.Dec.{leb}
 use lib.ListN.{length, getD}
 use Rattle.tables.specs.Storage.{choiceIn}
-use Rattle.worth.specs.Graph.{PlanGraph}
+use Rattle.worths.specs.Graph.{PlanGraph}
 
 -- a graph as it is handed in
 pub record LentGraph : Type 0 where

@@ -2,7 +2,7 @@
 use Prim.Native.Nat.{ℕ, zero, suc, _≤_, _<_}
 use lib.IntN.{ℤ, pos}
 use Rattle.tables.specs.Model.{Model, Valid, backedUp}
-use Rattle.worth.specs.Limits.{maxNodes, maxSteps}
+use Rattle.worths.specs.Limits.{maxNodes, maxSteps}
 
 -- each node has an action and, for each observation, the node to go on with
 pub record PlanGraph : Type 0 where
