@@ -1,10 +1,11 @@
-use Rattle.statements.proofs.Prelude.{ℕ, List, arith, needs, Words, wordsIn, between, stated, key, colon, value-next}
-use Rattle.statements.proofs.Prelude.{probability, indexed, entry, tableBy}
-use Rattle.statements.proofs.Prelude.{Outcome, upon, leaves-back, leaves-on, chooses-back, chooses-on}
+use Rattle.entries.proofs.Prelude.{arith, needs, stated, key, colon, value-next, probability, indexed, upon, leaves-back, leaves-on}
+use Rattle.integers.proofs.Kit.{List, ℕ}
+use Rattle.words.specs.Words.{Words, wordsIn, between}
 use Rattle.grammar.specs.Grammar.{choose}
-use Rattle.statements.specs.Statements.{row}
-use Rattle.statements.proofs.table_at.Statement.{statement}
-use Rattle.statements.proofs.table_at.Tie as tie
+use Rattle.entries.specs.Entries.{Outcome, row, entry, tableBy}
+use Rattle.entries.proofs.Laws.{chooses-back, chooses-on}
+use Rattle.entries.proofs.table_at.Statement.{statement}
+use Rattle.entries.proofs.table_at.Tie as tie
 
 -- the place of each call, from the next
 abbrev before-indexed-at : tie.After-indexed-at → tie.Start

@@ -1,7 +1,9 @@
-use Rattle.statements.proofs.Prelude.{arith, needs, stated, index, inside, takes-reads, second-word, value-next, probability, entryBy}
-use Rattle.statements.proofs.Prelude.{upon, filled, leaves-back, leaves-on, leaves-done}
-use Rattle.statements.proofs.entry_at.Statement.{statement}
-use Rattle.statements.proofs.entry_at.Tie as tie
+use Rattle.entries.proofs.Prelude.{arith, needs, stated, index, inside, takes-reads, second-word, value-next, probability, upon}
+use Rattle.entries.proofs.Prelude.{leaves-back, leaves-on}
+use Rattle.entries.specs.Entries.{filled, entryBy}
+use Rattle.entries.proofs.Laws.{leaves-done}
+use Rattle.entries.proofs.entry_at.Statement.{statement}
+use Rattle.entries.proofs.entry_at.Tie as tie
 
 -- the place of each call, from the next
 abbrev before-pair-from : tie.After-pair-from → tie.Start

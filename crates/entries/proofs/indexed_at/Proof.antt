@@ -1,6 +1,8 @@
-use Rattle.statements.proofs.Prelude.{arith, needs, key, colon, index, inside, takes-reads, second-word, reads-on, reads-back, indexed}
-use Rattle.statements.proofs.indexed_at.Statement.{statement}
-use Rattle.statements.proofs.indexed_at.Tie as tie
+use Rattle.entries.proofs.Prelude.{arith, needs, key, colon, index, inside, takes-reads, second-word, indexed}
+use Rattle.grammar.proofs.Laws.{reads-on}
+use Rattle.grammar.proofs.Arms.{reads-back}
+use Rattle.entries.proofs.indexed_at.Statement.{statement}
+use Rattle.entries.proofs.indexed_at.Tie as tie
 
 key-of-requires : tie.Need-key-of-requires
 key-of-requires c κs = inside (c .before .pair-from .ensures .first .within (c .before .before .before .pre .0))

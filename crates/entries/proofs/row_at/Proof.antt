@@ -1,9 +1,9 @@
-use Rattle.statements.proofs.Prelude.{_-_, arith, needs, stated, value-next}
-use Prim.Native.Nat.{_≤_}
+use Rattle.entries.proofs.Prelude.{arith, needs, stated, value-next}
+use Rattle.integers.proofs.Kit.{_≤_, _-_}
 use Rattle.grammar.specs.Grammar.{number}
-use Rattle.statements.proofs.Laws.{RowLeft, row-start, row-back, row-on, row-end}
-use Rattle.statements.proofs.row_at.Statement.{statement}
-use Rattle.statements.proofs.row_at.Tie as tie
+use Rattle.entries.proofs.Laws.{RowLeft, row-start, row-back, row-on, row-end}
+use Rattle.entries.proofs.row_at.Statement.{statement}
+use Rattle.entries.proofs.row_at.Tie as tie
 
 abbrev Inv-loop : tie.InvT-loop
 Inv-loop file from cells₀ m n w a s form most at₀ x₀ cells at x =
