@@ -1,12 +1,13 @@
-use Rattle.solver.proofs.Prelude.{_≡_, refl, sym, ap, _∙_, handed, needs, arith}
+use Rattle.alphas.proofs.Prelude.{_≡_, refl, sym, ap, needs, arith}
 use denote.Enum.Declared.{tagOf}
 use Rattle.tables.specs.declared.Verdict.the-variants.{Refused}
 use Rattle.grammar.specs.declared.Read.{Read}
 use Rattle.grammar.specs.declared.Read.the-variants.{Value}
 use Rattle.grammar.specs.declared.Read.the-variants.{Refused as NotRead}
 use Rattle.grammar.proofs.Read as read-type
-use Rattle.solver.proofs.back.Statement.{statement}
-use Rattle.solver.proofs.back.Tie as tie
+use Rattle.alphas.specs.Steps.{handed}
+use Rattle.alphas.proofs.back.Statement.{statement}
+use Rattle.alphas.proofs.back.Tie as tie
 
 of-value : (x : Read) → tagOf read-type.the-type x ≡ 0 → Refused 19 0 ≡ handed x
 of-value (Value v next) e = refl

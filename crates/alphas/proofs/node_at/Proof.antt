@@ -1,8 +1,8 @@
-use Rattle.solver.proofs.Prelude.{ℕ, refl, _≡_, ap, _∙_, List, arith, needs, take, Words, wordsIn, between, Answer, got, _then_, value-is, value-next}
-use Rattle.solver.proofs.Prelude.{gave-back, lists-value, action, node, nextNode, several}
-use Rattle.solver.specs.Files.{Node}
-use Rattle.solver.proofs.node_at.Statement.{statement}
-use Rattle.solver.proofs.node_at.Tie as tie
+use Rattle.alphas.proofs.Prelude.{ℕ, refl, _≡_, ap, _∙_, List, arith, needs, take, Words, wordsIn, between, Answer, got, _then_, value-is, value-next}
+use Rattle.alphas.proofs.Prelude.{gave-back, lists-value, action, nextNode, several}
+use Rattle.alphas.specs.Alphas.{Node, node}
+use Rattle.alphas.proofs.node_at.Statement.{statement}
+use Rattle.alphas.proofs.node_at.Tie as tie
 
 -- the place of each call, from the next
 abbrev before-number : tie.After-number-at → tie.Start

@@ -1,7 +1,7 @@
-use Rattle.solver.proofs.Prelude.{_-_, _<_, refl, arith, needs, value-next, nextNode, Filled, filled-none, filled-more, filled-back, filled-end}
+use Rattle.alphas.proofs.Prelude.{_-_, _<_, refl, arith, needs, value-next, nextNode, Filled, filled-none, filled-more, filled-back, filled-end}
 use Rattle.tables.specs.Limits.{maxObservations}
-use Rattle.solver.proofs.nexts_at.Statement.{statement}
-use Rattle.solver.proofs.nexts_at.Tie as tie
+use Rattle.alphas.proofs.nexts_at.Statement.{statement}
+use Rattle.alphas.proofs.nexts_at.Tie as tie
 
 abbrev Inv-loop : tie.InvT-loop
 Inv-loop file from k nodes₀ at₀ o₀ nodes at o = Filled nextNode maxObservations file from k nodes at o

@@ -18,12 +18,11 @@ use Rattle.numerals.specs.Numeral.{decimalForm, signed}
 use Rattle.grammar.specs.declared.Read.{Read}
 use Rattle.grammar.specs.declared.Read.the-variants.{Value, Refused}
 use Rattle.grammar.specs.Grammar.{Answer, got, refused, _then_, magnitude, minus, signedNumber}
-use Rattle.grammar.specs.Steps.{answerOf, Tells, Reads, Takes}
+use Rattle.grammar.specs.Steps.{answerOf, Tells, Takes}
 use Rattle.grammar.proofs.Read as read-type
 use Rattle.grammar.proofs.Laws.{value-is, value-next, takes-reads}
-use Rattle.grammar.proofs.Arms.{back-onward}
-use Rattle.solver.specs.Files.{mostDecimal, perTick, decimal, several, readable}
-use Rattle.solver.specs.Steps.{Since, Lists, handed, Gave}
+use Rattle.alphas.specs.Alphas.{mostDecimal, perTick, decimal, several, readable}
+use Rattle.alphas.specs.Steps.{Since, Lists, handed, Gave}
 
 -- ---- several words
 

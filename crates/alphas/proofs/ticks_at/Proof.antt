@@ -1,5 +1,5 @@
-use Rattle.solver.proofs.Prelude.{_-_, _<_, refl, sym, ap, _∙_, arith, needs, wordsIn, between, inside, value-next, decimal}
-use Rattle.solver.proofs.Prelude.{Filled, filled-none, filled-more, filled-back, filled-end}
+use Rattle.alphas.proofs.Prelude.{_-_, _<_, refl, sym, ap, _∙_, arith, needs, wordsIn, between, inside, value-next, decimal}
+use Rattle.alphas.proofs.Prelude.{Filled, filled-none, filled-more, filled-back, filled-end}
 use mathlib.Core.Bool.{Bool}
 use Rattle.integers.specs.Whole.{floorDiv}
 use Rattle.integers.proofs.Words.{answer}
@@ -8,10 +8,10 @@ use Rattle.words.specs.Steps.{Worded}
 use Rattle.numerals.specs.Numeral.{signed}
 use Rattle.grammar.specs.Grammar.{minus}
 use Rattle.grammar.specs.Steps.{Tells}
-use Rattle.solver.specs.Files.{mostDecimal, perTick}
-use Rattle.solver.proofs.Words.{ticksOf, decimal-tells}
-use Rattle.solver.proofs.ticks_at.Statement.{statement}
-use Rattle.solver.proofs.ticks_at.Tie as tie
+use Rattle.alphas.specs.Alphas.{mostDecimal, perTick}
+use Rattle.alphas.proofs.Words.{ticksOf, decimal-tells}
+use Rattle.alphas.proofs.ticks_at.Statement.{statement}
+use Rattle.alphas.proofs.ticks_at.Tie as tie
 
 abbrev Inv-loop : tie.InvT-loop
 Inv-loop file from n ticks₀ at₀ s₀ ticks at s = Filled decimal maxStates file from n ticks at s

@@ -1,9 +1,9 @@
-use Rattle.solver.proofs.Prelude.{ℕ, refl, ap, _∙_, List, arith, needs, length, take, Words, wordsIn, between, Answer, got, _then_, value-is, value-next}
-use Rattle.solver.proofs.Prelude.{gave-back, lists-value, action, alpha, decimal, several}
+use Rattle.alphas.proofs.Prelude.{ℕ, refl, ap, _∙_, List, arith, needs, take, Words, Answer, got, _then_, value-is, value-next, gave-back, lists-value}
+use Rattle.alphas.proofs.Prelude.{action, decimal, several}
 use lib.IntN.{ℤ}
-use Rattle.solver.specs.Files.{Alpha}
-use Rattle.solver.proofs.alpha_at.Statement.{statement}
-use Rattle.solver.proofs.alpha_at.Tie as tie
+use Rattle.alphas.specs.Alphas.{Alpha, alpha}
+use Rattle.alphas.proofs.alpha_at.Statement.{statement}
+use Rattle.alphas.proofs.alpha_at.Tie as tie
 
 -- what follows the action
 abbrev made : ℕ → List ℤ → Words → Answer Alpha

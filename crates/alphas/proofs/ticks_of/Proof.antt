@@ -1,10 +1,10 @@
-use Rattle.solver.proofs.Prelude.{ap, _∙_, needs}
+use Rattle.alphas.proofs.Prelude.{ap, _∙_, needs}
 use lib.IntN.{ℤ}
 use Rattle.integers.specs.Whole.{floorDiv}
 use Rattle.integers.proofs.Words.{answer}
-use Rattle.solver.specs.Files.{perTick}
-use Rattle.solver.proofs.ticks_of.Statement.{statement}
-use Rattle.solver.proofs.ticks_of.Tie as tie
+use Rattle.alphas.specs.Alphas.{perTick}
+use Rattle.alphas.proofs.ticks_of.Statement.{statement}
+use Rattle.alphas.proofs.ticks_of.Tie as tie
 
 returns : tie.Need-returns
 returns c =

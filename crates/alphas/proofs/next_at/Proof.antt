@@ -1,11 +1,12 @@
-use Rattle.solver.proofs.Prelude.{arith, needs, inside, takes-reads, told, nextNode}
-use Rattle.numerals.specs.Numeral.{nodeForm}
-use Rattle.grammar.specs.Grammar.{got, number}
-use Rattle.grammar.proofs.Laws.{takes-choose, takes-most, takes-on}
-use Rattle.solver.specs.Files.{noNode}
+use Rattle.alphas.proofs.Prelude.{arith, needs, got, inside, nextNode}
+use Rattle.words.specs.Words.{told}
 use Rattle.words.specs.Steps.{Worded}
-use Rattle.solver.proofs.next_at.Statement.{statement}
-use Rattle.solver.proofs.next_at.Tie as tie
+use Rattle.numerals.specs.Numeral.{nodeForm}
+use Rattle.grammar.specs.Grammar.{number}
+use Rattle.grammar.proofs.Laws.{takes-choose, takes-most, takes-on, takes-reads}
+use Rattle.alphas.specs.Alphas.{noNode}
+use Rattle.alphas.proofs.next_at.Statement.{statement}
+use Rattle.alphas.proofs.next_at.Tie as tie
 
 worded : (c : tie.After-word-from) → Worded (c .before .before .args .file .now) (c .before .before .args .at) (c .word-from .result)
 worded c = c .word-from .ensures .within (c .before .before .pre)

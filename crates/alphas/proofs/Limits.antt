@@ -9,7 +9,7 @@ use Rattle.numerals.specs.Numeral.{countForm, decimalForm, nodeForm, amountOf}
 use Rattle.numerals.proofs.Sizes.{OfNumber, amount-below}
 use Rattle.grammar.specs.Grammar.{Finding, fits, unfit, limited}
 use Rattle.grammar.proofs.Laws.{limit-in}
-use Rattle.solver.specs.Files.{mostAction, mostDecimal, noNode}
+use Rattle.alphas.specs.Alphas.{mostAction, mostDecimal, noNode}
 
 -- a number, if it is one
 abbrev pub unlimited : Amount → Finding
