@@ -17,7 +17,8 @@ use Rattle.runs.proofs.Dough.{dough, slices, rowsAt, fresh, half, one, standing
 use Rattle.words.specs.Words.{run, wordsOf, wordsIn}
 use Rattle.numerals.specs.Numeral.{digits, value, amountOf, fraction, decimal as afterPoint, exponent}
 use Rattle.grammar.specs.Grammar.{number, magnitude, signedNumber, same, key}
-use Rattle.solver.specs.Files.{action, decimal, nextNode, several, alpha, node, allFrom, allIn, alike, filesVerdict}
+use Rattle.alphas.specs.Alphas.{action, decimal, nextNode, several, alpha, node}
+use Rattle.solver.specs.Files.{allFrom, allIn, alike, filesVerdict}
 use Rattle.solved.specs.Solved.{solved}
 use Rattle.adopting.specs.Adopt.{adoptVerdict, adopted}
 

@@ -8,7 +8,7 @@ ghost use Rattle.tables.specs.Verdicts.{left};
 ghost use Rattle.runs.specs.State.{mixtureHolds, totalsOf};
 ghost use Rattle.mixtures.specs.Each.{answers, eachVerdict, eachOf};
 ghost use Rattle.runs.specs.Demand3.{ModelAccepted, after, steps};
-ghost use Rattle.worth.specs.Storage.{lentGraph};
+ghost use Rattle.worths.specs.Storage.{lentGraph};
 ghost use Rattle.worth.specs.Judged.{worthAnswer};
 ghost use Rattle.answers.specs.Calls.{model, refusalOf, totalsBy, worthBy, Brackets};
 use answers::Refusal;
@@ -16,7 +16,7 @@ use answers::Totals;
 use answers::Worth;
 use tables::Counts;
 use tables::State;
-use worth::Node;
+use worths::Node;
 
 // The totals of a certifier at a mixture. The choices of what stands are not read.
 #[no_mangle]

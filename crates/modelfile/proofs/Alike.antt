@@ -9,7 +9,8 @@ use Rattle.numerals.specs.Numeral.{countForm, probabilityForm, startForm, rewar
 use Rattle.numerals.proofs.Before.{plain-keeps}
 use Rattle.grammar.specs.Grammar.{Answer, got, refused, _then_, key, named, field}
 use Rattle.grammar.proofs.Alike.{Alike, alike-same, alike-then, field-alike}
-use Rattle.statements.specs.Statements.{wholly, Forms, forms, startNumberBy, row, statementsBy}
+use Rattle.entries.specs.Entries.{wholly, Forms, forms, startNumberBy, row}
+use Rattle.statements.specs.Statements.{statementsBy}
 use Rattle.statements.proofs.Alike.{AllWider, wholly-alike, row-alike, start-alike, statements-alike}
 use Rattle.modelfile.specs.ModelFile.{maxBytes, discountName, valuesName, rewardWord, statesName, actionsName, observationsName, startName, Text}
 use Rattle.modelfile.specs.ModelFile.{noCells, bodyBy, countedBy, headedBy, refusedFile, ended, modelFileBy, modelFile}

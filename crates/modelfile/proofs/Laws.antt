@@ -8,8 +8,8 @@ use Rattle.grammar.specs.declared.Read.the-variants.{Value}
 use Rattle.grammar.specs.declared.Read.the-variants.{Refused as NotRead}
 use Rattle.grammar.specs.Grammar.{Answer, _then_}
 use Rattle.grammar.specs.Steps.{answerOf, Onward, Tells}
-use Rattle.statements.specs.Statements.{Outcome, wholly}
-use Rattle.statements.specs.Steps.{outcomeOf, Leaves}
+use Rattle.entries.specs.Entries.{Outcome, wholly}
+use Rattle.entries.specs.Steps.{outcomeOf, Leaves}
 use Rattle.grammar.proofs.Arms.{back-is}
 use Rattle.grammar.proofs.Read as read-type
 use Rattle.modelfile.specs.ModelFile.{Text, refusedFile, ended}

@@ -17,7 +17,8 @@ use Rattle.drafts.specs.Drafts.{stated}
 use Rattle.numerals.specs.Numeral.{countForm, probabilityForm}
 use Rattle.grammar.specs.Grammar.{Answer, got, refused, _then_, key, named, field}
 use Rattle.grammar.proofs.Gives.{Gives, gives-then, gives-after, field-gives}
-use Rattle.statements.specs.Statements.{wholly, startTotal, startNumber, row, Draft, statements}
+use Rattle.entries.specs.Entries.{wholly, startTotal, startNumber, row}
+use Rattle.statements.specs.Statements.{Draft, statements}
 use Rattle.statements.proofs.Small.{Small, fills-gives, statements-small}
 use Rattle.modelfile.specs.declared.ModelFile.{ModelFile}
 use Rattle.modelfile.specs.ModelFile.{maxBytes, discountName, valuesName, rewardWord, statesName, actionsName, observationsName, startName, Text, textOf}

@@ -14,12 +14,11 @@ use Rattle.numerals.specs.Numeral.{countForm, probabilityForm, startForm, rewar
 use Rattle.grammar.specs.Grammar.{Answer, got, refused, _then_, choose, key, colon, star, named, field, index, unlessEnd}
 use Rattle.grammar.proofs.Named.{UpTo, up-more, words-up, Word-refused, Named, then-named, key-named, number-named, keyed, keys-named, field-named}
 use Rattle.grammar.proofs.Named.{index-named, signed-named}
-use Rattle.statements.specs.Statements.{Outcome, filled, stopped, upon, further, within, wholly, probability, startTotal, startNumber, rewardNumber, indexed}
-use Rattle.statements.specs.Statements.{starred, row, entry, table, reward, rewards, Draft, draft, rewardStatement, observationOrReward, oneStatement}
-use Rattle.statements.specs.Statements.{statements}
+use Rattle.entries.specs.Entries.{Outcome, filled, stopped, upon, wholly, probability, startTotal, startNumber, indexed, row, entry, table, entryBy, tableBy}
+use Rattle.statements.specs.Statements.{further, within, rewardNumber, starred, reward, rewards, Draft, oneStatement, statements}
+use Rattle.statements.specs.Statements.{observationOrRewardBy, oneStatementBy, rewardBy, rewardStatementBy, rewardsBy, statementsBy}
 use Rattle.modelfile.specs.ModelFile.{maxBytes, startName, Text, noCells, body, counted, headed, placed, sumsVerdict, refusedFile, judgedFile, ended}
 use Rattle.modelfile.specs.ModelFile.{modelFile}
-use Rattle.statements.specs.Statements.{entryBy, observationOrRewardBy, oneStatementBy, rewardBy, rewardStatementBy, rewardsBy, statementsBy, tableBy}
 use Rattle.modelfile.specs.ModelFile.{bodyBy, countedBy, headedBy, modelFileBy}
 
 module _ (size : ℕ) where

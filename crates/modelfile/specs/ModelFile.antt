@@ -17,7 +17,8 @@ use Rattle.words.specs.Words.{Words, wordsIn, between}
 use Rattle.drafts.specs.Drafts.{stated}
 use Rattle.numerals.specs.Numeral.{countForm}
 use Rattle.grammar.specs.Grammar.{Answer, got, refused, _then_, key, named, field}
-use Rattle.statements.specs.Statements.{wholly, Forms, forms, startTotal, startNumberBy, row, Draft, draft, statementsBy}
+use Rattle.entries.specs.Entries.{wholly, Forms, forms, startTotal, startNumberBy, row}
+use Rattle.statements.specs.Statements.{Draft, draft, statementsBy}
 use Rattle.modelfile.specs.declared.ModelFile.{ModelFile}
 
 abbrev pub maxBytes : ℕ

@@ -110,7 +110,7 @@ fn body_at(file: &[u8], at: usize, discount: u64, n: usize, m: usize, k: usize) 
         return back(x);
     };
     let mut start = [0u16; Tables::STATES];
-    let y = statements::row_at(
+    let y = entries::row_at(
         file,
         p,
         &mut start,

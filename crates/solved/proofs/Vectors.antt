@@ -30,7 +30,8 @@ use Rattle.candidates.specs.Steps.{uponIn, Upon}
 use Rattle.candidates.specs.declared.Best.{Best}
 use Rattle.candidates.proofs.Candidates.{alone-at}
 use Rattle.builder.proofs.Levels.{Made}
-use Rattle.solver.specs.Files.{noNode, actionAt}
+use Rattle.alphas.specs.Alphas.{noNode}
+use Rattle.solver.specs.Files.{actionAt}
 use Rattle.solved.specs.declared.Said.{Said}
 use Rattle.solved.specs.declared.Row.{Row}
 use Rattle.solved.specs.Solved.{chosenOver, solved}

@@ -7,7 +7,8 @@ use Rattle.integers.specs.Whole.{lesser}
 use Rattle.tables.specs.Model.{Model, backedUp}
 use Rattle.plans.specs.Level.{Level, corner-weight, follows}
 use Rattle.plans.specs.Build.{leastValue}
-use Rattle.solver.specs.Files.{noNode, vectorsIn, actionAt, ticksAt, nextAt}
+use Rattle.alphas.specs.Alphas.{noNode}
+use Rattle.solver.specs.Files.{vectorsIn, actionAt, ticksAt, nextAt}
 
 -- the vector that a next node stands for, over level t: a hyphen is vector 0 over level 0, and no vector over a later one, as its number is no vector's
 abbrev pub chosenOver : ℕ → ℕ → ℕ

@@ -20,12 +20,12 @@ ghost use Rattle.builder.specs.Steps.{RowsFit, Filled};
 ghost use Rattle.solver.specs.Files.{vectorsIn, actionAt};
 ghost use Rattle.solved.specs.Solved.{chosenOver};
 ghost use Rattle.solved.specs.Steps.{choicesAt, ReadTo, Files, Says, vectorsOver, Solving, Gives};
+use alphas::NextNodes;
+use alphas::NodeAt;
+use alphas::Ticks;
 use candidates::Chosen;
 use integers::cells;
 use levels::shape;
-use solver::NextNodes;
-use solver::NodeAt;
-use solver::Ticks;
 use tables::Action;
 use tables::Counts;
 use tables::Foreseen;
@@ -94,8 +94,8 @@ fn said_at<'c>(
     requires { ⌜ (v < vectorsIn n (now alpha)) × (ReadTo n k (now alpha) (now graph) v p q) ⌝ }
     ensures { λ r. ⌜ Says n k t (now (alpha .entry)) (now (graph .entry)) v r ⌝ }
 {
-    let x = solver::alpha_at(alpha, p, n);
-    let y = solver::node_at(graph, q, v, k);
+    let x = alphas::alpha_at(alpha, p, n);
+    let y = alphas::node_at(graph, q, v, k);
     let ticks = x.ticks;
     let next = y.next;
     let chosen = choices_of(next, k, t);

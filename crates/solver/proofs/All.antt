@@ -13,14 +13,16 @@ use Rattle.tables.proofs.Verdict as verdict-type
 use Rattle.tables.proofs.Refusals.{never}
 use Rattle.words.specs.declared.Word.{Word}
 use Rattle.words.specs.declared.Word.the-variants.{At, End}
-use Rattle.words.specs.Words.{Words, word, end, wordsIn, between, told}
+use Rattle.words.specs.Words.{Words, word, end, wordsIn, between}
 use Rattle.words.specs.Steps.{Worded}
 use Rattle.words.proofs.Word as word-type
 use Rattle.grammar.specs.Grammar.{Answer, got, refused, _then_, unlessEnd}
 use Rattle.grammar.proofs.Arms.{no-word}
+use Rattle.alphas.specs.Alphas.{readable}
+use Rattle.alphas.specs.Steps.{Gave}
 use Rattle.solver.specs.declared.Judged.{Judged}
-use Rattle.solver.specs.Files.{allFrom, allIn, readable, listOf, withCount}
-use Rattle.solver.specs.Steps.{Gave, judgedFrom, GoesOn}
+use Rattle.solver.specs.Files.{allFrom, allIn, listOf, withCount}
+use Rattle.solver.specs.Steps.{judgedFrom, GoesOn}
 
 module _ {A : Type 0} (one : ℕ → Words → Answer A) where
   -- the one numbered i, and those after it

@@ -1,14 +1,13 @@
 -- Small files, read by the prover: it computes the definitions that the contracts name. Assumes nothing.
-use Rattle.integers.proofs.Kit.{_≡_, refl, List, [], _∷_, ℕ, ℤ, pos, negsuc}
+use Rattle.integers.proofs.Kit.{_≡_, refl, List, [], _∷_, ℕ, pos, negsuc}
 use Rattle.integers.specs.Whole.{floorDiv}
 use Rattle.integers.specs.Search.{every}
-use Rattle.tables.specs.declared.Verdict.{Verdict}
 use Rattle.tables.specs.declared.Verdict.the-variants.{Fine, Refused}
 use Rattle.words.specs.Words.{run, wordsOf, wordsIn}
 use Rattle.numerals.specs.Numeral.{digits, value, amountOf, fraction, decimal as afterPoint, exponent}
 use Rattle.grammar.specs.Grammar.{number, magnitude, signedNumber, same, key}
-use Rattle.solver.specs.Files.{action, decimal, noNode, nextNode, several, alpha, node, allFrom, allIn, vectorsIn, actionAt, ticksAt, nextAt, alike}
-use Rattle.solver.specs.Files.{filesVerdict}
+use Rattle.alphas.specs.Alphas.{action, decimal, noNode, nextNode, several, alpha, node}
+use Rattle.solver.specs.Files.{allFrom, allIn, vectorsIn, actionAt, ticksAt, nextAt, alike, filesVerdict}
 
 -- ---- alpha files with two entries in a vector, and graph files with two observations; a slash stands for an LF
 

@@ -3,8 +3,8 @@
 --   both-start, both-on   where both files stand at the first vector, and at the next
 --   files-read            files that are not refused stand at their first vector, and have the same actions
 --   first-refuses, second-refuses, unlike-counts, unlike-actions, all-alike   how they are judged
-use Rattle.integers.proofs.Kit.{_≡_, _∙_, refl, ap, sym, subst, true, false, Bool, _&&_, List, [], ℕ, _<_, _+_, arith, ne-eqb, eq-eqb, eqb-true, eqb}
-use Rattle.integers.proofs.Kit.{length, getD, take, ℤ, pos}
+use Rattle.integers.proofs.Kit.{_≡_, _∙_, refl, ap, sym, true, false, Bool, _&&_, List, [], ℕ, _<_, _+_, arith, ne-eqb, eq-eqb, eqb-true, eqb}
+use Rattle.integers.proofs.Kit.{length, getD, pos}
 use denote.Enum.Declared.{tagOf}
 use lib.Seq.{getD-take}
 use Rattle.integers.specs.Search.{every}
@@ -15,12 +15,13 @@ use Rattle.tables.specs.Verdicts.{_before_, unless}
 use Rattle.tables.proofs.Verdict as verdict-type
 use Rattle.tables.proofs.Refusals.{before-fine, unless-fine}
 use Rattle.words.specs.Words.{wordsIn, between}
+use Rattle.alphas.specs.declared.AlphaAt.{AlphaAt}
+use Rattle.alphas.specs.declared.NodeAt.{NodeAt}
+use Rattle.alphas.specs.Alphas.{Alpha, Node, alpha, node, readable}
+use Rattle.alphas.specs.Steps.{Gave, alphaOf, nodeOf}
 use Rattle.solver.specs.declared.Judged.{Judged}
-use Rattle.solver.specs.declared.AlphaAt.{AlphaAt}
-use Rattle.solver.specs.declared.NodeAt.{NodeAt}
-use Rattle.solver.specs.Files.{Alpha, Node, alpha, node, alphas, nodes, readable, listOf, vectorsIn, alphaAt, nodeAt, actionAt, ticksAt, nextAt}
-use Rattle.solver.specs.Files.{alike, filesVerdict, withCount, filesJudged}
-use Rattle.solver.specs.Steps.{Gave, alphaOf, nodeOf, GoesOn, BothAt}
+use Rattle.solver.specs.Files.{alphas, nodes, listOf, vectorsIn, nodeAt, actionAt, ticksAt, nextAt, alike, filesVerdict, withCount, filesJudged}
+use Rattle.solver.specs.Steps.{BothAt}
 use Rattle.solver.proofs.All.{stands-read, Onward, standing-on}
 
 -- ---- how one file is judged

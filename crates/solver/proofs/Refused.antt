@@ -2,12 +2,13 @@
 -- more vector or node than the file has bytes, never runs out, and 19 is always a word's. Assumes nothing.
 --
 -- A file has no more words than bytes, and each vector or node takes one or more. Qed.
-use Rattle.integers.proofs.Kit.{_≡_, sym, subst, List, [], _∷_, ℕ, _+_, suc, zero, arith, add-one, length}
+use Rattle.integers.proofs.Kit.{_≡_, sym, subst, List, ℕ, _+_, suc, zero, arith, add-one, length}
 use Rattle.words.specs.Words.{Words, word, end, between, wordsOf, wordsIn}
 use Rattle.numerals.specs.Numeral.{countForm, decimalForm, nodeForm}
-use Rattle.grammar.specs.Grammar.{Answer, got, refused, _then_, number, signedNumber, key}
+use Rattle.grammar.specs.Grammar.{Answer, refused, number, signedNumber, key}
 use Rattle.grammar.proofs.Named.{UpTo, up-more, words-up, Word-refused, Named, then-named, choose-named, keyed, number-takes, number-named, signed-named}
-use Rattle.solver.specs.Files.{mostAction, mostDecimal, hyphen, noNode, action, decimal, nextNode, several, alpha, node, allFrom, allIn, alphas, nodes}
+use Rattle.alphas.specs.Alphas.{mostAction, mostDecimal, hyphen, action, decimal, nextNode, several, alpha, node}
+use Rattle.solver.specs.Files.{allFrom, allIn, alphas, nodes}
 
 module _ (size : ℕ) where
   module _ (c : ℕ) where

@@ -5,8 +5,8 @@ use Rattle.tables.specs.Limits.{one, maxReward}
 use Rattle.drafts.specs.Drafts.{stated, rewarded}
 use Rattle.grammar.specs.Grammar.{Answer, got, refused, choose, key, colon, index}
 use Rattle.grammar.proofs.Alike.{Alike, alike-same, Wider, number-alike, signed-alike}
-use Rattle.statements.specs.Statements.{Outcome, filled, stopped, upon, within, further, wholly, Forms, probabilityBy, startTotal, startNumberBy}
-use Rattle.statements.specs.Statements.{rewardNumberBy, indexed, starred, row, entryBy, tableBy, rewardBy, rewardsBy, Draft, draft, transitionKey}
+use Rattle.entries.specs.Entries.{Outcome, filled, stopped, upon, wholly, Forms, probabilityBy, startTotal, startNumberBy, indexed, row, entryBy, tableBy}
+use Rattle.statements.specs.Statements.{within, further, rewardNumberBy, starred, rewardBy, rewardsBy, Draft, draft, transitionKey}
 use Rattle.statements.specs.Statements.{observationKey, rewardKey, rewardStatementBy, observationOrRewardBy, oneStatementBy, statementsBy}
 
 -- where the first fills the cells, the second fills them alike

@@ -7,10 +7,10 @@ use Rattle.drafts.proofs.Marks.{marked-all}
 use Rattle.numerals.specs.Numeral.{probabilityForm, rewardForm, signed}
 use Rattle.grammar.specs.Grammar.{Answer, got, refused, choose, key, colon, index, magnitude, minus, signedNumber, unlessEnd}
 use Rattle.grammar.proofs.Gives.{Gives, gives-then, number-gives, magnitude-gives}
-use Rattle.statements.specs.Statements.{Outcome, filled, stopped, upon, further, within, wholly, probability, rewardNumber, indexed, starred, row, entry}
-use Rattle.statements.specs.Statements.{table, reward, rewards, Draft, draft, transitionKey, observationKey, rewardKey, rewardStatement}
-use Rattle.statements.specs.Statements.{observationOrReward, oneStatement, statements}
-use Rattle.statements.specs.Statements.{entryBy, observationOrRewardBy, oneStatementBy, rewardBy, rewardStatementBy, rewardsBy, statementsBy, tableBy}
+use Rattle.entries.specs.Entries.{Outcome, filled, stopped, upon, wholly, probability, indexed, row, entry, table, entryBy, tableBy}
+use Rattle.statements.specs.Statements.{further, within, rewardNumber, starred, reward, rewards, Draft, draft, transitionKey, observationKey, rewardKey}
+use Rattle.statements.specs.Statements.{rewardStatement, observationOrReward, oneStatement, statements}
+use Rattle.statements.specs.Statements.{observationOrRewardBy, oneStatementBy, rewardBy, rewardStatementBy, rewardsBy, statementsBy}
 
 -- ---- what holds of the cells that are read whole
 

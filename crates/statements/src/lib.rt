@@ -5,124 +5,13 @@ ghost use Prim.Native.Nat.{ℕ, _+_, _≤_};
 ghost use lib.ListN.{length};
 ghost use Rattle.words.specs.Words.{wordsIn, between, told};
 ghost use Rattle.words.specs.Steps.{Inside};
-ghost use Rattle.tables.specs.Limits.{maxStates, one};
-ghost use Rattle.numerals.specs.Steps.{Short};
-ghost use Rattle.drafts.specs.Drafts.{stated};
-ghost use Rattle.grammar.specs.Grammar.{number};
-ghost use Rattle.grammar.specs.Steps.{Reads};
-ghost use Rattle.statements.specs.Statements.{indexed, row, entry, table, reward, rewards, draft, rewardStatement, observationOrReward};
-ghost use Rattle.statements.specs.Statements.{oneStatement, statements};
-ghost use Rattle.statements.specs.Steps.{CellsFit, outcomeOf, Leaves, begin};
+ghost use Rattle.entries.specs.Steps.{CellsFit, outcomeOf, Leaves};
+ghost use Rattle.statements.specs.Statements.{reward, rewards, draft, rewardStatement, observationOrReward, oneStatement, statements};
+ghost use Rattle.statements.specs.Steps.{begin};
 use grammar::Read;
 use numerals::Form;
 use tables::Tables;
 use words::Word;
-
-// `: i`
-fn indexed_at(file: &[u8], at: usize, n: usize) -> Read
-    requires { ⌜ (at ≤ length (now file)) × ((1 ≤ n) × (n ≤ maxStates)) ⌝ }
-    ensures { λ r. ⌜ Reads (now (file .entry)) at n r (indexed n (wordsIn between (now (file .entry)) at)) ⌝ }
-{
-    let p = reader::pair_from(file, at);
-    let w = p.first;
-    let x = grammar::key_of(file, w, b":");
-    let Read::Value(_, _) = x else {
-        return x;
-    };
-    let v = p.second;
-    grammar::index_of(file, v, n)
-}
-
-// A number for each place of the rows that a and s stand for.
-pub fn row_at(
-    file: &[u8],
-    from: usize,
-    cells: &mut [u16],
-    m: usize,
-    n: usize,
-    w: usize,
-    a: usize,
-    s: usize,
-    form: Form,
-    most: u64,
-) -> Read
-    requires { ⌜ (from ≤ length (now file)) × (CellsFit m n w (now cells)) ⌝ }
-    requires { ⌜ (a ≤ m) × ((s ≤ n) × ((Short form) × (most ≤ one))) ⌝ }
-    ensures { λ r. ⌜ Leaves (now (file .entry)) from r (now (cells .exit))
-        (row (number form 0 most) (stated m n w a s) 0 w (now (cells .entry)) (wordsIn between (now (file .entry)) from)) ⌝ }
-{
-    let mut at = from;
-    for x in 0..w {
-        let p = grammar::number_at(file, at, form, 0, most);
-        let Read::Value(v, next) = p else {
-            return p;
-        };
-        drafts::state(cells, m, n, w, a, s, x, v as u16);
-        at = next;
-    }
-    Read::Value(0, at)
-}
-
-// `x p`
-fn entry_at(
-    file: &[u8],
-    at: usize,
-    cells: &mut [u16],
-    m: usize,
-    n: usize,
-    w: usize,
-    a: usize,
-    s: usize,
-) -> Read
-    requires { ⌜ (at ≤ length (now file)) × (CellsFit m n w (now cells)) ⌝ }
-    requires { ⌜ (a ≤ m) × (s ≤ n) ⌝ }
-    ensures { λ r. ⌜ Leaves (now (file .entry)) at r (now (cells .exit)) (entry m n w a s (now (cells .entry)) (wordsIn between (now (file .entry)) at)) ⌝ }
-{
-    let both = reader::pair_from(file, at);
-    let first = both.first;
-    let i = grammar::index_of(file, first, w);
-    let Read::Value(x, _) = i else {
-        return i;
-    };
-    let second = both.second;
-    let p = grammar::number_of(file, second, Form::PROBABILITY, 0, Tables::ONE);
-    let Read::Value(v, end) = p else {
-        return p;
-    };
-    drafts::state(cells, m, n, w, a, s, x as usize, v as u16);
-    Read::Value(0, end)
-}
-
-// After `T` or `O`.
-fn table_at(file: &[u8], at: usize, cells: &mut [u16], m: usize, n: usize, w: usize) -> Read
-    requires { ⌜ (at ≤ length (now file)) × (CellsFit m n w (now cells)) ⌝ }
-    ensures { λ r. ⌜ Leaves (now (file .entry)) at r (now (cells .exit)) (table m n w (now (cells .entry)) (wordsIn between (now (file .entry)) at)) ⌝ }
-{
-    let i = indexed_at(file, at, m);
-    let Read::Value(a, p) = i else {
-        return i;
-    };
-    let j = indexed_at(file, p, n);
-    let Read::Value(s, q) = j else {
-        return j;
-    };
-    let c = grammar::key_at(file, q, b":");
-    let Read::Value(_, next) = c else {
-        return row_at(
-            file,
-            q,
-            cells,
-            m,
-            n,
-            w,
-            a as usize,
-            s as usize,
-            Form::PROBABILITY,
-            Tables::ONE,
-        );
-    };
-    entry_at(file, next, cells, m, n, w, a as usize, s as usize)
-}
 
 // `r` for the rewards that a and s stand for.
 fn reward_at(
@@ -153,11 +42,11 @@ fn rewards_at(file: &[u8], at: usize, cells: &mut [i64], m: usize, n: usize) -> 
     requires { ⌜ (at ≤ length (now file)) × (CellsFit m n 1 (now cells)) ⌝ }
     ensures { λ r. ⌜ Leaves (now (file .entry)) at r (now (cells .exit)) (rewards m n (now (cells .entry)) (wordsIn between (now (file .entry)) at)) ⌝ }
 {
-    let i = indexed_at(file, at, m);
+    let i = entries::indexed_at(file, at, m);
     let Read::Value(a, p) = i else {
         return i;
     };
-    let j = indexed_at(file, p, n);
+    let j = entries::indexed_at(file, p, n);
     let Read::Value(s, q) = j else {
         return j;
     };
@@ -201,7 +90,7 @@ fn other_statement_at(
     let Read::Value(_, next) = x else {
         return reward_statement_at(file, w, reward, m, n);
     };
-    table_at(file, next, observation, m, n, k)
+    entries::table_at(file, next, observation, m, n, k)
 }
 
 fn statement_at(
@@ -222,7 +111,7 @@ fn statement_at(
     let Read::Value(_, next) = x else {
         return other_statement_at(file, w, observation, reward, m, n, k);
     };
-    table_at(file, next, transition, m, n, n)
+    entries::table_at(file, next, transition, m, n, n)
 }
 
 // Statements up to the end of the file.

@@ -1,3 +1,3 @@
--- Laws for this crate's proofs and those above it.
+-- Laws for this crate's proofs.
 pub mod Laws
 pub mod Prelude

@@ -11,10 +11,10 @@ use Rattle.tables.specs.Storage.{modelOf}
 use Rattle.tables.specs.Verdicts.{_before_, unless}
 use Rattle.tables.specs.Judged.{countWithin, tablesVerdict}
 use Rattle.levels.specs.Judged.{numbersIn}
+use Rattle.worths.specs.Limits.{maxNodes, maxSteps}
+use Rattle.worths.specs.Graph.{PlanGraph, worthOf}
+use Rattle.worths.specs.Storage.{LentGraph, graphOf, graphStored}
 use Rattle.worth.specs.declared.Valued.{Valued}
-use Rattle.worth.specs.Limits.{maxNodes, maxSteps}
-use Rattle.worth.specs.Graph.{PlanGraph, worthOf}
-use Rattle.worth.specs.Storage.{LentGraph, graphOf, graphStored}
 
 -- the asked node, state and steps are within their limits
 abbrev pub askedWithin : ℕ → ℕ → ℕ → ℕ → ℕ → Bool

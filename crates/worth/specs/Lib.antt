@@ -1,6 +1,2 @@
--- Plan graphs: what one is worth, its storage, and what it is refused for.
-pub mod Limits
-pub mod Graph
-pub mod Storage
-pub mod Steps
+-- What a worth is refused for, and the answer.
 pub mod Judged

@@ -5,8 +5,9 @@ use Rattle.tables.specs.Limits.{maxObservations}
 use Rattle.words.specs.Words.{Words}
 use Rattle.drafts.specs.Drafts.{stated}
 use Rattle.grammar.specs.Grammar.{Answer, got}
-use Rattle.statements.specs.Statements.{wholly, startNumber, row, draft, statements}
-use Rattle.statements.specs.Steps.{CellsFit}
+use Rattle.entries.specs.Entries.{wholly, startNumber, row}
+use Rattle.entries.specs.Steps.{CellsFit}
+use Rattle.statements.specs.Statements.{draft, statements}
 use Rattle.modelfile.specs.ModelFile.{Text, textOf, noCells}
 use Rattle.modelfile.proofs.Laws.{stops-there, fills-further, leaves-next}
 use Rattle.modelfile.proofs.body_at.Statement.{statement}

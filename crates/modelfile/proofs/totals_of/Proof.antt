@@ -1,6 +1,6 @@
 use Rattle.modelfile.proofs.Prelude.{ℕ, _+_, _≡_, sym, ap, _∙_, List, arith, needs, placed, sizes}
 use Rattle.integers.proofs.Kit.{ne-eqb, eq-eqb, getD}
-use Rattle.statements.specs.Statements.{startTotal}
+use Rattle.entries.specs.Entries.{startTotal}
 use Rattle.modelfile.specs.ModelFile.{sumsVerdict}
 use Rattle.integers.specs.Whole.{totalTo}
 use Rattle.integers.proofs.Sums.{total-cong}

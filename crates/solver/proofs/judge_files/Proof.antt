@@ -1,5 +1,4 @@
-use Rattle.solver.proofs.Prelude.{sym, _∙_, needs}
-use borrow.Author.Tests.{not-true, not-false}
+use Rattle.integers.proofs.Kit.{sym, _∙_, needs, not-true, not-false}
 use Rattle.solver.proofs.Files.{first-refuses, second-refuses, unlike-counts, both-files, unlike-actions, all-alike}
 use Rattle.solver.proofs.judge_files.Statement.{statement}
 use Rattle.solver.proofs.judge_files.Tie as tie

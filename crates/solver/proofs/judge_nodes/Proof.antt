@@ -1,7 +1,7 @@
-use Rattle.solver.proofs.Prelude.{_+_, _-_, _<_, arith, needs, length}
+use Rattle.integers.proofs.Kit.{_<_, _+_, _-_, arith, needs, length}
 use Rattle.words.specs.Steps.{Worded}
-use Rattle.solver.specs.Files.{node}
-use Rattle.solver.specs.Steps.{nodeOf}
+use Rattle.alphas.specs.Alphas.{node}
+use Rattle.alphas.specs.Steps.{nodeOf}
 use Rattle.solver.proofs.All.{Left, left-start, left-end, left-back, left-on}
 use Rattle.solver.proofs.judge_nodes.Statement.{statement}
 use Rattle.solver.proofs.judge_nodes.Tie as tie

@@ -1,5 +1,4 @@
-use Rattle.solver.proofs.Prelude.{ℕ, _-_, _≤_, _≡_, sym, subst, _∙_, List, arith, needs}
-use Rattle.integers.proofs.Kit.{true, Bool, ne-eqb, eq-eqb, eqb}
+use Rattle.integers.proofs.Kit.{_≡_, _∙_, sym, subst, true, Bool, List, ℕ, _≤_, _-_, arith, ne-eqb, eq-eqb, eqb}
 use Rattle.integers.specs.Search.{every}
 use Rattle.integers.proofs.Searches.{every-none, every-more, every-not}
 use Rattle.solver.specs.Files.{actionAt, nodeAt}

@@ -1,5 +1,5 @@
-use Rattle.statements.proofs.Prelude.{needs, told, value-next, table, draft, rewardStatement, observationOrRewardBy, within}
-use Rattle.statements.proofs.Prelude.{chooses-back, chooses-on, leaves-within, takes-begin}
+use Rattle.statements.proofs.Prelude.{needs, told, value-next, table, draft, within, chooses-back, chooses-on, leaves-within, takes-begin}
+use Rattle.statements.specs.Statements.{rewardStatement, observationOrRewardBy}
 use Rattle.statements.proofs.other_statement_at.Statement.{statement}
 use Rattle.statements.proofs.other_statement_at.Tie as tie
 

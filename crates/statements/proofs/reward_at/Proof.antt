@@ -1,11 +1,15 @@
-use Rattle.statements.proofs.Prelude.{ℤ, _∙_, arith, needs, wordsIn, between, inside, takes-reads, value-next, filled, leaves-back, leaves-done}
+use Rattle.statements.proofs.Prelude.{ℤ, _∙_, arith, needs, inside, value-next, leaves-back}
 use Rattle.integers.proofs.Kit.{ap, sym, Bool}
-use Rattle.drafts.specs.Drafts.{rewarded}
-use Rattle.tables.specs.Limits.{maxReward}
-use Rattle.numerals.specs.Numeral.{rewardForm, signed}
-use Rattle.grammar.specs.Grammar.{magnitude, minus}
-use Rattle.statements.proofs.Laws.{leaves-earlier, reward-by}
 use Rattle.integers.proofs.Words.{answer}
+use Rattle.tables.specs.Limits.{maxReward}
+use Rattle.words.specs.Words.{wordsIn, between}
+use Rattle.numerals.specs.Numeral.{rewardForm, signed}
+use Rattle.drafts.specs.Drafts.{rewarded}
+use Rattle.grammar.specs.Grammar.{magnitude, minus}
+use Rattle.grammar.proofs.Laws.{takes-reads}
+use Rattle.entries.specs.Entries.{filled}
+use Rattle.entries.proofs.Laws.{leaves-done, leaves-earlier}
+use Rattle.statements.proofs.Laws.{reward-by}
 use Rattle.statements.proofs.reward_at.Statement.{statement}
 use Rattle.statements.proofs.reward_at.Tie as tie
 

@@ -1,4 +1,5 @@
-use Rattle.statements.proofs.Prelude.{needs, value-next, rewards, draft, rewardStatementBy, within, leaves-back, leaves-on, leaves-within, takes-begin}
+use Rattle.statements.proofs.Prelude.{needs, value-next, draft, within, leaves-back, leaves-on, leaves-within, takes-begin}
+use Rattle.statements.specs.Statements.{rewards, rewardStatementBy}
 use Rattle.statements.proofs.reward_statement_at.Statement.{statement}
 use Rattle.statements.proofs.reward_statement_at.Tie as tie
 

@@ -1,5 +1,7 @@
-use Rattle.statements.proofs.Prelude.{ℕ, ℤ, List, needs, Words, value-next, indexed, reward, rewardsBy, Outcome, upon, leaves-back, leaves-on}
-use Rattle.statements.specs.Statements.{starred}
+use Rattle.statements.proofs.Prelude.{ℕ, ℤ, List, needs, value-next, leaves-back, leaves-on}
+use Rattle.words.specs.Words.{Words}
+use Rattle.entries.specs.Entries.{Outcome, upon, indexed}
+use Rattle.statements.specs.Statements.{starred, reward, rewardsBy}
 use Rattle.statements.proofs.rewards_at.Statement.{statement}
 use Rattle.statements.proofs.rewards_at.Tie as tie
 

@@ -1,6 +1,5 @@
-use Rattle.statements.proofs.Prelude.{needs, told, value-next, table, draft, observationOrReward, within}
-use Rattle.statements.proofs.Prelude.{chooses-back, chooses-on, leaves-within, takes-begin}
-use Rattle.statements.specs.Statements.{oneStatementBy}
+use Rattle.statements.proofs.Prelude.{needs, told, value-next, table, draft, within, chooses-back, chooses-on, leaves-within, takes-begin}
+use Rattle.statements.specs.Statements.{observationOrReward, oneStatementBy}
 use Rattle.statements.proofs.statement_at.Statement.{statement}
 use Rattle.statements.proofs.statement_at.Tie as tie
 

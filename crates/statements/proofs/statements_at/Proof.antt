@@ -1,7 +1,7 @@
-use Rattle.statements.proofs.Prelude.{ℕ, _-_, _∙_, List, arith, needs, ℤ, reward, draft, inside}
-use Rattle.integers.proofs.Kit.{_≡_, refl, length}
+use Rattle.statements.proofs.Prelude.{ℕ, _∙_, List, arith, needs, ℤ, draft, inside}
+use Rattle.integers.proofs.Kit.{_≡_, refl, _-_, length}
+use Rattle.entries.specs.Steps.{CellsFit}
 use Rattle.statements.proofs.Laws.{fit-kept, Left, left-start, left-end, left-back, left-next, left-on}
-use Rattle.statements.specs.Steps.{CellsFit}
 use Rattle.statements.proofs.statements_at.Statement.{statement}
 use Rattle.statements.proofs.statements_at.Tie as tie
 

@@ -7,7 +7,7 @@ use Rattle.tables.specs.Model.{Valid}
 use Rattle.tables.specs.Storage.{tablesIn}
 use Rattle.tables.specs.Judged.{countWithin, tablesVerdict}
 use Rattle.tables.proofs.Accepted.{tables-valid, count-true}
-use Rattle.worth.specs.Storage.{LentGraph, lentGraph, graphStored}
+use Rattle.worths.specs.Storage.{LentGraph, lentGraph, graphStored}
 use Rattle.worth.proofs.Laws.{graph-stored}
 use Rattle.worth.proofs.judge_worth.Statement.{statement}
 use Rattle.worth.proofs.judge_worth.Tie as tie

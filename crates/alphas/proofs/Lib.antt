@@ -1,0 +1,4 @@
+-- Laws about the definitions of this crate.
+pub mod Words
+pub mod Limits
+pub mod Prelude

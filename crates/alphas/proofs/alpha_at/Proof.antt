@@ -1,0 +1,54 @@
+use Rattle.alphas.proofs.Prelude.{ℕ, refl, ap, _∙_, List, arith, needs, take, Words, Answer, got, _then_, value-is, value-next, gave-back, lists-value}
+use Rattle.alphas.proofs.Prelude.{action, decimal, several}
+use lib.IntN.{ℤ}
+use Rattle.alphas.specs.Alphas.{Alpha, alpha}
+use Rattle.alphas.proofs.alpha_at.Statement.{statement}
+use Rattle.alphas.proofs.alpha_at.Tie as tie
+
+-- what follows the action
+abbrev made : ℕ → List ℤ → Words → Answer Alpha
+made a ts ws = got (record { action = a; ticks = ts }) ws
+
+abbrev after : ℕ → ℕ → Words → Answer Alpha
+after n a ws = several decimal n ws then made a
+
+returns : tie.Need-returns
+unfolding alpha action
+returns c =
+    let a = c .before .before .before .before .before .before .args in
+    let x = c .before .before .before .before .number-at in
+    gave-back (λ v. v) (a .file .now) (a .at) _ _ (x .result) (after (a .n)) (c .no-alpha .ensures ∙ c .before .back .ensures)
+    (c .before .before .before .match .keys2) (x .ensures .is) refl
+
+ticks-at-requires : tie.Need-ticks-at-requires
+ticks-at-requires c κs =
+    (value-next _ _ (c .before .before .before .number-at .ensures) (c .before .x .given .1) .1 .1, c .before .before .before .before .before .pre .1)
+
+returns-2 : tie.Need-returns-2
+unfolding alpha action
+returns-2 c =
+    let a = c .before .before .before .before .before .before .before .before .before .before .args in
+    let g = c .before .before .before .before .before .before .x .given in
+    let x = c .before .before .before .before .before .before .before .before .number-at .ensures in
+    let y = c .before .before .before .before .ticks-at in
+    gave-back (λ _. take (a .n) (y .result .ticks)) (a .file .now) (a .at) _ _ (y .result .read) (made (g .0 .0))
+    (c .no-alpha2 .ensures ∙ c .before .back2 .ensures) (c .before .before .before .match2 .keys2) (y .ensures .is)
+    (ap (λ (x : Answer ℕ). x then after (a .n)) (value-is (g .0 .0) (g .0 .1 .0) x (g .1)))
+
+returns-3 : tie.Need-returns-3
+unfolding alpha action
+returns-3 c =
+    let a = c .before .before .before .before .before .before .before .before .before .before .args in
+    let g = c .before .before .before .before .before .before .x .given in
+    let h = c .before .before .y .given in
+    let x = c .before .before .before .before .before .before .before .before .number-at .ensures in
+    let first = value-next (g .0 .0) (g .0 .1 .0) x (g .1) in
+    let last = lists-value (h .0 .0) (h .0 .1 .0) (c .before .before .before .before .ticks-at .ensures) (h .1) in (
+      ap (λ (t : Answer (List ℤ)). t then made (g .0 .0)) (last .0) ∙ ap (λ (x : Answer ℕ). x then after (a .n)) (value-is (g .0 .0) (g .0 .1 .0) x (g .1)),
+      (omega (arith, first, last .1), last .1 .1),
+    )
+
+pub alpha-at-spec : {M : Type 1} → statement M
+alpha-at-spec =
+    tie.close (tie.spec (λ c κs. search needs) (λ c. search needs) (λ c. search needs) (λ c κs. search needs) (λ c κs. search needs) returns
+    ticks-at-requires (λ c. search needs) (λ c. search needs) (λ c κs. search needs) (λ c κs. search needs) returns-2 returns-3)

@@ -1,0 +1,96 @@
+use Rattle.alphas.proofs.Prelude.{ℕ, refl, _≡_, ap, _∙_, List, arith, needs, take, Words, wordsIn, between, Answer, got, _then_, value-is, value-next}
+use Rattle.alphas.proofs.Prelude.{gave-back, lists-value, action, nextNode, several}
+use Rattle.alphas.specs.Alphas.{Node, node}
+use Rattle.alphas.proofs.node_at.Statement.{statement}
+use Rattle.alphas.proofs.node_at.Tie as tie
+
+-- the place of each call, from the next
+abbrev before-number : tie.After-number-at → tie.Start
+before-number c = c .before .before
+
+abbrev before-action : tie.After-number-at2 → tie.After-number-at
+before-action c = c .before .before .before .before
+
+abbrev before-nexts : tie.After-nexts-at → tie.After-number-at2
+before-nexts c = c .before .before .before .before
+
+-- what follows the action, and the node's number
+abbrev made : ℕ → List ℕ → Words → Answer Node
+made a os ws = got (record { action = a; next = os }) ws
+
+abbrev after : ℕ → ℕ → Words → Answer Node
+after k a ws = several nextNode k ws then made a
+
+abbrev numbered : ℕ → ℕ → Words → Answer Node
+numbered k _ ws = action ws then after k
+
+returns : tie.Need-returns
+unfolding node
+returns c =
+    let a = before-number (c .before .before .before .before) .args in
+    let x = c .before .before .before .before .number-at in
+    gave-back (λ v. v) (a .file .now) (a .at) _ _ (x .result) (numbered (a .k)) (c .no-node .ensures ∙ c .before .back .ensures)
+    (c .before .before .before .match .keys2) (x .ensures .is) refl
+
+number-at-requires-2 : tie.Need-number-at-requires-2
+number-at-requires-2 c κs = (
+  value-next _ _ (c .before .before .before .number-at .ensures) (c .before .x .given .1) .1 .1,
+  record { few-digits = omega arith; few-places = omega arith },
+)
+
+returns-2 : tie.Need-returns-2
+unfolding node action
+returns-2 c =
+    let y = c .before .before .before .before .number-at2 in
+    let x = before-action (c .before .before .before .before) .number-at .ensures in
+    let a = before-number (before-action (c .before .before .before .before)) .args in
+    let g = c .before .before .before .before .before .before .x .given in
+    gave-back (λ v. v) (a .file .now) (a .at) _ _ (y .result) (after (a .k)) (c .no-node2 .ensures ∙ c .before .back2 .ensures)
+    (c .before .before .before .match2 .keys2) (y .ensures .is)
+    (ap (λ (x : Answer ℕ). x then numbered (a .k)) (value-is (g .0 .0) (g .0 .1 .0) x (g .1)))
+
+nexts-at-requires : tie.Need-nexts-at-requires
+nexts-at-requires c κs = (
+  value-next _ _ (c .before .before .before .number-at2 .ensures) (c .before .y .given .1) .1 .1,
+  before-number (before-action (c .before .before .before)) .pre .1,
+)
+
+-- the number and the action were read: what is left
+module _ (c : tie.After-nexts-at) where
+  left : let a = before-number (before-action (before-nexts c)) .args in
+      let h = c .before .before .y .given in
+      (several nextNode (a .k) (wordsIn between (a .file .now) (h .0 .1 .0)) then made (h .0 .0)) ≡ node (a .k) (a .i) (wordsIn between (a .file .now) (a .at))
+  unfolding node action
+  left =
+      let a = before-number (before-action (before-nexts c)) .args in
+      let g = before-nexts c .before .before .x .given in
+      let h = c .before .before .y .given in
+      ap (λ (x : Answer ℕ). x then after (a .k)) (value-is (h .0 .0) (h .0 .1 .0) (before-nexts c .number-at2 .ensures) (h .1))
+      ∙ ap (λ (x : Answer ℕ). x then numbered (a .k)) (value-is (g .0 .0) (g .0 .1 .0) (before-action (before-nexts c) .number-at .ensures) (g .1))
+
+returns-3 : tie.Need-returns-3
+returns-3 c =
+    let z = c .before .before .before .before .nexts-at in
+    let a = before-number (before-action (before-nexts (c .before .before .before .before))) .args in
+    let h = c .before .before .before .before .before .before .y .given in
+    gave-back (λ _. take (a .k) (z .result .next)) (a .file .now) (a .at) _ _ (z .result .read) (made (h .0 .0))
+    (c .no-node3 .ensures ∙ c .before .back3 .ensures) (c .before .before .before .match3 .keys2) (z .ensures .is) (left (c .before .before .before .before))
+
+returns-4 : tie.Need-returns-4
+returns-4 c =
+    let d = c .before .before .before .before in
+    let g = before-nexts d .before .before .x .given in
+    let h = d .before .before .y .given in
+    let e = c .before .before .z .given in
+    let first = value-next (g .0 .0) (g .0 .1 .0) (before-action (before-nexts d) .number-at .ensures) (g .1) in
+    let second = value-next (h .0 .0) (h .0 .1 .0) (before-nexts d .number-at2 .ensures) (h .1) in
+    let last = lists-value (e .0 .0) (e .0 .1 .0) (d .nexts-at .ensures) (e .1) in (
+      ap (λ (t : Answer (List ℕ)). t then made (h .0 .0)) (last .0) ∙ left d,
+      (omega (arith, first .1, second .1, last .1), last .1 .1),
+    )
+
+pub node-at-spec : {M : Type 1} → statement M
+node-at-spec =
+    tie.close (tie.spec (λ c κs. search needs) (λ c. search needs) (λ c. search needs) (λ c κs. search needs) (λ c κs. search needs) returns
+    number-at-requires-2 (λ c. search needs) (λ c. search needs) (λ c κs. search needs) (λ c κs. search needs) returns-2 nexts-at-requires
+    (λ c. search needs) (λ c. search needs) (λ c κs. search needs) (λ c κs. search needs) returns-3 returns-4)

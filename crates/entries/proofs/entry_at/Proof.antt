@@ -1,0 +1,104 @@
+use Rattle.entries.proofs.Prelude.{arith, needs, stated, index, inside, takes-reads, second-word, value-next, probability, upon}
+use Rattle.entries.proofs.Prelude.{leaves-back, leaves-on}
+use Rattle.entries.specs.Entries.{filled, entryBy}
+use Rattle.entries.proofs.Laws.{leaves-done}
+use Rattle.entries.proofs.entry_at.Statement.{statement}
+use Rattle.entries.proofs.entry_at.Tie as tie
+
+-- the place of each call, from the next
+abbrev before-pair-from : tie.After-pair-from → tie.Start
+before-pair-from c = c .before .before .before
+
+abbrev before-index-of : tie.After-index-of → tie.After-pair-from
+before-index-of c = c .before
+
+abbrev before-number-of : tie.After-number-of → tie.After-index-of
+before-number-of c = c .before .before .before .before
+
+index-of-requires : tie.Need-index-of-requires
+index-of-requires c κs =
+    let r = c .before .before .before .pre .0 .1 in
+    (inside (c .pair-from .ensures .first .within (c .before .before .before .pre .0 .0)), (r .some-places, omega (arith, r .few-places)))
+
+returns : tie.Need-returns
+unfolding entryBy
+returns c =
+    let a = before-pair-from (before-index-of (c .before .before)) .args in
+    leaves-back (a .cells .now) (λ x ws. upon (a .cells .now) (probability ws)
+    (λ p ws. filled (stated (a .m) (a .n) (a .w) (a .a) (a .s) x p (a .cells .now)) ws))
+    (takes-reads (index (a .w)) (c .before .before .before .pair-from .ensures .first .within
+    (before-pair-from (before-index-of (c .before .before)) .pre .0 .0)) (c .before .before .index-of .ensures)) (c .before .match .keys2)
+
+number-of-requires : tie.Need-number-of-requires
+number-of-requires c κs = (
+  inside (second-word _ _ (before-index-of (c .before .before .before) .pair-from .ensures)
+      (before-pair-from (before-index-of (c .before .before .before)) .pre .0 .0) (c .before .before .before .index-of .ensures) (c .before .i .given .1)),
+  omega arith,
+)
+
+returns-2 : tie.Need-returns-2
+unfolding entryBy
+returns-2 c =
+    let a = before-pair-from (before-index-of (before-number-of (c .before .before))) .args in
+    let g = c .before .before .before .before .i .given in
+    let p = before-index-of (before-number-of (c .before .before)) .pair-from .ensures in
+    leaves-on (a .cells .now) (g .0 .0) (g .0 .1 .0) (λ x ws. upon (a .cells .now) (probability ws)
+    (λ p ws. filled (stated (a .m) (a .n) (a .w) (a .a) (a .s) x p (a .cells .now)) ws))
+    (takes-reads (index (a .w)) (p .first .within (before-pair-from (before-index-of (before-number-of (c .before .before))) .pre .0 .0))
+    (before-number-of (c .before .before) .index-of .ensures)) (g .1)
+    (leaves-back (a .cells .now) (λ p ws. filled (stated (a .m) (a .n) (a .w) (a .a) (a .s) (g .0 .0) p (a .cells .now)) ws)
+    (takes-reads probability (second-word (g .0 .0) (g .0 .1 .0) p (before-pair-from (before-index-of (before-number-of (c .before .before))) .pre .0 .0)
+    (before-number-of (c .before .before) .index-of .ensures) (g .1)) (c .before .before .number-of .ensures)) (c .before .match2 .keys2))
+
+cast-state : tie.Need-cast-state
+cast-state c =
+    let g = c .before .before .before .before .before .before .i .given in
+    let p = before-index-of (before-number-of (c .before .before .before .before)) .pair-from .ensures in
+    omega (
+      arith,
+      value-next _ _ (takes-reads probability (second-word (g .0 .0) (g .0 .1 .0) p
+          (before-pair-from (before-index-of (before-number-of (c .before .before .before .before))) .pre .0 .0)
+          (before-number-of (c .before .before .before .before) .index-of .ensures) (g .1)) (c .before .before .before .before .number-of .ensures))
+          (c .before .before .p .given .1) .0,
+    )
+
+state-requires : tie.Need-state-requires
+state-requires c κs =
+    let r = before-pair-from (before-index-of (before-number-of (c .before .before .before .before))) .pre .0 .1 in
+    let a = before-pair-from (before-index-of (before-number-of (c .before .before .before .before))) .args in
+    let i = value-next _ _ (takes-reads (index (a .w)) (before-index-of
+    (before-number-of (c .before .before .before .before)) .pair-from .ensures .first .within
+    (before-pair-from (before-index-of (before-number-of (c .before .before .before .before))) .pre .0 .0))
+    (before-number-of (c .before .before .before .before) .index-of .ensures)) (c .before .before .before .before .before .before .i .given .1) in (
+      (r .few-blocks, (r .few-rows, r .few-places)),
+      (
+        (
+          before-pair-from (before-index-of (before-number-of (c .before .before .before .before))) .pre .1 .0,
+          (before-pair-from (before-index-of (before-number-of (c .before .before .before .before))) .pre .1 .1, i .0),
+        ),
+        r .long,
+      ),
+    )
+
+returns-3 : tie.Need-returns-3
+unfolding entryBy
+returns-3 c =
+    let a = before-pair-from (before-index-of (before-number-of (c .before .before .before .before .before .before .before))) .args in
+    let g = c .before .before .before .before .before .before .before .before .before .i .given in
+    let h = c .before .before .before .before .before .p .given in
+    let p = before-index-of (before-number-of (c .before .before .before .before .before .before .before)) .pair-from .ensures in
+    leaves-on (a .cells .now) (g .0 .0) (g .0 .1 .0) (λ x ws. upon (a .cells .now) (probability ws)
+    (λ p ws. filled (stated (a .m) (a .n) (a .w) (a .a) (a .s) x p (a .cells .now)) ws))
+    (takes-reads (index (a .w)) (p .first .within (before-pair-from
+    (before-index-of (before-number-of (c .before .before .before .before .before .before .before))) .pre .0 .0))
+    (before-number-of (c .before .before .before .before .before .before .before) .index-of .ensures)) (g .1)
+    (leaves-done (a .cells .now) (λ p. stated (a .m) (a .n) (a .w) (a .a) (a .s) (g .0 .0) p (a .cells .now)) (h .0 .0) (h .0 .1 .0)
+    (takes-reads probability (second-word (g .0 .0) (g .0 .1 .0) p
+    (before-pair-from (before-index-of (before-number-of (c .before .before .before .before .before .before .before))) .pre .0 .0)
+    (before-number-of (c .before .before .before .before .before .before .before) .index-of .ensures) (g .1))
+    (c .before .before .before .before .before .before .before .number-of .ensures)) (h .1) (c .before .before .state .ensures))
+
+pub entry-at-spec : {M : Type 1} → statement M
+entry-at-spec =
+    tie.close (tie.spec (λ c κs. search needs) index-of-requires (λ c. search needs) (λ c. search needs) returns number-of-requires (λ c. search needs)
+    (λ c. search needs) returns-2 cast-state state-requires (λ c. search needs) returns-3)

@@ -1,0 +1,39 @@
+use Rattle.entries.proofs.Prelude.{arith, needs, key, colon, index, inside, takes-reads, second-word, indexed}
+use Rattle.grammar.proofs.Laws.{reads-on}
+use Rattle.grammar.proofs.Arms.{reads-back}
+use Rattle.entries.proofs.indexed_at.Statement.{statement}
+use Rattle.entries.proofs.indexed_at.Tie as tie
+
+key-of-requires : tie.Need-key-of-requires
+key-of-requires c κs = inside (c .before .pair-from .ensures .first .within (c .before .before .before .pre .0))
+
+returns : tie.Need-returns
+unfolding indexed
+returns c = reads-back (λ v. v) (c .before .before .before .before .before .before .args .n)
+    (λ _ ws. index (c .before .before .before .before .before .before .args .n) ws)
+    (takes-reads (key colon) (c .before .before .before .before .pair-from .ensures .first .within
+    (c .before .before .before .before .before .before .pre .0)) (c .before .before .key-of .ensures)) (c .before .match .keys2)
+
+index-of-requires : tie.Need-index-of-requires
+index-of-requires c κs = (
+  inside (second-word _ _ (c .before .before .before .before .pair-from .ensures)
+      (c .before .before .before .before .before .before .pre .0) (c .before .before .key-of .ensures) (c .enum-told .given .1)),
+  (c .before .before .before .before .before .before .pre .1 .0, omega (arith, c .before .before .before .before .before .before .pre .1 .1)),
+)
+
+returns-2 : tie.Need-returns-2
+unfolding indexed
+returns-2 c =
+    let g = c .before .enum-told .given in
+    let p = c .before .before .before .before .before .pair-from .ensures in
+    reads-on (g .0 .0) (g .0 .1 .0) (λ _ ws. index (c .before .before .before .before .before .before .before .args .n) ws)
+    (takes-reads (key colon) (p .first .within (c .before .before .before .before .before .before .before .pre .0))
+    (c .before .before .before .key-of .ensures)) (g .1)
+    (takes-reads (index (c .before .before .before .before .before .before .before .args .n))
+    (second-word (g .0 .0) (g .0 .1 .0) p (c .before .before .before .before .before .before .before .pre .0) (c .before .before .before .key-of .ensures)
+    (g .1)) (c .index-of .ensures))
+
+pub indexed-at-spec : {M : Type 1} → statement M
+indexed-at-spec =
+    tie.close (tie.spec (λ c κs. search needs) (λ c. search needs) key-of-requires (λ c. search needs) (λ c. search needs) returns index-of-requires
+    returns-2)

@@ -1,0 +1,3 @@
+-- Rows and entries to cells.
+pub mod Entries
+pub mod Steps
