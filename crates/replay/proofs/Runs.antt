@@ -2,11 +2,12 @@
 --
 --   enough-none, enough-some         a length, tested by division
 --   packs, packs-less                what 9 leaves known, and of fewer blocks
---   block-fits, partsOf, offer-is    a block, as a part of each slice
---   LentAsLong, Running             what a loop over the blocks keeps
+--   Block, partsOf, offer-is         a block, as a part of each slice
+--   LentAsLong, Running              what a loop over the blocks keeps
 --   refused, given                   each way out, with demand 3
-use Rattle.integers.proofs.Kit.{_≡_, _∙_, refl, ap, sym, true, List, [], _∷_, ℕ, _≤_, _<_, _+_, _*_, _-_, _/_, arith, add-one, decLt, le-leb}
-use Rattle.integers.proofs.Kit.{leb-true, lt-leb, leb, length, getD, drop, take}
+use Rattle.integers.proofs.Kit.{_≡_, _∙_, refl, ap, sym, true, List, [], _∷_, ℕ, _≤_, _<_, _+_, _*_, _-_, _^_, _/_, arith, mul-le-mul-right, add-one}
+use Rattle.integers.proofs.Kit.{decLt, le-leb, leb-true, lt-leb, leb, length, getD, drop, take, w64}
+use mir.Val.{Fits}
 use mathlib.Core.List.{_++_}
 use native.Mathlib.Nat as NatL
 use Rattle.integers.proofs.Lists.{row-below}
@@ -88,8 +89,20 @@ packs-less {n} {k} {count} {i} {b} l h = record {
 }
 
 -- ---- a block
-pub block-fits : (w i : ℕ) {long : ℕ} → (i + 1) * w ≤ long → i * w + w ≤ long
-block-fits w i h = omega (arith, row-below i (i + 1) w (let l : i < i + 1 = omega arith in l))
+-- block i of a width, in a slice so long, with so many bytes to an element: it lies within, and no number overflows
+pub record Block (bytes width i long : ℕ) : Type 0 where
+  pub start : Fits w64 (i * width)
+  pub byte : Fits w64 (i * width * bytes)
+  pub end : Fits w64 (i * width + width)
+  pub ordered : i * width ≤ i * width + width
+  pub within : i * width + width ≤ long
+
+pub block-fits : (width i : ℕ) {bytes long : ℕ} → (i + 1) * width ≤ long → long * bytes < 2 ^ 64 → 0 < bytes → Block bytes width i long
+block-fits width i {bytes} {long} h l some =
+    let w : i * width + width ≤ long = omega (arith, row-below i (i + 1) width (let l : i < i + 1 = omega arith in l)) in
+    let b : i * width * bytes ≤ long * bytes = mul-le-mul-right bytes (let s : i * width ≤ long = omega arith in s) in
+    let o : long * 1 ≤ long * bytes = NatL.mul-le-mul-left long some in
+    record { start = omega arith; byte = omega arith; end = omega arith; ordered = omega arith; within = w }
 
 -- the part of a slice from its start to its end
 abbrev part : {A : Type 0} → ℕ → ℕ → List A → List A

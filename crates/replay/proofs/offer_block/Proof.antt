@@ -1,13 +1,12 @@
-use Rattle.integers.proofs.Kit.{_≡_, _∙_, ap, ℕ, _≤_, _<_, _+_, _*_, _^_, arith, mul-le-mul, needs, length}
+use Rattle.integers.proofs.Kit.{_≡_, _∙_, ap, _<_, _*_, arith, mul-le-mul, needs, length, w64}
+use mir.Val.{Fits}
 use Rattle.tables.specs.declared.Tables.{Tables}
-use Rattle.tables.specs.Limits.{maxStates, maxObservations, maxVectors}
 use Rattle.tables.specs.Storage.{tablesIn}
-use Rattle.plans.specs.Limits.{maxPoints}
 use Rattle.levels.specs.Storage.{LentLevel, Lent, cells, rows, lent}
 use Rattle.levels.specs.Judged.{offerVerdict}
 use Rattle.runs.specs.State.{offered}
 use Rattle.replay.specs.Replay.{Packed, packed}
-use Rattle.replay.proofs.Runs.{block-fits, partsOf, offer-is}
+use Rattle.replay.proofs.Runs.{Block, block-fits, partsOf, offer-is}
 use Rattle.replay.proofs.offer_block.Statement.{statement}
 use Rattle.replay.proofs.offer_block.Tie as tie
 
@@ -20,6 +19,21 @@ of-slices c = start (c .before .before .before .before .before .before .before .
 
 abbrev of-counts : tie.After-shared-slice-known9 → tie.Start
 of-counts c = of-slices (c .before .before)
+
+abbrev of-choices : tie.After-offer-arg10 → tie.Start
+of-choices c = of-counts (c .before)
+
+abbrev of-entries : tie.After-offer-arg11 → tie.Start
+of-entries c = of-choices (c .before)
+
+abbrev of-corners : tie.After-offer-arg12 → tie.Start
+of-corners c = of-entries (c .before)
+
+abbrev of-weights : tie.After-offer-arg13 → tie.Start
+of-weights c = of-corners (c .before)
+
+abbrev of-values : tie.After-offer-arg14 → tie.Start
+of-values c = of-weights (c .before)
 
 abbrev of-parts : tie.After-offer → tie.Start
 of-parts c = of-counts (c .before .before .before .before .before .before .before)
@@ -50,39 +64,36 @@ offers s =
     (cells (a .newactions .now) (a .newchoices .now) (a .newentries .now) (a .newcorners .now) (a .newweights .now) (a .newvalues .now))
 
 -- no width overflows
-choices-few : (s : tie.Start) → s .args .v * s .args .c .observations ≤ maxVectors * maxObservations
-choices-few s = mul-le-mul (s .pre .few-vectors) (s .pre .few-observations)
+choices-few : (s : tie.Start) → Fits w64 (s .args .v * s .args .c .observations)
+choices-few s = omega (arith, mul-le-mul (s .pre .few-vectors) (s .pre .few-observations))
 
-entries-few : (s : tie.Start) → s .args .v * s .args .c .states ≤ maxVectors * maxStates
-entries-few s = mul-le-mul (s .pre .few-vectors) (s .pre .few-states)
+entries-few : (s : tie.Start) → Fits w64 (s .args .v * s .args .c .states)
+entries-few s = omega (arith, mul-le-mul (s .pre .few-vectors) (s .pre .few-states))
 
-weights-few : (s : tie.Start) → s .args .p * s .args .c .states ≤ maxPoints * maxStates
-weights-few s = mul-le-mul (s .pre .few-points) (s .pre .few-states)
+weights-few : (s : tie.Start) → Fits w64 (s .args .p * s .args .c .states)
+weights-few s = omega (arith, mul-le-mul (s .pre .few-points) (s .pre .few-states))
 
--- block i, of a width, ends within a slice, which is no longer than its bytes allow
-abbrev Within : ℕ → ℕ → ℕ → ℕ → Type 0
-Within bytes width i long = (i * width + width ≤ long) × (long * bytes < 2 ^ 64)
+-- block i of each slice, which is no longer than its bytes allow
+in-counts : (s : tie.Start) → Fits w64 (s .args .i * 8) × ((s .args .i < length (s .args .vectors .now)) × (s .args .i < length (s .args .points .now)))
+in-counts s = (omega (arith, s .pre .vectors, s .good), (omega (arith, s .pre .vectors), omega (arith, s .pre .points)))
 
-in-counts : (s : tie.Start) → Within 8 1 (s .args .i) (length (s .args .vectors .now)) × Within 8 1 (s .args .i) (length (s .args .points .now))
-in-counts s = ((omega (arith, s .pre .vectors), omega (arith, s .good)), (omega (arith, s .pre .points), omega (arith, s .good)))
+in-actions : (s : tie.Start) → Block 1 (s .args .v) (s .args .i) (length (s .args .newactions .now))
+in-actions s = block-fits (s .args .v) (s .args .i) (s .pre .actions) (omega (arith, s .good)) (omega arith)
 
-in-actions : (s : tie.Start) → Within 1 (s .args .v) (s .args .i) (length (s .args .newactions .now))
-in-actions s = (block-fits (s .args .v) (s .args .i) (s .pre .actions), omega (arith, s .good))
+in-choices : (s : tie.Start) → Block 2 (s .args .v * s .args .c .observations) (s .args .i) (length (s .args .newchoices .now))
+in-choices s = block-fits (s .args .v * s .args .c .observations) (s .args .i) (s .pre .choices) (omega (arith, s .good)) (omega arith)
 
-in-choices : (s : tie.Start) → Within 2 (s .args .v * s .args .c .observations) (s .args .i) (length (s .args .newchoices .now))
-in-choices s = (block-fits (s .args .v * s .args .c .observations) (s .args .i) (s .pre .choices), omega (arith, s .good))
+in-entries : (s : tie.Start) → Block 8 (s .args .v * s .args .c .states) (s .args .i) (length (s .args .newentries .now))
+in-entries s = block-fits (s .args .v * s .args .c .states) (s .args .i) (s .pre .entries) (omega (arith, s .good)) (omega arith)
 
-in-entries : (s : tie.Start) → Within 8 (s .args .v * s .args .c .states) (s .args .i) (length (s .args .newentries .now))
-in-entries s = (block-fits (s .args .v * s .args .c .states) (s .args .i) (s .pre .entries), omega (arith, s .good))
+in-corners : (s : tie.Start) → Block 8 (s .args .c .states) (s .args .i) (length (s .args .newcorners .now))
+in-corners s = block-fits (s .args .c .states) (s .args .i) (s .pre .corners) (omega (arith, s .good)) (omega arith)
 
-in-corners : (s : tie.Start) → Within 8 (s .args .c .states) (s .args .i) (length (s .args .newcorners .now))
-in-corners s = (block-fits (s .args .c .states) (s .args .i) (s .pre .corners), omega (arith, s .good))
+in-weights : (s : tie.Start) → Block 4 (s .args .p * s .args .c .states) (s .args .i) (length (s .args .newweights .now))
+in-weights s = block-fits (s .args .p * s .args .c .states) (s .args .i) (s .pre .weights) (omega (arith, s .good)) (omega arith)
 
-in-weights : (s : tie.Start) → Within 4 (s .args .p * s .args .c .states) (s .args .i) (length (s .args .newweights .now))
-in-weights s = (block-fits (s .args .p * s .args .c .states) (s .args .i) (s .pre .weights), omega (arith, s .good))
-
-in-values : (s : tie.Start) → Within 8 (s .args .p) (s .args .i) (length (s .args .newvalues .now))
-in-values s = (block-fits (s .args .p) (s .args .i) (s .pre .values), omega (arith, s .good))
+in-values : (s : tie.Start) → Block 8 (s .args .p) (s .args .i) (length (s .args .newvalues .now))
+in-values s = block-fits (s .args .p) (s .args .i) (s .pre .values) (omega (arith, s .good)) (omega arith)
 
 -- what was offered
 said : (c : tie.After-offer) → let s = of-parts c in
@@ -105,29 +116,21 @@ returns c =
 pub offer-block-spec : {M : Type 1} → statement M
 offer-block-spec =
     tie.close (tie.spec
-    (λ c. omega (arith, choices-few (start c))) (λ c. omega (arith, entries-few (start c))) (λ c. omega (arith, weights-few (start c)))
-    (λ c. omega (arith, in-actions (start c))) (λ c. omega (arith, in-choices (start c))) (λ c. omega (arith, in-entries (start c)))
-    (λ c. omega (arith, in-corners (start c))) (λ c. omega (arith, in-weights (start c))) (λ c. omega (arith, in-values (start c)))
-    (λ c. omega (arith, in-counts (of-slices c))) (λ c. omega (arith, in-counts (of-slices (c .before))))
-    (λ c. omega (arith, in-counts (of-slices (c .before)))) (λ c. omega (arith, in-counts (of-counts c))) (λ c. omega (arith, in-actions (of-counts c)))
-    (λ c. omega (arith, in-actions (of-counts c))) (λ c. omega (arith, in-actions (of-counts c))) (λ c. omega (arith, in-actions (of-counts c)))
-    (λ c. omega (arith, in-choices (of-counts (c .before)))) (λ c. omega (arith, in-choices (of-counts (c .before))))
-    (λ c. omega (arith, in-choices (of-counts (c .before)))) (λ c. omega (arith, in-choices (of-counts (c .before))))
-    (λ c. omega (arith, in-choices (of-counts (c .before)))) (λ c. omega (arith, in-entries (of-counts (c .before .before))))
-    (λ c. omega (arith, in-entries (of-counts (c .before .before)))) (λ c. omega (arith, in-entries (of-counts (c .before .before))))
-    (λ c. omega (arith, in-entries (of-counts (c .before .before)))) (λ c. omega (arith, in-entries (of-counts (c .before .before))))
-    (λ c. omega (arith, in-corners (of-counts (c .before .before .before)))) (λ c. omega (arith, in-corners (of-counts (c .before .before .before))))
-    (λ c. omega (arith, in-corners (of-counts (c .before .before .before)))) (λ c. omega (arith, in-corners (of-counts (c .before .before .before))))
-    (λ c. omega (arith, in-corners (of-counts (c .before .before .before)))) (λ c. omega (arith, in-weights (of-counts (c .before .before .before .before))))
-    (λ c. omega (arith, in-weights (of-counts (c .before .before .before .before))))
-    (λ c. omega (arith, in-weights (of-counts (c .before .before .before .before))))
-    (λ c. omega (arith, in-weights (of-counts (c .before .before .before .before))))
-    (λ c. omega (arith, in-weights (of-counts (c .before .before .before .before))))
-    (λ c. omega (arith, in-values (of-counts (c .before .before .before .before .before))))
-    (λ c. omega (arith, in-values (of-counts (c .before .before .before .before .before))))
-    (λ c. omega (arith, in-values (of-counts (c .before .before .before .before .before))))
-    (λ c. omega (arith, in-values (of-counts (c .before .before .before .before .before))))
-    (λ c. omega (arith, in-values (of-counts (c .before .before .before .before .before)))) (λ c κs. search needs)
+    (λ c. choices-few (start c)) (λ c. entries-few (start c)) (λ c. weights-few (start c))
+    (λ c. in-actions (start c) .start) (λ c. in-choices (start c) .start) (λ c. in-entries (start c) .start)
+    (λ c. in-corners (start c) .start) (λ c. in-weights (start c) .start) (λ c. in-values (start c) .start)
+    (λ c. in-counts (of-slices c) .0) (λ c. in-counts (of-slices (c .before)) .1 .0)
+    (λ c. in-counts (of-slices (c .before)) .0) (λ c. in-counts (of-counts c) .1 .1)
+    (λ c. in-actions (of-counts c) .end) (λ c. in-actions (of-counts c) .ordered) (λ c. in-actions (of-counts c) .ordered)
+    (λ c. in-actions (of-counts c) .within) (λ c. in-choices (of-choices c) .end) (λ c. in-choices (of-choices c) .byte)
+    (λ c. in-choices (of-choices c) .ordered) (λ c. in-choices (of-choices c) .ordered) (λ c. in-choices (of-choices c) .within)
+    (λ c. in-entries (of-entries c) .end) (λ c. in-entries (of-entries c) .byte) (λ c. in-entries (of-entries c) .ordered)
+    (λ c. in-entries (of-entries c) .ordered) (λ c. in-entries (of-entries c) .within) (λ c. in-corners (of-corners c) .end)
+    (λ c. in-corners (of-corners c) .byte) (λ c. in-corners (of-corners c) .ordered) (λ c. in-corners (of-corners c) .ordered)
+    (λ c. in-corners (of-corners c) .within) (λ c. in-weights (of-weights c) .end) (λ c. in-weights (of-weights c) .byte)
+    (λ c. in-weights (of-weights c) .ordered) (λ c. in-weights (of-weights c) .ordered) (λ c. in-weights (of-weights c) .within)
+    (λ c. in-values (of-values c) .end) (λ c. in-values (of-values c) .byte) (λ c. in-values (of-values c) .ordered) (λ c. in-values (of-values c) .ordered)
+    (λ c. in-values (of-values c) .within) (λ c κs. search needs)
     (λ c. of-offer c .offer .kept .1 .1 .1 .1 .0) (λ c. of-offer c .offer .kept .1 .1 .1 .1 .1 .0) (λ c. of-offer c .offer .kept .1 .1 .1 .1 .1 .1 .0)
     (λ c. of-offer c .offer .kept .1 .1 .1 .1 .1 .1 .1 .0) (λ c. of-offer c .offer .kept .1 .1 .1 .1 .1 .1 .1 .1 .0)
     (λ c. of-offer c .offer .kept .1 .1 .1 .1 .1 .1 .1 .1 .1 .0) (λ c. of-offer c .offer .kept .1 .1 .1 .1 .1 .1 .1 .1 .1 .1 .0)

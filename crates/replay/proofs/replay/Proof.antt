@@ -1,4 +1,4 @@
-use Rattle.integers.proofs.Kit.{_≡_, _∙_, sym, true, needs, not-false, not-true}
+use Rattle.integers.proofs.Kit.{_≡_, _∙_, refl, sym, true, needs, not-false, not-true}
 use Rattle.tables.specs.Limits.{maxVectors}
 use Rattle.tables.specs.declared.Tables.{Tables}
 use Rattle.tables.specs.declared.Verdict.the-variants.{Fine, Refused}
@@ -103,9 +103,8 @@ returns-3 c =
 pub replay-spec : {M : Type 1} → statement M
 replay-spec =
     tie.close (tie.spec
-    (λ c κs. search needs) (λ c. search needs) (λ c. search needs) (λ c. search needs) (λ c. search needs) (λ c. search needs) (λ c. search needs)
-    (λ c. search needs) (λ c. search needs) returns blocks-fit-requires (λ c. search needs) (λ c. search needs) (λ c. search needs) (λ c. search needs)
-    (λ c. search needs) (λ c. search needs) (λ c. search needs) (λ c. search needs) returns-2 offer-all-requires
+    (λ c κs. search needs) (λ c. refl) (λ c. refl) (λ c. refl) (λ c. refl) (λ c. refl) (λ c. refl) (λ c. refl) (λ c. refl) returns
+    blocks-fit-requires (λ c. refl) (λ c. refl) (λ c. refl) (λ c. refl) (λ c. refl) (λ c. refl) (λ c. refl) (λ c. refl) returns-2 offer-all-requires
     (λ c. of-offers c .offer-all .kept .1 .1 .1 .1 .0) (λ c. of-offers c .offer-all .kept .1 .1 .1 .1 .1 .0)
     (λ c. of-offers c .offer-all .kept .1 .1 .1 .1 .1 .1 .0) (λ c. of-offers c .offer-all .kept .1 .1 .1 .1 .1 .1 .1 .0)
     (λ c. of-offers c .offer-all .kept .1 .1 .1 .1 .1 .1 .1 .1 .0) (λ c. of-offers c .offer-all .kept .1 .1 .1 .1 .1 .1 .1 .1 .1 .0)
