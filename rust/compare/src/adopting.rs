@@ -240,7 +240,7 @@ fn each_byte(case: &Case, file: File) -> Vec<Case> {
     cases
 }
 
-/// Lengths around the longest of a model file, which are none of a solver's: those are among the large cases.
+/// Lengths around the longest of a model file, which is not that of a solver's.
 fn lengths(case: &Case, file: File) -> Vec<Case> {
     let bytes = case.clone().file(file).clone();
     let mut cases = Vec::new();
@@ -257,7 +257,7 @@ fn lengths(case: &Case, file: File) -> Vec<Case> {
     cases
 }
 
-/// Files of many vectors, of none, and of different counts.
+/// Files of many vectors, of none, and of different counts; of a byte too many; with many points.
 fn counts(case: &Case) -> Vec<Case> {
     let alpha = |count: usize| "0\n-1.000 -1.000 \n\n".repeat(count).into_bytes();
     let node = |at: usize| format!("{} 0  - - \n", at);
@@ -291,6 +291,15 @@ fn counts(case: &Case) -> Vec<Case> {
             cases.push(whole.with(format!("an x behind the {:?}", file), file, bytes));
         }
         cases.push(whole);
+    }
+    // One byte too long, upon a certifier that is broken or not.
+    for file in BOTH {
+        let mut bytes = case.clone().file(file).clone();
+        bytes.resize(SOLVER_BYTES + 1, b' ');
+        let long = case.with(format!("the {:?} a byte too long", file), file, bytes);
+        let mut broken = long.clone();
+        broken.certifier.level = 101;
+        cases.extend([long, broken]);
     }
     for count in [BUILT_POINTS, BUILT_POINTS + 1] {
         let points = Points { count: count as u64, weights: vec![1; (BUILT_POINTS + 1) * STATES] };

@@ -121,7 +121,7 @@ fn size(count: u64) -> usize {
     usize::try_from(count).unwrap_or(usize::MAX)
 }
 
-/// How many there are of something, if that is within its limit; else as many as storage has.
+/// How many there are of something, or the most that are lent.
 fn count(number: u64, most: usize) -> usize {
     size(number).min(most)
 }
@@ -159,7 +159,8 @@ pub fn tables(storage: &reference::Tables) -> Tables {
 }
 
 pub fn level(storage: &reference::Level, n: usize, k: usize) -> Level {
-    let (vectors, points) = (count(storage.vectors, VECTORS), count(storage.points, POINTS));
+    // One vector past the limit is lent, so that nothing but the limit refuses it.
+    let (vectors, points) = (count(storage.vectors, VECTORS + 1), count(storage.points, POINTS + 1));
     Level {
         vectors: size(storage.vectors),
         points: size(storage.points),
