@@ -12,6 +12,8 @@
 
 /* One byte more than a file may have shows that it is too long. */
 static uint8_t file[BIIDHAQUN_FILE_BYTES + 1];
+
+/* Rooms for levels are large for a stack. */
 static struct biidhaqun_tables_room tables_room;
 static struct biidhaqun_certifier_room standing_room;
 static struct biidhaqun_level_room built_room;

@@ -67,7 +67,7 @@
  * here; a slice to be written is asked for room before anything is written.
  *
  *    number                           place
- *    1  BIIDHAQUN_FILE_LENGTH         0; either of a solver's files
+ *    1  BIIDHAQUN_FILE_LENGTH         0; a model file, or either of a solver's files
  *    2  BIIDHAQUN_FORM                the bytes before the word; the file's length where a word is missing
  *    3  BIIDHAQUN_LIMIT               in a file the bytes before the word; on tables 0; also: a slice of the tables is short
  *    4  BIIDHAQUN_START_TOTAL         the file's length
@@ -116,13 +116,14 @@ enum {
     BIIDHAQUN_STATES = 16,
     BIIDHAQUN_ACTIONS = 8,
     BIIDHAQUN_OBSERVATIONS = 8,
-    BIIDHAQUN_VECTORS = 32,      /* of a level */
-    BIIDHAQUN_POINTS = 32,       /* of a level */
-    BIIDHAQUN_BUILT_POINTS = 16, /* to build at */
+    BIIDHAQUN_VECTORS = 1000,        /* of a level */
+    BIIDHAQUN_POINTS = 32,           /* of a level */
+    BIIDHAQUN_BUILT_POINTS = 16,     /* to build at */
     BIIDHAQUN_NODES = 32,
     BIIDHAQUN_STEPS = 4,
-    BIIDHAQUN_ACCEPTED = 100,    /* levels */
-    BIIDHAQUN_FILE_BYTES = 32768
+    BIIDHAQUN_ACCEPTED = 100,        /* levels */
+    BIIDHAQUN_FILE_BYTES = 32768,    /* of a model file */
+    BIIDHAQUN_SOLVER_BYTES = 4194304 /* of each of a solver's files: 4 MiB */
 };
 
 /* Refusals. */
@@ -156,7 +157,8 @@ static inline const char *biidhaqun_words(uint64_t number)
 {
     switch (number) {
     case BIIDHAQUN_SERVED: return "served";
-    case BIIDHAQUN_FILE_LENGTH: return "the file has more than 32,768 bytes";
+    case BIIDHAQUN_FILE_LENGTH: return "the model file has more than 32,768 bytes, or one of a solver's files more than "
+                                       "4,194,304";
     case BIIDHAQUN_FORM: return "a word of the file does not fit its form, or is missing";
     case BIIDHAQUN_LIMIT: return "a count, index, start number, probability, discount or reward is outside its limit";
     case BIIDHAQUN_START_TOTAL: return "the start numbers do not total 1";
@@ -164,8 +166,8 @@ static inline const char *biidhaqun_words(uint64_t number)
     case BIIDHAQUN_OBSERVATION_TOTAL: return "a row of O does not total 1";
     case BIIDHAQUN_CERTIFIER: return "the certifier's tables, standing level or rows break a limit, or over 100 levels stand";
     case BIIDHAQUN_LEVELS: return "100 levels already stand";
-    case BIIDHAQUN_LEVEL_SIZE: return "a level has no vector, over 32 vectors or over 32 points, the builder is given over "
-                                      "16 points, or a slice is too short";
+    case BIIDHAQUN_LEVEL_SIZE: return "a level has no vector, over 1,000 vectors or over 32 points, the builder is given "
+                                      "over 16 points, or a slice is too short";
     case BIIDHAQUN_NUMBERS: return "an action or a chosen vector does not exist";
     case BIIDHAQUN_RANGE: return "an entry, corner or point value is outside its level's range";
     case BIIDHAQUN_POINT_TOTAL: return "a point's weights total less than 1 or more than 100";
@@ -285,7 +287,7 @@ struct biidhaqun_refusal biidhaqun_offer(
  * every plan, whoever stored them. `accepted` is how many were accepted. One that is refused leaves the certifier as it was
  * and is not counted, and those behind it are offered all the same.
  *
- * The levels lie in blocks, each with room for block_vectors vectors and block_points points (0 to 32, both):
+ * The levels lie in blocks, each with room for block_vectors vectors (0 to 1,000) and block_points points (0 to 32):
  *
  *     block i of   new_actions   begins at   i x block_vectors
  *                  new_choices               i x block_vectors x k
@@ -297,9 +299,9 @@ struct biidhaqun_refusal biidhaqun_offer(
  * Offer i is the level of vectors[i] vectors and points[i] points, in the units of any level, that is packed at the front of
  * block i; what lies behind it in the block is not read. One that has more of them than its block has room for is refused.
  *
- * Tests for the whole call: 7; 9 where block_vectors or block_points is above 32, vectors or points has fewer than count
- * numbers, or another slice is shorter than count blocks. A slice of the certifier that is too short for an offer refuses
- * that offer alone.
+ * Tests for the whole call: 7; 9 where block_vectors is above 1,000 or block_points above 32, vectors or points has fewer than
+ * count numbers, or another slice is shorter than count blocks. A slice of the certifier that is too short for an offer
+ * refuses that offer alone.
  */
 struct biidhaqun_replayed biidhaqun_replay(
     size_t states, size_t actions, size_t observations, uint64_t discount,
@@ -363,10 +365,11 @@ struct biidhaqun_refusal biidhaqun_build(
  * Makes a level of the two files that a POMDP solver saves for a step; it would be accepted. The alpha file has for each
  * vector an action (one or two digits) and n decimals in units of reward (an optional minus, 1 to 6 digits, optionally a
  * point and 1 to 12 digits); the policy graph has for each node its number (0, 1, .. in order, one to three digits), the
- * action, and for each observation a next node or, upon level 0, a hyphen for vector 0. Words part as in a model file. Each
- * entry is the lesser of the decimal rounded down to ticks and of its own backup rounded down; corners and values are those
- * that biidhaqun_build makes at `count` points. The level has as many vectors as are answered and count points, and its
- * weights are the points: they are not written anew. Tests: 1, 7, 19, 20, 8, 9, 10, 11, 12; with 10 before any backup.
+ * action, and for each observation a next node or, upon level 0, a hyphen for vector 0. Words part as in a model file; each
+ * file has at most 4 MiB. Each entry is the lesser of the decimal rounded down to ticks and of its own backup rounded down;
+ * corners and values are those that biidhaqun_build makes at `count` points. The level has as many vectors as are answered
+ * and count points, and its weights are the points: they are not written anew. Tests: 1, 7, 19, 20, 8, 9, 10, 11, 12; with 10
+ * before any backup.
  */
 struct biidhaqun_adopted biidhaqun_adopt(
     size_t states, size_t actions, size_t observations, uint64_t discount,
@@ -490,7 +493,11 @@ struct biidhaqun_tables_room {
     int64_t reward[BIIDHAQUN_ACTIONS * BIIDHAQUN_STATES];
 };
 
-/* Room for any level, 7 KB: one that stands, one that is offered, or one that is built. */
+/*
+ * Room for any level, 147 KB: one that stands, one that is offered, or one that is built. It is large for a stack: keep it
+ * static or allocate it. Where levels are known to be small, lend shorter slices instead: those of n states, k observations, v
+ * vectors and p points have v, v x k, v x n, n, p x n and p elements, and a level built at c points has n + c vectors.
+ */
 struct biidhaqun_level_room {
     uint8_t actions[BIIDHAQUN_VECTORS];
     uint16_t choices[BIIDHAQUN_VECTORS * BIIDHAQUN_OBSERVATIONS];
@@ -500,7 +507,7 @@ struct biidhaqun_level_room {
     int64_t values[BIIDHAQUN_POINTS];
 };
 
-/* Room for any certifier, 9 KB: the level that stands, and the rows. */
+/* Room for any certifier, 149 KB: the level that stands, and the rows. It is large for a stack, too. */
 struct biidhaqun_certifier_room {
     struct biidhaqun_level_room level;
     int64_t informed[BIIDHAQUN_ACTIONS * BIIDHAQUN_STATES];

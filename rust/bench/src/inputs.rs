@@ -94,14 +94,19 @@ impl Standing {
             level.weights.extend_from_slice(&more.weights);
             level.values.extend_from_slice(&more.values);
         }
-        let made = level.actions.len();
-        let order: Vec<usize> = (0..vectors).map(|v| v % made).collect();
+        // The vectors again and again; of those that stand, which lie so too, all copies are chosen in turn.
+        let (made, stand) = (level.actions.len(), self.certifier.state[1]);
+        let chosen = |v: usize, cell: usize| {
+            let first = usize::from(level.choices[v % made * k + cell]);
+            let copies = (stand - 1 - first) / made + 1;
+            (first + made * (v % copies)) as u16
+        };
         Level {
             vectors,
             points: level.values.len(),
-            actions: order.iter().map(|&v| level.actions[v]).collect(),
-            choices: order.iter().flat_map(|&v| level.choices[v * k..(v + 1) * k].to_vec()).collect(),
-            entries: order.iter().flat_map(|&v| level.entries[v * n..(v + 1) * n].to_vec()).collect(),
+            actions: (0..vectors).map(|v| level.actions[v % made]).collect(),
+            choices: (0..vectors * k).map(|cell| chosen(cell / k, cell % k)).collect(),
+            entries: (0..vectors * n).map(|cell| level.entries[cell / n % made * n + cell % n]).collect(),
             ..level
         }
     }
@@ -183,9 +188,10 @@ mod tests {
     #[test]
     fn the_largest_level_is_accepted_and_all_its_points_matter() {
         let counts = Counts { states: 16, actions: 8, observations: 8 };
-        for steep in [false, true] {
-            let (mut standing, offered) = offer(&mut Rng::for_case(1, "bench", 0), counts, VECTORS, POINTS, steep);
-            assert_eq!((offered.actions.len(), offered.values.len()), (VECTORS, POINTS));
+        for (vectors, steep) in [(32, false), (32, true), (VECTORS, false)] {
+            let (mut standing, offered) = offer(&mut Rng::for_case(1, "bench", 0), counts, vectors, POINTS, steep);
+            assert_eq!((offered.actions.len(), offered.values.len()), (vectors, POINTS));
+            assert_eq!(offered.choices.iter().any(|&choice| choice > 950), vectors == VECTORS);
             let Certifier { weights, values, corners, .. } = &standing.certifier;
             for (weights, value) in weights.chunks(16).zip(values) {
                 let corners: i64 = weights.iter().zip(corners).map(|(&p, c)| i64::from(p) * c).sum();

@@ -2,7 +2,7 @@
 
 use biidhaqun::slices::{Answers, Certifier, Graph, Level, Offers, Reading, Refusal, Replayed, Tables, Totals};
 pub use biidhaqun::slices::{
-    ACTIONS, BUILT_POINTS, FILE_BYTES, LEVELS, NODES, OBSERVATIONS, POINTS, STATES, STEPS, VECTORS,
+    ACTIONS, BUILT_POINTS, FILE_BYTES, LEVELS, NODES, OBSERVATIONS, POINTS, SOLVER_BYTES, STATES, STEPS, VECTORS,
 };
 
 pub const THOUSAND: i64 = 1_000;

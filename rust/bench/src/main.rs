@@ -25,6 +25,8 @@ use std::{env, thread};
 const ROUNDS: usize = 41;
 /// How long one form runs in a round.
 const SLICE: Duration = Duration::from_millis(1);
+/// The vectors of the smaller rows.
+const FEW: usize = 32;
 /// All counts at their limits.
 const LARGEST: Counts = Counts { states: 16, actions: 8, observations: 8 };
 
@@ -420,9 +422,11 @@ fn valuing(counts: Counts, nodes: usize, steps: usize) -> Call {
     Call::Worth { tables: inputs::tables(&mut rng(), counts), graph, asked }
 }
 
-/// Every call at the limits, by name.
-fn calls() -> [(&'static str, Call); 8] {
-    let (standing, level) = inputs::offer(&mut rng(), LARGEST, VECTORS, POINTS, false);
+/// Every call at the limits, by name; those on levels with 32 vectors, and with 1,000.
+fn calls() -> [(&'static str, Call); 13] {
+    let (standing, level) = inputs::offer(&mut rng(), LARGEST, FEW, POINTS, false);
+    let (wide, larger) = inputs::offer(&mut rng(), LARGEST, VECTORS, POINTS, false);
+    let pointless = inputs::offer(&mut rng(), LARGEST, VECTORS, 0, false);
     [
         ("reading", reading(&standing.tables)),
         ("opening", opening(&standing.tables)),
@@ -431,6 +435,11 @@ fn calls() -> [(&'static str, Call); 8] {
         ("totals at 1,000 mixtures", asking_at(standing.clone(), 1_000)),
         ("building at 16 points", building(standing.clone(), 16)),
         ("a solver's 32 vectors, 16 points", adopting((standing, level), 16)),
+        ("an offer, 1,000 vectors, no points", offering(pointless)),
+        ("an offer, 1,000 vectors, 32 points", offering((wide.clone(), larger.clone()))),
+        ("totals upon 1,000 vectors", asking(wide.clone())),
+        ("building at 16 points upon 1,000 vectors", building(wide.clone(), 16)),
+        ("a solver's 1,000 vectors, 16 points", adopting((wide, larger), 16)),
         ("a plan's worth, 32 nodes, 4 steps", valuing(LARGEST, NODES, STEPS)),
     ]
 }
@@ -444,18 +453,18 @@ fn run(rounds: usize) -> Result<(), String> {
             _ => name.to_string(),
         };
         line(&name, &measure(&call, rounds)?, None);
-        if let Call::Offer { .. } = call {
-            let steep = offering(inputs::offer(&mut rng(), LARGEST, VECTORS, POINTS, true));
+        if matches!(&call, Call::Offer { level, .. } if level.vectors == FEW) {
+            let steep = offering(inputs::offer(&mut rng(), LARGEST, FEW, POINTS, true));
             line("the same, no point left early", &measure(&steep, rounds)?, None);
         }
     }
 
     let offer = |counts, vectors, points| offering(inputs::offer(&mut rng(), counts, vectors, points, false));
     growth("an offer by states, 32 vectors, 32 points", rounds, &[2, 4, 8, 16], |states| {
-        offer(Counts { states, ..LARGEST }, VECTORS, POINTS)
+        offer(Counts { states, ..LARGEST }, FEW, POINTS)
     })?;
-    growth("an offer by vectors, no points", rounds, &[1, 8, 16, 32], |vectors| offer(LARGEST, vectors, 0))?;
-    growth("an offer by points, 32 vectors", rounds, &[0, 8, 16, 32], |points| offer(LARGEST, VECTORS, points))?;
+    growth("an offer by vectors, no points", rounds, &[1, 10, 100, 1_000], |vectors| offer(LARGEST, vectors, 0))?;
+    growth("an offer by points, 32 vectors", rounds, &[0, 8, 16, 32], |points| offer(LARGEST, FEW, points))?;
     growth("a worth by steps, 32 nodes", rounds, &[1, 2, 3, 4], |steps| valuing(LARGEST, NODES, steps))?;
     growth("a worth by nodes, 4 steps", rounds, &[4, 8, 16, 32], |nodes| valuing(LARGEST, nodes, STEPS))?;
     growth("a worth by states, 32 nodes, 4 steps", rounds, &[2, 4, 8, 16], |states| {

@@ -18,7 +18,7 @@ pub struct Files {
 
 /// 1.
 pub fn lengths(alpha: &[u8], graph: &[u8]) -> Answer<()> {
-    if alpha.len() > FILE_BYTES || graph.len() > FILE_BYTES {
+    if alpha.len() > SOLVER_BYTES || graph.len() > SOLVER_BYTES {
         return refused(1, 0);
     }
     Ok(())

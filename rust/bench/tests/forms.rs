@@ -11,7 +11,7 @@ use compare::gen;
 use compare::lent::{self, Call, Library};
 use compare::rng::Rng;
 use compare::through::{self, Through};
-use compare::{adopting, bracket, calls, files, replaying, single};
+use compare::{adopting, bracket, calls, files, many, replaying, single};
 
 const FORMS: [(&str, &dyn Library); 2] = [("plain", &Plain), ("tuned", &Tuned)];
 
@@ -85,6 +85,13 @@ fn lists_of_offers_are_replayed_as_by_the_reference() {
         let call = replaying::random(&mut rng);
         agree(&format!("replay:{}", number), &call);
         agree(&format!("replay:{}", number), &single::touched(&mut rng, call));
+    }
+}
+
+#[test]
+fn many_vectors_and_long_files_as_by_the_reference() {
+    for case in many::fixed() {
+        agree(&case.about, &case.call);
     }
 }
 

@@ -14,7 +14,9 @@ use crate::totals::{Bounds, Totals};
 ///
 /// It owns a copy of the model and slices with room for every level, so that it can be kept and sent anywhere and no offer
 /// lacks room; the calls are handed these slices as they lie, and nothing is translated or allocated in an offer or in
-/// totals.
+/// totals. That room is 1,000 × (8 n + 2 k + 1) bytes and some for the points and rows, with n states and k observations: 22 KB
+/// for the two states and two observations of the tiger, 149 KB for the largest model. Where many small certifiers are kept,
+/// the calls on [`slices`](crate::slices) take shorter ones.
 ///
 /// What is proved of one that was opened on a [`Model`] and offered levels of any content: its totals bracket what every
 /// plan earns that has as many steps as levels were accepted, and a level that it builds is accepted. At every mixture the best
@@ -66,17 +68,18 @@ impl Certifier {
     /// from, it shows what stands there.
     pub fn standing(&self) -> Level {
         let Shape { states, observations, .. } = self.model.shape();
+        let (vectors, points) = (self.slices.state[1], self.slices.state[2]);
         let standing = slices::Level {
-            vectors: self.slices.state[1],
-            points: self.slices.state[2],
-            actions: self.slices.actions.clone(),
-            choices: self.slices.choices.clone(),
-            entries: self.slices.entries.clone(),
-            corners: self.slices.corners.clone(),
-            weights: self.slices.weights.clone(),
-            values: self.slices.values.clone(),
+            vectors,
+            points,
+            actions: self.slices.actions[..vectors].to_vec(),
+            choices: self.slices.choices[..vectors * observations].to_vec(),
+            entries: self.slices.entries[..vectors * states].to_vec(),
+            corners: self.slices.corners[..states].to_vec(),
+            weights: self.slices.weights[..points * states].to_vec(),
+            values: self.slices.values[..points].to_vec(),
         };
-        Level::of(standing, states, observations)
+        Level { states, observations, slices: standing }
     }
 
     /// The entry of an action's row of the fast informed bound at a state, in ticks: with as many steps as levels were

@@ -115,7 +115,9 @@ impl fmt::Display for Refusal {
         let at = self.place.number();
         write!(f, "refused {} at {}: ", self.number(), at)?;
         match (self.rule, self.place) {
-            (Rule::FileLength, _) => write!(f, "a file has more than 32,768 bytes"),
+            (Rule::FileLength, _) => {
+                write!(f, "a model file has more than 32,768 bytes, or one of a solver's files more than 4,194,304")
+            }
             (Rule::Form, _) => write!(f, "the word after {} bytes does not fit its form, or is missing", at),
             (Rule::Limit, Place::Byte(_)) => write!(
                 f,
@@ -138,7 +140,7 @@ impl fmt::Display for Refusal {
             (Rule::Levels, _) => write!(f, "100 levels already stand, and no more are accepted"),
             (Rule::LevelSize, _) => write!(
                 f,
-                "a level has 1 to 32 vectors and at most 32 points, and the builder is given at most 16 points"
+                "a level has 1 to 1,000 vectors and at most 32 points, and the builder is given at most 16 points"
             ),
             (Rule::Numbers, _) => write!(f, "vector {} names an action or a chosen vector that does not exist", at),
             (Rule::Range, Place::Vector(_)) => write!(f, "an entry of vector {} is outside its level's range", at),

@@ -64,14 +64,18 @@ impl Level {
         Level { states, observations, slices: slices::Level::zeros(states, observations, 0, 0) }
     }
 
-    /// The level in slices. What lies past its counts is cut off.
+    /// The level in slices. What lies past its counts is cut off, and its room given back.
     pub(crate) fn of(mut slices: slices::Level, states: usize, observations: usize) -> Level {
-        slices.actions.truncate(slices.vectors);
-        slices.choices.truncate(slices.vectors * observations);
-        slices.entries.truncate(slices.vectors * states);
-        slices.corners.truncate(states);
-        slices.weights.truncate(slices.points * states);
-        slices.values.truncate(slices.points);
+        fn cut<Cell>(cells: &mut Vec<Cell>, length: usize) {
+            cells.truncate(length);
+            cells.shrink_to_fit();
+        }
+        cut(&mut slices.actions, slices.vectors);
+        cut(&mut slices.choices, slices.vectors * observations);
+        cut(&mut slices.entries, slices.vectors * states);
+        cut(&mut slices.corners, states);
+        cut(&mut slices.weights, slices.points * states);
+        cut(&mut slices.values, slices.points);
         Level { states, observations, slices }
     }
 

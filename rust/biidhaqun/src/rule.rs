@@ -35,7 +35,7 @@ macro_rules! rules {
 }
 
 rules! {
-    1 FileLength: "a file has at most 32,768 bytes",
+    1 FileLength: "a model file has at most 32,768 bytes, each of a solver's files at most 4,194,304",
     2 Form: "each word of a file fits its form, and none is missing",
     3 Limit: "counts, indices, start numbers, probabilities, discount and rewards are within their limits",
     4 StartTotal: "the start numbers total 1",
@@ -43,7 +43,7 @@ rules! {
     6 ObservationTotal: "each row of O totals 1",
     7 Certifier: "the tables, the standing level and the rows of a certifier are within their limits, and at most 100 levels stand",
     8 Levels: "at most 100 levels are accepted",
-    9 LevelSize: "a level has 1 to 32 vectors and at most 32 points, the builder is given at most 16, and slices have room",
+    9 LevelSize: "a level has 1 to 1,000 vectors and at most 32 points, the builder is given at most 16, and slices have room",
     10 Numbers: "actions and chosen vectors exist",
     11 Range: "entries, corners and point values are within their level's range",
     12 PointTotal: "a point's weights total 1 to 100",

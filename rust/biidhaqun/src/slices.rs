@@ -21,17 +21,18 @@ pub use crate::ffi::{adopt, build, each, offer, open, read, replay, totals, vers
 pub const VERSION: u64 = 3;
 
 /// Most states, actions, observations, vectors and points of a level, points to build at, nodes and steps of a plan graph,
-/// levels, and bytes of a file.
+/// levels, and bytes of a model file and of each of a solver's files.
 pub const STATES: usize = 16;
 pub const ACTIONS: usize = 8;
 pub const OBSERVATIONS: usize = 8;
-pub const VECTORS: usize = 32;
+pub const VECTORS: usize = 1_000;
 pub const POINTS: usize = 32;
 pub const BUILT_POINTS: usize = 16;
 pub const NODES: usize = 32;
 pub const STEPS: usize = 4;
 pub const LEVELS: usize = 100;
 pub const FILE_BYTES: usize = 32_768;
+pub const SOLVER_BYTES: usize = 4 << 20;
 
 /// Tables: a model in thousandths and ticks.
 #[derive(Clone, Debug, Default, PartialEq, Eq, Hash)]
@@ -116,7 +117,7 @@ impl Certifier {
 /// A level: offered, or to be built.
 #[derive(Clone, Debug, Default, PartialEq, Eq, Hash)]
 pub struct Level {
-    /// 1 to 32.
+    /// 1 to 1,000.
     pub vectors: usize,
     /// 0 to 32.
     pub points: usize,
@@ -162,7 +163,7 @@ impl Level {
 pub struct Offers {
     /// How many offers there are.
     pub count: usize,
-    /// How many vectors each block has room for: 0 to 32.
+    /// How many vectors each block has room for: 0 to 1,000.
     pub block_vectors: usize,
     /// How many points each block has room for: 0 to 32.
     pub block_points: usize,

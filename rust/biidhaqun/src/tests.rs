@@ -256,6 +256,90 @@ fn a_list_of_levels_is_replayed() {
     assert_eq!(again, climbed);
 }
 
+/// A level of so many vectors for the dough's certifier after `below` vectors, of which each goes on with another.
+fn wide(certifier: &Certifier, vectors: usize, below: usize) -> Result<Level, Error> {
+    let alpha = "1 999999 999999\n".repeat(vectors);
+    let node = |v: usize| match below {
+        0 => format!("{} 1 - -\n", v),
+        below => format!("{} 1 {} {}\n", v, (v + 255) % below, v % below),
+    };
+    let graph: String = (0..vectors).map(node).collect();
+    certifier.adopt(alpha.as_bytes(), graph.as_bytes(), &Points::one(&[1, 1]))
+}
+
+#[test]
+fn a_thousand_vectors() {
+    let (model, start, mut certifier) = standing(0);
+    let mut first = wide(&certifier, 1_000, 0).unwrap();
+    // The last is the largest, and alone has action 0.
+    for v in 0..1_000 {
+        first.entries_mut(v).fill(-1_000 - v as i64);
+    }
+    *first.action_mut(999) = 0;
+    first.entries_mut(999).fill(-100);
+    certifier.offer(&first).unwrap();
+    assert_eq!(certifier.standing(), first);
+    let at = certifier.totals(&start).unwrap();
+    assert_eq!((at.lower, at.action), (-10_000, 0));
+    let built = certifier.build(&Points::one(&start.weights)).unwrap();
+    assert!(built.vectors().all(|vector| vector.choices == [999, 999]));
+    let second = wide(&certifier, 1_000, 1_000).unwrap();
+    assert_eq!(second.vector(1).unwrap().choices, [256, 1]);
+    certifier.offer(&second).unwrap();
+    // One more is refused.
+    let mut more = wide(&certifier, 1_000, 1_000).unwrap();
+    more.add_vector(1, &[999, 999], &[-300_000, -300_000]).unwrap();
+    assert_eq!(refusal(certifier.offer(&more)), (9, 0));
+    let mut again = Certifier::open(&model).unwrap();
+    assert_eq!(again.replay(&[first, more, second]), Ok(2));
+    assert_eq!(again, certifier);
+    // Chosen vectors up to 999 exist.
+    let mut level = certifier.build(&Points::default()).unwrap();
+    level.entries_mut(0).fill(-300_000);
+    level.choices_mut(0).fill(1_000);
+    assert_eq!(refusal(certifier.offer(&level)), (10, 0));
+    level.choices_mut(0).fill(999);
+    assert_eq!(certifier.offer(&level), Ok(()));
+}
+
+/// A solver's files have up to 4 MiB each, and a model file has less.
+#[test]
+fn long_files() {
+    let (_, _, certifier) = standing(0);
+    let padded = |bytes: &[u8], length: usize| {
+        let mut long = bytes.to_vec();
+        long.resize(length, b'\n');
+        long
+    };
+    let (alpha, graph) = (padded(FIRST.0, slices::SOLVER_BYTES), padded(FIRST.1, slices::SOLVER_BYTES));
+    let level = certifier.adopt(&alpha, &graph, &Points::default()).unwrap();
+    assert_eq!(level, certifier.adopt(FIRST.0, FIRST.1, &Points::default()).unwrap());
+    assert!(Model::read(&padded(DOUGH, slices::FILE_BYTES)).is_ok());
+    let error = Model::read(&padded(DOUGH, slices::FILE_BYTES + 1)).unwrap_err();
+    assert_eq!(error.number(), 1);
+}
+
+/// What a certifier takes, in bytes: the room of every level.
+#[test]
+fn the_room_of_a_certifier() {
+    fn bytes<Cell>(cells: &[Cell]) -> usize {
+        std::mem::size_of_val(cells)
+    }
+    let room = |states, actions, observations| {
+        let slices = slices::Certifier::roomy(states, actions, observations);
+        bytes(&slices.actions)
+            + bytes(&slices.choices)
+            + bytes(&slices.entries)
+            + bytes(&slices.corners)
+            + bytes(&slices.weights)
+            + bytes(&slices.values)
+            + bytes(&slices.informed)
+            + bytes(&slices.qmdp)
+    };
+    assert_eq!(room(2, 3, 2), 21_624);
+    assert_eq!(room(16, 8, 8), 149_480);
+}
+
 /// What is asked of the slices of a list.
 #[test]
 fn a_list_in_blocks() {
@@ -275,13 +359,13 @@ fn a_list_in_blocks() {
         (ended.number, ended.place, ended.accepted)
     };
     assert_eq!(ended(fresh.slices(), &packed()), (0, 0, 2));
-    let larger = slices::Offers { block_vectors: 32, block_points: 32, ..slices::Offers::default() };
+    let larger = slices::Offers { block_vectors: 1_000, block_points: 32, ..slices::Offers::default() };
     let mut roomy = larger.clone();
     levels.iter().for_each(|level| roomy.push(level.slices(), 2, 2));
     assert_eq!(ended(fresh.slices(), &roomy), (0, 0, 2));
     assert_eq!(ended(fresh.slices(), &slices::Offers { count: 1, ..roomy }), (0, 0, 1));
     assert_eq!(ended(fresh.slices(), &larger), (0, 0, 0));
-    let short: [fn(&mut slices::Offers); 11] = [
+    let short: [fn(&mut slices::Offers); 12] = [
         |offers| offers.vectors.truncate(1),
         |offers| offers.points.truncate(1),
         |offers| offers.actions.truncate(5),
@@ -292,7 +376,8 @@ fn a_list_in_blocks() {
         |offers| offers.values.truncate(1),
         |offers| offers.count = 3,
         |offers| offers.count = usize::MAX,
-        |offers| (offers.count, offers.block_vectors) = (0, 33),
+        |offers| (offers.count, offers.block_vectors) = (0, 1_001),
+        |offers| (offers.count, offers.block_points) = (0, 33),
     ];
     for change in short {
         let mut offers = packed();
@@ -346,7 +431,7 @@ fn a_solvers_files_are_refused() {
     let made = |certifier: &Certifier, alpha: &[u8], graph: &[u8]| {
         refusal(certifier.adopt(alpha, graph, &Points::one(&start.weights)))
     };
-    let long = vec![b' '; slices::FILE_BYTES + 1];
+    let long = vec![b' '; slices::SOLVER_BYTES + 1];
     assert_eq!(made(&fresh, &long, FIRST.1), (1, 0));
     assert_eq!(made(&fresh, FIRST.0, &long), (1, 0));
     assert_eq!(made(&fresh, b"0 -1.0 x", FIRST.1), (19, 7));
@@ -467,6 +552,7 @@ fn the_header_has_the_same_numbers() {
         ("STEPS", slices::STEPS),
         ("ACCEPTED", slices::LEVELS),
         ("FILE_BYTES", slices::FILE_BYTES),
+        ("SOLVER_BYTES", slices::SOLVER_BYTES),
     ];
     for (name, limit) in limits {
         says(name, limit as u64);

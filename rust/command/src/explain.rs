@@ -17,7 +17,7 @@ const LENGTH: &str = "the file's length";
 const EXPLANATIONS: &[Explanation] = &[
     Explanation {
         number: 1,
-        means: "The model file, or one of a solver's files, has more than 32,768 bytes.",
+        means: "The model file has more than 32,768 bytes, or one of a solver's files more than 4,194,304 (4 MiB).",
         place: NONE,
         causes: &[
             "Long comments, or columns lined up with blanks: shorten them.",
@@ -92,7 +92,7 @@ const EXPLANATIONS: &[Explanation] = &[
     },
     Explanation {
         number: 9,
-        means: "A level has no vector, over 32 vectors or over 32 points, or the builder is given over 16 points.",
+        means: "A level has no vector, over 1,000 vectors or over 32 points, or the builder is given over 16 points.",
         place: NONE,
         causes: &["`--point` more than 16 times.", "A level from a solver that was not pruned."],
     },

@@ -7,8 +7,8 @@ use crate::told::{Mark, Told};
 use crate::words::{Word, Words};
 use std::ops::Range;
 
-const FILE_BYTES: usize = 32_768;
-const VECTORS: usize = 32;
+const SOLVER_BYTES: usize = 4 << 20;
+const VECTORS: usize = 1_000;
 const ACTION_DIGITS: usize = 2;
 const NODE_DIGITS: usize = 3;
 const WHOLE_DIGITS: usize = 6;
@@ -61,8 +61,8 @@ struct Node<'a> {
 /// Why a step is refused, if it is so for one of its words or their number.
 pub fn judge(step: &Step) -> Result<(), Trouble> {
     for (which, file) in [(Which::Alpha, step.alpha), (Which::Graph, step.graph)] {
-        if file.len() > FILE_BYTES {
-            let title = format!("the file has {} bytes, more than 32,768", file.len());
+        if file.len() > SOLVER_BYTES {
+            let title = format!("the file has {} bytes, more than 4,194,304", file.len());
             let notes = vec!["leave out comments, and digits behind the point that say nothing".to_string()];
             return Err(Trouble { number: 1, place: 0, which, told: Told { title, marks: Vec::new(), notes } });
         }

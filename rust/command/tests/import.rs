@@ -154,11 +154,7 @@ fn names_are_shown() {
     assert!(levels.contains("at 0,1 (tiger-right 1)") && levels.contains("  open-left"), "{}", levels);
     assert!(run(&["levels", "--json"]).contains("\"action_name\": \"listen\""));
     fs::write(&path, text.replace("O: 0 : 1 0.15 0.85", "O: 0 : 1 0.15 0.8")).unwrap();
-    assert!(
-        run(&["check"]).contains("O of action listen at state tiger-right totals 0.95"),
-        "{}",
-        run(&["check"])
-    );
+    assert!(run(&["check"]).contains("O of action listen at state tiger-right totals 0.95"), "{}", run(&["check"]));
 }
 
 const HEADERS: &str = "discount: 0.95 values: reward states: left right actions: listen open observations: low high\n";

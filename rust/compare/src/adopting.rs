@@ -1,12 +1,12 @@
 //! A solver's two files, whole and damaged, upon certifiers of any content.
 
 use crate::files::escaped;
-use crate::gen::{self, Shape, DOCUMENT};
+use crate::gen::{self, Shape, DOCUMENT, FEW};
 use crate::lent::Call;
 use crate::rng::Rng;
 use crate::single;
 use crate::solved::{self, Climb};
-use reference::{Certifier, Points, BUILT_POINTS, FILE_BYTES, STATES, VECTORS};
+use reference::{Certifier, Points, BUILT_POINTS, FILE_BYTES, SOLVER_BYTES, STATES, VECTORS};
 
 /// A certifier, the two files of a step, and points.
 #[derive(Clone, Debug)]
@@ -240,11 +240,11 @@ fn each_byte(case: &Case, file: File) -> Vec<Case> {
     cases
 }
 
-/// Lengths around the longest, and the other file wrong beside them.
+/// Lengths around the longest of a model file, which is not that of a solver's.
 fn lengths(case: &Case, file: File) -> Vec<Case> {
     let bytes = case.clone().file(file).clone();
     let mut cases = Vec::new();
-    for length in [FILE_BYTES - 1, FILE_BYTES, FILE_BYTES + 1, FILE_BYTES + 2, 2 * FILE_BYTES] {
+    for length in [FILE_BYTES - 1, FILE_BYTES, FILE_BYTES + 1, 2 * FILE_BYTES] {
         for filler in [b' ', b'#', b'0'] {
             let mut long = bytes.clone();
             long.resize(length, filler);
@@ -257,7 +257,7 @@ fn lengths(case: &Case, file: File) -> Vec<Case> {
     cases
 }
 
-/// Files of many vectors, of none, and of different counts.
+/// Files of many vectors, of none, and of different counts; of a byte too many; with many points.
 fn counts(case: &Case) -> Vec<Case> {
     let alpha = |count: usize| "0\n-1.000 -1.000 \n\n".repeat(count).into_bytes();
     let node = |at: usize| format!("{} 0  - - \n", at);
@@ -267,20 +267,20 @@ fn counts(case: &Case) -> Vec<Case> {
         (0, 0),
         (0, 1),
         (1, 0),
-        (VECTORS - 1, VECTORS - 1),
-        (VECTORS, VECTORS),
-        (VECTORS + 1, VECTORS + 1),
-        (VECTORS + 1, VECTORS + 2),
-        (VECTORS, VECTORS + 1),
-        (VECTORS + 1, VECTORS),
+        (31, 31),
+        (32, 32),
+        (33, 33),
+        (33, 34),
+        (32, 33),
+        (33, 32),
         (99, 99),
         (100, 100),
         (101, 101),
-        (999, 999),
-        (1_000, 1_000),
-        (1_001, 1_001),
-        (1_000, 1_001),
-        (1_001, 1_000),
+        (VECTORS - 1, VECTORS - 1),
+        (VECTORS, VECTORS),
+        (VECTORS + 1, VECTORS + 1),
+        (VECTORS, VECTORS + 1),
+        (VECTORS + 1, VECTORS),
     ] {
         let about = format!("{} vectors and {} nodes", one, other);
         let whole = Case { about, alpha: alpha(one), graph: graph(other), ..case.clone() };
@@ -291,6 +291,15 @@ fn counts(case: &Case) -> Vec<Case> {
             cases.push(whole.with(format!("an x behind the {:?}", file), file, bytes));
         }
         cases.push(whole);
+    }
+    // One byte too long, upon a certifier that is broken or not.
+    for file in BOTH {
+        let mut bytes = case.clone().file(file).clone();
+        bytes.resize(SOLVER_BYTES + 1, b' ');
+        let long = case.with(format!("the {:?} a byte too long", file), file, bytes);
+        let mut broken = long.clone();
+        broken.certifier.level = 101;
+        cases.extend([long, broken]);
     }
     for count in [BUILT_POINTS, BUILT_POINTS + 1] {
         let points = Points { count: count as u64, weights: vec![1; (BUILT_POINTS + 1) * STATES] };
@@ -333,7 +342,7 @@ fn written(rng: &mut Rng) -> Case {
     let certifier = if rng.once_in(3) { gen::handed(rng, shape).0 } else { climbed(rng, shape) };
     let count = rng.index(4);
     let points = gen::points(rng, shape.n, count);
-    let vectors = rng.pick(&[0, 1, 1, 2, 3, 4, 5, VECTORS, VECTORS + 1]);
+    let vectors = rng.pick(&[0, 1, 1, 2, 3, 4, 5, 32, FEW]);
     let far = rng.once_in(8);
     let below = certifier.standing.vectors.clamp(1, VECTORS as u64);
     let mut heads = Vec::new();
@@ -423,6 +432,8 @@ fn damage(rng: &mut Rng, case: &mut Case) {
             let place = rng.index(bytes.len());
             bytes[place] = rng.pick(&[0, b' ', b'-', b'.', b'#', b':', b'0', b'9', b'\n', 255]);
         }
+        // Few are as long as this, for the time's sake.
+        _ if rng.once_in(30) => bytes.resize(SOLVER_BYTES + 1, b' '),
         _ => bytes.resize(rng.pick(&[FILE_BYTES, FILE_BYTES + 1]), b' '),
     }
 }

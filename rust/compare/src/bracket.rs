@@ -229,9 +229,9 @@ mod tests {
             let mut certifier = DOCUMENT.open(&tables).unwrap();
             for t in 1..=reference::LEVELS as i64 {
                 // The loosest level of all, so that only the rows are worked for.
-                let mut level = Level::fresh();
-                level.entries[..shape.n].fill(-100_000 * t);
-                level.corners[..shape.n].fill(100_000 * t);
+                let mut level = Level::fresh(shape.n, shape.k);
+                level.entries.fill(-100_000 * t);
+                level.corners.fill(100_000 * t);
                 DOCUMENT.offer(&mut certifier, &level).unwrap();
                 let both = || certifier.informed.iter().zip(&certifier.qmdp);
                 assert!(both().all(|(informed, qmdp)| informed <= qmdp), "rows:{} at level {}", number, t);

@@ -8,28 +8,37 @@ mod adopting;
 mod replaying;
 
 use crate::gen::{Question, DOCUMENT};
-use crate::lent::{narrowed, stored, Cell, Library};
+use crate::lent::{front, narrowed, stored, Cell, Library};
 use biidhaqun::slices::{
     Adopted, Answers, Certifier, Graph, Level, Offers, Reading, Refusal, Replayed, Tables, Totals, Worth,
 };
 use reference::{Rules, ACTIONS, BUILT_POINTS, NODES, OBSERVATIONS, POINTS, ROWS, STATES, VECTORS};
 
-/// Lists the slips with a sentence each.
+/// Lists the slips with a sentence each: those of any call, and those with many vectors.
 macro_rules! slips {
-    ($($name:ident: $text:literal,)*) => {
+    (
+        any { $($name:ident: $text:literal,)* }
+        many { $($large:ident: $large_text:literal,)* }
+    ) => {
         /// One deliberate mistake in the interface, so that the comparison can be shown to fail.
         #[derive(Clone, Copy, Debug, PartialEq, Eq)]
         pub enum Slip {
             $(#[doc = $text] $name,)*
+            $(#[doc = $large_text] $large,)*
         }
 
         impl Slip {
-            pub const ALL: &'static [Slip] = &[$(Slip::$name,)*];
+            /// Those that show in any call.
+            pub const ANY: &'static [Slip] = &[$(Slip::$name,)*];
+
+            /// Those that only show with many vectors.
+            pub const MANY: &'static [Slip] = &[$(Slip::$large,)*];
 
             /// What is done wrong.
             pub fn text(self) -> &'static str {
                 match self {
                     $(Slip::$name => $text,)*
+                    $(Slip::$large => $large_text,)*
                 }
             }
         }
@@ -37,60 +46,67 @@ macro_rules! slips {
 }
 
 slips! {
-    ShortPasses: "a short slice passes, as if zeros followed",
-    OneShortPasses: "a slice that is one short passes",
-    OneMoreAsked: "a slice must have one cell more than is needed",
-    LongerRefused: "a slice that is longer than needed is refused",
-    StandingChoicesAsked: "7 asks for choices as many as what stands has, although no call reads them",
-    ReceivingAtTheEnd: "a certifier's room for an offered level is asked for after the level is judged",
-    BuiltRoomAtTheEnd: "a built level's room is asked for after the points are judged",
-    RoomFirst: "room for level 0 is asked for before the tables are judged",
-    RoomByHundred: "a slice too short for level 0 gets 100",
-    NoLength: "100 comes without the length that is needed",
-    LastShortSlice: "100 comes with the length of the last short slice",
-    ReadInParts: "what has room is read although a slice is too short",
-    RefusalClears: "a refusal clears what is lent to be written",
-    PastCleared: "what lies past what is written is cleared",
-    PastCopied: "an accepted level's slices are copied over whole",
-    NumberKept: "an acceptance is not counted",
-    CountsKept: "an accepted level's counts are not written",
-    OpeningClearsPoints: "opening clears the weights and values",
-    OpeningLeavesRows: "opening leaves the rows as they were",
-    InformedUnasked: "the informed rows may have any length",
-    QmdpUnasked: "the QMDP rows may have any length",
-    RowsAskedAsRoom: "rows too short for an offer get 9",
-    RowsAskedAtOpening: "rows too short for an opening get 7",
-    RowsByState: "the rows lie by state and action",
-    RowsBySixteenStates: "the rows are packed by 16 states",
-    RowsExchanged: "the informed rows lie where the QMDP rows should, and the other way round",
-    CeilingsExchanged: "the sawtooth is shown for the informed ceiling, and the other way round",
-    RefusedCeilings: "refused totals show ceilings",
-    EachBySawtooth: "at many mixtures the upper totals are the sawtooth's",
-    RefusedTotals: "refused totals carry numbers",
-    OneRefusesAll: "a refused mixture among many refuses them all",
-    LaterAnswersLeft: "what comes after a refused mixture is not answered",
-    RefusedReading: "a refused reading carries counts",
-    RefusedWorth: "a refused worth carries ticks",
-    AdoptedRoomFirst: "an adopted level's room is asked for before the files agree",
-    AdoptedRoomAtTheEnd: "an adopted level's room is asked for after 10, 11 and 12",
-    AdoptedRoomForMost: "an adopted level wants room for 32 vectors, however many there are",
-    RefusedAdoption: "a refused adoption carries a number of vectors",
-    AdoptedPointsCounted: "an adopted level's points count among its vectors",
-    RefusedOfferCounted: "a refused offer of a list counts as accepted",
-    ListStops: "a refused offer ends its list",
-    ListUndone: "a refused offer undoes its list",
-    FirstBlockOnly: "block 0 of a list is offered each time",
-    BlocksByCounts: "each block of a list is as long as its own offer",
-    BlocksRunOn: "an offer that is larger than its block goes on in the next one",
-    ShortListPasses: "a list's slice that is too short passes",
-    LargeBlocksPass: "blocks of over 32 vectors or points pass",
-    LargeOfferRefusesAll: "an offer that is larger than its block refuses its list by 9",
-    RoomForBlocksAsked: "a certifier must have room for a whole block of a list",
-    ListReopens: "a certifier is opened anew before a list",
-    ListBeforeCertifier: "a list is asked for its lengths before 7",
-    RefusedReplay: "a refused list carries a number of acceptances",
-    RowsBySixteen: "entries and weights are packed by 16 states",
-    StateInOtherOrder: "a state is the levels, the points, the vectors",
+    any {
+        ShortPasses: "a short slice passes, as if zeros followed",
+        OneShortPasses: "a slice that is one short passes",
+        OneMoreAsked: "a slice must have one cell more than is needed",
+        LongerRefused: "a slice that is longer than needed is refused",
+        StandingChoicesAsked: "7 asks for choices as many as what stands has, although no call reads them",
+        ReceivingAtTheEnd: "a certifier's room for an offered level is asked for after the level is judged",
+        BuiltRoomAtTheEnd: "a built level's room is asked for after the points are judged",
+        RoomFirst: "room for level 0 is asked for before the tables are judged",
+        RoomByHundred: "a slice too short for level 0 gets 100",
+        NoLength: "100 comes without the length that is needed",
+        LastShortSlice: "100 comes with the length of the last short slice",
+        ReadInParts: "what has room is read although a slice is too short",
+        RefusalClears: "a refusal clears what is lent to be written",
+        PastCleared: "what lies past what is written is cleared",
+        PastCopied: "an accepted level's slices are copied over whole",
+        NumberKept: "an acceptance is not counted",
+        CountsKept: "an accepted level's counts are not written",
+        OpeningClearsPoints: "opening clears the weights and values",
+        OpeningLeavesRows: "opening leaves the rows as they were",
+        InformedUnasked: "the informed rows may have any length",
+        QmdpUnasked: "the QMDP rows may have any length",
+        RowsAskedAsRoom: "rows too short for an offer get 9",
+        RowsAskedAtOpening: "rows too short for an opening get 7",
+        RowsByState: "the rows lie by state and action",
+        RowsBySixteenStates: "the rows are packed by 16 states",
+        RowsExchanged: "the informed rows lie where the QMDP rows should, and the other way round",
+        CeilingsExchanged: "the sawtooth is shown for the informed ceiling, and the other way round",
+        RefusedCeilings: "refused totals show ceilings",
+        EachBySawtooth: "at many mixtures the upper totals are the sawtooth's",
+        RefusedTotals: "refused totals carry numbers",
+        OneRefusesAll: "a refused mixture among many refuses them all",
+        LaterAnswersLeft: "what comes after a refused mixture is not answered",
+        RefusedReading: "a refused reading carries counts",
+        RefusedWorth: "a refused worth carries ticks",
+        AdoptedRoomFirst: "an adopted level's room is asked for before the files agree",
+        AdoptedRoomAtTheEnd: "an adopted level's room is asked for after 10, 11 and 12",
+        AdoptedRoomForMost: "an adopted level wants room for 1,000 vectors, however many there are",
+        RefusedAdoption: "a refused adoption carries a number of vectors",
+        AdoptedPointsCounted: "an adopted level's points count among its vectors",
+        RefusedOfferCounted: "a refused offer of a list counts as accepted",
+        ListStops: "a refused offer ends its list",
+        ListUndone: "a refused offer undoes its list",
+        FirstBlockOnly: "block 0 of a list is offered each time",
+        BlocksByCounts: "each block of a list is as long as its own offer",
+        BlocksRunOn: "an offer that is larger than its block goes on in the next one",
+        ShortListPasses: "a list's slice that is too short passes",
+        LargeBlocksPass: "blocks of over 1,000 vectors or over 32 points pass",
+        LargeOfferRefusesAll: "an offer that is larger than its block refuses its list by 9",
+        RoomForBlocksAsked: "a certifier must have room for a whole block of a list",
+        ListReopens: "a certifier is opened anew before a list",
+        ListBeforeCertifier: "a list is asked for its lengths before 7",
+        RefusedReplay: "a refused list carries a number of acceptances",
+        RowsBySixteen: "entries and weights are packed by 16 states",
+        StateInOtherOrder: "a state is the levels, the points, the vectors",
+    }
+    many {
+        FirstCopied: "an acceptance copies the first 32 vectors only",
+        LengthsOfFirst: "a slice is asked for the cells of 32 vectors at most",
+        SmallBlocks: "blocks of over 32 vectors are refused",
+    }
 }
 
 /// The library's calls by the reference with these rules; by default they are the document's, and nothing slips.
@@ -148,6 +164,12 @@ impl Copied {
         }
     }
 
+    /// How long the slices of a level are asked to be.
+    fn asked(&self, vectors: usize, points: usize, n: usize, k: usize) -> Needed {
+        let vectors = if self.has(Slip::LengthsOfFirst) { vectors.min(32) } else { vectors };
+        Needed::of(vectors, points, n, k)
+    }
+
     fn tables(&self, lent: &Tables) -> reference::Tables {
         let mut tables = reference::Tables::zero();
         if !lent.counts_fit() {
@@ -169,29 +191,31 @@ impl Copied {
 
     /// A level in slices, or none where a count is outside its limit or a slice is too short.
     fn level(&self, lent: &Level, n: usize, k: usize) -> reference::Level {
-        let none = reference::Level::zero();
-        if lent.vectors < 1 || lent.vectors > VECTORS || lent.points > POINTS {
+        let none = reference::Level::default();
+        // The limits are the reference's to test; one vector more is enough to break them.
+        if lent.vectors > VECTORS + 1 || lent.points > POINTS {
             return none;
         }
-        let needed = Needed::of(lent.vectors, lent.points, n, k);
-        let long = self.long(&lent.actions, needed.vectors)
-            && self.long(&lent.choices, needed.choices)
-            && self.long(&lent.entries, needed.entries)
-            && self.long(&lent.corners, needed.states)
-            && self.long(&lent.weights, needed.weights)
-            && self.long(&lent.values, needed.points);
+        let asked = self.asked(lent.vectors, lent.points, n, k);
+        let long = self.long(&lent.actions, asked.vectors)
+            && self.long(&lent.choices, asked.choices)
+            && self.long(&lent.entries, asked.entries)
+            && self.long(&lent.corners, asked.states)
+            && self.long(&lent.weights, asked.weights)
+            && self.long(&lent.values, asked.points);
         if !long {
             return none;
         }
+        let needed = Needed::of(lent.vectors, lent.points, n, k);
         let mut level = reference::Level {
             vectors: lent.vectors as u64,
-            actions: stored(&lent.actions, needed.vectors, VECTORS),
-            choices: stored(&lent.choices, needed.choices, VECTORS * OBSERVATIONS),
-            entries: stored(&lent.entries, needed.entries, VECTORS * STATES),
-            corners: stored(&lent.corners, needed.states, STATES),
+            actions: stored(&lent.actions, needed.vectors, needed.vectors),
+            choices: stored(&lent.choices, needed.choices, needed.choices),
+            entries: stored(&lent.entries, needed.entries, needed.entries),
+            corners: stored(&lent.corners, needed.states, needed.states),
             points: lent.points as u64,
-            weights: stored(&lent.weights, needed.weights, POINTS * STATES),
-            values: stored(&lent.values, needed.points, POINTS),
+            weights: stored(&lent.weights, needed.weights, needed.weights),
+            values: stored(&lent.values, needed.points, needed.points),
         };
         if self.has(Slip::RowsBySixteen) {
             for v in 0..lent.vectors {
@@ -264,7 +288,8 @@ impl Copied {
         let (n, k) = (tables.states as usize, tables.observations as usize);
         let at = |at: usize| lent.state.get(at).copied().unwrap_or(0);
         let (vectors, points) = if self.has(Slip::StateInOtherOrder) { (at(2), at(1)) } else { (at(1), at(2)) };
-        let choices = stored(&lent.choices, vectors.min(VECTORS) * k, vectors.min(VECTORS) * k);
+        let asked = vectors.min(VECTORS + 1) * k;
+        let choices = stored(&lent.choices, asked, asked);
         let rows = tables.actions as usize * n;
         let long = self.long(&lent.state, 3) && (self.rows_long(lent, rows) || self.has(Slip::RowsAskedAsRoom));
         let level = Level {
@@ -307,7 +332,9 @@ impl Copied {
     fn stand(&self, standing: &reference::Certifier, lent: &mut Certifier) {
         let (n, k) = (standing.tables.states as usize, standing.tables.observations as usize);
         let level = &standing.standing;
-        let needed = Needed::of(level.vectors as usize, level.points as usize, n, k);
+        let first = self.has(Slip::FirstCopied) && standing.level > 0;
+        let copied = if first { level.vectors.min(32) } else { level.vectors };
+        let needed = Needed::of(copied as usize, level.points as usize, n, k);
         let mut state = [standing.level as usize, level.vectors as usize, level.points as usize];
         if self.has(Slip::CountsKept) && standing.level > 0 {
             state[1..].copy_from_slice(&lent.state[1..3]);
@@ -318,11 +345,11 @@ impl Copied {
         self.lay(&state, &mut lent.state);
         self.lay(&narrowed(&level.actions, needed.vectors), &mut lent.actions);
         self.lay(&narrowed(&level.choices, needed.choices), &mut lent.choices);
-        self.lay(&level.entries[..needed.entries], &mut lent.entries);
-        self.lay(&level.corners[..needed.states], &mut lent.corners);
+        self.lay(front(&level.entries, needed.entries), &mut lent.entries);
+        self.lay(front(&level.corners, needed.states), &mut lent.corners);
         if standing.level > 0 {
             self.lay(&narrowed(&level.weights, needed.weights), &mut lent.weights);
-            self.lay(&level.values[..needed.points], &mut lent.values);
+            self.lay(front(&level.values, needed.points), &mut lent.values);
         }
         if standing.level > 0 || !self.has(Slip::OpeningLeavesRows) {
             let (informed, qmdp) = self.row_slices(lent);
@@ -367,11 +394,11 @@ impl Copied {
         let mut standing = self.standing(tables, lent);
         let (n, k) = (standing.tables.states as usize, standing.tables.observations as usize);
         let mut offered = self.level(level, n, k);
-        let needed = Needed::of(offered.vectors as usize, offered.points as usize, n, k);
+        let needed = self.asked(offered.vectors as usize, offered.points as usize, n, k);
         let rows = standing.tables.actions as usize * n;
         let receives = self.receives(lent, &needed) && self.rows_long(lent, rows);
         if !receives && !self.has(Slip::ReceivingAtTheEnd) {
-            offered = reference::Level::zero();
+            offered = reference::Level::default();
         }
         let answer = reference::offer(&mut standing, &offered, &self.rules);
         if answer.is_err() && standing != self.standing(tables, lent) {

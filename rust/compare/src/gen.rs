@@ -1,16 +1,19 @@
 //! Models, levels, points, mixtures, plan graphs and lists of offers, random and repeatable.
 //!
-//! What is valid here is so by the reference with the document's rules; storage has its full size, and anything may stand
-//! past the counts.
+//! What is valid here is so by the reference with the document's rules; anything may stand past the counts. Levels have up to
+//! some forty vectors: `many` has those of hundreds.
 
 use crate::rng::Rng;
 use reference::{
     build, offer, open, Certifier, Graph, Level, Points, Rules, Tables, ACTIONS, BUILT_POINTS, LEVELS, NODES,
-    OBSERVATIONS, POINTS, POINT_TOTAL, REWARD, ROWS, STATES, STEPS, THOUSAND, VECTORS, WEIGHT,
+    OBSERVATIONS, POINTS, POINT_TOTAL, REWARD, ROWS, STATES, STEPS, THOUSAND, WEIGHT,
 };
 
 /// The document.
 pub const DOCUMENT: Rules = Rules { trap: None };
+
+/// The most vectors of a level here.
+pub const FEW: usize = 40;
 
 /// The counts of a model.
 #[derive(Clone, Copy, Debug, PartialEq, Eq)]
@@ -58,6 +61,15 @@ fn litter<Cell>(rng: &mut Rng, cells: &mut [Cell], used: usize, any: impl Fn(&mu
     if !rng.once_in(4) {
         for cell in &mut cells[used..] {
             *cell = any(rng);
+        }
+    }
+}
+
+/// Adds a few cells past the ones in use, most of the time.
+fn trail<Cell>(rng: &mut Rng, cells: &mut Vec<Cell>, any: impl Fn(&mut Rng) -> Cell) {
+    if !rng.once_in(4) {
+        for _ in 0..rng.index(4) {
+            cells.push(any(rng));
         }
     }
 }
@@ -256,26 +268,24 @@ impl Unpacked {
         }
     }
 
-    /// Put together in storage, with anything past the counts.
-    fn packed(&self, rng: &mut Rng, n: usize, k: usize) -> Level {
-        let mut level = Level { vectors: self.vectors.len() as u64, points: self.points.len() as u64, ..Level::zero() };
-        for (v, vector) in self.vectors.iter().enumerate() {
-            level.actions[v] = vector.action;
-            level.choices[v * k..(v + 1) * k].copy_from_slice(&vector.choices);
-            level.entries[v * n..(v + 1) * n].copy_from_slice(&vector.entries);
-        }
-        level.corners[..n].copy_from_slice(&self.corners);
-        for (j, point) in self.points.iter().enumerate() {
-            level.weights[j * n..(j + 1) * n].copy_from_slice(&point.weights);
-            level.values[j] = point.value;
-        }
-        let (vectors, points) = (self.vectors.len(), self.points.len());
-        litter(rng, &mut level.actions, vectors, junk);
-        litter(rng, &mut level.choices, vectors * k, junk);
-        litter(rng, &mut level.entries, vectors * n, signed_junk);
-        litter(rng, &mut level.corners, n, signed_junk);
-        litter(rng, &mut level.weights, points * n, junk);
-        litter(rng, &mut level.values, points, signed_junk);
+    /// Put together in lists, with anything past the counts.
+    fn packed(&self, rng: &mut Rng) -> Level {
+        let mut level = Level {
+            vectors: self.vectors.len() as u64,
+            actions: self.vectors.iter().map(|vector| vector.action).collect(),
+            choices: self.vectors.iter().flat_map(|vector| vector.choices.clone()).collect(),
+            entries: self.vectors.iter().flat_map(|vector| vector.entries.clone()).collect(),
+            corners: self.corners.clone(),
+            points: self.points.len() as u64,
+            weights: self.points.iter().flat_map(|point| point.weights.clone()).collect(),
+            values: self.points.iter().map(|point| point.value).collect(),
+        };
+        trail(rng, &mut level.actions, junk);
+        trail(rng, &mut level.choices, junk);
+        trail(rng, &mut level.entries, signed_junk);
+        trail(rng, &mut level.corners, signed_junk);
+        trail(rng, &mut level.weights, junk);
+        trail(rng, &mut level.values, signed_junk);
         level
     }
 }
@@ -305,9 +315,9 @@ pub fn loosened(rng: &mut Rng, level: &Level, shape: Shape, t: u64) -> Level {
     }
     if rng.once_in(3) {
         let twin = rng.index(parts.vectors.len());
-        let copies = rng.pick(&[1, 1, 2, VECTORS]);
+        let copies = rng.pick(&[1, 1, 2, FEW]);
         for _ in 0..copies {
-            if parts.vectors.len() < VECTORS {
+            if parts.vectors.len() < FEW {
                 let at = rng.index(parts.vectors.len() + 1);
                 parts.vectors.insert(at, parts.vectors[twin.min(parts.vectors.len() - 1)].clone());
             }
@@ -342,7 +352,7 @@ pub fn loosened(rng: &mut Rng, level: &Level, shape: Shape, t: u64) -> Level {
             }
         }
     }
-    parts.packed(rng, n, k)
+    parts.packed(rng)
 }
 
 /// A level that differs by one in one entry (more), corner or point value (less), so that it may break its inequality.
@@ -361,8 +371,9 @@ pub fn nudged(rng: &mut Rng, level: &Level, shape: Shape) -> Level {
 pub fn spoil_level(rng: &mut Rng, level: &mut Level, shape: Shape, t: u64, below: u64) {
     let Shape { n, m, k } = shape;
     let ticks = range(t);
-    let vectors = (level.vectors.min(VECTORS as u64) as usize).max(1);
-    let points = level.points.min(POINTS as u64) as usize;
+    // Those that are wholly there, whatever the counts say: at least one vector.
+    let vectors = level.actions.len().min(level.choices.len() / k).min(level.entries.len() / n);
+    let points = level.values.len().min(level.weights.len() / n);
     let anything = junk(rng);
     if rng.once_in(12) {
         // Anything everywhere.
@@ -374,8 +385,14 @@ pub fn spoil_level(rng: &mut Rng, level: &mut Level, shape: Shape, t: u64, below
         litter(rng, &mut level.values, 0, signed_junk);
     }
     match rng.below(if points > 0 { 10 } else { 7 }) {
-        0 => level.vectors = rng.pick(&[0, 1, 32, 33, u64::MAX, anything]),
-        1 => level.points = rng.pick(&[0, 1, 32, 33, u64::MAX, anything]),
+        0 => {
+            level.vectors = rng.pick(&[0, 1, 32, 33, 33, 999, 1_000, 1_001, u64::MAX, anything]);
+            lengthen(rng, level, shape);
+        }
+        1 => {
+            level.points = rng.pick(&[0, 1, 32, 33, u64::MAX, anything]);
+            lengthen(rng, level, shape);
+        }
         2 => level.actions[rng.index(vectors)] = rng.pick(&[m as u64 - 1, m as u64, u64::MAX, anything]),
         3 => {
             let choice = rng.pick(&[below.wrapping_sub(1), below, level.vectors.wrapping_sub(1), u64::MAX]);
@@ -400,6 +417,29 @@ pub fn spoil_level(rng: &mut Rng, level: &mut Level, shape: Shape, t: u64, below
             let point = rng.index(points);
             spoil_weights(rng, &mut level.weights[point * n..(point + 1) * n]);
         }
+    }
+}
+
+/// Fills up lists that are too short for their counts, if these are small: with zeros or with anything.
+fn lengthen(rng: &mut Rng, level: &mut Level, shape: Shape) {
+    fn fill<Cell>(cells: &mut Vec<Cell>, length: usize, mut cell: impl FnMut() -> Cell) {
+        while cells.len() < length {
+            cells.push(cell());
+        }
+    }
+    let Shape { n, k, .. } = shape;
+    let zeros = rng.once_in(2);
+    let mut cell = || if zeros { 0 } else { junk(rng) };
+    if level.vectors <= FEW as u64 {
+        let vectors = level.vectors as usize;
+        fill(&mut level.actions, vectors, &mut cell);
+        fill(&mut level.choices, vectors * k, &mut cell);
+        fill(&mut level.entries, vectors * n, || cell() as i64);
+    }
+    if level.points <= FEW as u64 {
+        let points = level.points as usize;
+        fill(&mut level.weights, points * n, &mut cell);
+        fill(&mut level.values, points, || cell() as i64);
     }
 }
 
@@ -568,7 +608,7 @@ pub fn climb(rng: &mut Rng, shape: Shape) -> List {
     let tables = tables(rng, shape);
     let mut certifier = open(&tables, &DOCUMENT).expect("generated tables open");
     let mut steps = Vec::new();
-    let mut level = Level::fresh();
+    let mut level = Level::default();
     for _ in 0..LEVELS + 2 {
         if certifier.level < LEVELS {
             level = built(rng, &certifier, shape, 1);
@@ -650,21 +690,22 @@ pub fn at_ends(rng: &mut Rng, cells: &mut [i64], end: i64) {
     }
 }
 
-/// A level for t whose every number is at an end of its range; where all counts are at their limits, so are its own.
+/// A level for t whose every number is at an end of its range; where all counts are at their limits, it has as many vectors and
+/// points as levels have here.
 fn level_at_ends(rng: &mut Rng, shape: Shape, t: u64) -> Level {
-    let Shape { n, m, .. } = shape;
+    let Shape { n, m, k } = shape;
     let ticks = range(t);
     let (vectors, points) = match shape {
-        Shape::LARGEST => (VECTORS, POINTS),
-        _ => (rng.pick(&[1, 2, VECTORS]), rng.pick(&[0, 1, 2, POINTS])),
+        Shape::LARGEST => (FEW, POINTS),
+        _ => (rng.pick(&[1, 2, FEW]), rng.pick(&[0, 1, 2, POINTS])),
     };
-    let mut level = Level { vectors: vectors as u64, points: points as u64, ..Level::zero() };
-    for action in &mut level.actions[..vectors] {
+    let mut level = Level::zeros(vectors, points, n, k);
+    for action in &mut level.actions {
         *action = rng.below(m as u64);
     }
-    at_ends(rng, &mut level.entries[..vectors * n], ticks);
-    at_ends(rng, &mut level.corners[..n], ticks);
-    at_ends(rng, &mut level.values[..points], 1);
+    at_ends(rng, &mut level.entries, ticks);
+    at_ends(rng, &mut level.corners, ticks);
+    at_ends(rng, &mut level.values, 1);
     for j in 0..points {
         let weights = &mut level.weights[j * n..(j + 1) * n];
         weights.copy_from_slice(&point(rng, n));
@@ -699,12 +740,11 @@ pub fn ends(rng: &mut Rng, shape: Shape) -> (Certifier, Vec<Step>) {
     };
     let mut lowest = level_at_ends(rng, shape, level + 1);
     let ticks = range(level + 1);
-    let (vectors, points) = (lowest.vectors as usize, lowest.points as usize);
     let any = lowest.clone();
     // The loosest level of all passes.
-    lowest.entries[..vectors * n].fill(-ticks);
-    lowest.corners[..n].fill(ticks);
-    for (value, weights) in lowest.values[..points].iter_mut().zip(lowest.weights.chunks_exact(n)) {
+    lowest.entries.fill(-ticks);
+    lowest.corners.fill(ticks);
+    for (value, weights) in lowest.values.iter_mut().zip(lowest.weights.chunks_exact(n)) {
         *value = value_range(weights, ticks);
     }
     let steps = vec![

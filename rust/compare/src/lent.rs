@@ -6,7 +6,7 @@ use crate::rng::Rng;
 use biidhaqun::slices::{
     Adopted, Answers, Certifier, Graph, Level, Offers, Reading, Refusal, Replayed, Tables, Totals, Worth,
 };
-use reference::{BUILT_POINTS, NODES, POINTS, VECTORS};
+use reference::{ACTIONS, BUILT_POINTS, NODES, OBSERVATIONS, POINTS, STATES, VECTORS};
 use std::fmt;
 
 /// The library's nine calls.
@@ -102,7 +102,12 @@ impl<Of: Cell> Slice for Vec<Of> {
 /// The first cells of storage in a slice of its type. A number that the type does not hold cannot be lent; the largest of the
 /// type stands for it, which is outside of the same limits.
 pub fn narrowed<Of: Cell + TryFrom<u64>>(cells: &[u64], count: usize) -> Vec<Of> {
-    cells[..count.min(cells.len())].iter().map(|&cell| Of::try_from(cell).unwrap_or(Of::MOST)).collect()
+    front(cells, count).iter().map(|&cell| Of::try_from(cell).unwrap_or(Of::MOST)).collect()
+}
+
+/// The first cells, or all if there are fewer.
+pub fn front<Of>(cells: &[Of], count: usize) -> &[Of] {
+    &cells[..count.min(cells.len())]
 }
 
 /// The first cells of a slice in storage of so many; what is missing is 0.
@@ -116,7 +121,7 @@ fn size(count: u64) -> usize {
     usize::try_from(count).unwrap_or(usize::MAX)
 }
 
-/// How many there are of something, if that is within its limit; else as many as storage has.
+/// How many there are of something, or the most that are lent.
 fn count(number: u64, most: usize) -> usize {
     size(number).min(most)
 }
@@ -154,16 +159,17 @@ pub fn tables(storage: &reference::Tables) -> Tables {
 }
 
 pub fn level(storage: &reference::Level, n: usize, k: usize) -> Level {
-    let (vectors, points) = (count(storage.vectors, VECTORS), count(storage.points, POINTS));
+    // One vector past the limit is lent, so that nothing but the limit refuses it.
+    let (vectors, points) = (count(storage.vectors, VECTORS + 1), count(storage.points, POINTS + 1));
     Level {
         vectors: size(storage.vectors),
         points: size(storage.points),
         actions: narrowed(&storage.actions, vectors),
         choices: narrowed(&storage.choices, vectors * k),
-        entries: storage.entries[..vectors * n].to_vec(),
-        corners: storage.corners[..n].to_vec(),
+        entries: front(&storage.entries, vectors * n).to_vec(),
+        corners: front(&storage.corners, n).to_vec(),
         weights: narrowed(&storage.weights, points * n),
-        values: storage.values[..points].to_vec(),
+        values: front(&storage.values, points).to_vec(),
     }
 }
 
@@ -200,24 +206,25 @@ pub fn graph(storage: &reference::Graph, k: usize) -> Graph {
     }
 }
 
-/// Certifier's slices with room for every level, and anything in it.
-pub fn roomy(rng: &mut Rng, mut certifier: Certifier) -> Certifier {
-    let room = Certifier::roomy(reference::STATES, reference::ACTIONS, reference::OBSERVATIONS);
+/// Certifier's slices with room for every level of so many vectors, and anything in it.
+pub fn roomy(rng: &mut Rng, mut certifier: Certifier, vectors: usize) -> Certifier {
+    let vectors = vectors.max(certifier.actions.len());
     certifier.state.sized(certifier.state.len().max(3), rng);
-    certifier.actions.sized(room.actions.len() + rng.index(3), rng);
-    certifier.choices.sized(room.choices.len() + rng.index(3), rng);
-    certifier.entries.sized(room.entries.len() + rng.index(3), rng);
-    certifier.corners.sized(room.corners.len() + rng.index(3), rng);
-    certifier.weights.sized(room.weights.len() + rng.index(3), rng);
-    certifier.values.sized(room.values.len() + rng.index(3), rng);
-    certifier.informed.sized(room.informed.len() + rng.index(3), rng);
-    certifier.qmdp.sized(room.qmdp.len() + rng.index(3), rng);
+    certifier.actions.sized(vectors + rng.index(3), rng);
+    certifier.choices.sized(vectors * OBSERVATIONS + rng.index(3), rng);
+    certifier.entries.sized(vectors * STATES + rng.index(3), rng);
+    certifier.corners.sized(STATES + rng.index(3), rng);
+    certifier.weights.sized(POINTS * STATES + rng.index(3), rng);
+    certifier.values.sized(POINTS + rng.index(3), rng);
+    certifier.informed.sized(ACTIONS * STATES + rng.index(3), rng);
+    certifier.qmdp.sized(ACTIONS * STATES + rng.index(3), rng);
     certifier
 }
 
 /// Slices for a level to be built, with anything in them.
 pub fn roomy_level(rng: &mut Rng) -> Level {
-    let Certifier { actions, choices, entries, corners, values, .. } = roomy(rng, Certifier::default());
+    let room = roomy(rng, Certifier::default(), STATES + BUILT_POINTS);
+    let Certifier { actions, choices, entries, corners, values, .. } = room;
     Level { actions, choices, entries, corners, values, ..Level::default() }
 }
 

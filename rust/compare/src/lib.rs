@@ -10,6 +10,7 @@ pub mod gen;
 pub mod lent;
 #[cfg(feature = "library")]
 pub mod linked;
+pub mod many;
 pub mod options;
 pub mod program;
 pub mod replaying;

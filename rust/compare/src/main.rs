@@ -12,8 +12,10 @@
 //! - `ends`: storage with every number at an end of its range, for the largest sums, used with `--library`,
 //! - `slices`: one call on slices of any content and length, each compared whole, used with `--library`,
 //! - `lengths`: served calls with each slice in turn one short, empty, exact and longer, used with `--library`,
-//! - `adopted`: a solver's files that are the same for every seed: each word and byte damaged in turn, cut at every byte, lengths
-//!   and counts at and past the largest, used with `--library`,
+//! - `adopted`: a solver's files that are the same for every seed: each word and byte damaged in turn, cut at every byte, counts at
+//!   and past the largest, used with `--library`,
+//! - `many`: levels of up to 1,001 vectors, offered, read, built upon, listed and adopted, and files of up to a byte over 4 MiB; the
+//!   same for every seed, used with `--library`,
 //! - `adopt`: random files of a solver, most of them damaged, upon certifiers of any content, used likewise,
 //! - `replay`: lists of offers in blocks, refused ones among them, upon certifiers of any content, used likewise,
 //! - `solved`: the steps that a float solver finds, each adopted and accepted, and what their entries lose.

@@ -1,6 +1,6 @@
 //! Lists of offers in blocks, of any content, upon certifiers of any content.
 
-use crate::gen::{self, Shape, Step, DOCUMENT};
+use crate::gen::{self, Shape, Step, DOCUMENT, FEW};
 use crate::lent::{self, Call, Slice};
 use crate::rng::Rng;
 use crate::single;
@@ -45,15 +45,18 @@ pub fn random(rng: &mut Rng) -> Call {
         4..=9 => (largest + 1 + rng.index(4)).min(most),
         _ => largest,
     };
-    let (block_vectors, block_points) = (block(rng, vectors, VECTORS), block(rng, points, POINTS));
-    let whole = levels.iter().find(|level| level.vectors <= VECTORS && level.points <= POINTS);
+    let (mut block_vectors, block_points) = (block(rng, vectors, FEW), block(rng, points, POINTS));
+    if rng.once_in(200) {
+        block_vectors = rng.pick(&[VECTORS, VECTORS + 1]);
+    }
+    let whole = levels.iter().find(|level| level.vectors <= FEW && level.points <= POINTS);
     let mut offers = match whole {
         Some(level) if rng.once_in(8) => split(rng, level, shape),
         _ => packed(rng, &levels, (block_vectors, block_points), shape),
     };
     match rng.below(30) {
         0 => offers.count += 1,
-        1 => offers.count = rng.pick(&[usize::MAX, usize::MAX / 32, 1 << 59, 1 << 60]),
+        1 => offers.count = rng.pick(&[usize::MAX, usize::MAX / 32, 1 << 59, 1 << 60, 1 << 61]),
         2 => offers.count = offers.count.saturating_sub(1),
         _ => {}
     }
@@ -98,16 +101,16 @@ fn offered(certifier: &mut Certifier, steps: &[Step]) -> Vec<reference::Level> {
     levels
 }
 
-/// The most vectors and points of levels, within their limits.
+/// The most vectors and points of levels, those left out that say more than they have here.
 fn largest(levels: &[Level]) -> (usize, usize) {
     let most = |count: fn(&Level) -> usize, limit: usize| {
         levels.iter().map(count).filter(|&count| count <= limit).max().unwrap_or(0)
     };
-    (most(|level| level.vectors, VECTORS), most(|level| level.points, POINTS))
+    (most(|level| level.vectors, FEW), most(|level| level.points, POINTS))
 }
 
 /// The levels in blocks, with anything behind each.
-fn packed(rng: &mut Rng, levels: &[Level], (vectors, points): (usize, usize), shape: Shape) -> Offers {
+pub fn packed(rng: &mut Rng, levels: &[Level], (vectors, points): (usize, usize), shape: Shape) -> Offers {
     let Shape { n, k, .. } = shape;
     let mut offers = Offers { block_vectors: vectors, block_points: points, ..Offers::default() };
     for level in levels {
@@ -150,7 +153,7 @@ fn split(rng: &mut Rng, level: &Level, shape: Shape) -> Offers {
 }
 
 /// The call, with room for a level of so many vectors and points in the certifier.
-fn call(rng: &mut Rng, shape: Shape, certifier: &Certifier, offers: Offers, room: (usize, usize)) -> Call {
+pub fn call(rng: &mut Rng, shape: Shape, certifier: &Certifier, offers: Offers, room: (usize, usize)) -> Call {
     let room = Level::zeros(shape.n, shape.k, room.0, room.1);
     let standing = single::sized(rng, lent::certifier(certifier), &room);
     Call::Replay { tables: lent::tables(&certifier.tables), certifier: standing, offers }

@@ -40,7 +40,7 @@ fn whole(rng: &mut Rng) -> Call {
             let count = rng.index(5);
             let points = gen::points(rng, shape.n, count);
             let level = reference::build(&certifier, &points, &gen::DOCUMENT);
-            let level = level.unwrap_or_else(|_| reference::Level::zero());
+            let level = level.unwrap_or_default();
             let level = if rng.once_in(2) { level } else { gen::loosened(rng, &level, shape, certifier.level + 1) };
             offering(rng, shape, &certifier, &level)
         }
@@ -88,14 +88,14 @@ pub fn sized(rng: &mut Rng, mut certifier: Certifier, level: &Level) -> Certifie
     certifier
 }
 
-fn offering(rng: &mut Rng, shape: Shape, certifier: &reference::Certifier, level: &reference::Level) -> Call {
+pub fn offering(rng: &mut Rng, shape: Shape, certifier: &reference::Certifier, level: &reference::Level) -> Call {
     let level = lent::level(level, shape.n, shape.k);
     let standing = sized(rng, lent::certifier(certifier), &level);
     Call::Offer { tables: lent::tables(&certifier.tables), certifier: standing, level }
 }
 
 /// Totals at some mixtures, of which some are refused.
-fn asking(rng: &mut Rng, shape: Shape, certifier: &reference::Certifier, count: usize) -> Call {
+pub fn asking(rng: &mut Rng, shape: Shape, certifier: &reference::Certifier, count: usize) -> Call {
     let (mut mixtures, mut answers) = (Vec::new(), Answers::default());
     for _ in 0..count {
         let mut mixture = gen::mixture(rng, shape.n);
@@ -112,7 +112,7 @@ fn asking(rng: &mut Rng, shape: Shape, certifier: &reference::Certifier, count: 
     Call::Each { tables, certifier: lent::certifier(certifier), mixtures, count, answers }
 }
 
-fn building(rng: &mut Rng, shape: Shape, certifier: &reference::Certifier, points: &Points) -> Call {
+pub fn building(rng: &mut Rng, shape: Shape, certifier: &reference::Certifier, points: &Points) -> Call {
     let (count, points) = lent::points(points, shape.n);
     let few = count.min(reference::BUILT_POINTS + 1);
     let room = sized(rng, Certifier::default(), &Level::zeros(shape.n, shape.k, shape.n + few, few));

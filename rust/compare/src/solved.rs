@@ -4,13 +4,15 @@ use crate::calls::Calls;
 use crate::gen::{self, Shape};
 use crate::rng::Rng;
 use crate::show;
-use reference::{Points, Tables, VECTORS};
+use reference::{Points, Tables};
 use solver::{alpha_file, graph_file, Vector};
 use std::path::{Path, PathBuf};
 use std::{fs, io};
 
 /// How many steps an example is solved for.
 const STEPS: usize = 8;
+/// How many vectors a step has at most: the solver takes long for more.
+const VECTORS: usize = 32;
 
 /// A model, points for the ceilings, and the solver's steps upon the model.
 pub struct Climb {
@@ -20,7 +22,7 @@ pub struct Climb {
 }
 
 impl Climb {
-    /// So many steps, or as many as have no more vectors than a level.
+    /// So many steps, or as many as have no more vectors than that.
     pub fn of(tables: Tables, points: Points, count: usize) -> Climb {
         let steps = solver::steps(&solver::Model::of(&tables), count, VECTORS);
         Climb { tables, points, steps }

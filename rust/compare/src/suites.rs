@@ -5,7 +5,7 @@ use crate::lent::{Call, Library};
 use crate::options::Options;
 use crate::rng::Rng;
 use crate::through::{self, Through};
-use crate::{adopting, bracket, calls, files, replaying, show, single, solved, ticks};
+use crate::{adopting, bracket, calls, files, many, replaying, show, single, solved, ticks};
 use reference::Trap;
 use std::collections::BTreeMap;
 use std::time::{Duration, Instant};
@@ -28,8 +28,9 @@ const HUNTED: u64 = 3_000;
 
 /// Does what was asked for; whether all was well.
 pub fn run(options: &Options, library: &dyn Library) -> io::Result<bool> {
-    let (tally, losses, adopted) = (BTreeMap::new(), solved::Losses::default(), adopting::fixed());
-    let mut suites = Suites { options, linked: library, tally, losses, adopted };
+    let (tally, losses) = (BTreeMap::new(), solved::Losses::default());
+    let (adopted, many) = (adopting::fixed(), many::fixed());
+    let mut suites = Suites { options, linked: library, tally, losses, adopted, many };
     let well = if options.traps {
         suites.traps()
     } else if let Some(path) = &options.file {
@@ -54,6 +55,8 @@ struct Suites<'a> {
     losses: solved::Losses,
     /// The fixed files of a solver.
     adopted: Vec<adopting::Case>,
+    /// The calls with many vectors and long files.
+    many: Vec<many::Case>,
 }
 
 /// A copy with one mistake, and the first case that tells it from the library.
@@ -91,6 +94,13 @@ impl Suites<'_> {
             }
         }
         println!("fixed files of a solver: {}, {} s", fixed, start.elapsed().as_secs());
+        let large = self.many.len() as u64;
+        for number in 0..large {
+            if !self.one("many", number)? {
+                return Ok(false);
+            }
+        }
+        println!("calls with many vectors and long files: {}, {} s", large, start.elapsed().as_secs());
         for (name, climb) in solved::examples(&self.options.examples)? {
             let losses = solved::check(&climb, &Through(self.linked));
             if !self.told(&name, losses.as_ref().err().cloned(), || climb.show())? {
@@ -163,6 +173,11 @@ impl Suites<'_> {
                 let index = usize::try_from(number).unwrap_or(usize::MAX);
                 print!("{}", self.adopted.get(index).ok_or_else(|| unknown("there is no such fixed case"))?.show());
             }
+            "many" => {
+                let index = usize::try_from(number).unwrap_or(usize::MAX);
+                let case = self.many.get(index).ok_or_else(|| unknown("there is no such call"))?;
+                print!("{}\n{}", case.about, case.call);
+            }
             "adopt" => print!("{}", adopting::random(&mut rng).show()),
             "replay" => print!("{}", replaying::random(&mut rng)),
             "solved" => print!("{}", solved::random(&mut rng).show()),
@@ -180,14 +195,20 @@ impl Suites<'_> {
             "slices" => self.call(&name, &single::random(&mut rng)),
             "lengths" => {
                 for (call, ends) in single::lengths(&mut rng, number) {
-                    let (answer, _) = call.made(self.linked);
-                    let wrong = ends.filter(|&(number, place)| answer[..2] != [number.into(), place as i128]);
-                    let wrong = wrong.map(|ends| format!("it ends with {:?}, not with {:?}", &answer[..2], ends));
-                    if !self.told(&name, wrong, || call.to_string())? || !self.call(&name, &call)? {
+                    if !self.ending(&name, &call, ends)? {
                         return Ok(false);
                     }
                 }
                 Ok(true)
+            }
+            "many" => {
+                let many = std::mem::take(&mut self.many);
+                let told = match many.get(number as usize) {
+                    Some(case) => self.ending(&name, &case.call, Some(case.ends)),
+                    None => Err(unknown("there is no such call")),
+                };
+                self.many = many;
+                told
             }
             "calls" | "ends" => {
                 let case =
@@ -231,6 +252,14 @@ impl Suites<'_> {
         }
     }
 
+    /// Whether a call ends as it must, where that is known, and as by the reference.
+    fn ending(&mut self, name: &str, call: &Call, ends: Option<(u64, usize)>) -> io::Result<bool> {
+        let (answer, _) = call.made(self.linked);
+        let wrong = ends.filter(|&(number, place)| answer[..2] != [number.into(), place as i128]);
+        let wrong = wrong.map(|ends| format!("it ends with {:?}, not with {:?}", &answer[..2], ends));
+        Ok(self.told(name, wrong, || call.to_string())? && self.call(name, call)?)
+    }
+
     /// Whether a call ends as by the reference, and leaves the same in every slice.
     fn call(&mut self, name: &str, call: &Call) -> io::Result<bool> {
         *self.tally.entry(call.number(self.linked)).or_insert(0) += 1;
@@ -254,16 +283,18 @@ impl Suites<'_> {
     }
 
     /// Whether the library differs from every copy with one mistake: slips of the interface in single calls, traps of the
-    /// reader in files, traps of a solver's files in adoptions, traps of the judging in calls on storage. In each case the library itself is held against the
-    /// document first.
+    /// reader in files, traps of a solver's files in adoptions, traps of the judging in calls on storage, both kinds in calls with
+    /// many vectors and long files. In each case the library itself is held against the document first.
     fn traps(&self) -> bool {
-        let slips = Slip::ALL.iter().map(|&slip| (format!("{:?} ({})", slip, slip.text()), Copied::slipping(slip)));
+        let slips = |list: &[Slip]| -> Vec<Hunted> {
+            let slip = |&slip: &Slip| hunted((format!("{:?} ({})", slip, slip.text()), Copied::slipping(slip)));
+            list.iter().map(slip).collect()
+        };
         let traps = |list: &[Trap]| -> Vec<Hunted> {
             list.iter().map(|&trap| hunted((trap.to_string(), Copied::trapped(trap)))).collect()
         };
         let mut all = true;
-        let slips = slips.map(hunted).collect();
-        all &= self.hunt("slips of the interface, by single calls", HUNTED, slips, &|number| {
+        all &= self.hunt("slips of the interface, by single calls", HUNTED, slips(Slip::ANY), &|number| {
             if number % 20 == 10 {
                 let mut rng = self.rng("adopt", number);
                 let call = adopting::random(&mut rng).call(&mut rng);
@@ -313,6 +344,12 @@ impl Suites<'_> {
             let differs =
                 move |one: &dyn Library, other: &dyn Library| through::difference(&case, one, other, &mut rng.clone());
             (format!("calls:{}", number), Box::new(differs))
+        });
+        let mut large = traps(Trap::MANY);
+        large.extend(slips(Slip::MANY));
+        all &= self.hunt("both with many vectors and long files", self.many.len() as u64, large, &|number| {
+            let call = self.many[number as usize].call.clone();
+            (format!("many:{}", number), Box::new(move |one, other| call.difference(one, other)))
         });
         all
     }
@@ -365,7 +402,7 @@ mod tests {
         let words = ["--library", "--examples", "nowhere"].iter().map(|word| word.to_string());
         let mut options = Options::parse(words).unwrap();
         let one = [("fixed", 3), ("random", 5), ("calls", 7), ("ends", 1), ("plans", 2), ("slices", 11), ("ticks", 3)];
-        let solver = [("adopted", 4), ("adopt", 9), ("solved", 2), ("replay", 6)];
+        let solver = [("adopted", 4), ("adopt", 9), ("solved", 2), ("replay", 6), ("many", 3)];
         let lengths = (0..9).map(|number| ("lengths", number));
         for (suite, number) in one.into_iter().chain(solver).chain(lengths) {
             options.only = Some((suite.to_string(), number));

@@ -1,12 +1,12 @@
 //! Cases on storage, through lent slices.
 
 use crate::calls::{Calls, Case};
-use crate::gen::{List, Question, Step};
+use crate::gen::{List, Question, Step, FEW};
 use crate::lent::{self, stored, Call, Library};
 use crate::rng::Rng;
 use biidhaqun::slices::{Certifier, Level, Tables};
 use num_bigint::BigInt;
-use reference::{Graph, Points, Refusal, Totals, ACTIONS, OBSERVATIONS, POINTS, ROWS, STATES, VECTORS};
+use reference::{Graph, Points, Refusal, Totals, ROWS, STATES};
 
 /// The first call of a case in which the other's answer, or what it leaves in a slice, differs from the one's. The slices
 /// are handed from call to call as the one left them.
@@ -21,7 +21,7 @@ pub fn difference(case: &Case, one: &dyn Library, other: &dyn Library, rng: &mut
         }
         Case::Handed(certifier, steps) => {
             let (n, k) = lent::counts(&certifier.tables);
-            let standing = lent::roomy(rng, lent::certifier(certifier));
+            let standing = lent::roomy(rng, lent::certifier(certifier), FEW);
             Walk { tables: lent::tables(&certifier.tables), certifier: standing, n, k, one, other }.all(rng, steps)
         }
         Case::List(List { tables, steps }) => {
@@ -41,7 +41,7 @@ pub fn difference(case: &Case, one: &dyn Library, other: &dyn Library, rng: &mut
 }
 
 fn opening(rng: &mut Rng, tables: &reference::Tables) -> Call {
-    Call::Open { tables: lent::tables(tables), certifier: lent::roomy(rng, Certifier::default()) }
+    Call::Open { tables: lent::tables(tables), certifier: lent::roomy(rng, Certifier::default(), FEW) }
 }
 
 /// Steps that are being made by two.
@@ -119,13 +119,13 @@ fn storage(level: &Level, n: usize, k: usize) -> reference::Level {
     let Level { vectors, points, .. } = *level;
     reference::Level {
         vectors: vectors as u64,
-        actions: stored(&level.actions, vectors, VECTORS),
-        choices: stored(&level.choices, vectors * k, VECTORS * OBSERVATIONS),
-        entries: stored(&level.entries, vectors * n, VECTORS * STATES),
-        corners: stored(&level.corners, n, STATES),
+        actions: stored(&level.actions, vectors, vectors),
+        choices: stored(&level.choices, vectors * k, vectors * k),
+        entries: stored(&level.entries, vectors * n, vectors * n),
+        corners: stored(&level.corners, n, n),
         points: points as u64,
-        weights: stored(&level.weights, points * n, POINTS * STATES),
-        values: stored(&level.values, points, POINTS),
+        weights: stored(&level.weights, points * n, points * n),
+        values: stored(&level.values, points, points),
     }
 }
 
@@ -146,8 +146,7 @@ fn standing(lent: Certifier, tables: reference::Tables) -> reference::Certifier 
 
 impl Calls for Through<'_> {
     fn open(&self, tables: &reference::Tables) -> Result<reference::Certifier, Refusal> {
-        let (n, k) = lent::counts(tables);
-        let mut certifier = Certifier::roomy(n, ACTIONS, k);
+        let mut certifier = lent::roomy(&mut Rng::for_case(0, "room", 0), Certifier::default(), 1);
         let ended = self.0.open(&lent::tables(tables), &mut certifier);
         served(ended.number, ended.place)?;
         Ok(standing(certifier, tables.stored()))
@@ -155,8 +154,9 @@ impl Calls for Through<'_> {
 
     fn offer(&self, certifier: &mut reference::Certifier, level: &reference::Level) -> Result<(), Refusal> {
         let (n, k) = lent::counts(&certifier.tables);
-        let mut slices = lent::roomy(&mut Rng::for_case(0, "room", 0), lent::certifier(certifier));
-        let ended = self.0.offer(&lent::tables(&certifier.tables), &mut slices, &lent::level(level, n, k));
+        let level = lent::level(level, n, k);
+        let mut slices = lent::roomy(&mut Rng::for_case(0, "room", 0), lent::certifier(certifier), level.actions.len());
+        let ended = self.0.offer(&lent::tables(&certifier.tables), &mut slices, &level);
         served(ended.number, ended.place)?;
         *certifier = standing(slices, certifier.tables.clone());
         Ok(())
@@ -182,7 +182,7 @@ impl Calls for Through<'_> {
         let (n, k) = lent::counts(&certifier.tables);
         let (tables, slices) = (lent::tables(&certifier.tables), lent::certifier(certifier));
         let (count, weights) = lent::points(points, n);
-        let mut level = Level::roomy(n, k);
+        let mut level = lent::roomy_level(&mut Rng::for_case(0, "room", 0));
         let ended = self.0.build(&tables, &slices, count, &weights, &mut level);
         served(ended.number, ended.place)?;
         Ok(storage(&Level { vectors: n + count, points: count, weights, ..level }, n, k))

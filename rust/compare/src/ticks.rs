@@ -54,7 +54,7 @@ pub fn check(climb: &Climb, by: &dyn Calls) -> Result<Vec<BigInt>, String> {
     let mut losses = Vec::new();
     for points in &climb.points {
         let built = by.build(&certifier, points);
-        let level = built.as_ref().map_or_else(|_| Level::zero(), Level::clone);
+        let level = built.as_ref().map_or_else(|_| Level::default(), Level::clone);
         let offered = by.offer(&mut certifier, &level);
         if offered.is_ok() != built.is_ok() {
             return Err(format!("building answers {:?}, the offer {:?}", built.map(|_| ()), offered));

@@ -7,13 +7,17 @@
 use crate::build::{least_ceiling, Points, BUILT_POINTS};
 use crate::exact::{k, round_down, zero};
 use crate::file::FILE_BYTES;
-use crate::level::{examine, first_untotalled, full, vector_backup, Certifier, Level, Lists, TICKS, VECTORS};
+use crate::level::{
+    examine, first_untotalled, full, kept_choice, most_vectors, vector_backup, Certifier, Level, Lists, TICKS, VECTORS,
+};
 use crate::model::Model;
 use crate::refusal::Refusal;
 use crate::rules::{Rules, Trap};
 use crate::words::{word_after, Word};
 use num_bigint::BigInt;
 
+/// Each of a solver's files has at most this many bytes: 4 MiB.
+pub const SOLVER_BYTES: usize = 4 << 20;
 /// A decimal has at most so many digits before the point, and so many behind it.
 const WHOLE_DIGITS: usize = 6;
 const DECIMALS: usize = 12;
@@ -59,7 +63,7 @@ pub fn adopt(
         return Err(Refusal::at(8, 0));
     }
     let vectors = files.alphas.len();
-    if vectors < 1 || vectors > VECTORS || points.count > BUILT_POINTS as u64 {
+    if vectors < 1 || vectors as u64 > most_vectors(rules) || points.count > BUILT_POINTS as u64 {
         return Err(Refusal::at(9, 0));
     }
 
@@ -80,7 +84,7 @@ pub fn adopt(
         dangling?;
     }
 
-    let mut level = Level::zero();
+    let mut level = Level::zeros(vectors, points.count as usize, model.n, model.k);
     let lowest = -BigInt::from(TICKS) * (certifier.level + 1);
     for (v, (alpha, choices)) in files.alphas.iter().zip(&choices).enumerate() {
         // Only a trap comes here with a vector that names what does not exist.
@@ -89,10 +93,9 @@ pub fn adopt(
             None => continue,
         };
         let action = usize::try_from(&alpha.action).unwrap_or(0).min(model.m - 1);
-        level.vectors += 1;
         level.actions[v] = action as u64;
         for (o, &choice) in choices.iter().enumerate() {
-            level.choices[v * model.k + o] = choice as u64;
+            level.choices[v * model.k + o] = kept_choice(choice as u64, rules);
         }
         for s in 0..model.n {
             let backup = vector_backup(&model, &standing, s, action, choices, rules);
@@ -132,7 +135,11 @@ fn judge_files(
     graph: &[u8],
     rules: &Rules,
 ) -> Result<(Model, Lists, Files), Refusal> {
-    let most = FILE_BYTES - usize::from(rules.has(Trap::LengthOffByOne));
+    let most = match rules.trap {
+        Some(Trap::SolverFilesAsModel) => FILE_BYTES,
+        Some(Trap::SolverByteMore) => SOLVER_BYTES + 1,
+        _ => SOLVER_BYTES,
+    };
     let graph_too_long = graph.len() > most && !rules.has(Trap::GraphOfAnyLength);
     let long = if alpha.len() > most || graph_too_long { Err(Refusal::at(1, 0)) } else { Ok(()) };
     if !rules.has(Trap::SevenBeforeOne) {
@@ -241,7 +248,7 @@ impl<'a> Reader<'a> {
     fn alphas(&mut self, n: usize) -> (Vec<Alpha>, Result<(), Refusal>) {
         let mut alphas = Vec::new();
         let rules = self.rules;
-        while let Some(word) = self.next() {
+        while let Some(word) = self.next().filter(|_| wanted(alphas.len(), rules)) {
             let mut one = || {
                 let action = self.fitting(&word, |bytes| digits(bytes, action_digits(rules)))?;
                 let ticks = (0..n).map(|_| self.value(|bytes| decimal_form(bytes, rules)));
@@ -259,7 +266,7 @@ impl<'a> Reader<'a> {
     fn nodes(&mut self, observations: usize) -> (Vec<Node>, Result<(), Refusal>) {
         let mut nodes = Vec::new();
         let rules = self.rules;
-        while let Some(word) = self.next() {
+        while let Some(word) = self.next().filter(|_| wanted(nodes.len(), rules)) {
             let in_order = |bytes: &[u8]| {
                 let number = digits(bytes, node_digits(rules))?;
                 Some(()).filter(|()| number == BigInt::from(nodes.len()) || rules.has(Trap::NodesUnordered))
@@ -279,6 +286,11 @@ impl<'a> Reader<'a> {
     }
 }
 
+/// Whether a further vector or node is read: all are, but by a trap.
+fn wanted(read: usize, rules: &Rules) -> bool {
+    read < 100 || !rules.has(Trap::HundredRead)
+}
+
 fn action_digits(rules: &Rules) -> usize {
     ACTION_DIGITS + usize::from(rules.has(Trap::ActionThreeDigits))
 }
@@ -294,7 +306,7 @@ fn node_digits(rules: &Rules) -> usize {
 /// The value of one digit or more, up to so many.
 fn digits(bytes: &[u8], most: usize) -> Option<BigInt> {
     let fits = (1..=most).contains(&bytes.len()) && bytes.iter().all(u8::is_ascii_digit);
-    BigInt::parse_bytes(bytes, 10).filter(|_| fits)
+    Some(bytes).filter(|_| fits).and_then(|bytes| BigInt::parse_bytes(bytes, 10))
 }
 
 /// A next node: a number, or a hyphen for none.

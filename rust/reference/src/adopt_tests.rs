@@ -184,28 +184,28 @@ fn many(count: usize) -> (String, String) {
 #[test]
 fn more_vectors_than_fit_are_read_to_the_end() {
     let fresh = fresh();
-    let (alpha, graph) = many(32);
-    assert_eq!(refused(&fresh, &alpha, &graph), None);
-    let (alpha, graph) = many(33);
-    assert_eq!(refused(&fresh, &alpha, &graph), Some((9, 0)));
-    assert_eq!(refused(&fresh, &(alpha.clone() + "x"), &graph), Some((19, alpha.len() as u64)));
-    assert_eq!(refused(&fresh, &alpha, &(graph.clone() + "x")), Some((19, graph.len() as u64)));
-    assert_eq!(refused(&fresh, &alpha, &many(34).1), Some((20, 0)));
-    assert_eq!(refused(&fresh, &many(1_000).0, &many(1_000).1), Some((9, 0)));
+    for count in [32, 33, 100, 999, 1_000] {
+        let (alpha, graph) = many(count);
+        assert_eq!(made(&fresh, &alpha, &graph, &half()).map(|level| level.vectors), Ok(count as u64));
+    }
     // The thousand and first node has no three digits.
     let (alpha, graph) = many(1_001);
     assert_eq!(refused(&fresh, &alpha, &graph), Some((19, graph.len() as u64 - 11)));
+    assert_eq!(refused(&fresh, &(alpha.clone() + "x"), &graph), Some((19, alpha.len() as u64)));
+    assert_eq!(refused(&fresh, &alpha, &many(1_000).1), Some((20, 0)));
+    assert_eq!(refused(&fresh, &alpha, &(many(1_000).1 + "x")), Some((19, many(1_000).1.len() as u64)));
 }
 
 #[test]
 fn lengths_come_first() {
     let padded = |text: &str, length: usize| format!("{}{}", text, " ".repeat(length - text.len()));
     let mut fresh = fresh();
-    assert_eq!(refused(&fresh, &padded(ALPHA, FILE_BYTES), &padded(GRAPH, FILE_BYTES)), None);
-    assert_eq!(refused(&fresh, &padded("x", FILE_BYTES + 1), "x"), Some((1, 0)));
-    assert_eq!(refused(&fresh, "x", &padded("x", FILE_BYTES + 1)), Some((1, 0)));
+    assert_eq!(refused(&fresh, &padded(ALPHA, FILE_BYTES + 1), &padded(GRAPH, FILE_BYTES + 1)), None);
+    assert_eq!(refused(&fresh, &padded(ALPHA, SOLVER_BYTES), &padded(GRAPH, SOLVER_BYTES)), None);
+    assert_eq!(refused(&fresh, &padded("x", SOLVER_BYTES + 1), "x"), Some((1, 0)));
+    assert_eq!(refused(&fresh, "x", &padded("x", SOLVER_BYTES + 1)), Some((1, 0)));
     fresh.level = 101;
-    assert_eq!(refused(&fresh, &padded("x", FILE_BYTES + 1), "x"), Some((1, 0)));
+    assert_eq!(refused(&fresh, &padded("x", SOLVER_BYTES + 1), "x"), Some((1, 0)));
     assert_eq!(refused(&fresh, "x", "x"), Some((7, 0)));
 }
 
@@ -247,7 +247,7 @@ fn a_refusal_of_the_certifier() {
     assert_eq!(refused(&certifier, ALPHA, "0 0 0 1 1 1 1 0"), None);
     // At level 0 any zero vectors may stand: next nodes are tested against their number.
     let mut certifier = fresh();
-    certifier.standing.vectors = 2;
+    certifier.standing = Level::zeros(2, 0, 2, 2);
     assert_eq!(refused(&certifier, ALPHA, "0 0 - 1 1 1 1 0"), None);
     assert_eq!(refused(&certifier, ALPHA, "0 0 - 2 1 1 1 0"), Some((10, 0)));
 }

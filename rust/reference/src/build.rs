@@ -1,7 +1,9 @@
 //! The builder.
 
 use crate::exact::{corner, dot, first_largest, k, last_largest, round_down, round_up, stored, weights};
-use crate::level::{ceiling_backup, examine, first_untotalled, full, vector_backup, Certifier, Level, Lists};
+use crate::level::{
+    ceiling_backup, examine, first_untotalled, full, kept_choice, vector_backup, Certifier, Level, Lists,
+};
 use crate::model::{Model, STATES};
 use crate::refusal::Refusal;
 use crate::rules::{Rules, Trap};
@@ -50,15 +52,13 @@ pub fn build(certifier: &Certifier, points: &Points, rules: &Rules) -> Result<Le
         return Err(Refusal::at_index(12, point));
     }
 
-    let mut level = Level::zero();
+    let mut level = Level::zeros(n + count, count, n, model.k);
     let kept = (0..count).map(|j| weights(&points.weights[j * n..(j + 1) * n]));
-    for p in &(0..n).map(|s| corner(n, s)).chain(kept).collect::<Vec<_>>() {
-        let made = best_vector(&model, &standing, p, rules);
-        let v = level.vectors as usize;
-        level.vectors += 1;
+    for (v, p) in (0..n).map(|s| corner(n, s)).chain(kept).enumerate() {
+        let made = best_vector(&model, &standing, &p, rules);
         level.actions[v] = made.action as u64;
         for (o, &choice) in made.choices.iter().enumerate() {
-            level.choices[v * model.k + o] = choice as u64;
+            level.choices[v * model.k + o] = kept_choice(choice as u64, rules);
         }
         for (s, entry) in made.entries.iter().enumerate() {
             level.entries[v * n + s] = stored(entry);
@@ -68,7 +68,7 @@ pub fn build(certifier: &Certifier, points: &Points, rules: &Rules) -> Result<Le
     Ok(level)
 }
 
-/// Gives a level the builder's ceiling: at the corners and at these points, which it keeps, the least values.
+/// Gives a level of as many points the builder's ceiling: at the corners and at these points, which it keeps, the least values.
 pub fn least_ceiling(model: &Model, standing: &Lists, points: &Points, level: &mut Level, rules: &Rules) {
     let n = model.n;
     for s in 0..n {
@@ -76,7 +76,6 @@ pub fn least_ceiling(model: &Model, standing: &Lists, points: &Points, level: &m
     }
     for j in 0..points.count as usize {
         let given = &points.weights[j * n..(j + 1) * n];
-        level.points += 1;
         level.weights[j * n..(j + 1) * n].copy_from_slice(given);
         level.values[j] = stored(&least_value(model, standing, &weights(given), rules));
     }

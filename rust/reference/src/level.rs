@@ -1,14 +1,14 @@
 //! Levels, the certifier, and offers.
 
-use crate::exact::{corner, dot, k, kept, round_down, ticks, weights, zero};
-use crate::model::{Model, Tables, OBSERVATIONS, STATES};
+use crate::exact::{corner, dot, k, round_down, ticks, weights, zero};
+use crate::model::{Model, Tables};
 use crate::refusal::Refusal;
 use crate::rows;
 use crate::rules::{Rules, Trap};
 use num_bigint::BigInt;
 
 /// A level has at most so many vectors.
-pub const VECTORS: usize = 32;
+pub const VECTORS: usize = 1_000;
 /// A level has at most so many points.
 pub const POINTS: usize = 32;
 /// The weights of a point total 1 to this.
@@ -21,8 +21,9 @@ pub const TICKS: u64 = 100_000;
 /// The rule for totals as it was when hundredths were all that a point could say.
 const HUNDRED_ONLY: Rules = Rules { trap: Some(Trap::HundredOnly) };
 
-/// A level of any content, in storage.
-#[derive(Clone, Debug, PartialEq, Eq)]
+/// A level of any content, in lists of any length: what lies past its counts is not read. By default every part is 0, and the
+/// lists are empty: that of a refusing builder.
+#[derive(Clone, Debug, Default, PartialEq, Eq)]
 pub struct Level {
     /// The number of vectors.
     pub vectors: u64,
@@ -71,28 +72,38 @@ pub struct Point {
 }
 
 impl Level {
-    /// A level of which every part is 0: that of a refusing builder.
-    pub fn zero() -> Level {
+    /// A level of so many vectors and points over `n` states and `k` observations, of which every number is 0.
+    pub fn zeros(vectors: usize, points: usize, n: usize, k: usize) -> Level {
         Level {
-            vectors: 0,
-            actions: vec![0; VECTORS],
-            choices: vec![0; VECTORS * OBSERVATIONS],
-            entries: vec![0; VECTORS * STATES],
-            corners: vec![0; STATES],
-            points: 0,
-            weights: vec![0; POINTS * STATES],
-            values: vec![0; POINTS],
+            vectors: vectors as u64,
+            actions: vec![0; vectors],
+            choices: vec![0; vectors * k],
+            entries: vec![0; vectors * n],
+            corners: vec![0; n],
+            points: points as u64,
+            weights: vec![0; points * n],
+            values: vec![0; points],
         }
     }
 
     /// Level 0: one zero vector with action and choices 0, zero corners, no points.
-    pub fn fresh() -> Level {
-        Level { vectors: 1, ..Level::zero() }
+    pub fn fresh(n: usize, k: usize) -> Level {
+        Level::zeros(1, 0, n, k)
     }
 
-    /// 9: at least one vector, and no more vectors or points than fit.
-    fn counts_fit(&self) -> bool {
-        self.vectors >= 1 && self.vectors <= VECTORS as u64 && self.points <= POINTS as u64
+    /// 9: at least one vector, no more vectors or points than fit, and no list shorter than what is read of it. The choices
+    /// are asked of an offered level alone.
+    fn counts_fit(&self, model: &Model, offered: bool, rules: &Rules) -> bool {
+        if self.vectors < 1 || self.vectors > most_vectors(rules) || self.points > POINTS as u64 {
+            return false;
+        }
+        let (vectors, points) = (self.vectors as usize, self.points as usize);
+        self.actions.len() >= vectors
+            && (self.choices.len() >= vectors * model.k || !offered)
+            && self.entries.len() >= vectors * model.n
+            && self.corners.len() >= model.n
+            && self.weights.len() >= points * model.n
+            && self.values.len() >= points
     }
 
     /// 10: the first vector whose action or chosen vector does not exist.
@@ -146,20 +157,37 @@ impl Level {
         }
     }
 
-    /// What is stored of an accepted level: what the rules read, and 0 past the counts.
-    fn stored(&self, model: &Model) -> Level {
-        let vectors = self.vectors as usize;
-        let points = self.points as usize;
+    /// What is stored of an accepted level: what the rules read.
+    fn stored(&self, model: &Model, rules: &Rules) -> Level {
+        let (vectors, points) = (self.vectors as usize, self.points as usize);
         Level {
             vectors: self.vectors,
-            actions: kept(&self.actions, vectors),
-            choices: kept(&self.choices, vectors * model.k),
-            entries: kept(&self.entries, vectors * model.n),
-            corners: kept(&self.corners, model.n),
+            actions: self.actions[..vectors].to_vec(),
+            choices: self.choices[..vectors * model.k].iter().map(|&choice| kept_choice(choice, rules)).collect(),
+            entries: self.entries[..vectors * model.n].to_vec(),
+            corners: self.corners[..model.n].to_vec(),
             points: self.points,
-            weights: kept(&self.weights, points * model.n),
-            values: kept(&self.values, points),
+            weights: self.weights[..points * model.n].to_vec(),
+            values: self.values[..points].to_vec(),
         }
+    }
+}
+
+/// How many vectors a level has at most.
+pub fn most_vectors(rules: &Rules) -> u64 {
+    match rules.trap {
+        Some(Trap::ThirtyTwoVectors) => 32,
+        Some(Trap::ThousandAndOne) => VECTORS as u64 + 1,
+        _ => VECTORS as u64,
+    }
+}
+
+/// The number of a chosen vector, as a level keeps it.
+pub fn kept_choice(choice: u64, rules: &Rules) -> u64 {
+    if rules.has(Trap::ChoicesInEightBits) {
+        choice % 256
+    } else {
+        choice
     }
 }
 
@@ -243,9 +271,9 @@ pub fn vector_backup(model: &Model, standing: &Lists, s: usize, a: usize, choice
 
 /// Opens a certifier on tables, or refuses them with 3, 5 or 6. It stands at level 0.
 pub fn open(tables: &Tables, rules: &Rules) -> Result<Certifier, Refusal> {
-    Model::of(tables, rules)?;
+    let Model { n, k, .. } = Model::of(tables, rules)?;
     let (informed, qmdp) = (rows::fresh(), rows::fresh());
-    Ok(Certifier { tables: tables.stored(), standing: Level::fresh(), level: 0, informed, qmdp })
+    Ok(Certifier { tables: tables.stored(), standing: Level::fresh(n, k), level: 0, informed, qmdp })
 }
 
 impl Certifier {
@@ -277,7 +305,7 @@ pub fn examine(certifier: &Certifier, rules: &Rules) -> Result<(Model, Lists), R
     let model = Model::of(&certifier.tables, rules).map_err(|_| seven)?;
     let standing = &certifier.standing;
     let fits = certifier.level <= LEVELS
-        && standing.counts_fit()
+        && standing.counts_fit(&model, false, rules)
         && standing.first_outside(model.n, certifier.level, rules).is_none()
         && standing.first_untotalled(model.n, rules).is_none()
         && certifier.rows_fit(&model, rules)
@@ -285,15 +313,15 @@ pub fn examine(certifier: &Certifier, rules: &Rules) -> Result<(Model, Lists), R
     if !fits {
         return Err(seven);
     }
-    let choices = &standing.choices[..standing.vectors as usize * model.k];
-    if rules.has(Trap::StandingChoicesRead) && choices.iter().any(|&v| v >= VECTORS as u64) {
+    let mut choices = standing.choices.iter().take(standing.vectors as usize * model.k);
+    if rules.has(Trap::StandingChoicesRead) && choices.any(|&v| v >= VECTORS as u64) {
         return Err(seven);
     }
     let hundred = || first_untotalled(&standing.weights, standing.points as usize, model.n, &HUNDRED_ONLY).is_none();
     if rules.has(Trap::StandingHundredOnly) && !hundred() {
         return Err(seven);
     }
-    if rules.has(Trap::FreshOnly) && certifier.level == 0 && *standing != Level::fresh() {
+    if rules.has(Trap::FreshOnly) && certifier.level == 0 && *standing != Level::fresh(model.n, model.k) {
         return Err(seven);
     }
     let lists = Lists { informed: rows::lists(&certifier.informed, &model), ..standing.lists(model.n) };
@@ -336,10 +364,10 @@ fn judge(certifier: &Certifier, offered: &Level, rules: &Rules) -> Result<Level,
     if full(certifier, rules) {
         return Err(Refusal::at(8, 0));
     }
-    if !offered.counts_fit() {
+    if !offered.counts_fit(&model, true, rules) {
         return Err(Refusal::at(9, 0));
     }
-    let stored = offered.stored(&model);
+    let stored = offered.stored(&model, rules);
     if rules.has(Trap::AcceptAll) {
         return Ok(stored);
     }

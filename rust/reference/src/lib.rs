@@ -4,8 +4,8 @@
 //! sentence of the document as it stands, without a shortcut. It is slow, and meant to be read next to the document.
 //!
 //! What is handed in is plain storage ([`Tables`], [`Level`], [`Certifier`], [`Points`], [`Graph`]) that may hold
-//! anything. Arrays have their full fixed sizes; the cells in use come first, packed by the counts, the last index
-//! fastest. Storage is looked into only after its counts have passed.
+//! anything. The cells in use come first, packed by the counts, the last index fastest. A level has lists of any length; all
+//! other arrays have their full fixed sizes. Storage is looked into only after its counts have passed.
 //!
 //! [`Rules::default`] is the document. A [`Trap`] is one deliberate departure from it, so that a comparison can be shown
 //! to fail.
@@ -31,7 +31,7 @@ mod totals;
 mod words;
 mod worth;
 
-pub use adopt::{adopt, adopted_vectors};
+pub use adopt::{adopt, adopted_vectors, SOLVER_BYTES};
 pub use build::{build, Points, BUILT_POINTS};
 pub use file::{read, Reading, FILE_BYTES};
 pub use ladder::ladder;

@@ -208,14 +208,47 @@ fn certifiers_that_are_handed_in() {
     assert_eq!(offered(&|certifier| certifier.level = 99), Ok(()));
     assert_eq!(offered(&|certifier| certifier.standing.corners[0] = 1), Err(7));
     assert_eq!(offered(&|certifier| certifier.standing.choices[0] = u64::MAX), Ok(()));
-    assert_eq!(offered(&|certifier| certifier.standing.vectors = 2), Ok(()));
-    assert_eq!(offered(&|certifier| certifier.standing.points = 1), Err(7));
+    let (n, k) = (fresh.tables.states as usize, fresh.tables.observations as usize);
+    for (vectors, answer) in [(2, Ok(())), (1_000, Ok(())), (1_001, Err(7))] {
+        assert_eq!(offered(&|certifier| certifier.standing = Level::zeros(vectors, 0, n, k)), answer);
+    }
+    // What is too short for its counts; choices are not asked for.
+    assert_eq!(offered(&|certifier| certifier.standing.vectors = 2), Err(7));
+    assert_eq!(offered(&|certifier| certifier.standing.entries.truncate(n - 1)), Err(7));
+    assert_eq!(offered(&|certifier| certifier.standing.choices.clear()), Ok(()));
     let with_point = |weights: [u64; 2]| {
         offered(&|certifier| {
-            certifier.standing.points = 1;
-            certifier.standing.weights[..2].copy_from_slice(&weights);
+            certifier.standing = Level::zeros(1, 1, n, k);
+            certifier.standing.weights.copy_from_slice(&weights);
         })
     };
+    assert_eq!(with_point([0, 0]), Err(7));
     assert_eq!(with_point([99, 1]), Ok(()));
     assert_eq!(with_point([u64::MAX, 101]), Err(7));
+}
+
+#[test]
+fn levels_of_many_vectors() {
+    let rules = Rules::default();
+    let file = format!("{}{}", HEADER, ROWS);
+    let fresh = open(&read(file.as_bytes(), &rules).unwrap().tables, &rules).unwrap();
+    let (n, k) = (fresh.tables.states as usize, fresh.tables.observations as usize);
+    let offered = |vectors: usize, change: &dyn Fn(&mut Level)| {
+        let (mut certifier, mut level) = (fresh.clone(), Level::zeros(vectors, 0, n, k));
+        level.entries.fill(-100_000);
+        level.corners.fill(100_000);
+        change(&mut level);
+        offer(&mut certifier, &level, &rules).map_err(|refusal| (refusal.number, refusal.place))
+    };
+    for vectors in [1, 32, 33, 255, 256, 999, 1_000] {
+        assert_eq!(offered(vectors, &|_| {}), Ok(()));
+    }
+    assert_eq!(offered(0, &|_| {}), Err((9, 0)));
+    assert_eq!(offered(1_001, &|_| {}), Err((9, 0)));
+    assert_eq!(offered(1_000, &|level| level.vectors = u64::MAX), Err((9, 0)));
+    assert_eq!(offered(1_000, &|level| level.entries.truncate(1_000 * n - 1)), Err((9, 0)));
+    assert_eq!(offered(1_000, &|level| level.choices.truncate(1_000 * k - 1)), Err((9, 0)));
+    assert_eq!(offered(1_000, &|level| level.choices[1_000 * k - 1] = 1), Err((10, 999)));
+    assert_eq!(offered(1_000, &|level| level.entries[1_000 * n - 1] -= 1), Err((11, 999)));
+    assert_eq!(offered(1_000, &|level| level.entries[1_000 * n - 1] = 100_000), Err((13, 999)));
 }

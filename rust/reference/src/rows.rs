@@ -151,13 +151,13 @@ mod tests {
     #[test]
     fn stepped_whatever_is_offered() {
         let tables = example("tiger");
-        let (n, mut loose) = (tables.states as usize, open(&tables, &DOCUMENT).unwrap());
+        let mut loose = open(&tables, &DOCUMENT).unwrap();
         for t in 1..=4 {
-            let mut level = Level::fresh();
-            level.entries[..n].fill(-100_000 * t);
-            level.corners[..n].fill(100_000 * t);
+            let mut level = Level::fresh(tables.states as usize, tables.observations as usize);
+            level.entries.fill(-100_000 * t);
+            level.corners.fill(100_000 * t);
             let mut wrong = level.clone();
-            wrong.entries[..n].fill(100_000 * t);
+            wrong.entries.fill(100_000 * t);
             let before = loose.clone();
             assert_eq!(offer(&mut loose, &wrong, &DOCUMENT), Err(Refusal::at(13, 0)));
             assert_eq!(loose, before);

@@ -2,12 +2,13 @@
 
 use std::fmt;
 
-/// Defines the traps with a sentence each: those of the reader, and those of what comes after it.
+/// Defines the traps with a sentence each: those of the reader, of a solver's files, of the judging, and of large levels.
 macro_rules! traps {
     (
         reading { $($word:ident: $word_text:literal,)* }
         adopting { $($file:ident: $file_text:literal,)* }
         judging { $($name:ident: $text:literal,)* }
+        many { $($large:ident: $large_text:literal,)* }
     ) => {
         /// One deliberate departure from the document.
         #[derive(Clone, Copy, Debug, PartialEq, Eq)]
@@ -15,6 +16,7 @@ macro_rules! traps {
             $(#[doc = $word_text] $word,)*
             $(#[doc = $file_text] $file,)*
             $(#[doc = $text] $name,)*
+            $(#[doc = $large_text] $large,)*
         }
 
         impl Trap {
@@ -24,8 +26,11 @@ macro_rules! traps {
             /// Those that only show in a solver's files.
             pub const ADOPTING: &'static [Trap] = &[$(Trap::$file,)*];
 
-            /// All others.
+            /// Those that show in the judging.
             pub const JUDGING: &'static [Trap] = &[$(Trap::$name,)*];
+
+            /// Those that only show in levels of many vectors and in long files.
+            pub const MANY: &'static [Trap] = &[$(Trap::$large,)*];
 
             /// What is done wrong.
             pub fn text(self) -> &'static str {
@@ -33,6 +38,7 @@ macro_rules! traps {
                     $(Trap::$word => $word_text,)*
                     $(Trap::$file => $file_text,)*
                     $(Trap::$name => $text,)*
+                    $(Trap::$large => $large_text,)*
                 }
             }
         }
@@ -92,7 +98,7 @@ traps! {
         SevenBeforeOne: "7 is tested before 1",
         SevenAfterFiles: "7 is tested after 19 and 20",
         EightBeforeFiles: "8 is tested before 19",
-        NineBeforeGraph: "over 32 vectors get 9 before the graph is read",
+        NineBeforeGraph: "over 1,000 vectors get 9 before the graph is read",
         GraphFirst: "the graph is read before the alpha file",
         TwentyFirst: "20 is tested before 19",
         TenAfterEleven: "10 is tested after 11",
@@ -200,6 +206,14 @@ traps! {
         WorthStepTooFew: "one step less is made than is asked for",
         ReachedNodesOnly: "nodes that are not reached are not tested",
         FiveSteps: "five steps may be asked for",
+    }
+    many {
+        ThirtyTwoVectors: "a level has at most 32 vectors",
+        ThousandAndOne: "1,001 vectors pass",
+        ChoicesInEightBits: "a chosen vector's number is kept in 8 bits",
+        HundredRead: "vectors and nodes above 99 are not read",
+        SolverFilesAsModel: "a solver's file above 32,768 bytes is refused",
+        SolverByteMore: "a solver's file of 4 MiB and one byte passes",
     }
 }
 

@@ -23,7 +23,7 @@ impl Copied {
             return Err(NINE);
         }
         // No vectors are refused in any case: by 7 upon a certifier that breaks its limits, else by 8 or 9.
-        let nothing = reference::offer(&mut standing.clone(), &reference::Level::zero(), &self.rules);
+        let nothing = reference::offer(&mut standing.clone(), &reference::Level::default(), &self.rules);
         nothing.or_else(|refusal| if refusal.number == 7 { Err(refusal) } else { Ok(()) })?;
         if !self.list_fits(offers, n, k) {
             return Err(NINE);
@@ -69,7 +69,8 @@ impl Copied {
         };
         let within = |counts: &[usize], room: usize| counts.iter().take(count).all(|&count| count <= room);
         let fit = || within(&offers.vectors, block_vectors) && within(&offers.points, block_points);
-        ((block_vectors <= VECTORS && block_points <= POINTS) || self.has(Slip::LargeBlocksPass))
+        let most = if self.has(Slip::SmallBlocks) { 32 } else { VECTORS };
+        ((block_vectors <= most && block_points <= POINTS) || self.has(Slip::LargeBlocksPass))
             && (long() || self.has(Slip::ShortListPasses))
             && (fit() || !self.has(Slip::LargeOfferRefusesAll))
     }
