@@ -31,23 +31,40 @@ fn they_are_what_the_solver_writes() {
     }
 }
 
-/// At the start mixture as the only point: level, lower and upper total, gap, action.
+/// What is certified of a solver's files, an alpha file and a graph for each step, at the start mixture as the only point: level,
+/// lower and upper total, gap, action.
+fn certified(model: &Reading, files: impl Iterator<Item = (String, String)>) -> String {
+    let rules = Rules::default();
+    let mut certifier = open(&model.tables, &rules).unwrap();
+    let mut points = Points { count: 1, ..Points::none() };
+    points.weights[..model.start.len()].copy_from_slice(&model.start);
+    let mut lines = String::new();
+    for (t, (alpha, graph)) in (1..).zip(files) {
+        let level = adopt(&certifier, alpha.as_bytes(), graph.as_bytes(), &points, &rules).unwrap();
+        offer(&mut certifier, &level, &rules).unwrap();
+        let at = totals(&certifier, &model.start, &rules).unwrap();
+        lines.push_str(&format!("{} {} {} {} {}\n", t, at.lower, at.upper, at.gap, at.action));
+    }
+    lines
+}
+
 #[test]
 fn they_are_certified() {
-    let rules = Rules::default();
     for name in ["dough", "tiger"] {
-        let Reading { tables, start } = model(name);
-        let mut certifier = open(&tables, &rules).unwrap();
-        let mut points = Points { count: 1, ..Points::none() };
-        points.weights[..start.len()].copy_from_slice(&start);
-        let mut lines = String::new();
-        for t in 1..=STEPS {
-            let (alpha, graph) = (text(&format!("{}.alpha{}", name, t)), text(&format!("{}.pg{}", name, t)));
-            let level = adopt(&certifier, alpha.as_bytes(), graph.as_bytes(), &points, &rules).unwrap();
-            offer(&mut certifier, &level, &rules).unwrap();
-            let at = totals(&certifier, &start, &rules).unwrap();
-            lines.push_str(&format!("{} {} {} {} {}\n", t, at.lower, at.upper, at.gap, at.action));
-        }
-        assert_eq!(text(&format!("{}.expected", name)), lines, "{}", name);
+        let file = |kind: &str, t: usize| text(&format!("{}.{}{}", name, kind, t));
+        let files = (1..=STEPS).map(|t| (file("alpha", t), file("pg", t)));
+        assert_eq!(text(&format!("{}.expected", name)), certified(&model(name), files), "{}", name);
     }
+}
+
+/// Eight steps of the maze are certified too, of which the last has hundreds of vectors.
+#[test]
+fn hundreds_of_vectors_are_certified() {
+    let maze = model("four-by-three");
+    let found = steps(&Model::of(&maze.tables), 8, VECTORS);
+    let counts: Vec<usize> = found.iter().map(Vec::len).collect();
+    assert_eq!(counts, [1, 3, 4, 4, 15, 41, 128, 477]);
+    assert_eq!(alpha_file(&found[7]).len(), 81_573);
+    let files = found.iter().map(|vectors| (alpha_file(vectors), graph_file(vectors)));
+    assert_eq!(text("four-by-three.expected"), certified(&maze, files));
 }
