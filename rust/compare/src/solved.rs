@@ -11,7 +11,7 @@ use std::{fs, io};
 
 /// How many steps an example is solved for.
 const STEPS: usize = 8;
-/// How many vectors a step has at most: the solver takes long for more.
+/// How many vectors a step has at most: more take long.
 const VECTORS: usize = 32;
 
 /// A model, points for the ceilings, and the solver's steps upon the model.
@@ -24,7 +24,11 @@ pub struct Climb {
 impl Climb {
     /// So many steps, or as many as have no more vectors than that.
     pub fn of(tables: Tables, points: Points, count: usize) -> Climb {
-        let steps = solver::steps(&solver::Model::of(&tables), count, VECTORS);
+        Climb::up_to(VECTORS, tables, points, count)
+    }
+
+    fn up_to(most: usize, tables: Tables, points: Points, count: usize) -> Climb {
+        let steps = solver::steps(&solver::Model::of(&tables), count, most);
         Climb { tables, points, steps }
     }
 
@@ -49,6 +53,13 @@ pub fn random(rng: &mut Rng) -> Climb {
     let count = rng.index(3);
     let points = gen::points(rng, shape.n, count);
     Climb::of(tables, points, 1 + rng.index(5))
+}
+
+/// The tiger over forty steps: the last has over 100 vectors.
+pub fn long() -> Climb {
+    let file = include_str!("../../../examples/tiger.pomdp");
+    let tables = reference::read(file.as_bytes(), &gen::DOCUMENT).expect("the model is read").tables;
+    Climb::up_to(reference::VECTORS, tables, Points::none(), 40)
 }
 
 /// Steps upon each model file of a folder that is read, at its start mixture.
@@ -141,6 +152,13 @@ mod tests {
             let losses = check(&climb, &DOCUMENT).unwrap_or_else(|found| panic!("{}: {}", name, found));
             println!("{}: {:?}", name, losses);
         }
+    }
+
+    #[test]
+    fn a_hundred_vectors_are_certified() {
+        let climb = long();
+        assert!(climb.steps.len() == 40 && climb.steps[39].len() > 100);
+        assert!(check(&climb, &DOCUMENT).is_ok());
     }
 
     #[test]

@@ -111,6 +111,12 @@ impl Suites<'_> {
             println!("{} as a solver has it, ticks lost at level t: {}", name, shown.shown());
         }
 
+        let climb = solved::long();
+        let found = solved::check(&climb, &Through(self.linked)).err();
+        if !self.told("the tiger over forty steps", found, || climb.show())? {
+            return Ok(false);
+        }
+
         let limit = self.options.seconds.map(Duration::from_secs);
         let shares = [
             ("random", FILES),

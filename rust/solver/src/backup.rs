@@ -3,8 +3,8 @@
 use crate::prune::pruned;
 use reference::Tables;
 
-/// Where the vectors in between are more than this, a step is given up.
-const MOST_BETWEEN: usize = 4_000;
+/// Where the vectors in between are so many times more than a step may have, it is given up.
+const BETWEEN: usize = 125;
 
 /// A model in floating point. Rewards are in units.
 #[derive(Clone, Debug)]
@@ -57,7 +57,7 @@ impl Model {
     }
 
     /// The vectors of one action that are best somewhere, if there are not too many in between.
-    fn of_action(&self, action: usize, before: &[Vector]) -> Option<Vec<Vector>> {
+    fn of_action(&self, action: usize, before: &[Vector], most: usize) -> Option<Vec<Vector>> {
         let rewards = &self.rewards[action * self.states..(action + 1) * self.states];
         let mut sums = vec![Vector { action, next: Vec::new(), values: rewards.to_vec() }];
         for o in 0..self.observations {
@@ -67,7 +67,7 @@ impl Model {
                 values: self.projected(action, o, &vector.values),
             };
             let onward = pruned(before.iter().enumerate().map(onward).collect());
-            if sums.len() * onward.len() > MOST_BETWEEN {
+            if sums.len() * onward.len() > BETWEEN * most {
                 return None;
             }
             let both = |one: &Vector, other: &Vector| Vector {
@@ -82,19 +82,20 @@ impl Model {
     }
 
     /// The vectors that are best somewhere, over all actions.
-    fn step(&self, before: &[Vector]) -> Option<Vec<Vector>> {
-        let of_actions = (0..self.actions).map(|action| self.of_action(action, before));
+    fn step(&self, before: &[Vector], most: usize) -> Option<Vec<Vector>> {
+        let of_actions = (0..self.actions).map(|action| self.of_action(action, before, most));
         Some(pruned(of_actions.collect::<Option<Vec<_>>>()?.concat()))
     }
 }
 
-/// The vectors of so many steps, one upon the other; fewer, where a step would have more vectors than the most.
+/// The vectors of so many steps, one upon the other; fewer, where a step would have more vectors than the most, or far more in
+/// between.
 pub fn steps(model: &Model, count: usize, most: usize) -> Vec<Vec<Vector>> {
     let zero = Vector { action: 0, next: Vec::new(), values: vec![0.0; model.states] };
     let mut before = vec![zero];
     let mut all: Vec<Vec<Vector>> = Vec::new();
     while all.len() < count {
-        let mut vectors = match model.step(&before) {
+        let mut vectors = match model.step(&before, most) {
             Some(vectors) if vectors.len() <= most => vectors,
             _ => break,
         };

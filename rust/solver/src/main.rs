@@ -35,7 +35,7 @@ fn run(words: &[String]) -> Result<(), String> {
         println!("step {}: {} vectors", t, vectors.len());
     }
     if found.len() < count {
-        return Err(format!("step {} would have over {} vectors", found.len() + 1, VECTORS));
+        return Err(format!("step {} would have over {} vectors, or far more in between", found.len() + 1, VECTORS));
     }
     Ok(())
 }
