@@ -13,11 +13,11 @@
  * may be called from any thread, as long as no two calls at once are lent the same memory and one of them writes it.
  *
  * What is proved: whatever it is lent, a call ends without fault, answers, and leaves in every slice what the definitions
- * say (specs/ of crates/runs, crates/bounds, crates/mixtures, crates/worth, crates/modelfile, crates/solved, crates/replay
- * and crates/exports). Where a certifier was opened by biidhaqun_open, its slices were written by biidhaqun_offer and
- * biidhaqun_replay alone, whatever was offered, and each call was lent the same tables, its totals bracket every plan. A
- * level that is built upon it, or adopted, is accepted if the certifier's slices have room for it. The inline functions at
- * the end, and what this file says, are not proved.
+ * say (specs/ of crates/runs, mixtures, worths, worth, modelfile, reading, solver, solved, adopting, replay and answers).
+ * Where a certifier was opened by biidhaqun_open, its slices were written by biidhaqun_offer and biidhaqun_replay alone,
+ * whatever was offered, and each call was lent the same tables, its totals bracket every plan. A level that is built upon
+ * it, or adopted, is accepted if the certifier's slices have room for it. The inline functions at the end, and what this
+ * file says, are not proved.
  *
  * SLICES. What a call is lent are slices: a pointer, and a length in elements. They are packed by the model's counts (n
  * states, m actions, k observations), the last index fastest, and may be longer: what lies behind is neither read nor
