@@ -18,9 +18,9 @@ use Rattle.tables.proofs.Refusals.{before-fine, unless-fine, fine-at, at-fine}
 use Rattle.tables.proofs.Accepted.{tables-valid, tables-stored, tables-fine}
 use Rattle.plans.specs.Limits.{maxTotal, range}
 use Rattle.plans.specs.Level.{Level, backupAt, corner-weight, follows, Meets, ShapedUpTo, IsPoint}
-use Rattle.levels.specs.Judged.{countsHold, rowsWithin, totalHolds, valuesWithin, rangesVerdict, weightsVerdict, actionsExist, isFine, rowsHold, holdsUpTo, fits}
-use Rattle.levels.specs.Judged.{numbersIn, numbersVerdict, floorsVerdict, coversBackups, cornersVerdict, pointsVerdict, levelVerdict, shapeUpTo}
-use Rattle.levels.specs.Judged.{backupsVerdict, offerUpTo}
+use Rattle.levels.specs.Judged.{countsHold, rowsWithin, totalHolds, valuesWithin, rangesVerdict, weightsVerdict, actionsExist, isFine}
+use Rattle.levels.specs.Judged.{numbersIn, numbersVerdict, floorsVerdict, coversBackups, cornersVerdict, pointsVerdict, levelVerdict}
+use Rattle.levels.specs.Judged.{rowsHold, holdsUpTo, fits, shapeUpTo, backupsVerdict, offerUpTo}
 use Rattle.levels.specs.Storage.{LentLevel, Lent, stateSize, levelOf, readable, complete, numberIn, standingIn, lentFor}
 use Rattle.levels.proofs.Laws.{passed, fine-before, numbers-in}
 use Rattle.levels.proofs.Over.{Readable, Complete, readable-true, readable-is, complete-true, complete-is}

@@ -1,11 +1,9 @@
 // Refusals 3, 5 and 6 of tables of any content.
 ghost use mathlib.Core.Path.{_≡_};
 ghost use mathlib.Core.Bool.{_&&_};
-ghost use Prim.Native.Nat.{_+_, _*_, _≤_};
-ghost use lib.Dec.{leb};
+ghost use Prim.Native.Nat.{_+_, _*_, _≤_, max};
 ghost use lib.ListN.{length, getD};
-ghost use Rattle.integers.specs.Whole.{totalTo};
-ghost use Rattle.integers.specs.Search.{every};
+ghost use Rattle.integers.specs.Whole.{totalTo, largestTo};
 ghost use Rattle.tables.specs.Limits.{maxStates, maxActions, maxObservations, one};
 ghost use Rattle.tables.specs.Storage.{cellIn, rewardIn, modelOf, tablesIn};
 ghost use Rattle.tables.specs.Judged.{countWithin, countsWithin, cellsWithin, rewardsWithin, limitsHold, tablesStored, rowsTotal};
@@ -38,34 +36,34 @@ pub fn counts_within(n: usize, m: usize, k: usize) -> bool
     count_within(Tables::OBSERVATIONS, k)
 }
 
-// Whether each of the w cells from `at` on is at most 1.
-fn row_within(cells: &[u16], at: usize, w: usize) -> bool
-    requires { ⌜ at + w ≤ length (now cells) ⌝ }
-    ensures { λ r. ⌜ r ≡ every w (λ x. leb (getD (now (cells .entry)) (at + x) 0) one) ⌝ }
+fn larger(a: u16, b: u16) -> u16
+    ensures { λ r. ⌜ r ≡ max a b ⌝ }
 {
-    for x in 0..w {
-        if Tables::ONE < read::wide(cells[at + x]) {
-            return false;
-        }
+    if a < b {
+        return b;
     }
-    true
+    a
 }
 
-// Whether each cell of m blocks of n rows of width w is at most 1.
+// The largest of the first `count` cells.
+fn largest(cells: &[u16], count: usize) -> u16
+    requires { ⌜ count ≤ length (now cells) ⌝ }
+    ensures { λ r. ⌜ r ≡ largestTo count (λ x. getD (now (cells .entry)) x 0) ⌝ }
+{
+    let mut most: u16 = 0;
+    for x in 0..count {
+        most = larger(most, cells[x]);
+    }
+    most
+}
+
+// Whether each cell of m blocks of n rows of width w is at most 1: they lie one after the other.
 fn cells_within(cells: &[u16], m: usize, n: usize, w: usize) -> bool
     requires { ⌜ (m ≤ maxActions) × ((n ≤ maxStates) × (w ≤ maxStates)) ⌝ }
     requires { ⌜ m * n * w ≤ length (now cells) ⌝ }
     ensures { λ r. ⌜ r ≡ cellsWithin m n w (cellIn n w (now (cells .entry))) ⌝ }
 {
-    for a in 0..m {
-        for s in 0..n {
-            let at = read::start(read::row(a, n, s), w);
-            if !row_within(cells, at, w) {
-                return false;
-            }
-        }
-    }
-    true
+    read::wide(largest(cells, m * n * w)) <= Tables::ONE
 }
 
 fn rewards_within(cells: &[i64], m: usize, n: usize) -> bool

@@ -116,4 +116,5 @@ open-spec =
     (λ c. omega (arith, few (of-state (of-level (c .before .before .before)) .before))) clear-i64-requires-2
     (λ c. of-state (of-level (of-informed c)) .put-standing .kept .0) (λ c. of-level (of-informed c) .lay-level-0 .kept .1 .1 .0)
     (λ c. of-level (of-informed c) .lay-level-0 .kept .1 .1 .1 .0) (λ c. of-level (of-informed c) .lay-level-0 .kept .1 .1 .1 .1 .0)
-    (λ c. of-level (of-informed c) .lay-level-0 .kept .1 .1 .1 .1 .1 .0) (λ c. of-informed c .clear-i64 .kept .0) (λ c. c .before .clear-i642 .kept .0) returns-2)
+    (λ c. of-level (of-informed c) .lay-level-0 .kept .1 .1 .1 .1 .1 .0) (λ c. of-informed c .clear-i64 .kept .0)
+    (λ c. c .before .clear-i642 .kept .0) returns-2)

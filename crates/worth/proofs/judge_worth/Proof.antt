@@ -52,8 +52,10 @@ returns-2 c = rw (fine-tables (c .before .before), sym (c .before .nodes-within 
 numbers-exist-requires : tie.Need-numbers-exist-requires
 numbers-exist-requires c κs =
     let h = and-true (countWithin maxNodes (of-count c .args .nodes)) _ (count c) in
-    let g = graph-stored (of-count c .args .c .observations) (graph (of-count c)) (h .1) in
-    ((omega (arith, count-true maxNodes (of-count c .args .nodes) (h .0) .1), valid-tables (c .before .before) .few-observations), (g .actions-long, g .next-stored))
+    let g = graph-stored (of-count c .args .c .observations) (graph (of-count c)) (h .1) in (
+      (omega (arith, count-true maxNodes (of-count c .args .nodes) (h .0) .1), valid-tables (c .before .before) .few-observations),
+      (g .actions-long, g .next-stored),
+    )
 
 returns-3 : tie.Need-returns-3
 unfolding worthVerdict
