@@ -1,9 +1,9 @@
 -- Laws of the searches: as a loop makes them, and what their answers say. Assumes nothing.
 use Rattle.integers.proofs.Kit.{_≡_, _∙_, refl, sym, true, false, Bool, cond, _&&_, ℕ, _<_, _+_, suc, zero, arith, add-one, decLt, T, ℤ, _≤ℤ_}
-use Rattle.integers.proofs.Kit.{ltZ, _<ℤ_}
+use Rattle.integers.proofs.Kit.{_||_, ap, ltZ, _<ℤ_}
 use mathlib.Core.Bool.{not}
 use lib.Signed.{ltZ-yes, ltZ-no}
-use Rattle.integers.specs.Search.{every, firstLargest}
+use Rattle.integers.specs.Search.{every, some, firstLargestOf, firstLargest}
 use Rattle.integers.proofs.Parts.{is-T}
 use Rattle.integers.proofs.Order.{≤-refl, ≤-trans, <-≤}
 
@@ -19,6 +19,14 @@ below-suc {P} n f p i l = by (decLt i n)
 pub and-true : (a b : Bool) → (a && b) ≡ true → (a ≡ true) × (b ≡ true)
 and-true true b e = (refl, e)
 and-true false b e = absurd (is-T e)
+
+pub or-true : (a : Bool) → (a || true) ≡ true
+or-true true = refl
+or-true false = refl
+
+pub or-false : (a : Bool) → (a || false) ≡ a
+or-false true = refl
+or-false false = refl
 
 pub and-is : {a b : Bool} → a ≡ true → b ≡ true → (a && b) ≡ true
 and-is e f = rw (e, f)
@@ -55,54 +63,145 @@ unfolding every
 every-cong zero p q h = refl
 every-cong (suc n) p q h = rw (every-cong n p q (λ i l. h i (omega arith)), h n (omega arith))
 
--- ---- the first largest
-pub largest-first : (f : ℕ → ℤ) → firstLargest 1 f ≡ 0
-unfolding firstLargest
-largest-first f = by (ltZ (f 0) (f 0))
+-- ---- some
+pub some-at : (n : ℕ) (p : ℕ → Bool) (i : ℕ) → i < n → p i ≡ true → some n p ≡ true
+unfolding some
+some-at zero p i l e = absurd (omega arith)
+some-at (suc n) p i l e = by (decLt i n) (λ h. some-at n p i h e)
   where
-    by : (c : Bool) → cond {A = ℕ} c 0 0 ≡ 0
-    by true = refl
-    by false = refl
+    by : Dec (i < n) → (i < n → some n p ≡ true) → (some n p || p n) ≡ true
+    by (yes h) r = rw (r h) refl
+    by (no h) r = let same : n ≡ i = omega arith in rw (same, e) (or-true (some i p))
+
+pub some-none : (n : ℕ) (p : ℕ → Bool) → ((i : ℕ) → i < n → p i ≡ false) → some n p ≡ false
+unfolding some
+some-none zero p h = refl
+some-none (suc n) p h = rw (some-none n p (λ i l. h i (omega arith)), h n (omega arith)) refl
+
+pub some-cong : (n : ℕ) (p q : ℕ → Bool) → ((i : ℕ) → i < n → p i ≡ q i) → some n p ≡ some n q
+unfolding some
+some-cong zero p q h = refl
+some-cong (suc n) p q h = rw (some-cong n p q (λ i l. h i (omega arith)), h n (omega arith))
+
+-- ---- the first largest of those that p holds of
+module _ (p : ℕ → Bool) (f : ℕ → ℤ) where
+  pub of-first : firstLargestOf 1 p f ≡ 0
+  unfolding firstLargestOf
+  of-first = by (p 0 && (not (p 0) || ltZ (f 0) (f 0)))
+    where
+      by : (c : Bool) → cond {A = ℕ} c 0 0 ≡ 0
+      by true = refl
+      by false = refl
+
+  -- the next index takes its place, or does not
+  pub of-later : (n : ℕ) → p n ≡ true → (not (p (firstLargestOf n p f)) || ltZ (f (firstLargestOf n p f)) (f n)) ≡ true → firstLargestOf (n + 1) p f ≡ n
+  unfolding firstLargestOf
+  of-later n e h = rw (add-one, e, h)
+
+  pub of-same : (n : ℕ) → (p n && (not (p (firstLargestOf n p f)) || ltZ (f (firstLargestOf n p f)) (f n))) ≡ false
+      → firstLargestOf (n + 1) p f ≡ firstLargestOf n p f
+  unfolding firstLargestOf
+  of-same n e = rw (add-one, e)
+
+  pub of-in : (n : ℕ) → 0 < n → firstLargestOf n p f < n
+  unfolding firstLargestOf
+  of-in zero h = h
+  of-in (suc zero) h = rw of-first (omega arith)
+  of-in (suc (suc n)) h = by (p (suc n) && (not (p i) || ltZ (f i) (f (suc n)))) (of-in (suc n) (omega arith))
+    where
+      i : ℕ
+      i = firstLargestOf (suc n) p f
+
+      by : (c : Bool) → i < suc n → cond c (suc n) i < suc (suc n)
+      by true l = omega arith
+      by false l = omega arith
+
+  -- where p holds of some index, it holds of the one found, and f is nowhere larger among those
+  pub of-holds : (n i : ℕ) → i < n → p i ≡ true → p (firstLargestOf n p f) ≡ true
+  unfolding firstLargestOf
+  of-holds zero i l e = absurd (omega arith)
+  of-holds (suc n) i l e = by (p n) refl (p j) refl (ltZ (f j) (f n)) (decLt i n) (λ d. of-holds n i d e)
+    where
+      j : ℕ
+      j = firstLargestOf n p f
+
+      by : (a : Bool) → p n ≡ a → (b : Bool) → p j ≡ b → (c : Bool) → Dec (i < n) → (i < n → p j ≡ true) → p (cond (a && (not b || c)) n j) ≡ true
+      by true h false k c d r = h
+      by true h true k true d r = h
+      by true h true k false d r = k
+      by false h b k c (yes d) r = r d
+      by false h b k c (no d) r = let same : i ≡ n = omega arith in absurd (is-T (sym (sym e ∙ ap p same ∙ h)))
+
+  pub of-some : (n : ℕ) → some n p ≡ true → p (firstLargestOf n p f) ≡ true
+  unfolding some firstLargestOf
+  of-some zero h = absurd (is-T h)
+  of-some (suc n) h = by (p n) refl h (λ k. of-some n k)
+    where
+      j : ℕ
+      j = firstLargestOf n p f
+
+      by : (a : Bool) → p n ≡ a → (some n p || a) ≡ true → (some n p ≡ true → p j ≡ true) → p (cond (a && (not (p j) || ltZ (f j) (f n))) n j) ≡ true
+      by true e k r = rw e at (of-holds (suc n) n (omega arith) e)
+      by false e k r = r (rw or-false at k)
+
+  pub of-max : (n i : ℕ) → i < n → p i ≡ true → f i ≤ℤ f (firstLargestOf n p f)
+  unfolding firstLargestOf
+  of-max zero i l e = absurd (omega arith)
+  of-max (suc n) i l e = by (p n) refl (p j) refl (ltZ (f j) (f n)) (λ h. ltZ-yes h) (λ h. ltZ-no h) (decLt i n)
+      (λ d. of-max n i d e)
+    where
+      j : ℕ
+      j = firstLargestOf n p f
+
+      by : (a : Bool) → p n ≡ a → (b : Bool) → p j ≡ b → (c : Bool) → (T c → f j <ℤ f n) → (T (not c) → f n ≤ℤ f j) → Dec (i < n)
+          → (i < n → f i ≤ℤ f j) → f i ≤ℤ f (cond (a && (not b || c)) n j)
+      by false h b k c u w (yes d) r = r d
+      by false h b k c u w (no d) r = let same : i ≡ n = omega arith in absurd (is-T (sym (sym e ∙ ap p same ∙ h)))
+      by true h false k c u w (yes d) r = absurd (is-T (sym (sym (of-holds n i d e) ∙ k)))
+      by true h false k c u w (no d) r = let same : i ≡ n = omega arith in rw same (≤-refl (f n))
+      by true h true k true u w (yes d) r = ≤-trans (r d) (<-≤ (u tt))
+      by true h true k true u w (no d) r = let same : i ≡ n = omega arith in rw same (≤-refl (f n))
+      by true h true k false u w (yes d) r = r d
+      by true h true k false u w (no d) r = let same : i ≡ n = omega arith in rw same (w tt)
+
+-- only whether p holds, and f where it does, matter
+pub of-cong : (n : ℕ) (p q : ℕ → Bool) (f g : ℕ → ℤ) → 0 < n → ((i : ℕ) → i < n → p i ≡ q i) → ((i : ℕ) → i < n → q i ≡ true → f i ≡ g i)
+    → firstLargestOf n p f ≡ firstLargestOf n q g
+unfolding firstLargestOf
+of-cong zero p q f g some h k = refl
+of-cong (suc zero) p q f g some h k = of-first p f ∙ sym (of-first q g)
+of-cong (suc (suc n)) p q f g some h k =
+    let e = of-cong (suc n) p q f g (omega arith) (λ i l. h i (omega arith)) (λ i l. k i (omega arith)) in
+    let l = of-in q g (suc n) (omega arith) in
+    rw (e, h j (omega arith), h (suc n) (omega arith)) (by (q (suc n)) refl (q j) refl)
+  where
+    j : ℕ
+    j = firstLargestOf (suc n) q g
+
+    by : (a : Bool) → q (suc n) ≡ a → (b : Bool) → q j ≡ b
+        → cond (a && (not b || ltZ (f j) (f (suc n)))) (suc n) j ≡ cond (a && (not b || ltZ (g j) (g (suc n)))) (suc n) j
+    by false u b w = refl
+    by true u false w = refl
+    by true u true w = rw (k j (let l = of-in q g (suc n) (omega arith) in omega arith) w, k (suc n) (omega arith) u)
+
+-- ---- the first largest of all
+pub largest-first : (f : ℕ → ℤ) → firstLargest 1 f ≡ 0
+largest-first f = of-first (λ i. true) f
 
 pub largest-later : (n : ℕ) (f : ℕ → ℤ) → ltZ (f (firstLargest n f)) (f n) ≡ true → firstLargest (n + 1) f ≡ n
-unfolding firstLargest
-largest-later n f e = rw (add-one, e)
+largest-later n f e = of-later (λ i. true) f n refl e
 
 pub largest-same : (n : ℕ) (f : ℕ → ℤ) → ltZ (f (firstLargest n f)) (f n) ≡ false → firstLargest (n + 1) f ≡ firstLargest n f
-unfolding firstLargest
-largest-same n f e = rw (add-one, e)
+largest-same n f e = of-same (λ i. true) f n e
 
 pub largest-in : (n : ℕ) (f : ℕ → ℤ) → 0 < n → firstLargest n f < n
-unfolding firstLargest
-largest-in zero f h = h
-largest-in (suc zero) f h = rw (largest-first f) (omega arith)
-largest-in (suc (suc n)) f h = by (ltZ (f (firstLargest (suc n) f)) (f (suc n))) (largest-in (suc n) f (omega arith))
-  where
-    by : (c : Bool) → firstLargest (suc n) f < suc n → cond c (suc n) (firstLargest (suc n) f) < suc (suc n)
-    by true l = omega arith
-    by false l = omega arith
+largest-in n f h = of-in (λ i. true) f n h
 
 pub largest-max : (n : ℕ) (f : ℕ → ℤ) (i : ℕ) → i < n → f i ≤ℤ f (firstLargest n f)
-unfolding firstLargest
-largest-max zero f i l = absurd (omega arith)
-largest-max (suc n) f i l =
-    by (ltZ (f (firstLargest n f)) (f n)) (λ h. ltZ-yes h) (λ h. ltZ-no h) (decLt i n) (λ h. largest-max n f i h)
-  where
-    by : (c : Bool) → (T c → f (firstLargest n f) <ℤ f n) → (T (not c) → f n ≤ℤ f (firstLargest n f)) → Dec (i < n)
-        → (i < n → f i ≤ℤ f (firstLargest n f)) → f i ≤ℤ f (cond c n (firstLargest n f))
-    by true p q (yes h) r = ≤-trans (r h) (<-≤ (p tt))
-    by true p q (no h) r = let e : i ≡ n = omega arith in rw e (≤-refl (f n))
-    by false p q (yes h) r = r h
-    by false p q (no h) r = let e : i ≡ n = omega arith in rw e (q tt)
+largest-max n f i l = of-max (λ i. true) f n i l refl
 
 pub largest-cong : (n : ℕ) (f g : ℕ → ℤ) → 0 < n → ((i : ℕ) → i < n → f i ≡ g i) → firstLargest n f ≡ firstLargest n g
-unfolding firstLargest
-largest-cong zero f g p h = refl
-largest-cong (suc zero) f g p h = largest-first f ∙ sym (largest-first g)
-largest-cong (suc (suc n)) f g p h =
-    let e = largest-cong (suc n) f g (omega arith) (λ i l. h i (omega arith)) in
-    let l = largest-in (suc n) g (omega arith) in
-    rw (e, h (firstLargest (suc n) g) (omega arith), h (suc n) (omega arith))
+largest-cong n f g some h = of-cong n (λ i. true) (λ i. true) f g some (λ i l. refl) (λ i l e. h i l)
 
 pub and-false : (a b : Bool) → b ≡ false → (a && b) ≡ false
 and-false true b e = e

@@ -1,18 +1,36 @@
 -- Only the parts below the counts are read: levels that agree there meet the same inequalities, have the same limits, ceilings and totals, and weights
 -- that agree there have the same ceilings and backups. Assumes nothing.
-use Rattle.integers.proofs.Kit.{_≡_, _∙_, refl, ap, ℕ, _<_, suc, zero, arith, ℤ, pos, _+ℤ_, negsuc, _-ℤ_}
+use Rattle.integers.proofs.Kit.{_≡_, _∙_, refl, ap, true, Bool, _||_, ℕ, _<_, _*_, suc, zero, arith, eqb, ne-eqb, ℤ, pos, _+ℤ_, negsuc, _-ℤ_}
 use Rattle.integers.specs.Whole.{_·_, sumTo, totalTo, largestTo}
+use Rattle.integers.specs.Search.{some, firstLargestOf}
 use Rattle.integers.proofs.Sums.{sum-cong, total-cong, largestTo-cong}
-use Rattle.integers.proofs.Searches.{largest-in, largest-cong}
+use Rattle.integers.proofs.Searches.{or-true, every-at, at-every, every-cong, some-cong, of-in, of-some, of-cong}
 use Rattle.tables.specs.Limits.{K}
 use Rattle.tables.specs.Model.{Model, successor, expectedReward, backup}
-use Rattle.plans.specs.Level.{Level, product, smallest, orNone, drop, gain, ceiling, backupAt, corner-weight, follows, Meets, ShapedUpTo, IsPoint, Agree}
-use Rattle.plans.specs.Totals.{best, lower, advice}
+use Rattle.plans.specs.Level.{Level, coversAll, counts, product, smallest, orNone, drop, gain, ceiling, backupAt, corner-weight, follows, Meets, ShapedUpTo, IsPoint, Agree}
+use Rattle.plans.specs.Build.{someCoversAll}
+use Rattle.plans.specs.Totals.{someCounts, best, lower, advice}
 
 -- the best vector is one of them
 pub best-exists : (M : Model) (L : Level) (b : ℕ → ℕ) → 0 < L .vectors → best M L b < L .vectors
 unfolding best
-best-exists M L b h = largest-in _ _ h
+best-exists M L b h = of-in _ _ _ h
+
+-- and counts, where some vector does
+pub best-counts : (M : Model) (L : Level) (b : ℕ → ℕ) → someCounts M L b ≡ true → counts (M .states) L b (best M L b) ≡ true
+unfolding best
+best-counts M L b h = of-some _ _ _ h
+
+-- what counts covers each state with a weight above 0
+pub counts-covers : (n : ℕ) (L : Level) (b : ℕ → ℕ) (v : ℕ) → counts n L b v ≡ true → (s : ℕ) → s < n → 0 < b s → L .covers v s ≡ true
+unfolding counts
+counts-covers n L b v h s l above =
+    rw (ne-eqb (b s) 0 (λ e. omega arith)) at (every-at n (λ s. eqb (b s) 0 || L .covers v s) h s l)
+
+-- and what covers all states counts at any mixture
+pub all-counts : (n : ℕ) (L : Level) (b : ℕ → ℕ) (v : ℕ) → coversAll n L v ≡ true → counts n L b v ≡ true
+unfolding coversAll counts
+all-counts n L b v h = at-every n _ (λ s l. rw (every-at n (L .covers v) h s l) (or-true (eqb (b s) 0)))
 
 -- ---- products, drops and ceilings
 pub product-cong : (n : ℕ) (q q' : ℕ → ℕ) (e e' : ℕ → ℤ) → ((s : ℕ) → s < n → q s ≡ q' s) → ((s : ℕ) → s < n → e s ≡ e' s)
@@ -107,21 +125,36 @@ module _ (M : Model) (W W' : Level) (e : Agree M W W') where
       ceiling-cong (M .states) W' W (e .corner-same) (e .points-same) (λ i l. e .weight-same i (point-in l)) (λ i l. e .value-same i (point-in l)) q q
       (λ s l. refl)
 
-  module _ (some : 0 < W .vectors) (b : ℕ → ℕ) where
+  pub covers-all-agree : (v : ℕ) → v < W .vectors → coversAll (M .states) W' v ≡ coversAll (M .states) W v
+  unfolding coversAll
+  covers-all-agree v l = every-cong (M .states) _ _ (e .covers-same v l)
+
+  counts-agree : (b : ℕ → ℕ) (v : ℕ) → v < W .vectors → counts (M .states) W' b v ≡ counts (M .states) W b v
+  unfolding counts
+  counts-agree b v l = every-cong (M .states) _ _ (λ s k. ap (λ (x : Bool). eqb (b s) 0 || x) (e .covers-same v l s k))
+
+  pub some-counts-agree : (b : ℕ → ℕ) → someCounts M W' b ≡ someCounts M W b
+  some-counts-agree b = ap (λ (k : ℕ). some k (counts (M .states) W' b)) (e .vectors-same) ∙ some-cong (W .vectors) _ _ (counts-agree b)
+
+  pub some-covers-all-agree : someCoversAll M W' ≡ someCoversAll M W
+  some-covers-all-agree = ap (λ (k : ℕ). some k (coversAll (M .states) W')) (e .vectors-same) ∙ some-cong (W .vectors) _ _ covers-all-agree
+
+  module _ (one : 0 < W .vectors) (b : ℕ → ℕ) where
     best-agree : best M W' b ≡ best M W b
     unfolding best
     best-agree =
-        rw (e .vectors-same) (largest-cong (W .vectors) _ _ some
-        (λ v l. product-cong (M .states) b b (W' .entry v) (W .entry v) (λ s k. refl) (e .entry-same v l)))
+        ap (λ (k : ℕ). firstLargestOf k (counts (M .states) W' b) (λ v. product (M .states) b (W' .entry v))) (e .vectors-same)
+        ∙ of-cong (W .vectors) _ _ _ _ one (counts-agree b)
+        (λ v l c. product-cong (M .states) b b (W' .entry v) (W .entry v) (λ s k. refl) (e .entry-same v l))
 
     pub lower-agree : lower M W' b ≡ lower M W b
     unfolding lower
     lower-agree =
-        rw best-agree (product-cong (M .states) b b _ _ (λ s k. refl) (e .entry-same (best M W b) (best-exists M W b some)))
+        rw best-agree (product-cong (M .states) b b _ _ (λ s k. refl) (e .entry-same (best M W b) (best-exists M W b one)))
 
     pub advice-agree : advice M W' b ≡ advice M W b
     unfolding advice
-    advice-agree = ap (W' .action) best-agree ∙ e .action-same (best M W b) (best-exists M W b some)
+    advice-agree = ap (W' .action) best-agree ∙ e .action-same (best M W b) (best-exists M W b one)
 
 -- A level that agrees with one that meets its inequalities over L meets them too.
 -- Both sides of each inequality are made of parts of the level below its counts, and of L: the backup of a vector reads its action and its choices by
@@ -132,11 +165,13 @@ meets-agree M L W W' e m = record {
   vector = λ v l'. let l = vector-in M W W' e l' in record {
     action-exists = rw (e .action-same v l) (m .vector v l .action-exists);
     choice-exists = λ o b. rw (e .choice-same v l o b) (m .vector v l .choice-exists o b);
-    entry-holds = λ s b. rw (
+    reached-covered = λ s b c o k s' b' above. rw (e .choice-same v l o k)
+        (m .vector v l .reached-covered s b (rw (e .covers-same v l s b) at c) o k s' b' (rw (e .action-same v l) at above));
+    entry-holds = λ s b c. rw (
       e .action-same v l,
       e .entry-same v l s b,
       backup-cong M (W .action v) (follows L (W' .choice v)) (follows L (W .choice v)) s (λ o k s' k'. ap (λ (x : ℕ). L .entry x s') (e .choice-same v l o k)),
-    ) (m .vector v l .entry-holds s b);
+    ) (m .vector v l .entry-holds s b (rw (e .covers-same v l s b) at c));
   };
   corner = λ s l a b. rw (e .corner-same s l) (m .corner s l a b);
   point = λ i l' a b. let l = point-in M W W' e l' in
@@ -162,9 +197,11 @@ module _ (M : Model) (L L' : Level) (g : Agree M L L') where
         record {
           action-exists = h .action-exists;
           choice-exists = choice;
-          entry-holds = λ s b.
+          reached-covered = λ s b c o k s' b' above.
+              rw (g .covers-same (W .choice v o) (choice o k) s' b') at (h .reached-covered s b c o k s' b' above);
+          entry-holds = λ s b c.
               rw (backup-cong M (W .action v) (follows L' (W .choice v)) (follows L (W .choice v)) s
-              (λ o k. g .entry-same (W .choice v o) (choice o k))) at (h .entry-holds s b);
+              (λ o k. g .entry-same (W .choice v o) (choice o k))) at (h .entry-holds s b c);
         };
     corner = λ s l a la. rw (backupAt-below (corner-weight s) a) at (m .corner s l a la);
     point = λ i l a la. rw (backupAt-below (W .weight i) a) at (m .point i l a la);

@@ -1,18 +1,18 @@
 -- The builder's level lies within the limits of its level and meets its inequalities. The laws of how large successor weights, backups and ceilings grow,
 -- of which that is made, also rule out overflow in code. Assumes nothing.
-use Rattle.integers.proofs.Kit.{_≡_, _∙_, ap, ℕ, _≤_, _+_, _<_, _*_, suc, arith, ℤ, pos, natAbs, _+ℤ_, negℤ, _≤ℤ_}
+use Rattle.integers.proofs.Kit.{_≡_, _∙_, ap, true, ℕ, _≤_, _+_, _<_, _*_, suc, arith, ℤ, pos, natAbs, _+ℤ_, negℤ, _≤ℤ_}
 use native.Mathlib.Nat as NatL
 use Rattle.integers.specs.Whole.{_·_, sumTo, totalTo, largestTo}
 use Rattle.integers.proofs.Order.{≤-trans, sub-≤, one-·, ·-mono}
 use Rattle.integers.proofs.Sums.{sum-mono, total-cong, total-mul, total-mul-right, total-swap, total-part}
 use Rattle.integers.proofs.Sizes.{abs-add, abs-times, times-bound, sum-weighed, abs-below, abs-above, multiple-above, multiple-between}
 use Rattle.integers.proofs.Rounding.{floor-≤, floor-range, ceil-≥, ceil-least, ceil-range}
-use Rattle.integers.proofs.Searches.{largest-in, largest-max}
+use Rattle.integers.proofs.Searches.{every-at, largest-in, largest-max, of-in, of-some}
 use Rattle.tables.specs.Limits.{maxStates, one, maxReward, maxEntry, K, maxLevels}
 use Rattle.tables.specs.Model.{Model, Valid, successor, expectedReward, backup, backedUp}
 use Rattle.plans.specs.Limits.{maxBuilt, range}
-use Rattle.plans.specs.Level.{Level, level0, product, drop, gain, ceiling, backupAt, corner-weight, follows, Meets, ShapedUpTo, Shaped, IsPoint}
-use Rattle.plans.specs.Build.{chosen, entryFor, bestAction, leastFor, leastValue, built}
+use Rattle.plans.specs.Level.{Level, coversAll, level0, product, drop, gain, ceiling, backupAt, corner-weight, follows, Meets, ShapedUpTo, Shaped, IsPoint}
+use Rattle.plans.specs.Build.{someCoversAll, chosen, entryFor, bestAction, leastFor, leastValue, built}
 use Rattle.plans.proofs.Ceiling.{sawtooth, product-const, corner-total}
 
 -- ---- totals of tables
@@ -155,7 +155,12 @@ action-exists M L p h = largest-in _ _ h
 
 pub chosen-exists : (M : Model) (L : Level) (p : ℕ → ℕ) (a o : ℕ) → 0 < L .vectors → chosen M L p a o < L .vectors
 unfolding chosen
-chosen-exists M L p a o h = largest-in _ _ h
+chosen-exists M L p a o h = of-in _ _ _ h
+
+-- and covers all states, where some vector does
+pub chosen-covers : (M : Model) (L : Level) (p : ℕ → ℕ) (a o : ℕ) → someCoversAll M L ≡ true → (s : ℕ) → s < M .states → L .covers (chosen M L p a o) s ≡ true
+unfolding chosen coversAll
+chosen-covers M L p a o h s l = every-at (M .states) _ (of-some _ _ _ h) s l
 
 pub value-meets : (M : Model) (L : Level) (p : ℕ → ℕ) (a : ℕ) → a < M .actions → backupAt M L p a ≤ℤ K · leastValue M L p
 unfolding leastValue leastFor
@@ -199,15 +204,16 @@ module _ {most : ℕ} (M : Model) (L : Level) (t : ℕ) (T : Valid M) (S : Shape
     }
 
     -- The built level meets its inequalities over level t.
-    -- A vector's action and choices are indices of a largest, so they exist; K times a backup over K, rounded down, is at most the backup; and K times
-    -- the largest of the backups over K, rounded up, is at least each of them. Qed.
-    pub built-meets : Meets M L (built M L points weight)
+    -- A vector's action and choices are indices of a largest, so they exist, and the vectors chosen cover all states, since some vector does; K times a
+    -- backup over K, rounded down, is at most the backup; and K times the largest of the backups over K, rounded up, is at least each of them. Qed.
+    pub built-meets : someCoversAll M L ≡ true → Meets M L (built M L points weight)
     unfolding built entryFor backedUp
-    built-meets = record {
+    built-meets some = record {
       vector = λ v l. record {
         action-exists = action-exists M L _ (T .some-actions);
         choice-exists = λ o b. chosen-exists M L _ _ o (S .some-vectors);
-        entry-holds = λ s b. floor-≤ K K-positive _;
+        reached-covered = λ s b c o lo s' b' above. chosen-covers M L _ _ o some s' b';
+        entry-holds = λ s b c. floor-≤ K K-positive _;
       };
       corner = λ s l a la. value-meets M L (corner-weight s) a la;
       point = λ i l a la. value-meets M L (weight i) a la;

@@ -1,13 +1,13 @@
 -- What is built over levels that agree agrees. Assumes nothing.
 use Rattle.integers.proofs.Kit.{_≡_, _∙_, refl, ap, ℕ, _<_, ℤ}
 use Rattle.integers.specs.Whole.{floorDiv, ceilDiv}
-use Rattle.integers.specs.Search.{firstLargest}
-use Rattle.integers.proofs.Searches.{largest-cong}
+use Rattle.integers.specs.Search.{firstLargestOf}
+use Rattle.integers.proofs.Searches.{largest-cong, of-cong}
 use Rattle.tables.specs.Limits.{K}
 use Rattle.tables.specs.Model.{Model, successor, backedUp}
-use Rattle.plans.specs.Level.{Level, product, corner-weight, follows, Agree}
+use Rattle.plans.specs.Level.{Level, coversAll, product, corner-weight, follows, Agree}
 use Rattle.plans.specs.Build.{chosen, entryFor, bestAction, leastFor, leastValue, seed, built}
-use Rattle.plans.proofs.Agreement.{product-cong, backup-cong, backupAt-below}
+use Rattle.plans.proofs.Agreement.{product-cong, covers-all-agree, backup-cong, backupAt-below}
 use Rattle.plans.proofs.Built.{chosen-exists}
 
 -- The builder reads the level below within its counts: products with vectors that exist, backups of those that it chooses, and backups at weights.
@@ -17,9 +17,9 @@ module _ (M : Model) (L L' : Level) (g : Agree M L L') (some-vectors : 0 < L .ve
     chosen-same : (a o : ℕ) → chosen M L' p a o ≡ chosen M L p a o
     unfolding chosen
     chosen-same a o =
-        ap (λ (k : ℕ). firstLargest k (λ v. product (M .states) (successor M p a o) (L' .entry v))) (g .vectors-same)
-        ∙ largest-cong (L .vectors) _ _ some-vectors
-        (λ v l. product-cong (M .states) (successor M p a o) (successor M p a o) (L' .entry v) (L .entry v) (λ s k. refl) (g .entry-same v l))
+        ap (λ (k : ℕ). firstLargestOf k (coversAll (M .states) L') (λ v. product (M .states) (successor M p a o) (L' .entry v))) (g .vectors-same)
+        ∙ of-cong (L .vectors) _ _ _ _ some-vectors (covers-all-agree M L L' g)
+        (λ v l c. product-cong (M .states) (successor M p a o) (successor M p a o) (L' .entry v) (L .entry v) (λ s k. refl) (g .entry-same v l))
 
     entry-same : (a s : ℕ) → entryFor M L' p a s ≡ entryFor M L p a s
     unfolding entryFor backedUp follows
@@ -49,6 +49,7 @@ module _ (M : Model) (L L' : Level) (g : Agree M L L') (some-vectors : 0 < L .ve
     points-same = refl;
     action-same = λ v l. action-same (at v);
     choice-same = λ v l o b. ap (λ (a : ℕ). chosen M L' (at v) a o) (action-same (at v)) ∙ chosen-same (at v) _ o;
+    covers-same = λ v l s b. refl;
     entry-same = λ v l s b. ap (λ (a : ℕ). entryFor M L' (at v) a s) (action-same (at v)) ∙ entry-same (at v) _ s;
     corner-same = λ s l. value-same (corner-weight s);
     weight-same = λ i l s b. refl;

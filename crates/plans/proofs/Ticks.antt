@@ -92,7 +92,7 @@ module _ (M : Model) (T : Valid M) (below : List Level) (L : Level)
   low-next =
       rw (b .entry-is s ls, ← pow-·) (≤-trans (·-mono (K ^ length below) (floor-≤ K K-positive _))
       (backup-floor M (length below) (W .action v) (follows L (W .choice v)) (λ o. named below (W .choice v o))
-      (λ o l s' l'. low (W .choice v o) (b .choice-exists o l) s' l') s))
+      s (λ o l s' l' above. low (W .choice v o) (b .choice-exists o l) s' l')))
 
   -- Let B be the backup and e the entry, so that B < K × (e + 1). What follows earns at most K^t × (entries + t), so the plan earns at most
   -- K^t × (B + K × t), which is less than K^t × (K × (e + 1) + K × t) = K^(t+1) × (e + t + 1). Qed.

@@ -1,17 +1,21 @@
 -- The builder: from a standing level and the weights of some points, the next level.
-use mathlib.Core.Bool.{cond}
+use mathlib.Core.Bool.{Bool, true, cond}
 use Prim.Native.Nat.{ℕ, _+_, _-_}
 use lib.Dec.{ltb}
 use lib.IntN.{ℤ}
 use Rattle.integers.specs.Whole.{ceilDiv}
-use Rattle.integers.specs.Search.{firstLargest}
+use Rattle.integers.specs.Search.{some, firstLargestOf, firstLargest}
 use Rattle.tables.specs.Limits.{K}
 use Rattle.tables.specs.Model.{Model, successor, backedUp}
-use Rattle.plans.specs.Level.{Level, product, backupAt, corner-weight, follows}
+use Rattle.plans.specs.Level.{Level, coversAll, product, backupAt, corner-weight, follows}
 
--- the first previous vector with the largest product with the successor weights
+-- some vector covers all states: a level can be built upon it
+abbrev pub someCoversAll : Model → Level → Bool
+someCoversAll M L = some (L .vectors) (coversAll (M .states) L)
+
+-- the first previous vector with the largest product with the successor weights, of those that cover all states
 unfoldable pub chosen : Model → Level → (ℕ → ℕ) → ℕ → ℕ → ℕ
-chosen M L p a o = firstLargest (L .vectors) (λ v. product (M .states) (successor M p a o) (L .entry v))
+chosen M L p a o = firstLargestOf (L .vectors) (coversAll (M .states) L) (λ v. product (M .states) (successor M p a o) (L .entry v))
 
 -- an action's vector at weights p
 unfoldable pub entryFor : Model → Level → (ℕ → ℕ) → ℕ → ℕ → ℤ
@@ -37,6 +41,7 @@ built M L points weight = record {
   vectors = M .states + points;
   action = λ v. bestAction M L (seed (M .states) weight v);
   choice = λ v o. chosen M L (seed (M .states) weight v) (bestAction M L (seed (M .states) weight v)) o;
+  covers = λ v s. true;
   entry = λ v s. entryFor M L (seed (M .states) weight v) (bestAction M L (seed (M .states) weight v)) s;
   corner = λ s. leastValue M L (corner-weight s);
   points = points;

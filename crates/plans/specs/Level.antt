@@ -1,9 +1,12 @@
 -- A level: alpha vectors for the floor, corner and point values for the sawtooth ceiling, and the backup inequalities that they meet over the level before.
 use mathlib.Core.Path.{_≡_}
+use mathlib.Core.Bool.{Bool, true, _||_}
 use Prim.Native.Nat.{ℕ, zero, suc, _*_, _/_, _≤_, _<_, min}
+use lib.Dec.{eqb}
 use lib.IntN.{ℤ, pos, negsuc, natAbs, _+ℤ_, _-ℤ_}
 use lib.Signed.{_≤ℤ_}
 use Rattle.integers.specs.Whole.{_·_, sumTo, totalTo, largestTo}
+use Rattle.integers.specs.Search.{every}
 use Rattle.tables.specs.Limits.{K, maxVectors}
 use Rattle.tables.specs.Model.{Model, successor, expectedReward, backup}
 use Rattle.plans.specs.Limits.{maxPoints, maxTotal, range}
@@ -12,18 +15,20 @@ pub record Level : Type 0 where
   pub vectors : ℕ
   pub action : ℕ → ℕ
   pub choice : ℕ → ℕ → ℕ  -- by vector and observation: a vector of the level before
+  pub covers : ℕ → ℕ → Bool  -- by vector and state: its mask
   pub entry : ℕ → ℕ → ℤ  -- by vector and state, in ticks
   pub corner : ℕ → ℤ  -- in ticks
   pub points : ℕ
   pub weight : ℕ → ℕ → ℕ  -- by point and state
   pub value : ℕ → ℤ  -- by point, in ticks times the total of its weights
 
--- level 0: one zero vector, zero corners, no points
+-- level 0: one zero vector that covers all states, zero corners, no points
 unfoldable pub level0 : Level
 level0 = record {
   vectors = 1;
   action = λ v. 0;
   choice = λ v o. 0;
+  covers = λ v s. true;
   entry = λ v s. pos 0;
   corner = λ s. pos 0;
   points = 0;
@@ -34,6 +39,15 @@ level0 = record {
 -- the product of weights and entries
 unfoldable pub product : ℕ → (ℕ → ℕ) → (ℕ → ℤ) → ℤ
 product n q e = sumTo n (λ s. q s · e s)
+
+-- ---- masks
+-- a vector covers all states
+unfoldable pub coversAll : ℕ → Level → ℕ → Bool
+coversAll n L v = every n (L .covers v)
+
+-- a vector counts at weights of which all lie on states that it covers
+unfoldable pub counts : ℕ → Level → (ℕ → ℕ) → ℕ → Bool
+counts n L b v = every n (λ s. eqb (b s) 0 || L .covers v s)
 
 -- ---- the sawtooth ceiling
 pub data Ratio : Type 0 where
@@ -85,10 +99,13 @@ corner-weight (suc s) (suc i) = corner-weight s i
 unfoldable pub follows : Level → (ℕ → ℕ) → ℕ → ℕ → ℤ
 follows L choice o s' = L .entry (choice o) s'
 
+-- from a state that the vector covers, the vector chosen for an observation covers each state that is reached with it; and the entry is at most its backup
 pub record VectorHolds (M : Model) (L W : Level) (v : ℕ) : Type 0 where
   pub action-exists : W .action v < M .actions
   pub choice-exists : (o : ℕ) → o < M .observations → W .choice v o < L .vectors
-  pub entry-holds : (s : ℕ) → s < M .states → K · W .entry v s ≤ℤ backup M (W .action v) (follows L (W .choice v)) s
+  pub reached-covered : (s : ℕ) → s < M .states → W .covers v s ≡ true → (o : ℕ) → o < M .observations → (s' : ℕ) → s' < M .states
+      → 0 < M .transition s (W .action v) s' * M .observation (W .action v) s' o → L .covers (W .choice v o) s' ≡ true
+  pub entry-holds : (s : ℕ) → s < M .states → W .covers v s ≡ true → K · W .entry v s ≤ℤ backup M (W .action v) (follows L (W .choice v)) s
 
 -- level W meets its inequalities over level L
 pub record Meets (M : Model) (L W : Level) : Type 0 where
@@ -120,6 +137,7 @@ pub record Agree (M : Model) (W W' : Level) : Type 0 where
   pub points-same : W' .points ≡ W .points
   pub action-same : (v : ℕ) → v < W .vectors → W' .action v ≡ W .action v
   pub choice-same : (v : ℕ) → v < W .vectors → (o : ℕ) → o < M .observations → W' .choice v o ≡ W .choice v o
+  pub covers-same : (v : ℕ) → v < W .vectors → (s : ℕ) → s < M .states → W' .covers v s ≡ W .covers v s
   pub entry-same : (v : ℕ) → v < W .vectors → (s : ℕ) → s < M .states → W' .entry v s ≡ W .entry v s
   pub corner-same : (s : ℕ) → s < M .states → W' .corner s ≡ W .corner s
   pub weight-same : (i : ℕ) → i < W .points → (s : ℕ) → s < M .states → W' .weight i s ≡ W .weight i s

@@ -1,18 +1,23 @@
 -- The totals at a mixture, and what they say of all plans.
+use mathlib.Core.Bool.{Bool}
 use Prim.Native.Nat.{ℕ, _^_}
 use lib.IntN.{ℤ}
 use lib.Signed.{_≤ℤ_}
 use Rattle.integers.specs.Whole.{_·_, lesser}
-use Rattle.integers.specs.Search.{firstLargest}
+use Rattle.integers.specs.Search.{some, firstLargestOf}
 use Rattle.tables.specs.Limits.{K}
 use Rattle.tables.specs.Model.{Model}
 use Rattle.plans.specs.Plan.{Plan, Fits, Opens, earnsAt}
-use Rattle.plans.specs.Level.{Level, product, ceiling}
+use Rattle.plans.specs.Level.{Level, counts, product, ceiling}
 use Rattle.plans.specs.Rows.{bestRow}
 
--- the first vector with the largest product
+-- some vector counts at the mixture: totals are given there
+abbrev pub someCounts : Model → Level → (ℕ → ℕ) → Bool
+someCounts M L b = some (L .vectors) (counts (M .states) L b)
+
+-- the first vector with the largest product, of those that count
 unfoldable pub best : Model → Level → (ℕ → ℕ) → ℕ
-best M L b = firstLargest (L .vectors) (λ v. product (M .states) b (L .entry v))
+best M L b = firstLargestOf (L .vectors) (counts (M .states) L b) (λ v. product (M .states) b (L .entry v))
 
 unfoldable pub lower : Model → Level → (ℕ → ℕ) → ℤ
 lower M L b = product (M .states) b (L .entry (best M L b))
