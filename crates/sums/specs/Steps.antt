@@ -5,8 +5,10 @@ use lib.ListN.{length, getD}
 use lib.IntN.{ℤ, pos, natAbs, _+ℤ_}
 use Rattle.integers.specs.Whole.{_·_, sumTo, totalTo}
 use Rattle.tables.specs.Limits.{maxStates, maxObservations, maxVectors, one, maxReward, maxWeight, maxEntry, K}
-use Rattle.tables.specs.Storage.{transitionIn, observationIn, rewardIn, weightIn, entryIn, choiceIn}
-use Rattle.tables.specs.Steps.{rowsTo, cellsTo, EntriesFit}
+use Rattle.tables.specs.Storage.{transitionIn, observationIn, rewardIn, weightIn, choiceIn}
+use Rattle.tables.specs.Steps.{rowsTo, cellsTo}
+use Rattle.masks.specs.Masks.{maskedIn}
+use Rattle.masks.specs.Steps.{MaskedFit}
 
 -- ---- partial sums, each worked out once for all that need it; the laws of regrouping join them to the model's sums
 
@@ -22,13 +24,13 @@ seenIn n k cells moved a o s' = getD moved s' 0 * observationIn n k cells a s' o
 unfoldable pub expectedIn : ℕ → List ℤ → List ℕ → ℕ → ℤ
 expectedIn n cells p a = sumTo n (λ s. weightIn p s · rewardIn n cells s a)
 
--- the entry at s' of the vector that v chooses for o
-abbrev pub chosenIn : ℕ → ℕ → List ℤ → List ℕ → ℕ → ℕ → ℕ → ℤ
-chosenIn n k entries choices v o s' = entryIn n entries (choiceIn k choices v o) s'
+-- the entry at s' of the vector that v chooses for o, or 0 where it does not cover s'
+abbrev pub chosenIn : ℕ → ℕ → List ℕ → List ℤ → List ℕ → ℕ → ℕ → ℕ → ℤ
+chosenIn n k masks entries choices v o s' = maskedIn n masks entries (choiceIn k choices v o) s'
 
 -- the sum over o of O(a,s',o) × that entry
-unfoldable pub foreseenIn : ℕ → ℕ → List ℕ → List ℤ → List ℕ → ℕ → ℕ → ℕ → ℤ
-foreseenIn n k cells entries choices v a s' = sumTo k (λ o. observationIn n k cells a s' o · chosenIn n k entries choices v o s')
+unfoldable pub foreseenIn : ℕ → ℕ → List ℕ → List ℕ → List ℤ → List ℕ → ℕ → ℕ → ℕ → ℤ
+foreseenIn n k cells masks entries choices v a s' = sumTo k (λ o. observationIn n k cells a s' o · chosenIn n k masks entries choices v o s')
 
 -- the sum over s' of T(s,a,s') × what is foreseen at s'
 unfoldable pub onwardIn : ℕ → List ℕ → List ℤ → ℕ → ℕ → ℤ
@@ -56,9 +58,9 @@ pub record RewardsFit (n : ℕ) (cells : List ℤ) (a : ℕ) : Type 0 where
   pub reward : (s : ℕ) → s < n → natAbs (rewardIn n cells s a) ≤ maxReward
 
 -- of the vectors that v chooses
-pub record ChosenFit (n k : ℕ) (entries : List ℤ) (choices : List ℕ) (v : ℕ) : Type 0 where
+pub record ChosenFit (n k : ℕ) (masks : List ℕ) (entries : List ℤ) (choices : List ℕ) (v : ℕ) : Type 0 where
   pub vectors : ℕ
-  pub entries-fit : EntriesFit n vectors entries
+  pub entries-fit : MaskedFit n vectors masks entries
   pub row : v < maxVectors
   pub stored : rowsTo k v ≤ length choices
   pub vector : (o : ℕ) → o < k → choiceIn k choices v o < vectors

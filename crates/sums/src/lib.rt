@@ -97,11 +97,12 @@ pub fn expected_reward(cells: &[i64], n: usize, p: &[u64], a: Action) -> i64
     sum
 }
 
-// The sum over o of O(a,s',o) × (entry at s' of the vector that v chooses for o).
+// The sum over o of O(a,s',o) × (entry at s' of the vector that v chooses for o, or 0 where it does not cover s').
 fn foreseen_at(
     cells: &[u16],
     n: usize,
     k: usize,
+    masks: &[u64],
     entries: &[i64],
     choices: &[u16],
     v: Vector,
@@ -110,13 +111,14 @@ fn foreseen_at(
 ) -> i64
     requires { ⌜ (n ≤ maxStates) × ((k ≤ maxObservations) × ((a .0 < maxActions) × (to .0 < n))) ⌝ }
     requires { ⌜ ObservationsFit n k (now cells) (a .0) ⌝ }
-    requires { ⌜ ChosenFit n k (now entries) (now choices) (v .0) ⌝ }
-    ensures { λ r. ⌜ r ≡ foreseenIn n k (now (cells .entry)) (now (entries .entry)) (now (choices .entry)) (v .0) (a .0) (to .0) ⌝ }
+    requires { ⌜ ChosenFit n k (now masks) (now entries) (now choices) (v .0) ⌝ }
+    ensures { λ r. ⌜ r ≡ foreseenIn n k (now (cells .entry)) (now (masks .entry)) (now (entries .entry)) (now (choices .entry)) (v .0) (a .0) (to .0) ⌝ }
 {
     let mut sum: i64 = 0;
     for o in 0..k {
         let w = read::observation_at(cells, n, k, a, to, Observation(o));
-        let e = read::entry_at(
+        let e = masks::entry_at(
+            masks,
             entries,
             n,
             read::choice_at(choices, k, v, Observation(o)),
@@ -132,6 +134,7 @@ pub fn foreseen(
     cells: &[u16],
     n: usize,
     k: usize,
+    masks: &[u64],
     entries: &[i64],
     choices: &[u16],
     v: Vector,
@@ -139,12 +142,12 @@ pub fn foreseen(
 ) -> Foreseen
     requires { ⌜ (n ≤ maxStates) × ((k ≤ maxObservations) × (a .0 < maxActions)) ⌝ }
     requires { ⌜ ObservationsFit n k (now cells) (a .0) ⌝ }
-    requires { ⌜ ChosenFit n k (now entries) (now choices) (v .0) ⌝ }
-    ensures { λ r. ⌜ r ≡ padded (pos 0) maxStates n (foreseenIn n k (now (cells .entry)) (now (entries .entry)) (now (choices .entry)) (v .0) (a .0)) ⌝ }
+    requires { ⌜ ChosenFit n k (now masks) (now entries) (now choices) (v .0) ⌝ }
+    ensures { λ r. ⌜ r ≡ padded (pos 0) maxStates n (foreseenIn n k (now (cells .entry)) (now (masks .entry)) (now (entries .entry)) (now (choices .entry)) (v .0) (a .0)) ⌝ }
 {
     let mut f = [0i64; Tables::STATES];
     for to in 0..n {
-        f[to] = foreseen_at(cells, n, k, entries, choices, v, a, State(to));
+        f[to] = foreseen_at(cells, n, k, masks, entries, choices, v, a, State(to));
     }
     f
 }

@@ -63,7 +63,8 @@ fn worths_of<'a, 'b>(
     let n = c.states;
     let k = c.observations;
     let a = action_at(actions, v);
-    let f = sums::foreseen(observation, n, k, before, next, Vector(v.0), a);
+    let all = [u64::MAX; Graph::NODES];
+    let f = sums::foreseen(observation, n, k, &all, before, next, Vector(v.0), a);
     sums::rounded(transition, reward, &f, n, c.discount, a)
 }
 

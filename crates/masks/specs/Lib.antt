@@ -1,0 +1,3 @@
+-- Masks of vectors.
+pub mod Masks
+pub mod Steps
