@@ -9,6 +9,7 @@ use Rattle.tables.specs.declared.Verdict.the-variants.{Fine, Refused}
 use Rattle.tables.specs.Limits.{one}
 use Rattle.tables.specs.Verdicts.{firstOf}
 use Rattle.tables.specs.Judged.{limitsHold, rowsTotal, tablesVerdict}
+use Rattle.masks.specs.Masks.{covered}
 use Rattle.plans.specs.Limits.{range}
 use Rattle.plans.specs.Level.{Level}
 use Rattle.levels.specs.Storage.{Lent, lent, rows, cells}
@@ -29,6 +30,7 @@ level points weight value = record {
   vectors = 1;
   action = λ v. 0;
   choice = λ v o. 0;
+  covers = λ v s. true;
   entry = λ v s. pos 0;
   corner = λ s. pos 0;
   points = points;
@@ -59,7 +61,7 @@ forms = record {
 -- a certifier at level 1 with a point alone, and rows
 rowed : List ℕ → ℤ → List ℤ → List ℤ → Lent
 rowed weights value informed qmdp =
-    lent (1 ∷ 1 ∷ 1 ∷ []) (cells (0 ∷ []) (0 ∷ []) (replicate 3 (pos 0)) (replicate 3 (pos 0)) weights (value ∷ [])) (rows informed qmdp)
+    lent (1 ∷ 1 ∷ 1 ∷ []) (cells (0 ∷ []) (0 ∷ []) (7 ∷ []) (replicate 3 (pos 0)) (replicate 3 (pos 0)) weights (value ∷ [])) (rows informed qmdp)
 
 standing : List ℕ → ℤ → Lent
 standing weights value = rowed weights value (replicate 3 (pos 0)) (replicate 3 (pos 0))
@@ -100,7 +102,7 @@ record Table : Type 0 where
 table : Table
 unfolding forms rowed standing withRows three two level told alone levelVerdict holdsUpTo tablesVerdict limitsHold rowsTotal
     numbersIn rangesVerdict rowsWithin valuesWithin
-    weightsVerdict firstOf every totalTo range
+    weightsVerdict firstOf every totalTo range covered
 table = record {
   thirds = refl;
   thirds-low = refl;

@@ -1,8 +1,8 @@
--- What an offer is refused for, 7 to 15, in checking order; each number is tested throughout before the next.
+-- What an offer is refused for, 7 to 15 and 21, in checking order; each number is tested throughout before the next.
 use Prim.Native.Nat.{ℕ, _+_, _*_}
 use mathlib.Core.Bool.{Bool, true, false, not, _&&_, _||_}
 use mathlib.Core.List.{List}
-use lib.Dec.{leb, ltb}
+use lib.Dec.{leb, ltb, eqb}
 use lib.ListN.{length}
 use lib.IntN.{ℤ, natAbs}
 use lib.Signed.{leZ}
@@ -76,11 +76,21 @@ unfoldable pub levelVerdict : ℕ → ℕ → ℕ → ℕ → ℕ → Level → 
 levelVerdict n m k t standing W =
     numbersVerdict m k standing W before rangesVerdict n t W before weightsVerdict n (W .points) (W .weight)
 
--- 13: a vector entry exceeds its backup
+-- whether the vectors chosen for the observations cover each state that is reached, with T × O above 0, from a covered one
+abbrev pub reachedCovered : Model → Level → (ℕ → Bool) → ℕ → (ℕ → ℕ) → Bool
+reachedCovered M L covers a choice =
+    every (M .states) (λ s. not (covers s)
+    || every (M .observations) (λ o. every (M .states) (λ s'. eqb (M .transition s a s' * M .observation a s' o) 0 || L .covers (choice o) s')))
+
+-- 21: a covered state reaches one that the chosen vector does not cover
+unfoldable pub masksVerdict : Model → Level → Level → Verdict
+masksVerdict M L W = firstOf (W .vectors) (λ v. unless (reachedCovered M L (W .covers v) (W .action v) (W .choice v)) 21 v)
+
+-- 13: a vector entry exceeds its backup, at a state that the vector covers
 unfoldable pub floorsVerdict : Model → Level → Level → Verdict
 floorsVerdict M L W =
-    firstOf (W .vectors)
-    (λ v. firstOf (M .states) (λ s. unless (leZ (K · W .entry v s) (backup M (W .action v) (follows L (W .choice v)) s)) 13 v))
+    firstOf (W .vectors) (λ v. firstOf (M .states)
+    (λ s. unless (not (W .covers v s) || leZ (K · W .entry v s) (backup M (W .action v) (follows L (W .choice v)) s)) 13 v))
 
 -- whether a value at weights p is at least every action's backup
 abbrev pub coversBackups : Model → Level → (ℕ → ℕ) → ℤ → Bool
@@ -94,9 +104,9 @@ cornersVerdict M L W = firstOf (M .states) (λ s. unless (coversBackups M L (cor
 unfoldable pub pointsVerdict : Model → Level → Level → Verdict
 pointsVerdict M L W = firstOf (W .points) (λ i. unless (coversBackups M L (W .weight i) (W .value i)) 15 i)
 
--- 13 to 15: the backup inequalities
+-- 21, then 13 to 15: the masks and the backup inequalities
 unfoldable pub backupsVerdict : Model → Level → Level → Verdict
-backupsVerdict M L W = floorsVerdict M L W before cornersVerdict M L W before pointsVerdict M L W
+backupsVerdict M L W = masksVerdict M L W before floorsVerdict M L W before cornersVerdict M L W before pointsVerdict M L W
 
 -- ---- an offer to a certifier whose levels have at most so many vectors
 

@@ -1,6 +1,6 @@
 -- From storage to a level: rows packed by the counts, as the model's tables are. Every contract speaks through these.
 --
---   choices by v, o     entries by v, s     weights by i, s     actions, corners, values by their one index
+--   choices by v, o     entries by v, s     weights by i, s     actions, masks, corners, values by their one index
 use Prim.Native.Nat.{ℕ, _*_}
 use mathlib.Core.Bool.{Bool, _&&_}
 use mathlib.Core.List.{List, []}
@@ -10,6 +10,7 @@ use lib.IntN.{ℤ, pos}
 use Rattle.integers.specs.Cells.{laid, laidRows}
 use Rattle.tables.specs.declared.Tables.{Tables}
 use Rattle.tables.specs.Storage.{rowPlace, entryIn, choiceIn}
+use Rattle.masks.specs.Masks.{maskOf, coveredIn, maskedIn}
 use Rattle.plans.specs.Level.{Level}
 use Rattle.levels.specs.declared.Standing.{Standing}
 
@@ -19,14 +20,15 @@ use Rattle.levels.specs.declared.Standing.{Standing}
 pub record Cells : Type 0 where
   pub actions : List ℕ
   pub choices : List ℕ
+  pub masks : List ℕ
   pub entries : List ℤ
   pub corners : List ℤ
   pub weights : List ℕ
   pub values : List ℤ
 
-abbrev pub cells : List ℕ → List ℕ → List ℤ → List ℤ → List ℕ → List ℤ → Cells
-cells actions choices entries corners weights values =
-    record { actions = actions; choices = choices; entries = entries; corners = corners; weights = weights; values = values }
+abbrev pub cells : List ℕ → List ℕ → List ℕ → List ℤ → List ℤ → List ℕ → List ℤ → Cells
+cells actions choices masks entries corners weights values =
+    record { actions = actions; choices = choices; masks = masks; entries = entries; corners = corners; weights = weights; values = values }
 
 -- a level as it is handed in
 pub record LentLevel : Type 0 where
@@ -41,13 +43,14 @@ cornerIn cells s = getD cells s (pos 0)
 abbrev pub pointIn : ℕ → List ℕ → ℕ → ℕ → ℕ
 pointIn n cells i s = getD cells (rowPlace n i s) 0
 
--- the level that is read by the counts from its parts, of a model with n states and k observations
-abbrev pub levelIn : ℕ → ℕ → ℕ → List ℕ → List ℕ → List ℤ → List ℤ → ℕ → List ℕ → List ℤ → Level
-levelIn n k vectors actions choices entries corners points weights values = record {
+-- the level that is read by the counts from its parts, of a model with n states and k observations; entries at states that are not covered are unread
+abbrev pub levelIn : ℕ → ℕ → ℕ → List ℕ → List ℕ → List ℕ → List ℤ → List ℤ → ℕ → List ℕ → List ℤ → Level
+levelIn n k vectors actions choices masks entries corners points weights values = record {
   vectors = vectors;
   action = λ v. getD actions v 0;
   choice = choiceIn k choices;
-  entry = entryIn n entries;
+  covers = coveredIn masks;
+  entry = maskedIn n masks entries;
   corner = cornerIn corners;
   points = points;
   weight = pointIn n weights;
@@ -57,26 +60,27 @@ levelIn n k vectors actions choices entries corners points weights values = reco
 -- the level that is handed in with tables
 abbrev pub levelOf : Tables → LentLevel → Level
 levelOf m l =
-    levelIn (m .states) (m .observations) (l .vectors) (l .cells .actions) (l .cells .choices) (l .cells .entries) (l .cells .corners)
-    (l .points) (l .cells .weights) (l .cells .values)
+    levelIn (m .states) (m .observations) (l .vectors) (l .cells .actions) (l .cells .choices) (l .cells .masks) (l .cells .entries)
+    (l .cells .corners) (l .points) (l .cells .weights) (l .cells .values)
 
 -- a level of which only the vectors are read, and one of which only the corners and points are
-abbrev pub floorIn : ℕ → ℕ → ℕ → List ℕ → List ℕ → List ℤ → Level
-floorIn n k vectors actions choices entries = levelIn n k vectors actions choices entries [] 0 [] []
+abbrev pub floorIn : ℕ → ℕ → ℕ → List ℕ → List ℕ → List ℕ → List ℤ → Level
+floorIn n k vectors actions choices masks entries = levelIn n k vectors actions choices masks entries [] 0 [] []
 
 abbrev pub roofIn : ℕ → List ℤ → ℕ → List ℕ → List ℤ → Level
-roofIn n corners points weights values = levelIn n 0 1 [] [] [] corners points weights values
+roofIn n corners points weights values = levelIn n 0 1 [] [] [] [] corners points weights values
 
 -- slices of such lengths are long enough for what is read of a level once it stands; its choices are not
-abbrev pub longEnough : ℕ → ℕ → ℕ → ℕ → ℕ → ℕ → ℕ → ℕ → Bool
-longEnough n vectors points actions entries corners weights values =
-    leb vectors actions && (leb (vectors * n) entries && (leb n corners && (leb (points * n) weights && leb points values)))
+abbrev pub longEnough : ℕ → ℕ → ℕ → ℕ → ℕ → ℕ → ℕ → ℕ → ℕ → Bool
+longEnough n vectors points actions masks entries corners weights values =
+    leb vectors actions
+    && (leb vectors masks && (leb (vectors * n) entries && (leb n corners && (leb (points * n) weights && leb points values))))
 
 abbrev pub readable : Tables → LentLevel → Bool
 readable m l =
     let x : Cells = l .cells in
-    longEnough (m .states) (l .vectors) (l .points) (length (x .actions)) (length (x .entries)) (length (x .corners)) (length (x .weights))
-    (length (x .values))
+    longEnough (m .states) (l .vectors) (l .points) (length (x .actions)) (length (x .masks)) (length (x .entries)) (length (x .corners))
+    (length (x .weights)) (length (x .values))
 
 -- the slices are long enough for all of a level
 abbrev pub complete : Tables → LentLevel → Bool
@@ -87,6 +91,7 @@ unfoldable pub over : Tables → Level → Cells → Cells
 over m W x = record {
   actions = laid (W .vectors) (W .action) (x .actions);
   choices = laidRows (W .vectors) (m .observations) (W .choice) (x .choices);
+  masks = laid (W .vectors) (λ v. maskOf (m .states) (W .covers v)) (x .masks);
   entries = laidRows (W .vectors) (m .states) (W .entry) (x .entries);
   corners = laid (m .states) (W .corner) (x .corners);
   weights = laidRows (W .points) (m .states) (W .weight) (x .weights);

@@ -92,15 +92,19 @@ pub fn readable(
     vectors: usize,
     points: usize,
     actions: usize,
+    masks: usize,
     entries: usize,
     corners: usize,
     weights: usize,
     values: usize,
 ) -> bool
     requires { ⌜ (n ≤ maxStates) × ((vectors ≤ maxVectors) × (points ≤ maxPoints)) ⌝ }
-    ensures { λ r. ⌜ r ≡ longEnough n vectors points actions entries corners weights values ⌝ }
+    ensures { λ r. ⌜ r ≡ longEnough n vectors points actions masks entries corners weights values ⌝ }
 {
     if actions < vectors {
+        return false;
+    }
+    if masks < vectors {
         return false;
     }
     if entries < vectors * n {
@@ -123,13 +127,14 @@ pub fn complete(
     points: usize,
     actions: usize,
     choices: usize,
+    masks: usize,
     entries: usize,
     corners: usize,
     weights: usize,
     values: usize,
 ) -> bool
     requires { ⌜ (n ≤ maxStates) × ((k ≤ maxObservations) × ((vectors ≤ maxVectors) × (points ≤ maxPoints))) ⌝ }
-    ensures { λ r. ⌜ r ≡ leb (vectors * k) choices && longEnough n vectors points actions entries corners weights values ⌝ }
+    ensures { λ r. ⌜ r ≡ leb (vectors * k) choices && longEnough n vectors points actions masks entries corners weights values ⌝ }
 {
     if choices < vectors * k {
         return false;
@@ -139,6 +144,7 @@ pub fn complete(
         vectors,
         points,
         actions,
+        masks,
         entries,
         corners,
         weights,

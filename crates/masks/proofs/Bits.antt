@@ -3,6 +3,7 @@
 --   bits-same          numbers below 2 ^ k with the same bits are the same
 --   mask-below         a mask of states below n is below 2 ^ n
 --   mask-covers        it has the states that it was made of
+--   mask-cong          masks of the same states are the same
 --   mask-all           that of all states is 2 ^ n - 1
 --   mask-narrowed      that of a mask's own states below n is what is left of it below 2 ^ n
 --   includes-every     one mask has each of the states of another
@@ -17,6 +18,7 @@ use lib.Pow.{pow-pos, pow-add, split, shr-shr, high, shr-lt}
 use Rattle.integers.specs.Whole.{totalTo}
 use Rattle.integers.specs.Search.{every}
 use Rattle.integers.proofs.Parts.{is-T}
+use Rattle.integers.proofs.Sums.{total-cong}
 use Rattle.integers.proofs.Searches.{every-at, at-every}
 use Rattle.masks.specs.Masks.{covered, maskOf}
 use Rattle.masks.specs.Steps.{includes}
@@ -92,6 +94,11 @@ mask-covers (suc n) f s l = rw (mask-step n f) (by (decLt s n) (λ h. mask-cover
         let e : s ≡ n = omega arith in
         rw e (ap (λ (x : ℕ). eqb (x % 2) 1) (ap (λ (x : ℕ). x / 2 ^ n) (NatL.add-comm (maskOf n f) (unit (f n) * 2 ^ n))
         ∙ high (unit (f n)) n (mask-below n f)) ∙ unit-bit (f n))
+
+-- only the states below n matter
+pub mask-cong : (n : ℕ) (f g : ℕ → Bool) → ((s : ℕ) → s < n → f s ≡ g s) → maskOf n f ≡ maskOf n g
+unfolding maskOf
+mask-cong n f g h = total-cong n _ _ (λ s l. rw (h s l))
 
 pub mask-all : (n : ℕ) → maskOf n (λ s. true) + 1 ≡ 2 ^ n
 unfolding maskOf totalTo unit
