@@ -14,12 +14,12 @@ use Rattle.tables.proofs.Refusals.{before-fine, unless-fine}
 use Rattle.tables.proofs.Accepted.{tables-valid, tables-stored}
 use Rattle.tables.specs.Limits.{maxVectors, maxLevels}
 use Rattle.plans.specs.Level.{Level, level0, Agree, ceiling}
-use Rattle.plans.specs.Build.{built}
+use Rattle.plans.specs.Build.{someCoversAll, built}
 use Rattle.plans.specs.Rows.{bestRow, informed, qmdp, informedNext, qmdpNext}
-use Rattle.plans.specs.Totals.{best, lower, upper, advice}
+use Rattle.plans.specs.Totals.{someCounts, best, lower, upper, advice}
 use Rattle.plans.proofs.Certified.{Certified}
 use Rattle.plans.proofs.Bracket.{certified-0, certified-next, bracket}
-use Rattle.plans.proofs.Agreement.{shaped-agree, meets-agree, meets-below, lower-agree, ceiling-agree, advice-agree}
+use Rattle.plans.proofs.Agreement.{shaped-agree, meets-agree, meets-below, some-counts-agree, some-covers-all-agree, lower-agree, ceiling-agree, advice-agree}
 use Rattle.plans.proofs.Built.{built-shaped, built-meets, level0-shaped}
 use Rattle.plans.proofs.Rebuilt.{built-same}
 use Rattle.plans.proofs.Rows.{rows-certified, rows-roof, informed-range, qmdp-range, bestRow-cong, informed-cong, qmdp-cong}
@@ -27,14 +27,14 @@ use Rattle.levels.specs.Storage.{Cells, LentLevel, Lent, rows, stateSize, level
 use Rattle.levels.specs.Storage.{informedIn, qmdpIn}
 use Rattle.levels.specs.Judged.{holds}
 use Rattle.levels.proofs.Laws.{passed, fine-before}
-use Rattle.levels.proofs.Over.{Complete, AsLong, as-long, long-long, complete-true, complete-is, complete-long, over-agree, over-long, over-same}
+use Rattle.levels.proofs.Over.{read-elsewhere, covers-elsewhere, Complete, AsLong, as-long, long-long, complete-true, complete-is, complete-long, over-agree, over-long, over-same}
 use Rattle.levels.proofs.Over.{informed-over, qmdp-over, informed-long, qmdp-long}
 use Rattle.runs.specs.declared.Bounds.{Bounds}
 use Rattle.tables.specs.Verdicts.{left}
 use Rattle.runs.specs.State.{at, openVerdict, opened, verdictOn, raised, offered, mixtureHolds, totalsVerdict, totalsOf}
 use Rattle.runs.specs.State.{answerFor, buildVerdict, builtFrom, builtOf}
 use Rattle.runs.specs.Demand3.{ModelAccepted, run, tally, acceptances, newer, lastOf, after, steps, last}
-use Rattle.runs.specs.Demand3.{StateHolds, RowsAre, TotalsHold, BuildHolds, PointsHold, Demand3}
+use Rattle.runs.specs.Demand3.{StateHolds, RowsAre, MixtureHolds, TotalsHold, BuildHolds, PointsHold, Demand3}
 use Rattle.runs.proofs.Judged.{Held, Accepted, standing-is, accepted, weights-is}
 use Rattle.runs.proofs.Vectors.{accepted-1000}
 
@@ -75,7 +75,7 @@ module _ (m : Tables) (x : Lent) (o : ModelAccepted m x) where
       let v = tables-valid m fine-tables in
       let F = informed (modelOf m) 0 in
       let Q = qmdp (modelOf m) 0 in
-      let agree = over-agree m level0 (x .cells) in
+      let agree = over-agree m level0 (x .cells) (covers-elsewhere (m .states) level0 (λ v s. refl)) in
       rw o record {
         number = refl;
         certified = certified-0 (modelOf m);
@@ -113,7 +113,7 @@ module _ {m : Tables} {x₀ : Cells} {t : ℕ} {L : Level} {x : Lent} (r : Reach
       let v = r .stands .valid-tables in
       let F = informedNext M (informedIn m x) in
       let Q = qmdpNext M (qmdpIn m x) in
-      let agree = over-agree m (levelOf m l) (x .cells) in
+      let agree = over-agree m (levelOf m l) (x .cells) (read-elsewhere m l) in
       let long = over-long m (levelOf m l) (x .cells) (a .held) in
       record {
         number = ap (λ (n : ℕ). n + 1) (r .number) ∙ add-one t;
@@ -160,10 +160,14 @@ module _ {m : Tables} {x₀ : Cells} {t : ℕ} {L : Level} {x : Lent} (r : Reach
   some-vectors = rw (r .agrees .vectors-same) at (r .stands .shaped .some-vectors)
 
   module _ (b : List ℕ) where
-    totals-fine : 0 < t → mixtureHolds (m .states) b ≡ true → totalsVerdict m x b ≡ Fine
+    counts-is : someCounts (modelOf m) (levelOf m (standingIn x)) (weightIn b) ≡ someCounts (modelOf m) L (weightIn b)
+    counts-is = some-counts-agree (modelOf m) L (levelOf m (standingIn x)) (r .agrees) (weightIn b)
+
+    totals-fine : 0 < t → mixtureHolds (m .states) b ≡ true → someCounts (modelOf m) L (weightIn b) ≡ true → totalsVerdict m x b ≡ Fine
     unfolding totalsVerdict
-    totals-fine h e =
-        fine-before (passed 7 0 holds-true) (fine-before (passed 16 0 (lt-ltb 0 (numberIn x) (omega (arith, r .number)))) (passed 17 0 e))
+    totals-fine h e counted =
+        fine-before (passed 7 0 holds-true) (fine-before (passed 16 0 (lt-ltb 0 (numberIn x) (omega (arith, r .number))))
+        (fine-before (passed 17 0 e) (passed 22 0 (counts-is ∙ counted))))
 
     lower-is : lower (modelOf m) (levelOf m (standingIn x)) (weightIn b) ≡ lower (modelOf m) L (weightIn b)
     lower-is = lower-agree (modelOf m) L (levelOf m (standingIn x)) (r .agrees) some-vectors (weightIn b)
@@ -190,17 +194,21 @@ module _ {m : Tables} {x₀ : Cells} {t : ℕ} {L : Level} {x : Lent} (r : Reach
       (r .stands .valid-tables .some-actions) count (pointIn (m .states) (y .weights)))
 
   module _ (h : t < maxLevels) (count : ℕ) (y : Cells) where
-    module _ (points : PointsHold m record { state = []; cells = x₀; rows = rows [] [] } count y) where
+    module _ (points : PointsHold m record { state = []; cells = x₀; rows = rows [] [] } count y) (some : someCoversAll (modelOf m) L ≡ true) where
+      covers-all : someCoversAll (modelOf m) (levelOf m (standingIn x)) ≡ true
+      covers-all = some-covers-all-agree (modelOf m) L (levelOf m (standingIn x)) (r .agrees) ∙ some
+
       build-fine : buildVerdict m x count y ≡ Fine
       unfolding buildVerdict
       build-fine =
           fine-before (passed 7 0 holds-true)
           (fine-before (passed 8 0 (lt-ltb (numberIn x) maxLevels (omega (arith, r .number))))
-          (fine-before (passed 9 0 (and-is (le-leb _ _ (points .few)) (points .answer-room))) (weights-is _ _ _ (points .total))))
+          (fine-before (passed 9 0 (and-is (le-leb _ _ (points .few)) (points .answer-room)))
+          (fine-before (weights-is _ _ _ (points .total)) (passed 22 0 covers-all))))
 
       built-accepted : verdictOn m x (answerFor m count (over m (builtFrom m (levelOf m (standingIn x)) count y) y)) ≡ Fine
       built-accepted =
-          accepted-1000 m x holds-true (omega (arith, r .number)) count y record {
+          accepted-1000 m x holds-true (omega (arith, r .number)) covers-all count y record {
             few = points .few;
             total = points .total;
             answer-room = points .answer-room;
@@ -250,11 +258,11 @@ module _ (m : Tables) (x : Lent) (o : ModelAccepted m x) (ls : List LentLevel) w
         roof = λ b π f. rw (bestRow-cong (modelOf m) some _ _ (reached .informed-is) b) (rows-roof some c π f b);
       }
 
-  totals-hold : 0 < steps m x ls → (b : List ℕ) → mixtureHolds (m .states) b ≡ true → TotalsHold m x ls b (totalsOf m (after m x ls) b)
+  totals-hold : 0 < steps m x ls → (b : List ℕ) → MixtureHolds m x ls b → TotalsHold m x ls b (totalsOf m (after m x ls) b)
   unfolding totalsOf
   totals-hold h b e =
       let v = reached .stands .valid-tables in
-      rw (totals-fine reached b h e) record {
+      rw (totals-fine reached b h (e .0) (e .1)) record {
         given = refl;
         lower-is = lower-is reached b;
         sawtooth-is = sawtooth-is reached b;
@@ -262,19 +270,19 @@ module _ (m : Tables) (x : Lent) (o : ModelAccepted m x) (ls : List LentLevel) w
         upper-is = upper-is reached b;
         gap-is = refl;
         action-is = advice-is reached b;
-        bracket = bracket (v .some-actions) (reached .certified) (rows-certified v (steps m x ls)) (some-vectors reached) (weightIn b);
+        bracket = bracket (v .some-actions) (reached .certified) (rows-certified v (steps m x ls)) (some-vectors reached) (weightIn b) (e .1);
       }
 
-  build-holds : steps m x ls < maxLevels → (count : ℕ) (y : Cells) → PointsHold m x count y
+  build-holds : steps m x ls < maxLevels → someCoversAll (modelOf m) (last m x ls) ≡ true → (count : ℕ) (y : Cells) → PointsHold m x count y
       → BuildHolds m x ls count y (buildVerdict m (after m x ls) count y) (builtOf m (after m x ls) count y)
   unfolding builtOf
-  build-holds h count y p =
+  build-holds h some count y p =
       let points : PointsHold m record { state = []; cells = x .cells; rows = rows [] [] } count y =
       record { few = p .few; total = p .total; answer-room = p .answer-room; certifier-room = p .certifier-room } in
-      rw (build-fine reached h count y points) record {
+      rw (build-fine reached h count y points some) record {
         given = refl;
         level-is = level-built reached count y;
-        accepted = built-accepted reached h count y points;
+        accepted = built-accepted reached h count y points some;
       }
 
 -- Demand 3: what holds after any list of offers, of any content, to the certifier that opening left on accepted tables.
@@ -282,7 +290,7 @@ module _ (m : Tables) (x : Lent) (o : ModelAccepted m x) (ls : List LentLevel) w
 -- refused offer changes nothing. An accepted one passed every test: it has the shape of the next level and meets its inequalities over the standing level.
 -- Inequalities read only parts that agree, so it meets them over the last accepted level too, and is certified with one step more (`certified-next`).
 -- The rows step from 0 with each acceptance, so they are those of level t, which no plan passes (`rows-certified`).
--- Totals are given, since `Reached` passes 7 and the number is above 0. They are those of the last accepted level, with which the standing one agrees, and
+-- Totals are given, since `Reached` passes 7, the number is above 0 and some vector counts. They are those of the last accepted level, with which the standing one agrees, and
 -- the totals of a certified level bracket what plans earn (`bracket`). Building is not refused either: the built level has the shape of the next level and
 -- meets its inequalities over the standing one (`built-shaped`, `built-meets`); what is laid of it agrees with it, so it passes every test of an offer. Qed.
 pub demand3 : (m : Tables) (x : Lent) → ModelAccepted m x → (ls : List LentLevel) → Demand3 m x ls
@@ -290,11 +298,11 @@ demand3 m x o ls = record { state = state-holds m x o ls; rows = rows-are m x o 
 
 -- ---- an answer that meets its equation has what demand 3 says of it
 pub totals-demand : (m : Tables) (y : Lent) (b : List ℕ) (r : Bounds) → r ≡ totalsOf m y b
-    → (x : Lent) (ls : List LentLevel) → ModelAccepted m x → y ≡ after m x ls → 0 < steps m x ls → mixtureHolds (m .states) b ≡ true
+    → (x : Lent) (ls : List LentLevel) → ModelAccepted m x → y ≡ after m x ls → 0 < steps m x ls → MixtureHolds m x ls b
     → TotalsHold m x ls b r
 totals-demand m y b r e x ls o q h mixture = rw (e, q) (demand3 m x o ls .totals h b mixture)
 
 pub build-demand : (m : Tables) (z : Lent) (count : ℕ) (y : Cells) (v : Verdict) (y' : Cells) → v ≡ buildVerdict m z count y → y' ≡ builtOf m z count y
-    → (x : Lent) (ls : List LentLevel) → ModelAccepted m x → z ≡ after m x ls → steps m x ls < maxLevels → PointsHold m x count y
-    → BuildHolds m x ls count y v y'
-build-demand m z count y v y' e f x ls o q h points = rw (e, f, q) (demand3 m x o ls .build h count y points)
+    → (x : Lent) (ls : List LentLevel) → ModelAccepted m x → z ≡ after m x ls → steps m x ls < maxLevels
+    → someCoversAll (modelOf m) (last m x ls) ≡ true → PointsHold m x count y → BuildHolds m x ls count y v y'
+build-demand m z count y v y' e f x ls o q h some points = rw (e, f, q) (demand3 m x o ls .build h some count y points)

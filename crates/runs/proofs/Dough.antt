@@ -4,7 +4,7 @@ use Rattle.integers.proofs.Kit.{_≡_, refl, List, [], _∷_, ℕ, _<_, _+_, _*
 use lib.IntN.{+ℤ-idr}
 use lib.Signed.{leZ-yes}
 use Rattle.integers.specs.Whole.{_·_, sumTo, totalTo, largestTo, lesser, floorDiv, ceilDiv}
-use Rattle.integers.specs.Search.{every, firstLargest}
+use Rattle.integers.specs.Search.{every, some, firstLargestOf}
 use Rattle.integers.specs.Cells.{listed, laid, laidRows}
 use Rattle.integers.proofs.Order.{·-zero}
 use Rattle.integers.proofs.Sums.{sum-zero}
@@ -16,15 +16,16 @@ use Rattle.tables.specs.Model.{Model, successor, expectedReward, backup, backed
 use Rattle.tables.specs.Storage.{weightIn, modelOf}
 use Rattle.tables.specs.Verdicts.{firstOf}
 use Rattle.tables.specs.Judged.{limitsHold, rowsTotal, tablesVerdict}
+use Rattle.masks.specs.Masks.{covered, maskOf}
 use Rattle.plans.specs.Limits.{range}
 use Rattle.plans.specs.Plan.{Plan, stop, step, Fits, earns, earnsAt}
-use Rattle.plans.specs.Level.{level0, product, joined, smallest, orNone, drop, gain, ceiling, backupAt, corner-weight, follows}
+use Rattle.plans.specs.Level.{level0, coversAll, counts, product, joined, smallest, orNone, drop, gain, ceiling, backupAt, corner-weight, follows}
 use Rattle.plans.specs.Rows.{highest, bestRow, informedBackup, informedNext, informed, qmdpBackup, qmdpNext, qmdp}
 use Rattle.plans.specs.Totals.{best, lower, upper, advice}
 use Rattle.plans.specs.Build.{chosen, entryFor, bestAction, leastFor, leastValue, seed, built}
 use Rattle.levels.specs.Storage.{Cells, LentLevel, Rows, rows, Lent, levelOf, cornerIn, over}
 use Rattle.levels.specs.Judged.{rowsWithin, valuesWithin, rangesVerdict, weightsVerdict, holdsUpTo, numbersIn, floorsVerdict, cornersVerdict, pointsVerdict}
-use Rattle.levels.specs.Judged.{levelVerdict, shapeUpTo, backupsVerdict, offerUpTo, offerVerdict}
+use Rattle.levels.specs.Judged.{masksVerdict, levelVerdict, shapeUpTo, backupsVerdict, offerUpTo, offerVerdict}
 use Rattle.runs.specs.declared.Bounds.{Bounds}
 use Rattle.runs.specs.State.{openVerdict, opened, offered, totalsVerdict, totalsOf, buildVerdict, builtOf}
 
@@ -43,11 +44,16 @@ dough = record {
 mixture : ℕ → ℕ → List ℕ
 mixture x y = x ∷ y ∷ []
 
--- slices with room for three vectors and one point
-unfoldable pub slices : List ℕ → Cells
-slices weights = record {
+-- the mask of both states
+abbrev pub all : ℕ
+all = 3
+
+-- slices with room for three vectors and one point, the first mask being this one
+unfoldable pub slices : ℕ → List ℕ → Cells
+slices mask weights = record {
   actions = replicate 3 0;
   choices = replicate 6 0;
+  masks = mask ∷ 0 ∷ 0 ∷ [];
   entries = replicate 6 (pos 0);
   corners = replicate 2 (pos 0);
   weights = weights;
@@ -62,20 +68,21 @@ rowsAt (suc (suc zero)) = rows (negsuc 49 ∷ pos 440 ∷ negsuc 1_089 ∷ pos 5
 rowsAt (suc (suc (suc t))) = rows (pos 76 ∷ pos 359 ∷ negsuc 1_044 ∷ pos 555 ∷ []) (pos 186 ∷ pos 359 ∷ negsuc 886 ∷ pos 713 ∷ [])
 
 blank : Lent
-blank = record { state = replicate 3 0; cells = slices (replicate 2 0); rows = rows (replicate 4 (pos 1)) (replicate 4 (pos 1)) }
+blank = record { state = replicate 3 0; cells = slices 0 (replicate 2 0); rows = rows (replicate 4 (pos 1)) (replicate 4 (pos 1)) }
 
 -- level 0, and the slices lent for a level that is built at the start numbers
 unfoldable pub fresh : Lent
-fresh = record { state = 0 ∷ 1 ∷ 0 ∷ []; cells = slices (replicate 2 0); rows = rowsAt 0 }
+fresh = record { state = 0 ∷ 1 ∷ 0 ∷ []; cells = slices all (replicate 2 0); rows = rowsAt 0 }
 
 unfoldable pub half : Cells
-half = slices (50 ∷ 50 ∷ [])
+half = slices 0 (50 ∷ 50 ∷ [])
 
 -- ---- the levels that are built, written out
 unfoldable pub one : Cells
 one = record {
   actions = 0 ∷ 1 ∷ 0 ∷ [];
   choices = replicate 6 0;
+  masks = replicate 3 all;
   entries = negsuc 99 ∷ negsuc 99 ∷ negsuc 999 ∷ pos 600 ∷ negsuc 99 ∷ negsuc 99 ∷ [];
   corners = negsuc 99 ∷ pos 600 ∷ [];
   weights = 50 ∷ 50 ∷ [];
@@ -86,6 +93,7 @@ two : Cells
 two = record {
   actions = 0 ∷ 1 ∷ 0 ∷ [];
   choices = 0 ∷ 1 ∷ 0 ∷ 0 ∷ 0 ∷ 1 ∷ [];
+  masks = replicate 3 all;
   entries = negsuc 50 ∷ pos 251 ∷ negsuc 1_089 ∷ pos 510 ∷ negsuc 50 ∷ pos 251 ∷ [];
   corners = negsuc 31 ∷ pos 510 ∷ [];
   weights = 50 ∷ 50 ∷ [];
@@ -96,6 +104,7 @@ three : Cells
 three = record {
   actions = 0 ∷ 1 ∷ 0 ∷ [];
   choices = 0 ∷ 0 ∷ 0 ∷ 0 ∷ 0 ∷ 1 ∷ [];
+  masks = replicate 3 all;
   entries = negsuc 9 ∷ pos 125 ∷ negsuc 1_045 ∷ pos 554 ∷ negsuc 21 ∷ pos 289 ∷ [];
   corners = pos 64 ∷ pos 572 ∷ [];
   weights = 50 ∷ 50 ∷ [];
@@ -117,6 +126,7 @@ alone x y = record {
   cells = record {
     actions = 0 ∷ [];
     choices = 0 ∷ 1 ∷ [];
+    masks = all ∷ [];
     entries = x ∷ y ∷ [];
     corners = two .corners;
     weights = two .weights;
@@ -129,6 +139,7 @@ changed : ℤ → ℤ → Cells
 changed corner value = record {
   actions = two .actions;
   choices = two .choices;
+  masks = two .masks;
   entries = two .entries;
   corners = corner ∷ pos 510 ∷ [];
   weights = two .weights;
@@ -254,11 +265,11 @@ record Table : Type 0 where
 
 table : Table
 unfolding dough slices rowsAt blank fresh half one two three level standing alone changed mixture pair
-    openVerdict opened offered offerUpTo shapeUpTo levelVerdict backupsVerdict floorsVerdict cornersVerdict pointsVerdict numbersIn holdsUpTo over level0
+    openVerdict opened offered offerUpTo shapeUpTo levelVerdict backupsVerdict masksVerdict floorsVerdict cornersVerdict pointsVerdict numbersIn holdsUpTo over level0
     totalsOf totalsVerdict best lower upper advice builtOf buildVerdict tablesVerdict limitsHold rowsTotal
-    firstOf every totalTo rangesVerdict rowsWithin valuesWithin weightsVerdict range built seed bestAction chosen entryFor leastValue leastFor firstLargest
+    firstOf every totalTo rangesVerdict rowsWithin valuesWithin weightsVerdict range built seed bestAction chosen entryFor leastValue leastFor firstLargestOf
     product successor sumTo backedUp backup follows floorDiv ceilDiv backupAt expectedReward ceiling largestTo drop gain smallest joined orNone
-    corner-weight laid laidRows listed lesser highest bestRow informedBackup informedNext informed qmdpBackup qmdpNext qmdp _·_ K
+    coversAll counts some covered maskOf corner-weight laid laidRows listed lesser highest bestRow informedBackup informedNext informed qmdpBackup qmdpNext qmdp _·_ K
 table = record {
   opens = (refl, refl);
   one-built = (refl, refl);

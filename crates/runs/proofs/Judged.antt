@@ -1,7 +1,7 @@
 -- From verdicts to facts, and back: what a standing level that holds, and an offer that is fine, are known to have, where a level has at most `most`
 -- vectors. Assumes nothing.
 use Rattle.integers.proofs.Kit.{_≡_, refl, true, false, Bool, _||_, List, ℕ, _≤_, _<_, _+_, _*_, arith, le-leb, leb-true, lt-ltb, ltb-true, leb}
-use Rattle.integers.proofs.Kit.{length, ℤ, natAbs, _≤ℤ_}
+use Rattle.integers.proofs.Kit.{suc, zero, eqb, ne-eqb, length, ℤ, natAbs, _≤ℤ_}
 use mathlib.Core.Bool.{not}
 use Rattle.integers.specs.Whole.{_·_, totalTo}
 use Rattle.integers.proofs.Parts.{is-T, leZ-is, le-true}
@@ -19,7 +19,7 @@ use Rattle.tables.proofs.Accepted.{tables-valid, tables-stored, tables-fine}
 use Rattle.plans.specs.Limits.{maxTotal, range}
 use Rattle.plans.specs.Level.{Level, backupAt, corner-weight, follows, Meets, ShapedUpTo, IsPoint}
 use Rattle.levels.specs.Judged.{countsHold, rowsWithin, totalHolds, valuesWithin, rangesVerdict, weightsVerdict, actionsExist, isFine}
-use Rattle.levels.specs.Judged.{numbersIn, numbersVerdict, floorsVerdict, coversBackups, cornersVerdict, pointsVerdict, levelVerdict}
+use Rattle.levels.specs.Judged.{numbersIn, numbersVerdict, masksVerdict, floorsVerdict, coversBackups, cornersVerdict, pointsVerdict, levelVerdict}
 use Rattle.levels.specs.Judged.{rowsHold, holdsUpTo, fits, shapeUpTo, backupsVerdict, offerUpTo}
 use Rattle.levels.specs.Storage.{LentLevel, Lent, stateSize, levelOf, readable, complete, numberIn, standingIn, lentFor}
 use Rattle.levels.proofs.Laws.{passed, fine-before, numbers-in}
@@ -43,13 +43,20 @@ pub rows-is : (number rows w limit : ℕ) (cell : ℕ → ℕ → ℤ) → ((r :
 unfolding rowsWithin
 rows-is number rows w limit cell h = at-fine _ rows (λ r l. at-fine _ w (λ x b. passed number r (le-leb _ _ (h r l x b))))
 
+if-covered : (a b : Bool) → (a ≡ true → b ≡ true) → (not a || b) ≡ true
+if-covered true b e = e refl
+if-covered false b e = refl
+
+zero-or : (n : ℕ) (b : Bool) → (0 < n → b ≡ true) → (eqb n 0 || b) ≡ true
+zero-or zero b h = refl
+zero-or (suc n) b h = rw (ne-eqb (suc n) 0 (λ e. omega arith)) (h (omega arith))
+
 -- a number that is not passed over
 only-if : (a b : Bool) → (not a || b) ≡ true → a ≡ true → b ≡ true
 only-if a b e h = rw h at e
 
 if-so : (a b : Bool) → b ≡ true → (not a || b) ≡ true
-if-so true b e = e
-if-so false b e = refl
+if-so a b e = if-covered a b (λ h. e)
 
 covers-true : (M : Model) (L : Level) (p : ℕ → ℕ) (w : ℤ) → coversBackups M L p w ≡ true → (a : ℕ) → a < M .actions → backupAt M L p a ≤ℤ K · w
 covers-true M L p w e a l = le-true _ _ (every-at (M .actions) _ e a l)
@@ -151,7 +158,7 @@ pub record Held (most : ℕ) (m : Tables) (x : Lent) : Type 0 where
   pub informed : RowsIn (m .actions) (m .states) (numberIn x) (x .rows .informed)
   pub qmdp : RowsIn (m .actions) (m .states) (numberIn x) (x .rows .qmdp)
 
--- what 7 to 15 test
+-- what 7 to 15 and 21 test
 pub record Accepted (most : ℕ) (m : Tables) (x : Lent) (l : LentLevel) : Type 0 where
   pub standing : Held most m x
   pub room : numberIn x < maxLevels
@@ -222,10 +229,20 @@ module _ (most : ℕ) (m : Tables) (x : Lent) where
         → (v : ℕ) → v < W .vectors → (W .action v < M .actions) × ((o : ℕ) → o < M .observations → W .choice v o < L .vectors)
     numbers-fine e = numbers-in 10 (W .vectors) (M .actions) (M .observations) (L .vectors) (W .action) (W .choice) e
 
-    floors-fine : floorsVerdict M L W ≡ Fine
-        → (v : ℕ) → v < W .vectors → (s : ℕ) → s < M .states → K · W .entry v s ≤ℤ backup M (W .action v) (follows L (W .choice v)) s
+    masks-fine : masksVerdict M L W ≡ Fine → (v : ℕ) → v < W .vectors → (s : ℕ) → s < M .states → W .covers v s ≡ true
+        → (o : ℕ) → o < M .observations → (s' : ℕ) → s' < M .states → 0 < M .transition s (W .action v) s' * M .observation (W .action v) s' o
+        → L .covers (W .choice v o) s' ≡ true
+    unfolding masksVerdict
+    masks-fine e v l s b c o k s' b' above =
+        let from = only-if (W .covers v s) _ (every-at (M .states) _ (unless-fine _ 21 v (fine-at _ (W .vectors) e v l)) s b) c in
+        let to = every-at (M .states) _ (every-at (M .observations) _ from o k) s' b' in
+        rw (ne-eqb (M .transition s (W .action v) s' * M .observation (W .action v) s' o) 0 (λ z. omega arith)) at to
+
+    floors-fine : floorsVerdict M L W ≡ Fine → (v : ℕ) → v < W .vectors → (s : ℕ) → s < M .states → W .covers v s ≡ true
+        → K · W .entry v s ≤ℤ backup M (W .action v) (follows L (W .choice v)) s
     unfolding floorsVerdict
-    floors-fine e v l s b = le-true _ _ (unless-fine _ _ _ (fine-at _ (M .states) (fine-at _ (W .vectors) e v l) s b))
+    floors-fine e v l s b c =
+        le-true _ _ (only-if (W .covers v s) _ (unless-fine _ _ _ (fine-at _ (M .states) (fine-at _ (W .vectors) e v l) s b)) c)
 
     corners-fine : cornersVerdict M L W ≡ Fine
         → (s : ℕ) → s < M .states → (a : ℕ) → a < M .actions → backupAt M L (corner-weight s) a ≤ℤ K · W .corner s
@@ -263,14 +280,15 @@ module _ (most : ℕ) (m : Tables) (x : Lent) where
           chosen = λ v b. numbers v b .1;
         }
 
-    -- An accepted offer has the shape of the next level and meets its inequalities over the standing one: the tests of 10 and 13 to 15 are the conditions
-    -- of `Meets`. Qed.
+    -- An accepted offer has the shape of the next level and meets its inequalities over the standing one: the tests of 10, 21 and 13 to 15 are the
+    -- conditions of `Meets`. Qed.
     pub accepted : offerUpTo most m x l ≡ Fine → Accepted most m x l
     unfolding offerUpTo backupsVerdict
     accepted e =
         let stages = before-fine _ _ e in
         let f = fitting (stages .0) in
-        let e14 = before-fine _ _ (stages .1) in
+        let e13 = before-fine _ _ (stages .1) in
+        let e14 = before-fine _ _ (e13 .1) in
         let e15 = before-fine _ _ (e14 .1) in
         record {
           standing = f .standing;
@@ -279,7 +297,12 @@ module _ (most : ℕ) (m : Tables) (x : Lent) where
           held = f .held;
           shaped = f .shaped;
           meets = record {
-            vector = λ v b. record { action-exists = f .shaped .action-in v b; choice-exists = f .chosen v b; entry-holds = floors-fine (e14 .0) v b };
+            vector = λ v b. record {
+              action-exists = f .shaped .action-in v b;
+              choice-exists = f .chosen v b;
+              reached-covered = masks-fine (e13 .0) v b;
+              entry-holds = floors-fine (e14 .0) v b;
+            };
             corner = corners-fine (e15 .0);
             point = points-fine (e15 .1);
           };
@@ -287,7 +310,7 @@ module _ (most : ℕ) (m : Tables) (x : Lent) where
 
     -- The other way round: every test of every stage passes. Qed.
     pub accepts : Accepted most m x l → offerUpTo most m x l ≡ Fine
-    unfolding offerUpTo shapeUpTo levelVerdict backupsVerdict numbersIn floorsVerdict cornersVerdict pointsVerdict
+    unfolding offerUpTo shapeUpTo levelVerdict backupsVerdict numbersIn masksVerdict floorsVerdict cornersVerdict pointsVerdict
     accepts a =
         let e = shaped-tests most M (numberIn x + 1) W (a .shaped) in
         let h = a .meets in
@@ -299,6 +322,9 @@ module _ (most : ℕ) (m : Tables) (x : Lent) where
         (at-fine _ (M .observations) (λ o b. passed 10 v (lt-ltb _ _ (h .vector v l .choice-exists o b))))))
         (fine-before (e .ranges)
         (e .weights))))))
-        (fine-before (at-fine _ (W .vectors) (λ v l. at-fine _ (M .states) (λ s b. passed 13 v (leZ-is _ _ (h .vector v l .entry-holds s b)))))
+        (fine-before (at-fine _ (W .vectors) (λ v l. passed 21 v (at-every (M .states) _ (λ s b. if-covered (W .covers v s) _
+        (λ c. at-every (M .observations) _ (λ o k. at-every (M .states) _ (λ s' b'. zero-or _ _ (h .vector v l .reached-covered s b c o k s' b'))))))))
+        (fine-before (at-fine _ (W .vectors) (λ v l. at-fine _ (M .states)
+        (λ s b. passed 13 v (if-covered (W .covers v s) _ (λ c. leZ-is _ _ (h .vector v l .entry-holds s b c))))))
         (fine-before (at-fine _ (M .states) (λ s l. passed 14 s (covers-is M L (corner-weight s) (W .corner s) (h .corner s l))))
-        (at-fine _ (W .points) (λ i l. passed 15 i (covers-is M L (W .weight i) (W .value i) (h .point i l))))))
+        (at-fine _ (W .points) (λ i l. passed 15 i (covers-is M L (W .weight i) (W .value i) (h .point i l)))))))

@@ -17,7 +17,7 @@ use Rattle.plans.proofs.Agreement.{backup-cong}
 use Rattle.plans.proofs.Built.{action-exists, chosen-exists}
 use Rattle.plans.proofs.Ticks.{BackedUp, low-next, high-next}
 use Rattle.levels.specs.Storage.{Cells, LentLevel, Lent, levelOf, pointIn, over, numberIn, standingIn}
-use Rattle.levels.proofs.Over.{over-agree}
+use Rattle.levels.proofs.Over.{covers-elsewhere, over-agree}
 use Rattle.tables.specs.Verdicts.{left}
 use Rattle.runs.specs.State.{raised, opened, verdictOn, offered, answerFor, buildVerdict, builtFrom, builtOf}
 use Rattle.runs.specs.Demand3.{ModelAccepted, run, newer, lastOf, after, steps, last}
@@ -92,7 +92,8 @@ module _ (m : Tables) (valid-tables : Valid (modelOf m)) (x₀ : Cells) where
     -- what is read of the built level agrees with what the builder makes over the last accepted one
     built-agrees : buildVerdict m x (p .count) (p .cells) ≡ Fine → Agree (modelOf m) (builtFrom m L (p .count) (p .cells)) (levelOf m (builtLevel m x p))
     unfolding builtOf built
-    built-agrees e = rw (e, level-built (k .reached) (p .count) (p .cells)) (over-agree m (builtFrom m L (p .count) (p .cells)) (p .cells))
+    built-agrees e = rw (e, level-built (k .reached) (p .count) (p .cells)) (over-agree m (builtFrom m L (p .count) (p .cells)) (p .cells)
+        (covers-elsewhere (m .states) (builtFrom m L (p .count) (p .cells)) (λ v s. refl)))
 
     stacked-step : (l : LentLevel) → Agree (modelOf m) (builtFrom m L (p .count) (p .cells)) (levelOf m l)
         → Stacked m x₀ (stacked (verdictOn m x l) (levelOf m l) below) (newer (verdictOn m x l) (levelOf m l) L) (offered m x l)

@@ -1,5 +1,5 @@
 -- Acceptance of built levels, over the most vectors that a level may have; 32 and 1,000 are two uses. Assumes nothing.
-use Rattle.integers.proofs.Kit.{_≡_, ℕ, _≤_, _+_, suc, arith, add-one}
+use Rattle.integers.proofs.Kit.{_≡_, refl, ℕ, _≤_, _+_, suc, arith, add-one}
 use Rattle.tables.specs.Limits.{maxStates, maxVectors}
 use Rattle.tables.specs.Model.{Model}
 use Rattle.tables.specs.Storage.{modelOf}
@@ -9,7 +9,7 @@ use Rattle.plans.specs.Build.{built}
 use Rattle.plans.proofs.Built.{built-shaped, built-meets}
 use Rattle.plans.proofs.Agreement.{shaped-agree, meets-agree}
 use Rattle.levels.specs.Storage.{levelOf, pointIn, over, numberIn, standingIn}
-use Rattle.levels.proofs.Over.{complete-true, complete-long, over-long, over-agree}
+use Rattle.levels.proofs.Over.{covers-elsewhere, complete-true, complete-long, over-long, over-agree}
 use Rattle.runs.specs.State.{answerFor, builtFrom}
 use Rattle.runs.specs.Vectors.{BuiltAccepted}
 use Rattle.runs.proofs.Judged.{standing-true, accepts}
@@ -18,7 +18,7 @@ use Rattle.runs.proofs.Judged.{standing-true, accepts}
 -- over the standing one (`built-shaped`, `built-meets`). What is laid of it agrees with it, so it passes every test of an offer. Qed.
 pub built-accepted : (most : ℕ) → maxStates + maxBuilt ≤ most → BuiltAccepted most
 unfolding built
-built-accepted most enough m x h room count y points =
+built-accepted most enough m x h room some count y points =
     let held = standing-true most m x h in
     let M : Model = modelOf m in
     let S : Level = levelOf m (standingIn x) in
@@ -26,7 +26,7 @@ built-accepted most enough m x h room count y points =
     let W : Level = builtFrom m S count y in
     let v = held .valid-tables in
     let complete = complete-true m (answerFor m count y) (points .answer-room) in
-    let agree = over-agree m W y in
+    let agree = over-agree m W y (covers-elsewhere (m .states) W (λ v s. refl)) in
     accepts most m x (answerFor m count (over m W y)) record {
       standing = held;
       room = room;
@@ -34,7 +34,7 @@ built-accepted most enough m x h room count y points =
       held = complete-true m (answerFor m count (x .cells)) (points .certifier-room);
       shaped = rw (add-one (numberIn x)) (shaped-agree M W _ agree (suc (numberIn x))
           (built-shaped M S (numberIn x) v (held .shaped) count weight (points .few) (points .total) enough));
-      meets = meets-agree M S W _ agree (built-meets M S (numberIn x) v (held .shaped) count weight (points .few) (points .total));
+      meets = meets-agree M S W _ agree (built-meets M S (numberIn x) v (held .shaped) count weight (points .few) (points .total) some);
     }
 
 pub accepted-32 : BuiltAccepted 32

@@ -21,7 +21,8 @@ use Rattle.plans.specs.Limits.{maxBuilt}
 use Rattle.plans.specs.Plan.{Plan, Fits, earnsAt}
 use Rattle.plans.specs.Level.{Level, Agree, level0, IsPoint, ceiling}
 use Rattle.plans.specs.Rows.{bestRow, informed, qmdp}
-use Rattle.plans.specs.Totals.{lower, upper, advice, Bracket}
+use Rattle.plans.specs.Build.{someCoversAll}
+use Rattle.plans.specs.Totals.{someCounts, lower, upper, advice, Bracket}
 use Rattle.levels.specs.Storage.{Cells, LentLevel, Lent, levelOf, pointIn, complete, over, numberIn, standingIn, informedIn, qmdpIn}
 use Rattle.runs.specs.declared.Bounds.{Bounds}
 use Rattle.runs.specs.State.{openVerdict, opened, verdictOn, offered, mixtureHolds, totalsOf, answerFor, buildVerdict, builtFrom, builtOf}
@@ -74,6 +75,10 @@ pub record RowsAre (m : Tables) (x : Lent) (ls : List LentLevel) : Type 0 where
   pub roof : (b : ℕ → ℕ) (π : Plan (steps m x ls)) → Fits (modelOf m) π
       → earnsAt (modelOf m) π b ≤ℤ (K ^ steps m x ls) · bestRow (modelOf m) (informedIn m (after m x ls)) b
 
+-- a mixture at which totals are asked for: some vector of the last accepted level counts there
+abbrev pub MixtureHolds : Tables → Lent → List LentLevel → List ℕ → Type 0
+MixtureHolds m x ls b = (mixtureHolds (m .states) b ≡ true) × (someCounts (modelOf m) (last m x ls) (weightIn b) ≡ true)
+
 -- totals r at a mixture b: given, document 01's at the last accepted level, and a bracket of what the best of all t-step plans of the model earns there,
 -- with an action that opens a plan earning the lower one
 pub record TotalsHold (m : Tables) (x : Lent) (ls : List LentLevel) (b : List ℕ) (r : Bounds) : Type 0 where
@@ -104,6 +109,6 @@ pub record PointsHold (m : Tables) (x : Lent) (count : ℕ) (y : Cells) : Type 0
 pub record Demand3 (m : Tables) (x : Lent) (ls : List LentLevel) : Type 0 where
   pub state : StateHolds m x ls
   pub rows : RowsAre m x ls
-  pub totals : 0 < steps m x ls → (b : List ℕ) → mixtureHolds (m .states) b ≡ true → TotalsHold m x ls b (totalsOf m (after m x ls) b)
-  pub build : steps m x ls < maxLevels → (count : ℕ) (y : Cells) → PointsHold m x count y
+  pub totals : 0 < steps m x ls → (b : List ℕ) → MixtureHolds m x ls b → TotalsHold m x ls b (totalsOf m (after m x ls) b)
+  pub build : steps m x ls < maxLevels → someCoversAll (modelOf m) (last m x ls) ≡ true → (count : ℕ) (y : Cells) → PointsHold m x count y
       → BuildHolds m x ls count y (buildVerdict m (after m x ls) count y) (builtOf m (after m x ls) count y)

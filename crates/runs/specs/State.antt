@@ -18,8 +18,8 @@ use Rattle.tables.specs.Judged.{tablesVerdict}
 use Rattle.plans.specs.Limits.{maxBuilt}
 use Rattle.plans.specs.Level.{Level, level0, ceiling}
 use Rattle.plans.specs.Rows.{bestRow, informedNext, informed, qmdpNext, qmdp}
-use Rattle.plans.specs.Totals.{lower, upper, advice}
-use Rattle.plans.specs.Build.{built}
+use Rattle.plans.specs.Totals.{someCounts, lower, upper, advice}
+use Rattle.plans.specs.Build.{someCoversAll, built}
 use Rattle.levels.specs.Storage.{Cells, LentLevel, Lent, stateSize, levelOf, pointIn, complete, over, longRows, overRows, numberIn, standingIn, lentFor}
 use Rattle.levels.specs.Storage.{informedIn, qmdpIn}
 use Rattle.levels.specs.Judged.{holds, weightsVerdict, offerVerdict}
@@ -66,11 +66,13 @@ offered m x l = left (verdictOn m x l) (raised m x (levelOf m l)) x
 abbrev pub mixtureHolds : ℕ → List ℕ → Bool
 mixtureHolds n b = leb n (length b) && (every n (λ s. leb (weightIn b s) maxWeight) && ltb 0 (totalTo n (weightIn b)))
 
+-- 22: no vector counts at the mixture
 unfoldable pub totalsVerdict : Tables → Lent → List ℕ → Verdict
 totalsVerdict m x b =
     unless (holds m x) 7 0
     before unless (ltb 0 (numberIn x)) 16 0
     before unless (mixtureHolds (m .states) b) 17 0
+    before unless (someCounts (modelOf m) (levelOf m (standingIn x)) (weightIn b)) 22 0
 
 abbrev pub boundsBy : Verdict → Model → Level → (ℕ → ℕ → ℤ) → (ℕ → ℕ) → Bounds
 boundsBy Fine M L F b = record {
@@ -101,12 +103,14 @@ totalsOf m x b = boundsBy (totalsVerdict m x b) (modelOf m) (levelOf m (standing
 abbrev pub answerFor : Tables → ℕ → Cells → LentLevel
 answerFor m count y = lentFor (m .states + count) count y
 
+-- 22: no vector of the standing level covers all states
 unfoldable pub buildVerdict : Tables → Lent → ℕ → Cells → Verdict
 buildVerdict m x count y =
     unless (holds m x) 7 0
     before unless (ltb (numberIn x) maxLevels) 8 0
     before unless (leb count maxBuilt && complete m (answerFor m count y)) 9 0
     before weightsVerdict (m .states) count (pointIn (m .states) (y .weights))
+    before unless (someCoversAll (modelOf m) (levelOf m (standingIn x))) 22 0
 
 -- the level that the builder makes over a level, of the weights of some points
 abbrev pub builtFrom : Tables → Level → ℕ → Cells → Level

@@ -5,13 +5,17 @@ use mathlib.Core.Bool.{true}
 use Rattle.tables.specs.declared.Tables.{Tables}
 use Rattle.tables.specs.declared.Verdict.the-variants.{Fine}
 use Rattle.tables.specs.Limits.{maxLevels}
+use Rattle.tables.specs.Storage.{modelOf}
+use Rattle.plans.specs.Build.{someCoversAll}
 use Rattle.levels.specs.Storage.{Cells, Lent, levelOf, over, numberIn, standingIn}
 use Rattle.levels.specs.Judged.{holdsUpTo, offerUpTo}
 use Rattle.runs.specs.State.{answerFor, builtFrom}
 use Rattle.runs.specs.Demand3.{PointsHold}
 
--- what is built upon a certifier whose levels have at most `most` vectors, whatever it holds within its limits, is accepted by it
+-- what is built upon a certifier whose levels have at most `most` vectors, whatever it holds within its limits, is accepted by it, if some vector of
+-- its level covers all states
 abbrev pub BuiltAccepted : ℕ → Type 0
 BuiltAccepted most =
-    (m : Tables) (x : Lent) → holdsUpTo most m x ≡ true → numberIn x < maxLevels → (count : ℕ) (y : Cells) → PointsHold m x count y
+    (m : Tables) (x : Lent) → holdsUpTo most m x ≡ true → numberIn x < maxLevels
+    → someCoversAll (modelOf m) (levelOf m (standingIn x)) ≡ true → (count : ℕ) (y : Cells) → PointsHold m x count y
     → offerUpTo most m x (answerFor m count (over m (builtFrom m (levelOf m (standingIn x)) count y) y)) ≡ Fine
