@@ -1,6 +1,6 @@
 -- The call that makes the level of a solver's files: what it is refused for, and what is left in the slices lent for it.
 --
---   adoptVerdict       1, 7, 19, 20, then 8 to 12
+--   adoptVerdict       1, 7, 19, 20, then 8 to 10, 21, 11 and 12
 --   adopted            the level laid over the slices, or these as they were
 --   adoptAnswer           the verdict, with the number of vectors
 use Prim.Native.Nat.{ℕ, _+_}
@@ -12,13 +12,14 @@ use Rattle.tables.specs.declared.Tables.{Tables}
 use Rattle.tables.specs.declared.Verdict.{Verdict}
 use Rattle.tables.specs.declared.Verdict.the-variants.{Fine, Refused}
 use Rattle.tables.specs.Limits.{maxVectors, maxLevels}
+use Rattle.tables.specs.Model.{Model}
 use Rattle.tables.specs.Storage.{modelOf}
 use Rattle.tables.specs.Verdicts.{_before_, unless, left}
 use Rattle.tables.specs.Judged.{countWithin}
 use Rattle.plans.specs.Limits.{maxBuilt}
 use Rattle.plans.specs.Level.{Level}
 use Rattle.levels.specs.Storage.{Cells, LentLevel, Lent, levelOf, pointIn, complete, over, numberIn, standingIn, lentFor}
-use Rattle.levels.specs.Judged.{holds, levelVerdict}
+use Rattle.levels.specs.Judged.{holds, numbersVerdict, masksVerdict, rangesVerdict, weightsVerdict}
 use Rattle.solver.specs.Files.{maxFile, vectorsIn, filesVerdict}
 use Rattle.solved.specs.Solved.{solved}
 use Rattle.adopting.specs.declared.Adopted.{Adopted}
@@ -37,7 +38,15 @@ abbrev pub adoptFits : Tables → List ℕ → ℕ → Cells → Bool
 adoptFits m alphaFile count y =
     countWithin maxVectors (vectorsIn (m .states) alphaFile) && (leb count maxBuilt && complete m (adoptedLevel m alphaFile count y))
 
--- 1 of either file, 7 of the certifier, 19 and 20 of the files, then 8 and 9, and 10 to 12 of the level
+-- 10, 21, 11 and 12 of the level W that the files say, over the level L
+abbrev pub solvedVerdict : Model → ℕ → Level → Level → Verdict
+solvedVerdict M t L W =
+    numbersVerdict (M .actions) (M .observations) (L .vectors) W
+    before masksVerdict M L W
+    before rangesVerdict (M .states) (t + 1) W
+    before weightsVerdict (M .states) (W .points) (W .weight)
+
+-- 1 of either file, 7 of the certifier, 19 and 20 of the files, then 8 and 9, and those of the level
 unfoldable pub adoptVerdict : Tables → Lent → List ℕ → List ℕ → ℕ → Cells → Verdict
 adoptVerdict m x alphaFile graphFile count y =
     unless (leb (length alphaFile) maxFile && leb (length graphFile) maxFile) 1 0
@@ -45,7 +54,7 @@ adoptVerdict m x alphaFile graphFile count y =
     before filesVerdict (m .states) (m .observations) alphaFile graphFile
     before unless (ltb (numberIn x) maxLevels) 8 0
     before unless (adoptFits m alphaFile count y) 9 0
-    before levelVerdict (m .states) (m .actions) (m .observations) (numberIn x + 1) (standingIn x .vectors) (solvedFrom m x alphaFile graphFile count y)
+    before solvedVerdict (modelOf m) (numberIn x) (levelOf m (standingIn x)) (solvedFrom m x alphaFile graphFile count y)
 
 unfoldable pub adopted : Tables → Lent → List ℕ → List ℕ → ℕ → Cells → Cells
 adopted m x alphaFile graphFile count y =

@@ -45,6 +45,7 @@ fn judge_room(
     points: usize,
     actions: usize,
     choices: usize,
+    masks: usize,
     entries: usize,
     corners: usize,
     weights: usize,
@@ -52,7 +53,7 @@ fn judge_room(
 ) -> Verdict
     requires { ⌜ (n ≤ maxStates) × (k ≤ maxObservations) ⌝ }
     ensures { λ r. ⌜ r ≡ (unless (ltb number maxLevels) 8 0 before unless (countWithin maxVectors vectors
-        && (leb points maxBuilt && (leb (vectors * k) choices && longEnough n vectors points actions entries corners weights values))) 9 0) ⌝ }
+        && (leb points maxBuilt && (leb (vectors * k) choices && longEnough n vectors points actions masks entries corners weights values))) 9 0) ⌝ }
 {
     if Level::LEVELS <= number {
         return Verdict::Refused(8, 0);
@@ -70,6 +71,7 @@ fn judge_room(
         points,
         actions,
         choices,
+        masks,
         entries,
         corners,
         weights,
@@ -97,6 +99,7 @@ fn judge_files<'a, 'b, 'c>(
     c: Counts,
     state: &'b [usize],
     actions: &'b [u8],
+    masks: &'b [u64],
     entries: &'b [i64],
     corners: &'b [i64],
     weights: &'b [u32],
@@ -108,6 +111,7 @@ fn judge_files<'a, 'b, 'c>(
     count: usize,
     newactions: usize,
     newchoices: usize,
+    newmasks: usize,
     newentries: usize,
     newcorners: usize,
     given: usize,
@@ -115,7 +119,7 @@ fn judge_files<'a, 'b, 'c>(
 ) -> Judged
     ensures { λ r. ⌜ ((choices : List ℕ) →
         let m = tablesIn c (now (transition .entry)) (now (observation .entry)) (now (reward .entry)) in
-        let standing = lent (now (state .entry)) (cells (now (actions .entry)) choices (now (entries .entry)) (now (corners .entry))
+        let standing = lent (now (state .entry)) (cells (now (actions .entry)) choices (now (masks .entry)) (now (entries .entry)) (now (corners .entry))
         (now (weights .entry)) (now (values .entry))) (rows (now (informed .entry)) (now (qmdp .entry))) in
         let vectors = vectorsIn (c .states) (now (alpha .entry)) in
         r ≡ withCount (unless (leb (length (now (alpha .entry))) maxFile && leb (length (now (graph .entry))) maxFile) 1 0
@@ -138,6 +142,7 @@ fn judge_files<'a, 'b, 'c>(
         c,
         state,
         actions,
+        masks,
         entries,
         corners,
         weights,
@@ -161,6 +166,7 @@ fn judge_files<'a, 'b, 'c>(
         count,
         newactions,
         newchoices,
+        newmasks,
         newentries,
         newcorners,
         given,
@@ -178,7 +184,7 @@ fn judge_files<'a, 'b, 'c>(
 // ---- the call
 
 // Makes the level of a solver's files over the level that stands, with the builder's corners and its values at a count of points of any content: it is
-// accepted where it is offered to the same certifier; or refused by 1, 7, 19, 20 or 8 to 12.
+// accepted where it is offered to the same certifier; or refused by 1, 7, 19, 20, 8 to 12 or 21.
 pub fn adopt<'a, 'b, 'c>(
     transition: &'a [u16],
     observation: &'a [u16],
@@ -186,6 +192,7 @@ pub fn adopt<'a, 'b, 'c>(
     c: Counts,
     state: &'b [usize],
     actions: &'b [u8],
+    masks: &'b [u64],
     entries: &'b [i64],
     corners: &'b [i64],
     weights: &'b [u32],
@@ -198,34 +205,35 @@ pub fn adopt<'a, 'b, 'c>(
     count: usize,
     newactions: &mut [u8],
     newchoices: &mut [u16],
+    newmasks: &mut [u64],
     newentries: &mut [i64],
     newcorners: &mut [i64],
     newvalues: &mut [i64],
 ) -> Adopted
     ensures { λ r. ⌜ ((choices : List ℕ) →
         let m = tablesIn c (now (transition .entry)) (now (observation .entry)) (now (reward .entry)) in
-        let standing = lent (now (state .entry)) (cells (now (actions .entry)) choices (now (entries .entry)) (now (corners .entry))
+        let standing = lent (now (state .entry)) (cells (now (actions .entry)) choices (now (masks .entry)) (now (entries .entry)) (now (corners .entry))
         (now (weights .entry)) (now (values .entry))) (rows (now (informed .entry)) (now (qmdp .entry))) in
-        let y = cells (now (newactions .entry)) (now (newchoices .entry)) (now (newentries .entry)) (now (newcorners .entry)) (now (given .entry))
-        (now (newvalues .entry)) in
+        let y = cells (now (newactions .entry)) (now (newchoices .entry)) (now (newmasks .entry)) (now (newentries .entry)) (now (newcorners .entry))
+        (now (given .entry)) (now (newvalues .entry)) in
         r ≡ adoptAnswer (adoptVerdict m standing (now (alpha .entry)) (now (graph .entry)) count y) (vectorsIn (c .states) (now (alpha .entry)))) ⌝ }
     ensures { λ _. ⌜ ((choices : List ℕ) →
         let m = tablesIn c (now (transition .entry)) (now (observation .entry)) (now (reward .entry)) in
-        let standing = lent (now (state .entry)) (cells (now (actions .entry)) choices (now (entries .entry)) (now (corners .entry))
+        let standing = lent (now (state .entry)) (cells (now (actions .entry)) choices (now (masks .entry)) (now (entries .entry)) (now (corners .entry))
         (now (weights .entry)) (now (values .entry))) (rows (now (informed .entry)) (now (qmdp .entry))) in
-        let y = cells (now (newactions .entry)) (now (newchoices .entry)) (now (newentries .entry)) (now (newcorners .entry)) (now (given .entry))
-        (now (newvalues .entry)) in
-        let made = cells (now (newactions .exit)) (now (newchoices .exit)) (now (newentries .exit)) (now (newcorners .exit)) (now (given .entry))
-        (now (newvalues .exit)) in
+        let y = cells (now (newactions .entry)) (now (newchoices .entry)) (now (newmasks .entry)) (now (newentries .entry)) (now (newcorners .entry))
+        (now (given .entry)) (now (newvalues .entry)) in
+        let made = cells (now (newactions .exit)) (now (newchoices .exit)) (now (newmasks .exit)) (now (newentries .exit)) (now (newcorners .exit))
+        (now (given .entry)) (now (newvalues .exit)) in
         made ≡ adopted m standing (now (alpha .entry)) (now (graph .entry)) count y) ⌝ }
     ensures { λ r. ⌜ ((choices : List ℕ) →
         let m = tablesIn c (now (transition .entry)) (now (observation .entry)) (now (reward .entry)) in
-        let standing = lent (now (state .entry)) (cells (now (actions .entry)) choices (now (entries .entry)) (now (corners .entry))
+        let standing = lent (now (state .entry)) (cells (now (actions .entry)) choices (now (masks .entry)) (now (entries .entry)) (now (corners .entry))
         (now (weights .entry)) (now (values .entry))) (rows (now (informed .entry)) (now (qmdp .entry))) in
-        let y = cells (now (newactions .entry)) (now (newchoices .entry)) (now (newentries .entry)) (now (newcorners .entry)) (now (given .entry))
-        (now (newvalues .entry)) in
-        let made = cells (now (newactions .exit)) (now (newchoices .exit)) (now (newentries .exit)) (now (newcorners .exit)) (now (given .entry))
-        (now (newvalues .exit)) in
+        let y = cells (now (newactions .entry)) (now (newchoices .entry)) (now (newmasks .entry)) (now (newentries .entry)) (now (newcorners .entry))
+        (now (given .entry)) (now (newvalues .entry)) in
+        let made = cells (now (newactions .exit)) (now (newchoices .exit)) (now (newmasks .exit)) (now (newentries .exit)) (now (newcorners .exit))
+        (now (given .entry)) (now (newvalues .exit)) in
         r .verdict ≡ Fine → AdoptHolds m standing (now (alpha .entry)) (now (graph .entry)) count y made) ⌝ }
 {
     let files = judge_files(
@@ -235,6 +243,7 @@ pub fn adopt<'a, 'b, 'c>(
         c,
         state,
         actions,
+        masks,
         entries,
         corners,
         weights,
@@ -246,6 +255,7 @@ pub fn adopt<'a, 'b, 'c>(
         count,
         newactions.len(),
         newchoices.len(),
+        newmasks.len(),
         newentries.len(),
         newcorners.len(),
         given.len(),
@@ -264,6 +274,7 @@ pub fn adopt<'a, 'b, 'c>(
         transition,
         observation,
         reward,
+        masks,
         entries,
         c,
         s.vectors,
@@ -284,6 +295,7 @@ pub fn adopt<'a, 'b, 'c>(
         transition,
         observation,
         reward,
+        masks,
         entries,
         c,
         s.vectors,
@@ -293,6 +305,7 @@ pub fn adopt<'a, 'b, 'c>(
         vectors,
         newactions,
         newchoices,
+        newmasks,
         newentries,
     );
     builder::build_corners(

@@ -6,7 +6,7 @@ use lib.Dec.{ltb}
 use lib.ListN.{length, getD}
 use lib.IntN.{ℤ, pos, natAbs, _-ℤ_}
 use Rattle.integers.specs.Whole.{lesser, Below}
-use Rattle.integers.specs.Search.{firstLargest}
+use Rattle.integers.specs.Search.{firstLargestOf}
 use Rattle.integers.specs.Cells.{padded}
 use Rattle.tables.specs.declared.Tables.{Tables}
 use Rattle.tables.specs.declared.Verdict.{Verdict}
@@ -15,6 +15,8 @@ use Rattle.tables.specs.Limits.{maxStates, maxActions, maxWeight}
 use Rattle.tables.specs.Storage.{weightIn, entryIn}
 use Rattle.tables.specs.Verdicts.{_before_, unless}
 use Rattle.tables.specs.Steps.{EntriesFit}
+use Rattle.masks.specs.Masks.{maskOf, maskedIn}
+use Rattle.masks.specs.Steps.{includes, someIncludes, MaskedFit}
 use Rattle.plans.specs.Level.{product}
 use Rattle.plans.specs.Rows.{highest}
 use Rattle.levels.specs.Storage.{Lent, pointIn, numberIn}
@@ -32,12 +34,17 @@ abbrev pub noBounds : Verdict → Bounds
 noBounds v =
     record { verdict = v; lower = pos 0; upper = pos 0; gap = pos 0; action = record { 0 = 0 }; sawtooth = pos 0; informed = pos 0 }
 
--- the first vector with the largest product, and that product
-abbrev pub bestIn : ℕ → ℕ → List ℤ → List ℕ → ℕ
-bestIn n vectors entries q = firstLargest vectors (λ v. product n (weightIn q) (entryIn n entries v))
+-- the states with a weight above 0: a vector counts where its mask has them
+abbrev pub supportIn : ℕ → List ℕ → ℕ
+supportIn n q = maskOf n (λ s. ltb 0 (weightIn q s))
 
-abbrev pub lowerIn : ℕ → ℕ → List ℤ → List ℕ → ℤ
-lowerIn n vectors entries q = product n (weightIn q) (entryIn n entries (bestIn n vectors entries q))
+-- the first vector with the largest product, of those that count, and that product
+abbrev pub bestIn : ℕ → ℕ → List ℕ → List ℤ → List ℕ → ℕ
+bestIn n vectors masks entries q =
+    firstLargestOf vectors (λ v. includes (getD masks v 0) (supportIn n q)) (λ v. product n (weightIn q) (maskedIn n masks entries v))
+
+abbrev pub lowerIn : ℕ → ℕ → List ℕ → List ℤ → List ℕ → ℤ
+lowerIn n vectors masks entries q = product n (weightIn q) (maskedIn n masks entries (bestIn n vectors masks entries q))
 
 -- the best of m informed rows
 abbrev pub rowIn : ℕ → ℕ → List ℤ → List ℕ → ℤ
@@ -48,13 +55,13 @@ abbrev pub upperIn : ℕ → ℕ → ℕ → List ℤ → List ℕ → List ℤ 
 upperIn n m points corners weights informed gains q = lesser (ceilingIn n corners weights gains points q) (rowIn n m informed q)
 
 -- the answer at weights within the limits
-abbrev pub boundsIn : ℕ → ℕ → ℕ → ℕ → List ℕ → List ℤ → List ℤ → List ℕ → List ℤ → List ℕ → List ℕ → Bounds
-boundsIn n m vectors points actions entries corners weights informed gains q = record {
+abbrev pub boundsIn : ℕ → ℕ → ℕ → ℕ → List ℕ → List ℕ → List ℤ → List ℤ → List ℕ → List ℤ → List ℕ → List ℕ → Bounds
+boundsIn n m vectors points actions masks entries corners weights informed gains q = record {
   verdict = Fine;
-  lower = lowerIn n vectors entries q;
+  lower = lowerIn n vectors masks entries q;
   upper = upperIn n m points corners weights informed gains q;
-  gap = upperIn n m points corners weights informed gains q -ℤ lowerIn n vectors entries q;
-  action = record { 0 = getD actions (bestIn n vectors entries q) 0 };
+  gap = upperIn n m points corners weights informed gains q -ℤ lowerIn n vectors masks entries q;
+  action = record { 0 = getD actions (bestIn n vectors masks entries q) 0 };
   sawtooth = ceilingIn n corners weights gains points q;
   informed = rowIn n m informed q;
 }
@@ -63,17 +70,20 @@ boundsIn n m vectors points actions entries corners weights informed gains q = r
 abbrev pub widened : ℕ → List ℕ → List ℕ
 widened n mixture = padded 0 maxStates n (pointIn n mixture 0)
 
--- 17 where the mixture does not hold
-abbrev pub unless17 : Bool → Bounds → Bounds
-unless17 true r = r
-unless17 false r = noBounds (Refused 17 0)
+-- an answer, or a refusal without a place where a test does not hold
+abbrev pub answeredIf : Bool → ℕ → Bounds → Bounds
+answeredIf true number r = r
+answeredIf false number r = noBounds (Refused number 0)
 
-abbrev pub answerIn : ℕ → ℕ → ℕ → ℕ → List ℕ → List ℤ → List ℤ → List ℕ → List ℤ → List ℕ → List ℕ → Bounds
-answerIn n m vectors points actions entries corners weights informed gains mixture =
-    unless17 (mixtureHolds n mixture) (boundsIn n m vectors points actions entries corners weights informed gains (widened n mixture))
+-- 17 where the mixture does not hold, then 22 where no vector counts there
+abbrev pub answerIn : ℕ → ℕ → ℕ → ℕ → List ℕ → List ℕ → List ℤ → List ℤ → List ℕ → List ℤ → List ℕ → List ℕ → Bounds
+answerIn n m vectors points actions masks entries corners weights informed gains mixture =
+    answeredIf (mixtureHolds n mixture) 17 (answeredIf (someIncludes masks vectors (supportIn n (widened n mixture))) 22
+    (boundsIn n m vectors points actions masks entries corners weights informed gains (widened n mixture)))
 
 -- a standing level in slices with its informed rows and its gains, within the limits, so that nothing overflows
-pub record Asked (n m vectors points : ℕ) (actions : List ℕ) (entries corners : List ℤ) (weights : List ℕ) (informed : List ℤ) (gains : List ℕ) : Type 0
+pub record Asked (n m vectors points : ℕ) (actions masks : List ℕ) (entries corners : List ℤ) (weights : List ℕ) (informed : List ℤ) (gains : List ℕ) :
+  Type 0
   where
     pub few-states : n ≤ maxStates
     pub some-actions : 0 < m
@@ -81,9 +91,9 @@ pub record Asked (n m vectors points : ℕ) (actions : List ℕ) (entries corner
     pub some-vectors : 0 < vectors
     pub actions-long : vectors ≤ length actions
     pub acts : (v : ℕ) → v < vectors → getD actions v 0 < maxActions
-    pub entries-fit : EntriesFit n vectors entries
+    pub entries-fit : MaskedFit n vectors masks entries
     pub corners-fit : CornersFit n corners
     pub points-fit : PointsFit n points weights
     pub gains-fit : Below maxGain points gains
     pub fits : (q : List ℕ) → Below maxWeight n q
-        → natAbs (upperIn n m points corners weights informed gains q) + natAbs (lowerIn n vectors entries q) < 2 ^ 63
+        → natAbs (upperIn n m points corners weights informed gains q) + natAbs (lowerIn n vectors masks entries q) < 2 ^ 63

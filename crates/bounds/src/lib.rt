@@ -6,10 +6,11 @@ ghost use Prim.Native.Nat.{ℕ, _≤_, _<_};
 ghost use Rattle.integers.specs.Whole.{Below};
 ghost use Rattle.tables.specs.Limits.{maxStates, maxWeight};
 ghost use Rattle.tables.specs.Storage.{tablesIn};
+ghost use Rattle.masks.specs.Steps.{someIncludes};
 ghost use Rattle.levels.specs.Storage.{LentLevel, Lent, cells, rows, lent};
 ghost use Rattle.runs.specs.State.{mixtureHolds, totalsOf};
-ghost use Rattle.runs.specs.Demand3.{ModelAccepted, after, steps, TotalsHold};
-ghost use Rattle.bounds.specs.Steps.{standingVerdict, noBounds, boundsIn, answerIn, Asked};
+ghost use Rattle.runs.specs.Demand3.{ModelAccepted, after, steps, MixtureHolds, TotalsHold};
+ghost use Rattle.bounds.specs.Steps.{standingVerdict, noBounds, supportIn, boundsIn, answerIn, Asked};
 use levels::Level;
 use levels::shape;
 use runs::Bounds;
@@ -52,9 +53,10 @@ fn no_bounds(v: Verdict) -> Bounds
     }
 }
 
-// The totals at weights within the limits.
+// The totals at weights within the limits, which lie on some states, where a vector counts.
 fn bounds_at<'b>(
     actions: &'b [u8],
+    masks: &'b [u64],
     entries: &'b [i64],
     corners: &'b [i64],
     weights: &'b [u32],
@@ -65,13 +67,15 @@ fn bounds_at<'b>(
     vectors: usize,
     points: usize,
     q: &[u64],
+    states: u64,
 ) -> Bounds
-    requires { ⌜ Asked n m vectors points (now actions) (now entries) (now corners) (now weights) (now informed) (now gains) ⌝ }
+    requires { ⌜ Asked n m vectors points (now actions) (now masks) (now entries) (now corners) (now weights) (now informed) (now gains) ⌝ }
     requires { ⌜ Below maxWeight n (now q) ⌝ }
-    ensures { λ r. ⌜ r ≡ boundsIn n m vectors points (now (actions .entry)) (now (entries .entry)) (now (corners .entry)) (now (weights .entry))
-        (now (informed .entry)) (now (gains .entry)) (now (q .entry)) ⌝ }
+    requires { ⌜ (states ≡ supportIn n (now q)) × (someIncludes (now masks) vectors states ≡ true) ⌝ }
+    ensures { λ r. ⌜ r ≡ boundsIn n m vectors points (now (actions .entry)) (now (masks .entry)) (now (entries .entry)) (now (corners .entry))
+        (now (weights .entry)) (now (informed .entry)) (now (gains .entry)) (now (q .entry)) ⌝ }
 {
-    let v = products::best_vector(q, entries, n, vectors);
+    let v = products::best_vector(q, masks, entries, n, vectors, states);
     let i = v.0;
     let lower = products::product(q, entries, read::start(i, n), n);
     let saw = sawtooth::ceiling(q, corners, weights, gains, points, n);
@@ -88,9 +92,10 @@ fn bounds_at<'b>(
     }
 }
 
-// The totals at a mixture of any content, or refused by 17.
+// The totals at a mixture of any content, or refused by 17 or 22.
 pub fn answer<'b>(
     actions: &'b [u8],
+    masks: &'b [u64],
     entries: &'b [i64],
     corners: &'b [i64],
     weights: &'b [u32],
@@ -102,16 +107,21 @@ pub fn answer<'b>(
     points: usize,
     mixture: &[u32],
 ) -> Bounds
-    requires { ⌜ Asked n m vectors points (now actions) (now entries) (now corners) (now weights) (now informed) (now gains) ⌝ }
-    ensures { λ r. ⌜ r ≡ answerIn n m vectors points (now (actions .entry)) (now (entries .entry)) (now (corners .entry)) (now (weights .entry))
-        (now (informed .entry)) (now (gains .entry)) (now (mixture .entry)) ⌝ }
+    requires { ⌜ Asked n m vectors points (now actions) (now masks) (now entries) (now corners) (now weights) (now informed) (now gains) ⌝ }
+    ensures { λ r. ⌜ r ≡ answerIn n m vectors points (now (actions .entry)) (now (masks .entry)) (now (entries .entry)) (now (corners .entry))
+        (now (weights .entry)) (now (informed .entry)) (now (gains .entry)) (now (mixture .entry)) ⌝ }
 {
     if !mixture_holds(mixture, n) {
         return no_bounds(Verdict::Refused(17, 0));
     }
     let q = ranges::point_weights(mixture, n, 0);
+    let states = masks::support(&q, n);
+    if !masks::some_has(masks, vectors, states) {
+        return no_bounds(Verdict::Refused(22, 0));
+    }
     bounds_at(
         actions,
+        masks,
         entries,
         corners,
         weights,
@@ -122,6 +132,7 @@ pub fn answer<'b>(
         vectors,
         points,
         &q,
+        states,
     )
 }
 
@@ -133,6 +144,7 @@ pub fn judge_standing<'a, 'b>(
     c: Counts,
     state: &'b [usize],
     actions: &'b [u8],
+    masks: &'b [u64],
     entries: &'b [i64],
     corners: &'b [i64],
     weights: &'b [u32],
@@ -141,8 +153,8 @@ pub fn judge_standing<'a, 'b>(
     qmdp: &'b [i64],
 ) -> Verdict
     ensures { λ r. ⌜ ((choices : List ℕ) → r ≡ standingVerdict (tablesIn c (now (transition .entry)) (now (observation .entry)) (now (reward .entry)))
-        (lent (now (state .entry)) (cells (now (actions .entry)) choices (now (entries .entry)) (now (corners .entry)) (now (weights .entry))
-        (now (values .entry))) (rows (now (informed .entry)) (now (qmdp .entry))))) ⌝ }
+        (lent (now (state .entry)) (cells (now (actions .entry)) choices (now (masks .entry)) (now (entries .entry)) (now (corners .entry))
+        (now (weights .entry)) (now (values .entry))) (rows (now (informed .entry)) (now (qmdp .entry))))) ⌝ }
 {
     if !standing::standing_holds(
         transition,
@@ -151,6 +163,7 @@ pub fn judge_standing<'a, 'b>(
         c,
         state,
         actions,
+        masks,
         entries,
         corners,
         weights,
@@ -167,7 +180,7 @@ pub fn judge_standing<'a, 'b>(
     Verdict::Fine
 }
 
-// The lower and the upper total at a mixture of any content, their gap and the action to open with; or refused by 7, 16 or 17.
+// The lower and the upper total at a mixture of any content, their gap and the action to open with; or refused by 7, 16, 17 or 22.
 pub fn totals<'a, 'b>(
     transition: &'a [u16],
     observation: &'a [u16],
@@ -175,6 +188,7 @@ pub fn totals<'a, 'b>(
     c: Counts,
     state: &'b [usize],
     actions: &'b [u8],
+    masks: &'b [u64],
     entries: &'b [i64],
     corners: &'b [i64],
     weights: &'b [u32],
@@ -184,13 +198,13 @@ pub fn totals<'a, 'b>(
     mixture: &[u32],
 ) -> Bounds
     ensures { λ r. ⌜ ((choices : List ℕ) → r ≡ totalsOf (tablesIn c (now (transition .entry)) (now (observation .entry)) (now (reward .entry)))
-        (lent (now (state .entry)) (cells (now (actions .entry)) choices (now (entries .entry)) (now (corners .entry)) (now (weights .entry))
-        (now (values .entry))) (rows (now (informed .entry)) (now (qmdp .entry)))) (now (mixture .entry))) ⌝ }
+        (lent (now (state .entry)) (cells (now (actions .entry)) choices (now (masks .entry)) (now (entries .entry)) (now (corners .entry))
+        (now (weights .entry)) (now (values .entry))) (rows (now (informed .entry)) (now (qmdp .entry)))) (now (mixture .entry))) ⌝ }
     ensures { λ r. ⌜ (let m = tablesIn c (now (transition .entry)) (now (observation .entry)) (now (reward .entry)) in
         (choices : List ℕ) (x : Lent) (ls : List LentLevel) → ModelAccepted m x
-        → lent (now (state .entry)) (cells (now (actions .entry)) choices (now (entries .entry)) (now (corners .entry)) (now (weights .entry))
-        (now (values .entry))) (rows (now (informed .entry)) (now (qmdp .entry))) ≡ after m x ls → 0 < steps m x ls
-        → mixtureHolds (m .states) (now (mixture .entry)) ≡ true
+        → lent (now (state .entry)) (cells (now (actions .entry)) choices (now (masks .entry)) (now (entries .entry)) (now (corners .entry))
+        (now (weights .entry)) (now (values .entry))) (rows (now (informed .entry)) (now (qmdp .entry))) ≡ after m x ls → 0 < steps m x ls
+        → MixtureHolds m x ls (now (mixture .entry))
         → TotalsHold m x ls (now (mixture .entry)) r) ⌝ }
 {
     let standing = judge_standing(
@@ -200,6 +214,7 @@ pub fn totals<'a, 'b>(
         c,
         state,
         actions,
+        masks,
         entries,
         corners,
         weights,
@@ -214,6 +229,7 @@ pub fn totals<'a, 'b>(
     let gains = sawtooth::gains(corners, weights, values, s.points, c.states);
     answer(
         actions,
+        masks,
         entries,
         corners,
         weights,

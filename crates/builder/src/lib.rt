@@ -57,6 +57,7 @@ fn build_vectors<'a>(
     transition: &'a [u16],
     observation: &'a [u16],
     reward: &'a [i64],
+    covered: &[u64],
     standing: &[i64],
     weights: &[u32],
     c: Counts,
@@ -64,25 +65,29 @@ fn build_vectors<'a>(
     points: usize,
     actions: &mut [u8],
     choices: &mut [u16],
+    masks: &mut [u64],
     entries: &mut [i64],
 )
-    requires { ⌜ Upon c (now transition) (now observation) (now reward) (now standing) vectors ⌝ }
+    requires { ⌜ Upon c (now transition) (now observation) (now reward) (now covered) (now standing) vectors ⌝ }
     requires { ⌜ (points ≤ maxBuilt) × (points * c .states ≤ length (now weights)) ⌝ }
     requires { ⌜ ((i : ℕ) → i < points → IsPoint (c .states) (pointIn (c .states) (now weights) i)) ⌝ }
-    requires { ⌜ RowsFit (c .states) (c .observations) (c .states + points) (now actions) (now choices) (now entries) ⌝ }
+    requires { ⌜ RowsFit (c .states) (c .observations) (c .states + points) (now actions) (now choices) (now masks) (now entries) ⌝ }
     ensures { λ _. ⌜ Filled (c .states) (c .observations) (built (modelIn c (now (transition .entry)) (now (observation .entry))
-        (now (reward .entry))) (uponIn c vectors (now (standing .entry))) points (pointIn (c .states) (now (weights .entry)))) (c .states + points)
-        (now (actions .entry)) (now (choices .entry)) (now (entries .entry)) (now (actions .exit)) (now (choices .exit)) (now (entries .exit)) ⌝ }
+        (now (reward .entry))) (uponIn c vectors (now (covered .entry)) (now (standing .entry))) points (pointIn (c .states) (now (weights .entry)))) (c .states + points)
+        (now (actions .entry)) (now (choices .entry)) (now (masks .entry)) (now (entries .entry)) (now (actions .exit)) (now (choices .exit))
+        (now (masks .exit)) (now (entries .exit)) ⌝ }
 {
     let n = c.states;
     let k = c.observations;
     let count = n + points;
+    let all = masks::all(n);
     for v in 0..count {
         let p = seed_weights(weights, n, Vector(v));
         let best = candidates::best_candidate(
             transition,
             observation,
             reward,
+            covered,
             standing,
             &p,
             c,
@@ -92,6 +97,7 @@ fn build_vectors<'a>(
         let chosen = made.chosen;
         let row = made.entries;
         actions[v] = shape::number(best.action);
+        masks[v] = all;
         cells::paste_u16(choices, read::start(v, k), &chosen, k);
         cells::paste_i64(entries, read::start(v, n), &row, n);
     }
@@ -176,13 +182,14 @@ pub fn build_values<'a, 'b>(
     }
 }
 
-// The built level, written over lent slices: its actions, choices, entries (`made`), corners (`least`) and values (`worths`). The weights of its points are
+// The built level, written over lent slices: its actions, choices, masks (`covers`), entries (`made`), corners (`least`) and values (`worths`). The weights of its points are
 // those that were given.
 pub fn build_level<'a, 'b>(
     transition: &'a [u16],
     observation: &'a [u16],
     reward: &'a [i64],
     c: Counts,
+    masks: &'b [u64],
     entries: &'b [i64],
     corners: &'b [i64],
     weights: &'b [u32],
@@ -193,26 +200,31 @@ pub fn build_level<'a, 'b>(
     count: usize,
     actions: &mut [u8],
     choices: &mut [u16],
+    covers: &mut [u64],
     made: &mut [i64],
     least: &mut [i64],
     worths: &mut [i64],
 )
-    requires { ⌜ Upon c (now transition) (now observation) (now reward) (now entries) vectors ⌝ }
+    requires { ⌜ Upon c (now transition) (now observation) (now reward) (now masks) (now entries) vectors ⌝ }
     requires { ⌜ Roofed c (now transition) (now observation) (now reward) (now corners) points (now weights) (now values) ⌝ }
     requires { ⌜ (count ≤ maxBuilt) × ((i : ℕ) → i < count → IsPoint (c .states) (pointIn (c .states) (now given) i)) ⌝ }
     requires { ⌜ complete (tablesIn c (now transition) (now observation) (now reward)) (lentFor (c .states + count) count
-        (cells (now actions) (now choices) (now made) (now least) (now given) (now worths))) ≡ true ⌝ }
-    ensures { λ _. ⌜ cells (now (actions .exit)) (now (choices .exit)) (now (made .exit)) (now (least .exit)) (now (given .entry)) (now (worths .exit))
+        (cells (now actions) (now choices) (now covers) (now made) (now least) (now given) (now worths))) ≡ true ⌝ }
+    ensures { λ _. ⌜ cells (now (actions .exit)) (now (choices .exit)) (now (covers .exit)) (now (made .exit)) (now (least .exit)) (now (given .entry))
+        (now (worths .exit))
         ≡ over (tablesIn c (now (transition .entry)) (now (observation .entry)) (now (reward .entry)))
         (built (modelIn c (now (transition .entry)) (now (observation .entry)) (now (reward .entry)))
-        (levelIn (c .states) (c .observations) vectors [] [] (now (entries .entry)) (now (corners .entry)) points (now (weights .entry)) (now (values .entry)))
+        (levelIn (c .states) (c .observations) vectors [] [] (now (masks .entry)) (now (entries .entry)) (now (corners .entry)) points (now (weights .entry))
+        (now (values .entry)))
         count (pointIn (c .states) (now (given .entry))))
-        (cells (now (actions .entry)) (now (choices .entry)) (now (made .entry)) (now (least .entry)) (now (given .entry)) (now (worths .entry))) ⌝ }
+        (cells (now (actions .entry)) (now (choices .entry)) (now (covers .entry)) (now (made .entry)) (now (least .entry)) (now (given .entry))
+        (now (worths .entry))) ⌝ }
 {
     build_vectors(
         transition,
         observation,
         reward,
+        masks,
         entries,
         given,
         c,
@@ -220,6 +232,7 @@ pub fn build_level<'a, 'b>(
         count,
         actions,
         choices,
+        covers,
         made,
     );
     build_corners(

@@ -1,24 +1,27 @@
 // Building the next level over slices that are lent for it, or a refusal, which writes nothing.
 ghost use mathlib.Core.Path.{_≡_};
-ghost use mathlib.Core.Bool.{_&&_};
+ghost use mathlib.Core.Bool.{true, _&&_};
 ghost use mathlib.Core.List.{List};
 ghost use Prim.Native.Nat.{ℕ, _+_, _*_, _<_};
 ghost use lib.Dec.{leb, ltb};
 ghost use lib.ListN.{length};
 ghost use Rattle.tables.specs.Limits.{maxLevels};
-ghost use Rattle.tables.specs.Storage.{tablesIn};
+ghost use Rattle.tables.specs.Storage.{tablesIn, modelOf};
 ghost use Rattle.tables.specs.Verdicts.{_before_, unless};
+ghost use Rattle.masks.specs.Masks.{maskOf};
+ghost use Rattle.masks.specs.Steps.{someIncludes};
 ghost use Rattle.plans.specs.Limits.{maxBuilt};
+ghost use Rattle.plans.specs.Build.{someCoversAll};
 ghost use Rattle.levels.specs.Storage.{LentLevel, Lent, cells, rows, lent, standingAt, pointIn, longEnough};
 ghost use Rattle.levels.specs.Judged.{holds, weightsVerdict};
 ghost use Rattle.runs.specs.State.{buildVerdict, builtOf};
-ghost use Rattle.runs.specs.Demand3.{ModelAccepted, after, steps, PointsHold, BuildHolds};
+ghost use Rattle.runs.specs.Demand3.{ModelAccepted, after, steps, last, PointsHold, BuildHolds};
 use levels::Level;
 use levels::shape;
 use tables::Counts;
 use tables::Verdict;
 
-// 7, 8, 9 and 12: the certifier, the points, and slices of such lengths for the level that is built of them.
+// 7, 8, 9, 12 and 22: the certifier, the points, and slices of such lengths for the level that is built of them.
 fn judge_build<'a, 'b>(
     transition: &'a [u16],
     observation: &'a [u16],
@@ -26,6 +29,7 @@ fn judge_build<'a, 'b>(
     c: Counts,
     state: &'b [usize],
     actions: &'b [u8],
+    masks: &'b [u64],
     entries: &'b [i64],
     corners: &'b [i64],
     weights: &'b [u32],
@@ -36,19 +40,21 @@ fn judge_build<'a, 'b>(
     count: usize,
     newactions: usize,
     newchoices: usize,
+    newmasks: usize,
     newentries: usize,
     newcorners: usize,
     newvalues: usize,
 ) -> Verdict
     ensures { λ r. ⌜ ((choices : List ℕ) →
         let m = tablesIn c (now (transition .entry)) (now (observation .entry)) (now (reward .entry)) in
-        let standing = lent (now (state .entry)) (cells (now (actions .entry)) choices (now (entries .entry)) (now (corners .entry))
+        let standing = lent (now (state .entry)) (cells (now (actions .entry)) choices (now (masks .entry)) (now (entries .entry)) (now (corners .entry))
         (now (weights .entry)) (now (values .entry))) (rows (now (informed .entry)) (now (qmdp .entry))) in
         r ≡ (unless (holds m standing) 7 0
         before unless (ltb (standingAt (now (state .entry)) .number) maxLevels) 8 0
         before unless (leb count maxBuilt && (leb ((c .states + count) * c .observations) newchoices
-        && longEnough (c .states) (c .states + count) count newactions newentries newcorners (length (now (given .entry))) newvalues)) 9 0
-        before weightsVerdict (c .states) count (pointIn (c .states) (now (given .entry))))) ⌝ }
+        && longEnough (c .states) (c .states + count) count newactions newmasks newentries newcorners (length (now (given .entry))) newvalues)) 9 0
+        before weightsVerdict (c .states) count (pointIn (c .states) (now (given .entry)))
+        before unless (someIncludes (now (masks .entry)) (standingAt (now (state .entry)) .vectors) (maskOf (c .states) (λ s. true))) 22 0)) ⌝ }
 {
     if !standing::standing_holds(
         transition,
@@ -57,6 +63,7 @@ fn judge_build<'a, 'b>(
         c,
         state,
         actions,
+        masks,
         entries,
         corners,
         weights,
@@ -80,6 +87,7 @@ fn judge_build<'a, 'b>(
         count,
         newactions,
         newchoices,
+        newmasks,
         newentries,
         newcorners,
         given.len(),
@@ -87,11 +95,18 @@ fn judge_build<'a, 'b>(
     ) {
         return Verdict::Refused(9, 0);
     }
-    ranges::weights_hold(given, c.states, count)
+    let totals = ranges::weights_hold(given, c.states, count);
+    let Verdict::Fine = totals else {
+        return totals;
+    };
+    if !masks::some_has(masks, s.vectors, masks::all(c.states)) {
+        return Verdict::Refused(22, 0);
+    }
+    Verdict::Fine
 }
 
 // Builds the next level from a count of points of any content, whose weights are the level's own: it is accepted where it is offered to the same
-// certifier; or refused by 7, 8, 9 or 12.
+// certifier; or refused by 7, 8, 9, 12 or 22.
 pub fn build<'a, 'b>(
     transition: &'a [u16],
     observation: &'a [u16],
@@ -99,6 +114,7 @@ pub fn build<'a, 'b>(
     c: Counts,
     state: &'b [usize],
     actions: &'b [u8],
+    masks: &'b [u64],
     entries: &'b [i64],
     corners: &'b [i64],
     weights: &'b [u32],
@@ -109,35 +125,37 @@ pub fn build<'a, 'b>(
     count: usize,
     newactions: &mut [u8],
     newchoices: &mut [u16],
+    newmasks: &mut [u64],
     newentries: &mut [i64],
     newcorners: &mut [i64],
     newvalues: &mut [i64],
 ) -> Verdict
     ensures { λ r. ⌜ ((choices : List ℕ) →
         let m = tablesIn c (now (transition .entry)) (now (observation .entry)) (now (reward .entry)) in
-        let standing = lent (now (state .entry)) (cells (now (actions .entry)) choices (now (entries .entry)) (now (corners .entry))
+        let standing = lent (now (state .entry)) (cells (now (actions .entry)) choices (now (masks .entry)) (now (entries .entry)) (now (corners .entry))
         (now (weights .entry)) (now (values .entry))) (rows (now (informed .entry)) (now (qmdp .entry))) in
-        let y = cells (now (newactions .entry)) (now (newchoices .entry)) (now (newentries .entry)) (now (newcorners .entry)) (now (given .entry))
-        (now (newvalues .entry)) in
+        let y = cells (now (newactions .entry)) (now (newchoices .entry)) (now (newmasks .entry)) (now (newentries .entry)) (now (newcorners .entry))
+        (now (given .entry)) (now (newvalues .entry)) in
         r ≡ buildVerdict m standing count y) ⌝ }
     ensures { λ _. ⌜ ((choices : List ℕ) →
         let m = tablesIn c (now (transition .entry)) (now (observation .entry)) (now (reward .entry)) in
-        let standing = lent (now (state .entry)) (cells (now (actions .entry)) choices (now (entries .entry)) (now (corners .entry))
+        let standing = lent (now (state .entry)) (cells (now (actions .entry)) choices (now (masks .entry)) (now (entries .entry)) (now (corners .entry))
         (now (weights .entry)) (now (values .entry))) (rows (now (informed .entry)) (now (qmdp .entry))) in
-        let y = cells (now (newactions .entry)) (now (newchoices .entry)) (now (newentries .entry)) (now (newcorners .entry)) (now (given .entry))
-        (now (newvalues .entry)) in
-        let made = cells (now (newactions .exit)) (now (newchoices .exit)) (now (newentries .exit)) (now (newcorners .exit)) (now (given .entry))
-        (now (newvalues .exit)) in
+        let y = cells (now (newactions .entry)) (now (newchoices .entry)) (now (newmasks .entry)) (now (newentries .entry)) (now (newcorners .entry))
+        (now (given .entry)) (now (newvalues .entry)) in
+        let made = cells (now (newactions .exit)) (now (newchoices .exit)) (now (newmasks .exit)) (now (newentries .exit)) (now (newcorners .exit))
+        (now (given .entry)) (now (newvalues .exit)) in
         made ≡ builtOf m standing count y) ⌝ }
     ensures { λ r. ⌜ ((choices : List ℕ) (x : Lent) (ls : List LentLevel) →
         let m = tablesIn c (now (transition .entry)) (now (observation .entry)) (now (reward .entry)) in
-        let standing = lent (now (state .entry)) (cells (now (actions .entry)) choices (now (entries .entry)) (now (corners .entry))
+        let standing = lent (now (state .entry)) (cells (now (actions .entry)) choices (now (masks .entry)) (now (entries .entry)) (now (corners .entry))
         (now (weights .entry)) (now (values .entry))) (rows (now (informed .entry)) (now (qmdp .entry))) in
-        let y = cells (now (newactions .entry)) (now (newchoices .entry)) (now (newentries .entry)) (now (newcorners .entry)) (now (given .entry))
-        (now (newvalues .entry)) in
-        let made = cells (now (newactions .exit)) (now (newchoices .exit)) (now (newentries .exit)) (now (newcorners .exit)) (now (given .entry))
-        (now (newvalues .exit)) in
-        ModelAccepted m x → standing ≡ after m x ls → steps m x ls < maxLevels → PointsHold m x count y → BuildHolds m x ls count y r made) ⌝ }
+        let y = cells (now (newactions .entry)) (now (newchoices .entry)) (now (newmasks .entry)) (now (newentries .entry)) (now (newcorners .entry))
+        (now (given .entry)) (now (newvalues .entry)) in
+        let made = cells (now (newactions .exit)) (now (newchoices .exit)) (now (newmasks .exit)) (now (newentries .exit)) (now (newcorners .exit))
+        (now (given .entry)) (now (newvalues .exit)) in
+        ModelAccepted m x → standing ≡ after m x ls → steps m x ls < maxLevels → someCoversAll (modelOf m) (last m x ls) ≡ true
+        → PointsHold m x count y → BuildHolds m x ls count y r made) ⌝ }
 {
     let verdict = judge_build(
         transition,
@@ -146,6 +164,7 @@ pub fn build<'a, 'b>(
         c,
         state,
         actions,
+        masks,
         entries,
         corners,
         weights,
@@ -156,6 +175,7 @@ pub fn build<'a, 'b>(
         count,
         newactions.len(),
         newchoices.len(),
+        newmasks.len(),
         newentries.len(),
         newcorners.len(),
         newvalues.len(),
@@ -169,6 +189,7 @@ pub fn build<'a, 'b>(
         observation,
         reward,
         c,
+        masks,
         entries,
         corners,
         weights,
@@ -179,6 +200,7 @@ pub fn build<'a, 'b>(
         count,
         newactions,
         newchoices,
+        newmasks,
         newentries,
         newcorners,
         newvalues,

@@ -1,12 +1,15 @@
 // The best action's vector at some weights, from a standing level's vectors.
 ghost use mathlib.Core.Path.{_≡_};
+ghost use mathlib.Core.Bool.{true};
 ghost use Prim.Native.Nat.{ℕ, _≤_, _<_};
+ghost use lib.ListN.{getD};
 ghost use Rattle.integers.specs.Whole.{Below};
-ghost use Rattle.integers.specs.Search.{firstLargest};
+ghost use Rattle.integers.specs.Search.{firstLargestOf};
 ghost use Rattle.integers.specs.Cells.{padded};
 ghost use Rattle.tables.specs.Limits.{maxStates, maxActions, maxObservations, one};
-ghost use Rattle.tables.specs.Storage.{weightIn, entryIn, modelIn};
-ghost use Rattle.tables.specs.Steps.{EntriesFit};
+ghost use Rattle.tables.specs.Storage.{weightIn, modelIn};
+ghost use Rattle.masks.specs.Masks.{maskOf, maskedIn};
+ghost use Rattle.masks.specs.Steps.{includes, MaskedFit};
 ghost use Rattle.sums.specs.Steps.{movedIn, seenIn, TransitionsFit, ObservationsFit, RewardsFit, movedLimit};
 ghost use Rattle.plans.specs.Limits.{maxTotal, maxReached};
 ghost use Rattle.plans.specs.Level.{product};
@@ -35,9 +38,10 @@ pub struct Best {
     pub candidate: Candidate,
 }
 
-// For each observation, the first previous vector with the largest product with the successor weights.
+// For each observation, the first previous vector with the largest product with the successor weights, of those that cover all states.
 fn choose(
     observation: &[u16],
+    masks: &[u64],
     entries: &[i64],
     u: &[u64],
     n: usize,
@@ -45,19 +49,21 @@ fn choose(
     count: usize,
     a: Action,
 ) -> Chosen
-    requires { ⌜ (n ≤ maxStates) × ((k ≤ maxObservations) × ((a .0 < maxActions) × (0 < count))) ⌝ }
+    requires { ⌜ (n ≤ maxStates) × ((k ≤ maxObservations) × ((a .0 < maxActions) × ((0 < n) × (0 < count)))) ⌝ }
     requires { ⌜ Below movedLimit n (now u) ⌝ }
     requires { ⌜ ObservationsFit n k (now observation) (a .0) ⌝ }
     requires { ⌜ ((o : ℕ) → o < k → (s : ℕ) → s < n → seenIn n k (now observation) (now u) (a .0) o s ≤ maxReached) ⌝ }
-    requires { ⌜ EntriesFit n count (now entries) ⌝ }
-    ensures { λ r. ⌜ r ≡ padded 0 maxObservations k (λ o. firstLargest count
+    requires { ⌜ MaskedFit n count (now masks) (now entries) ⌝ }
+    ensures { λ r. ⌜ r ≡ padded 0 maxObservations k (λ o. firstLargestOf count
+        (λ v. includes (getD (now (masks .entry)) v 0) (maskOf n (λ s. true)))
         (λ v. product n (weightIn (padded 0 maxStates n (seenIn n k (now (observation .entry)) (now (u .entry)) (a .0) o)))
-        (entryIn n (now (entries .entry)) v))) ⌝ }
+        (maskedIn n (now (masks .entry)) (now (entries .entry)) v))) ⌝ }
 {
+    let all = masks::all(n);
     let mut chosen = [0u16; Tables::OBSERVATIONS];
     for o in 0..k {
         let q = sums::successors(observation, n, k, u, a, Observation(o));
-        let best = products::best_vector(&q, entries, n, count);
+        let best = products::best_vector(&q, masks, entries, n, count, all);
         read::put_choice(&mut chosen, k, Vector(0), Observation(o), best);
     }
     chosen
@@ -68,6 +74,7 @@ fn vector_for<'a>(
     transition: &'a [u16],
     observation: &'a [u16],
     reward: &'a [i64],
+    masks: &[u64],
     entries: &[i64],
     p: &[u64],
     c: Counts,
@@ -75,21 +82,21 @@ fn vector_for<'a>(
     a: Action,
 ) -> Candidate
     requires { ⌜ (c .states ≤ maxStates) × ((c .observations ≤ maxObservations) × ((a .0 < maxActions) × (c .discount ≤ one))) ⌝ }
-    requires { ⌜ 0 < count ⌝ }
+    requires { ⌜ (0 < c .states) × (0 < count) ⌝ }
     requires { ⌜ Below maxTotal (c .states) (now p) ⌝ }
     requires { ⌜ (TransitionsFit (c .states) (now transition) (a .0)) ×
         ((ObservationsFit (c .states) (c .observations) (now observation) (a .0)) × (RewardsFit (c .states) (now reward) (a .0))) ⌝ }
     requires { ⌜ ((o : ℕ) → o < c .observations → (s : ℕ) → s < c .states → seenIn (c .states) (c .observations) (now observation)
         (padded 0 maxStates (c .states) (movedIn (c .states) (now transition) (now p) (a .0))) (a .0) o s ≤ maxReached) ⌝ }
-    requires { ⌜ EntriesFit (c .states) count (now entries) ⌝ }
-    ensures { λ r. ⌜ r ≡ candidateIn c (now (transition .entry)) (now (observation .entry)) (now (reward .entry)) (now (entries .entry)) count
-        (now (p .entry)) (a .0) ⌝ }
+    requires { ⌜ MaskedFit (c .states) count (now masks) (now entries) ⌝ }
+    ensures { λ r. ⌜ r ≡ candidateIn c (now (transition .entry)) (now (observation .entry)) (now (reward .entry)) (now (masks .entry))
+        (now (entries .entry)) count (now (p .entry)) (a .0) ⌝ }
 {
     let n = c.states;
     let k = c.observations;
     let u = sums::moved(transition, n, p, a);
-    let chosen = choose(observation, entries, &u, n, k, count, a);
-    let f = sums::foreseen(observation, n, k, entries, &chosen, Vector(0), a);
+    let chosen = choose(observation, masks, entries, &u, n, k, count, a);
+    let f = sums::foreseen(observation, n, k, masks, entries, &chosen, Vector(0), a);
     let e = sums::rounded(transition, reward, &f, n, c.discount, a);
     Candidate {
         chosen: chosen,
@@ -102,15 +109,16 @@ pub fn best_candidate<'a>(
     transition: &'a [u16],
     observation: &'a [u16],
     reward: &'a [i64],
+    masks: &[u64],
     entries: &[i64],
     p: &[u64],
     c: Counts,
     count: usize,
 ) -> Best
-    requires { ⌜ Upon c (now transition) (now observation) (now reward) (now entries) count ⌝ }
+    requires { ⌜ Upon c (now transition) (now observation) (now reward) (now masks) (now entries) count ⌝ }
     requires { ⌜ Light (c .states) (now p) ⌝ }
     ensures { λ r. ⌜ r ≡ bestOf (modelIn c (now (transition .entry)) (now (observation .entry)) (now (reward .entry)))
-        (uponIn c count (now (entries .entry))) (now (p .entry)) ⌝ }
+        (uponIn c count (now (masks .entry)) (now (entries .entry))) (now (p .entry)) ⌝ }
 {
     let n = c.states;
     let actions = c.actions;
@@ -119,6 +127,7 @@ pub fn best_candidate<'a>(
         transition,
         observation,
         reward,
+        masks,
         entries,
         p,
         c,
@@ -132,6 +141,7 @@ pub fn best_candidate<'a>(
             transition,
             observation,
             reward,
+            masks,
             entries,
             p,
             c,

@@ -56,7 +56,8 @@ pub fn corners_hold<'a, 'b>(
     requires { ⌜ Roofed c (now transition) (now observation) (now reward) (now corners) points (now weights) (now values) ⌝ }
     requires { ⌜ CornersFit (c .states) (now offered) ⌝ }
     ensures { λ r. ⌜ r ≡ cornersVerdict (modelIn c (now (transition .entry)) (now (observation .entry)) (now (reward .entry)))
-        (roofIn (c .states) (now (corners .entry)) points (now (weights .entry)) (now (values .entry))) (roofIn (c .states) (now (offered .entry)) 0 [] []) ⌝ }
+        (roofIn (c .states) (now (corners .entry)) points (now (weights .entry)) (now (values .entry))) (roofIn (c .states)
+        (now (offered .entry)) 0 [] []) ⌝ }
 {
     let n = c.states;
     let gains = sawtooth::gains(corners, weights, values, points, n);
@@ -146,34 +147,39 @@ fn entry_holds<'a>(
     integers::scaled(Tables::K, entry) <= most
 }
 
-// 13: the first vector with an entry above its backup.
+// 13: the first vector with an entry above its backup, at a state that it covers.
 pub fn floors_hold<'a, 'b>(
     transition: &'a [u16],
     observation: &'a [u16],
     reward: &'a [i64],
+    masks: &[u64],
     entries: &[i64],
     actions: &'b [u8],
     choices: &'b [u16],
+    covering: &'b [u64],
     offered: &'b [i64],
     c: Counts,
     vectors: usize,
 ) -> Verdict
-    requires { ⌜ Judging c (now transition) (now observation) (now reward) (now entries) vectors (now actions) (now choices) (now offered) ⌝ }
+    requires { ⌜ Judging c (now transition) (now observation) (now reward) (now masks) (now entries) vectors (now actions) (now choices) (now covering)
+        (now offered) ⌝ }
     ensures { λ r. ⌜ r ≡ floorsVerdict (modelIn c (now (transition .entry)) (now (observation .entry)) (now (reward .entry)))
-        (floorIn (c .states) (c .observations) 0 [] [] (now (entries .entry)))
-        (floorIn (c .states) (c .observations) vectors (now (actions .entry)) (now (choices .entry)) (now (offered .entry))) ⌝ }
+        (floorIn (c .states) (c .observations) 0 [] [] (now (masks .entry)) (now (entries .entry)))
+        (floorIn (c .states) (c .observations) vectors (now (actions .entry)) (now (choices .entry)) (now (covering .entry)) (now (offered .entry))) ⌝ }
 {
     let n = c.states;
     let k = c.observations;
     let mut found = Verdict::Fine;
     'vectors: for v in 0..vectors {
         let a = Action(shape::action(actions[v]));
-        let f = sums::foreseen(observation, n, k, entries, choices, Vector(v), a);
+        let f = sums::foreseen(observation, n, k, masks, entries, choices, Vector(v), a);
         for s in 0..n {
-            let e = read::entry_at(offered, n, Vector(v), State(s));
-            if !entry_holds(transition, reward, n, c.discount, &f, State(s), a, e) {
-                found = Verdict::Refused(13, v);
-                break 'vectors;
+            if masks::covers(covering[v], State(s)) {
+                let e = read::entry_at(offered, n, Vector(v), State(s));
+                if !entry_holds(transition, reward, n, c.discount, &f, State(s), a, e) {
+                    found = Verdict::Refused(13, v);
+                    break 'vectors;
+                }
             }
         }
     }

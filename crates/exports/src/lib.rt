@@ -33,6 +33,7 @@ pub extern "C" fn biidhaqun_open<'a>(
     state: &mut [usize],
     actions: &mut [u8],
     choices: &mut [u16],
+    masks: &mut [u64],
     entries: &mut [i64],
     corners: &mut [i64],
     weights: &[u32],
@@ -41,13 +42,13 @@ pub extern "C" fn biidhaqun_open<'a>(
     qmdp: &mut [i64],
 ) -> Refusal
     ensures { λ r. ⌜ (let tables = model n m k g (now (transition .entry)) (now (observation .entry)) (now (reward .entry)) in
-        let x = lent (now (state .entry)) (cells (now (actions .entry)) (now (choices .entry)) (now (entries .entry)) (now (corners .entry))
-        (now (weights .entry)) (now (values .entry))) (rows (now (informed .entry)) (now (qmdp .entry))) in
+        let x = lent (now (state .entry)) (cells (now (actions .entry)) (now (choices .entry)) (now (masks .entry)) (now (entries .entry))
+        (now (corners .entry)) (now (weights .entry)) (now (values .entry))) (rows (now (informed .entry)) (now (qmdp .entry))) in
         r ≡ refusalOf (openVerdict tables x)) ⌝ }
     ensures { λ _. ⌜ (let tables = model n m k g (now (transition .entry)) (now (observation .entry)) (now (reward .entry)) in
-        let x = lent (now (state .entry)) (cells (now (actions .entry)) (now (choices .entry)) (now (entries .entry)) (now (corners .entry))
-        (now (weights .entry)) (now (values .entry))) (rows (now (informed .entry)) (now (qmdp .entry))) in
-        lent (now (state .exit)) (cells (now (actions .exit)) (now (choices .exit)) (now (entries .exit)) (now (corners .exit))
+        let x = lent (now (state .entry)) (cells (now (actions .entry)) (now (choices .entry)) (now (masks .entry)) (now (entries .entry))
+        (now (corners .entry)) (now (weights .entry)) (now (values .entry))) (rows (now (informed .entry)) (now (qmdp .entry))) in
+        lent (now (state .exit)) (cells (now (actions .exit)) (now (choices .exit)) (now (masks .exit)) (now (entries .exit)) (now (corners .exit))
         (now (weights .entry)) (now (values .entry))) (rows (now (informed .exit)) (now (qmdp .exit)))
         ≡ opened tables x) ⌝ }
 {
@@ -65,6 +66,7 @@ pub extern "C" fn biidhaqun_open<'a>(
         state,
         actions,
         choices,
+        masks,
         entries,
         corners,
         weights,
@@ -88,6 +90,7 @@ pub extern "C" fn biidhaqun_offer<'a, 'b>(
     state: &mut [usize],
     actions: &mut [u8],
     choices: &mut [u16],
+    masks: &mut [u64],
     entries: &mut [i64],
     corners: &mut [i64],
     weights: &mut [u32],
@@ -98,23 +101,24 @@ pub extern "C" fn biidhaqun_offer<'a, 'b>(
     points: usize,
     newactions: &'b [u8],
     newchoices: &'b [u16],
+    newmasks: &'b [u64],
     newentries: &'b [i64],
     newcorners: &'b [i64],
     newweights: &'b [u32],
     newvalues: &'b [i64],
 ) -> Refusal
     ensures { λ r. ⌜ (let tables = model n m k g (now (transition .entry)) (now (observation .entry)) (now (reward .entry)) in
-        let x = lent (now (state .entry)) (cells (now (actions .entry)) (now (choices .entry)) (now (entries .entry)) (now (corners .entry))
-        (now (weights .entry)) (now (values .entry))) (rows (now (informed .entry)) (now (qmdp .entry))) in
-        let l = lentFor vectors points (cells (now (newactions .entry)) (now (newchoices .entry)) (now (newentries .entry))
+        let x = lent (now (state .entry)) (cells (now (actions .entry)) (now (choices .entry)) (now (masks .entry)) (now (entries .entry))
+        (now (corners .entry)) (now (weights .entry)) (now (values .entry))) (rows (now (informed .entry)) (now (qmdp .entry))) in
+        let l = lentFor vectors points (cells (now (newactions .entry)) (now (newchoices .entry)) (now (newmasks .entry)) (now (newentries .entry))
         (now (newcorners .entry)) (now (newweights .entry)) (now (newvalues .entry))) in
         r ≡ refusalOf (offerVerdict tables x l)) ⌝ }
     ensures { λ _. ⌜ (let tables = model n m k g (now (transition .entry)) (now (observation .entry)) (now (reward .entry)) in
-        let x = lent (now (state .entry)) (cells (now (actions .entry)) (now (choices .entry)) (now (entries .entry)) (now (corners .entry))
-        (now (weights .entry)) (now (values .entry))) (rows (now (informed .entry)) (now (qmdp .entry))) in
-        let l = lentFor vectors points (cells (now (newactions .entry)) (now (newchoices .entry)) (now (newentries .entry))
+        let x = lent (now (state .entry)) (cells (now (actions .entry)) (now (choices .entry)) (now (masks .entry)) (now (entries .entry))
+        (now (corners .entry)) (now (weights .entry)) (now (values .entry))) (rows (now (informed .entry)) (now (qmdp .entry))) in
+        let l = lentFor vectors points (cells (now (newactions .entry)) (now (newchoices .entry)) (now (newmasks .entry)) (now (newentries .entry))
         (now (newcorners .entry)) (now (newweights .entry)) (now (newvalues .entry))) in
-        lent (now (state .exit)) (cells (now (actions .exit)) (now (choices .exit)) (now (entries .exit)) (now (corners .exit))
+        lent (now (state .exit)) (cells (now (actions .exit)) (now (choices .exit)) (now (masks .exit)) (now (entries .exit)) (now (corners .exit))
         (now (weights .exit)) (now (values .exit))) (rows (now (informed .exit)) (now (qmdp .exit)))
         ≡ offered tables x l) ⌝ }
 {
@@ -132,6 +136,7 @@ pub extern "C" fn biidhaqun_offer<'a, 'b>(
         state,
         actions,
         choices,
+        masks,
         entries,
         corners,
         weights,
@@ -142,6 +147,7 @@ pub extern "C" fn biidhaqun_offer<'a, 'b>(
         points,
         newactions,
         newchoices,
+        newmasks,
         newentries,
         newcorners,
         newweights,
@@ -162,6 +168,7 @@ pub extern "C" fn biidhaqun_build<'a, 'b>(
     reward: &'a [i64],
     state: &'b [usize],
     actions: &'b [u8],
+    masks: &'b [u64],
     entries: &'b [i64],
     corners: &'b [i64],
     weights: &'b [u32],
@@ -172,34 +179,35 @@ pub extern "C" fn biidhaqun_build<'a, 'b>(
     given: &[u32],
     newactions: &mut [u8],
     newchoices: &mut [u16],
+    newmasks: &mut [u64],
     newentries: &mut [i64],
     newcorners: &mut [i64],
     newvalues: &mut [i64],
 ) -> Refusal
     ensures { λ r. ⌜ ((choices : List ℕ) →
         let tables = model n m k g (now (transition .entry)) (now (observation .entry)) (now (reward .entry)) in
-        let standing = lent (now (state .entry)) (cells (now (actions .entry)) choices (now (entries .entry)) (now (corners .entry))
+        let standing = lent (now (state .entry)) (cells (now (actions .entry)) choices (now (masks .entry)) (now (entries .entry)) (now (corners .entry))
         (now (weights .entry)) (now (values .entry))) (rows (now (informed .entry)) (now (qmdp .entry))) in
-        let y = cells (now (newactions .entry)) (now (newchoices .entry)) (now (newentries .entry)) (now (newcorners .entry)) (now (given .entry))
-        (now (newvalues .entry)) in
+        let y = cells (now (newactions .entry)) (now (newchoices .entry)) (now (newmasks .entry)) (now (newentries .entry)) (now (newcorners .entry))
+        (now (given .entry)) (now (newvalues .entry)) in
         r ≡ refusalOf (buildVerdict tables standing count y)) ⌝ }
     ensures { λ _. ⌜ ((choices : List ℕ) →
         let tables = model n m k g (now (transition .entry)) (now (observation .entry)) (now (reward .entry)) in
-        let standing = lent (now (state .entry)) (cells (now (actions .entry)) choices (now (entries .entry)) (now (corners .entry))
+        let standing = lent (now (state .entry)) (cells (now (actions .entry)) choices (now (masks .entry)) (now (entries .entry)) (now (corners .entry))
         (now (weights .entry)) (now (values .entry))) (rows (now (informed .entry)) (now (qmdp .entry))) in
-        let y = cells (now (newactions .entry)) (now (newchoices .entry)) (now (newentries .entry)) (now (newcorners .entry)) (now (given .entry))
-        (now (newvalues .entry)) in
-        let made = cells (now (newactions .exit)) (now (newchoices .exit)) (now (newentries .exit)) (now (newcorners .exit)) (now (given .entry))
-        (now (newvalues .exit)) in
+        let y = cells (now (newactions .entry)) (now (newchoices .entry)) (now (newmasks .entry)) (now (newentries .entry)) (now (newcorners .entry))
+        (now (given .entry)) (now (newvalues .entry)) in
+        let made = cells (now (newactions .exit)) (now (newchoices .exit)) (now (newmasks .exit)) (now (newentries .exit)) (now (newcorners .exit))
+        (now (given .entry)) (now (newvalues .exit)) in
         made ≡ builtOf tables standing count y) ⌝ }
     ensures { λ r. ⌜ ((choices : List ℕ) (x : Lent) (ls : List LentLevel) →
         let tables = model n m k g (now (transition .entry)) (now (observation .entry)) (now (reward .entry)) in
-        let standing = lent (now (state .entry)) (cells (now (actions .entry)) choices (now (entries .entry)) (now (corners .entry))
+        let standing = lent (now (state .entry)) (cells (now (actions .entry)) choices (now (masks .entry)) (now (entries .entry)) (now (corners .entry))
         (now (weights .entry)) (now (values .entry))) (rows (now (informed .entry)) (now (qmdp .entry))) in
-        let y = cells (now (newactions .entry)) (now (newchoices .entry)) (now (newentries .entry)) (now (newcorners .entry)) (now (given .entry))
-        (now (newvalues .entry)) in
-        let made = cells (now (newactions .exit)) (now (newchoices .exit)) (now (newentries .exit)) (now (newcorners .exit)) (now (given .entry))
-        (now (newvalues .exit)) in
+        let y = cells (now (newactions .entry)) (now (newchoices .entry)) (now (newmasks .entry)) (now (newentries .entry)) (now (newcorners .entry))
+        (now (given .entry)) (now (newvalues .entry)) in
+        let made = cells (now (newactions .exit)) (now (newchoices .exit)) (now (newmasks .exit)) (now (newentries .exit)) (now (newcorners .exit))
+        (now (given .entry)) (now (newvalues .exit)) in
         ModelAccepted tables x → standing ≡ after tables x ls → steps tables x ls < maxLevels → PointsHold tables x count y →
         Builds tables x ls count y r made) ⌝ }
 {
@@ -216,6 +224,7 @@ pub extern "C" fn biidhaqun_build<'a, 'b>(
         c,
         state,
         actions,
+        masks,
         entries,
         corners,
         weights,
@@ -226,6 +235,7 @@ pub extern "C" fn biidhaqun_build<'a, 'b>(
         count,
         newactions,
         newchoices,
+        newmasks,
         newentries,
         newcorners,
         newvalues,

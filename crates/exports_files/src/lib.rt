@@ -66,6 +66,7 @@ pub extern "C" fn biidhaqun_adopt<'a, 'b, 'c>(
     reward: &'a [i64],
     state: &'b [usize],
     actions: &'b [u8],
+    masks: &'b [u64],
     entries: &'b [i64],
     corners: &'b [i64],
     weights: &'b [u32],
@@ -78,34 +79,35 @@ pub extern "C" fn biidhaqun_adopt<'a, 'b, 'c>(
     count: usize,
     newactions: &mut [u8],
     newchoices: &mut [u16],
+    newmasks: &mut [u64],
     newentries: &mut [i64],
     newcorners: &mut [i64],
     newvalues: &mut [i64],
 ) -> Adoption
     ensures { λ r. ⌜ ((choices : List ℕ) →
         let tables = model n m k g (now (transition .entry)) (now (observation .entry)) (now (reward .entry)) in
-        let standing = lent (now (state .entry)) (cells (now (actions .entry)) choices (now (entries .entry)) (now (corners .entry))
+        let standing = lent (now (state .entry)) (cells (now (actions .entry)) choices (now (masks .entry)) (now (entries .entry)) (now (corners .entry))
         (now (weights .entry)) (now (values .entry))) (rows (now (informed .entry)) (now (qmdp .entry))) in
-        let y = cells (now (newactions .entry)) (now (newchoices .entry)) (now (newentries .entry)) (now (newcorners .entry)) (now (given .entry))
-        (now (newvalues .entry)) in
+        let y = cells (now (newactions .entry)) (now (newchoices .entry)) (now (newmasks .entry)) (now (newentries .entry)) (now (newcorners .entry))
+        (now (given .entry)) (now (newvalues .entry)) in
         r ≡ adoptionBy (adoptAnswer (adoptVerdict tables standing (now (alpha .entry)) (now (graph .entry)) count y) (vectorsIn n (now (alpha .entry))))) ⌝ }
     ensures { λ _. ⌜ ((choices : List ℕ) →
         let tables = model n m k g (now (transition .entry)) (now (observation .entry)) (now (reward .entry)) in
-        let standing = lent (now (state .entry)) (cells (now (actions .entry)) choices (now (entries .entry)) (now (corners .entry))
+        let standing = lent (now (state .entry)) (cells (now (actions .entry)) choices (now (masks .entry)) (now (entries .entry)) (now (corners .entry))
         (now (weights .entry)) (now (values .entry))) (rows (now (informed .entry)) (now (qmdp .entry))) in
-        let y = cells (now (newactions .entry)) (now (newchoices .entry)) (now (newentries .entry)) (now (newcorners .entry)) (now (given .entry))
-        (now (newvalues .entry)) in
-        let laid = cells (now (newactions .exit)) (now (newchoices .exit)) (now (newentries .exit)) (now (newcorners .exit)) (now (given .entry))
-        (now (newvalues .exit)) in
+        let y = cells (now (newactions .entry)) (now (newchoices .entry)) (now (newmasks .entry)) (now (newentries .entry)) (now (newcorners .entry))
+        (now (given .entry)) (now (newvalues .entry)) in
+        let laid = cells (now (newactions .exit)) (now (newchoices .exit)) (now (newmasks .exit)) (now (newentries .exit)) (now (newcorners .exit))
+        (now (given .entry)) (now (newvalues .exit)) in
         laid ≡ adopted tables standing (now (alpha .entry)) (now (graph .entry)) count y) ⌝ }
     ensures { λ _. ⌜ ((choices : List ℕ) →
         let tables = model n m k g (now (transition .entry)) (now (observation .entry)) (now (reward .entry)) in
-        let standing = lent (now (state .entry)) (cells (now (actions .entry)) choices (now (entries .entry)) (now (corners .entry))
+        let standing = lent (now (state .entry)) (cells (now (actions .entry)) choices (now (masks .entry)) (now (entries .entry)) (now (corners .entry))
         (now (weights .entry)) (now (values .entry))) (rows (now (informed .entry)) (now (qmdp .entry))) in
-        let y = cells (now (newactions .entry)) (now (newchoices .entry)) (now (newentries .entry)) (now (newcorners .entry)) (now (given .entry))
-        (now (newvalues .entry)) in
-        let laid = cells (now (newactions .exit)) (now (newchoices .exit)) (now (newentries .exit)) (now (newcorners .exit)) (now (given .entry))
-        (now (newvalues .exit)) in
+        let y = cells (now (newactions .entry)) (now (newchoices .entry)) (now (newmasks .entry)) (now (newentries .entry)) (now (newcorners .entry))
+        (now (given .entry)) (now (newvalues .entry)) in
+        let laid = cells (now (newactions .exit)) (now (newchoices .exit)) (now (newmasks .exit)) (now (newentries .exit)) (now (newcorners .exit))
+        (now (given .entry)) (now (newvalues .exit)) in
         adoptVerdict tables standing (now (alpha .entry)) (now (graph .entry)) count y ≡ Fine
         → AdoptHolds tables standing (now (alpha .entry)) (now (graph .entry)) count y laid) ⌝ }
 {
@@ -122,6 +124,7 @@ pub extern "C" fn biidhaqun_adopt<'a, 'b, 'c>(
         c,
         state,
         actions,
+        masks,
         entries,
         corners,
         weights,
@@ -134,6 +137,7 @@ pub extern "C" fn biidhaqun_adopt<'a, 'b, 'c>(
         count,
         newactions,
         newchoices,
+        newmasks,
         newentries,
         newcorners,
         newvalues,

@@ -23,6 +23,7 @@ pub extern "C" fn biidhaqun_replay<'a, 'b>(
     state: &mut [usize],
     actions: &mut [u8],
     choices: &mut [u16],
+    masks: &mut [u64],
     entries: &mut [i64],
     corners: &mut [i64],
     weights: &mut [u32],
@@ -36,33 +37,34 @@ pub extern "C" fn biidhaqun_replay<'a, 'b>(
     points: &'b [usize],
     newactions: &'b [u8],
     newchoices: &'b [u16],
+    newmasks: &'b [u64],
     newentries: &'b [i64],
     newcorners: &'b [i64],
     newweights: &'b [u32],
     newvalues: &'b [i64],
 ) -> Replay
     ensures { λ r. ⌜ (let tables = model n m k g (now (transition .entry)) (now (observation .entry)) (now (reward .entry)) in
-        let x = lent (now (state .entry)) (cells (now (actions .entry)) (now (choices .entry)) (now (entries .entry)) (now (corners .entry))
-        (now (weights .entry)) (now (values .entry))) (rows (now (informed .entry)) (now (qmdp .entry))) in
-        let b = packed v p (now (vectors .entry)) (now (points .entry)) (cells (now (newactions .entry)) (now (newchoices .entry))
+        let x = lent (now (state .entry)) (cells (now (actions .entry)) (now (choices .entry)) (now (masks .entry)) (now (entries .entry))
+        (now (corners .entry)) (now (weights .entry)) (now (values .entry))) (rows (now (informed .entry)) (now (qmdp .entry))) in
+        let b = packed v p (now (vectors .entry)) (now (points .entry)) (cells (now (newactions .entry)) (now (newchoices .entry)) (now (newmasks .entry))
         (now (newentries .entry)) (now (newcorners .entry)) (now (newweights .entry)) (now (newvalues .entry))) in
         r ≡ replayBy (replayAnswer tables x b count)) ⌝ }
     ensures { λ _. ⌜ (let tables = model n m k g (now (transition .entry)) (now (observation .entry)) (now (reward .entry)) in
-        let x = lent (now (state .entry)) (cells (now (actions .entry)) (now (choices .entry)) (now (entries .entry)) (now (corners .entry))
-        (now (weights .entry)) (now (values .entry))) (rows (now (informed .entry)) (now (qmdp .entry))) in
-        let b = packed v p (now (vectors .entry)) (now (points .entry)) (cells (now (newactions .entry)) (now (newchoices .entry))
+        let x = lent (now (state .entry)) (cells (now (actions .entry)) (now (choices .entry)) (now (masks .entry)) (now (entries .entry))
+        (now (corners .entry)) (now (weights .entry)) (now (values .entry))) (rows (now (informed .entry)) (now (qmdp .entry))) in
+        let b = packed v p (now (vectors .entry)) (now (points .entry)) (cells (now (newactions .entry)) (now (newchoices .entry)) (now (newmasks .entry))
         (now (newentries .entry)) (now (newcorners .entry)) (now (newweights .entry)) (now (newvalues .entry))) in
-        lent (now (state .exit)) (cells (now (actions .exit)) (now (choices .exit)) (now (entries .exit)) (now (corners .exit))
+        lent (now (state .exit)) (cells (now (actions .exit)) (now (choices .exit)) (now (masks .exit)) (now (entries .exit)) (now (corners .exit))
         (now (weights .exit)) (now (values .exit))) (rows (now (informed .exit)) (now (qmdp .exit)))
         ≡ replayed tables x b count) ⌝ }
     ensures { λ r. ⌜ (let tables = model n m k g (now (transition .entry)) (now (observation .entry)) (now (reward .entry)) in
-        let x = lent (now (state .entry)) (cells (now (actions .entry)) (now (choices .entry)) (now (entries .entry)) (now (corners .entry))
-        (now (weights .entry)) (now (values .entry))) (rows (now (informed .entry)) (now (qmdp .entry))) in
-        let b = packed v p (now (vectors .entry)) (now (points .entry)) (cells (now (newactions .entry)) (now (newchoices .entry))
+        let x = lent (now (state .entry)) (cells (now (actions .entry)) (now (choices .entry)) (now (masks .entry)) (now (entries .entry))
+        (now (corners .entry)) (now (weights .entry)) (now (values .entry))) (rows (now (informed .entry)) (now (qmdp .entry))) in
+        let b = packed v p (now (vectors .entry)) (now (points .entry)) (cells (now (newactions .entry)) (now (newchoices .entry)) (now (newmasks .entry))
         (now (newentries .entry)) (now (newcorners .entry)) (now (newweights .entry)) (now (newvalues .entry))) in
         (x₀ : Lent) (ls : List LentLevel) → ModelAccepted tables x₀ → x ≡ after tables x₀ ls → replayVerdict tables x b count ≡ Fine
         → ReplayHolds tables x₀ ls (offersIn tables b count)
-        (lent (now (state .exit)) (cells (now (actions .exit)) (now (choices .exit)) (now (entries .exit)) (now (corners .exit))
+        (lent (now (state .exit)) (cells (now (actions .exit)) (now (choices .exit)) (now (masks .exit)) (now (entries .exit)) (now (corners .exit))
         (now (weights .exit)) (now (values .exit))) (rows (now (informed .exit)) (now (qmdp .exit))))
         (r .accepted)) ⌝ }
 {
@@ -80,6 +82,7 @@ pub extern "C" fn biidhaqun_replay<'a, 'b>(
         state,
         actions,
         choices,
+        masks,
         entries,
         corners,
         weights,
@@ -93,6 +96,7 @@ pub extern "C" fn biidhaqun_replay<'a, 'b>(
         points,
         newactions,
         newchoices,
+        newmasks,
         newentries,
         newcorners,
         newweights,

@@ -30,6 +30,7 @@ pub extern "C" fn biidhaqun_totals<'a, 'b>(
     reward: &'a [i64],
     state: &'b [usize],
     actions: &'b [u8],
+    masks: &'b [u64],
     entries: &'b [i64],
     corners: &'b [i64],
     weights: &'b [u32],
@@ -40,12 +41,12 @@ pub extern "C" fn biidhaqun_totals<'a, 'b>(
 ) -> Totals
     ensures { λ r. ⌜ ((choices : List ℕ) →
         let tables = model n m k g (now (transition .entry)) (now (observation .entry)) (now (reward .entry)) in
-        let standing = lent (now (state .entry)) (cells (now (actions .entry)) choices (now (entries .entry)) (now (corners .entry))
+        let standing = lent (now (state .entry)) (cells (now (actions .entry)) choices (now (masks .entry)) (now (entries .entry)) (now (corners .entry))
         (now (weights .entry)) (now (values .entry))) (rows (now (informed .entry)) (now (qmdp .entry))) in
         r ≡ totalsBy (totalsOf tables standing (now (mixture .entry)))) ⌝ }
     ensures { λ r. ⌜ ((choices : List ℕ) (x : Lent) (ls : List LentLevel) →
         let tables = model n m k g (now (transition .entry)) (now (observation .entry)) (now (reward .entry)) in
-        let standing = lent (now (state .entry)) (cells (now (actions .entry)) choices (now (entries .entry)) (now (corners .entry))
+        let standing = lent (now (state .entry)) (cells (now (actions .entry)) choices (now (masks .entry)) (now (entries .entry)) (now (corners .entry))
         (now (weights .entry)) (now (values .entry))) (rows (now (informed .entry)) (now (qmdp .entry))) in
         ModelAccepted tables x → standing ≡ after tables x ls → 0 < steps tables x ls → mixtureHolds n (now (mixture .entry)) ≡ true →
         Brackets tables x ls (now (mixture .entry)) r) ⌝ }
@@ -63,6 +64,7 @@ pub extern "C" fn biidhaqun_totals<'a, 'b>(
         c,
         state,
         actions,
+        masks,
         entries,
         corners,
         weights,
@@ -98,6 +100,7 @@ pub extern "C" fn biidhaqun_each<'a, 'b>(
     reward: &'a [i64],
     state: &'b [usize],
     actions: &'b [u8],
+    masks: &'b [u64],
     entries: &'b [i64],
     corners: &'b [i64],
     weights: &'b [u32],
@@ -113,13 +116,13 @@ pub extern "C" fn biidhaqun_each<'a, 'b>(
 ) -> Refusal
     ensures { λ r. ⌜ ((choices : List ℕ) →
         let tables = model n m k g (now (transition .entry)) (now (observation .entry)) (now (reward .entry)) in
-        let standing = lent (now (state .entry)) (cells (now (actions .entry)) choices (now (entries .entry)) (now (corners .entry))
+        let standing = lent (now (state .entry)) (cells (now (actions .entry)) choices (now (masks .entry)) (now (entries .entry)) (now (corners .entry))
         (now (weights .entry)) (now (values .entry))) (rows (now (informed .entry)) (now (qmdp .entry))) in
         r ≡ refusalOf (eachVerdict tables standing (now (mixtures .entry)) count
         (answers (now (verdicts .entry)) (now (lower .entry)) (now (upper .entry)) (now (advice .entry))))) ⌝ }
     ensures { λ _. ⌜ ((choices : List ℕ) →
         let tables = model n m k g (now (transition .entry)) (now (observation .entry)) (now (reward .entry)) in
-        let standing = lent (now (state .entry)) (cells (now (actions .entry)) choices (now (entries .entry)) (now (corners .entry))
+        let standing = lent (now (state .entry)) (cells (now (actions .entry)) choices (now (masks .entry)) (now (entries .entry)) (now (corners .entry))
         (now (weights .entry)) (now (values .entry))) (rows (now (informed .entry)) (now (qmdp .entry))) in
         answers (now (verdicts .exit)) (now (lower .exit)) (now (upper .exit)) (now (advice .exit))
         ≡ eachOf tables standing (now (mixtures .entry)) count
@@ -138,6 +141,7 @@ pub extern "C" fn biidhaqun_each<'a, 'b>(
         c,
         state,
         actions,
+        masks,
         entries,
         corners,
         weights,

@@ -1,4 +1,4 @@
-// What an offer to a certifier is refused for, 7 to 15. Tables, the standing level and the offered one are lent; nothing is written.
+// What an offer to a certifier is refused for, 7 to 15 and 21. Tables, the standing level and the offered one are lent; nothing is written.
 ghost use mathlib.Core.Path.{_≡_};
 ghost use Prim.Native.Nat.{_*_, _≤_};
 ghost use lib.ListN.{length};
@@ -17,6 +17,7 @@ use tables::Verdict;
 fn judge_level<'a>(
     actions: &'a [u8],
     choices: &'a [u16],
+    masks: &'a [u64],
     entries: &'a [i64],
     corners: &'a [i64],
     weights: &'a [u32],
@@ -28,10 +29,11 @@ fn judge_level<'a>(
     t: usize,
 ) -> Verdict
     requires { ⌜ (c .states ≤ maxStates) × ((c .observations ≤ maxObservations) × ((vectors ≤ maxVectors) × ((points ≤ maxPoints) × (t ≤ maxLevels)))) ⌝ }
-    requires { ⌜ (vectors ≤ length (now actions)) × ((vectors * c .observations ≤ length (now choices)) × (vectors * c .states ≤ length (now entries))) ⌝ }
+    requires { ⌜ (vectors ≤ length (now actions)) × ((vectors * c .observations ≤ length (now choices)) × ((vectors ≤ length (now masks)) ×
+        (vectors * c .states ≤ length (now entries)))) ⌝ }
     requires { ⌜ (c .states ≤ length (now corners)) × ((points * c .states ≤ length (now weights)) × (points ≤ length (now values))) ⌝ }
     ensures { λ r. ⌜ r ≡ levelVerdict (c .states) (c .actions) (c .observations) t standing (levelIn (c .states) (c .observations) vectors
-        (now (actions .entry)) (now (choices .entry)) (now (entries .entry)) (now (corners .entry)) points (now (weights .entry))
+        (now (actions .entry)) (now (choices .entry)) (now (masks .entry)) (now (entries .entry)) (now (corners .entry)) points (now (weights .entry))
         (now (values .entry))) ⌝ }
 {
     let numbers = shape::numbers_exist(
@@ -47,6 +49,7 @@ fn judge_level<'a>(
         return numbers;
     };
     let ranges = standing::ranges_hold(
+        masks,
         entries,
         corners,
         weights,
@@ -71,6 +74,7 @@ fn judge_shape<'a, 'b, 'c>(
     state: &'b [usize],
     actions: &'b [u8],
     choices: &'b [u16],
+    masks: &'b [u64],
     entries: &'b [i64],
     corners: &'b [i64],
     weights: &'b [u32],
@@ -81,15 +85,16 @@ fn judge_shape<'a, 'b, 'c>(
     points: usize,
     newactions: &'c [u8],
     newchoices: &'c [u16],
+    newmasks: &'c [u64],
     newentries: &'c [i64],
     newcorners: &'c [i64],
     newweights: &'c [u32],
     newvalues: &'c [i64],
 ) -> Verdict
     ensures { λ r. ⌜ (let m = tablesIn c (now (transition .entry)) (now (observation .entry)) (now (reward .entry)) in
-        let x = lent (now (state .entry)) (cells (now (actions .entry)) (now (choices .entry)) (now (entries .entry)) (now (corners .entry))
-        (now (weights .entry)) (now (values .entry))) (rows (now (informed .entry)) (now (qmdp .entry))) in
-        let l = lentFor vectors points (cells (now (newactions .entry)) (now (newchoices .entry)) (now (newentries .entry))
+        let x = lent (now (state .entry)) (cells (now (actions .entry)) (now (choices .entry)) (now (masks .entry)) (now (entries .entry))
+        (now (corners .entry)) (now (weights .entry)) (now (values .entry))) (rows (now (informed .entry)) (now (qmdp .entry))) in
+        let l = lentFor vectors points (cells (now (newactions .entry)) (now (newchoices .entry)) (now (newmasks .entry)) (now (newentries .entry))
         (now (newcorners .entry)) (now (newweights .entry)) (now (newvalues .entry))) in
         r ≡ shapeVerdict m x l) ⌝ }
 {
@@ -100,6 +105,7 @@ fn judge_shape<'a, 'b, 'c>(
         c,
         state,
         actions,
+        masks,
         entries,
         corners,
         weights,
@@ -123,6 +129,7 @@ fn judge_shape<'a, 'b, 'c>(
         points,
         newactions.len(),
         newchoices.len(),
+        newmasks.len(),
         newentries.len(),
         newcorners.len(),
         newweights.len(),
@@ -137,6 +144,7 @@ fn judge_shape<'a, 'b, 'c>(
         points,
         actions.len(),
         choices.len(),
+        masks.len(),
         entries.len(),
         corners.len(),
         weights.len(),
@@ -147,6 +155,7 @@ fn judge_shape<'a, 'b, 'c>(
     judge_level(
         newactions,
         newchoices,
+        newmasks,
         newentries,
         newcorners,
         newweights,
@@ -159,7 +168,7 @@ fn judge_shape<'a, 'b, 'c>(
     )
 }
 
-// 13 to 15: the backup inequalities.
+// 21, then 13 to 15: the masks and the backup inequalities.
 fn judge_backups<'a, 'b, 'c>(
     transition: &'a [u16],
     observation: &'a [u16],
@@ -168,6 +177,7 @@ fn judge_backups<'a, 'b, 'c>(
     state: &'b [usize],
     actions: &'b [u8],
     choices: &'b [u16],
+    masks: &'b [u64],
     entries: &'b [i64],
     corners: &'b [i64],
     weights: &'b [u32],
@@ -178,30 +188,47 @@ fn judge_backups<'a, 'b, 'c>(
     points: usize,
     newactions: &'c [u8],
     newchoices: &'c [u16],
+    newmasks: &'c [u64],
     newentries: &'c [i64],
     newcorners: &'c [i64],
     newweights: &'c [u32],
     newvalues: &'c [i64],
 ) -> Verdict
     requires { ⌜ shapeVerdict (tablesIn c (now transition) (now observation) (now reward))
-        (lent (now state) (cells (now actions) (now choices) (now entries) (now corners) (now weights) (now values))
+        (lent (now state) (cells (now actions) (now choices) (now masks) (now entries) (now corners) (now weights) (now values))
         (rows (now informed) (now qmdp)))
-        (lentFor vectors points (cells (now newactions) (now newchoices) (now newentries) (now newcorners) (now newweights) (now newvalues))) ≡ Fine ⌝ }
+        (lentFor vectors points (cells (now newactions) (now newchoices) (now newmasks) (now newentries) (now newcorners) (now newweights)
+        (now newvalues))) ≡ Fine ⌝ }
     ensures { λ r. ⌜ (let m = tablesIn c (now (transition .entry)) (now (observation .entry)) (now (reward .entry)) in
-        let x = lent (now (state .entry)) (cells (now (actions .entry)) (now (choices .entry)) (now (entries .entry)) (now (corners .entry))
-        (now (weights .entry)) (now (values .entry))) (rows (now (informed .entry)) (now (qmdp .entry))) in
-        let l = lentFor vectors points (cells (now (newactions .entry)) (now (newchoices .entry)) (now (newentries .entry))
+        let x = lent (now (state .entry)) (cells (now (actions .entry)) (now (choices .entry)) (now (masks .entry)) (now (entries .entry))
+        (now (corners .entry)) (now (weights .entry)) (now (values .entry))) (rows (now (informed .entry)) (now (qmdp .entry))) in
+        let l = lentFor vectors points (cells (now (newactions .entry)) (now (newchoices .entry)) (now (newmasks .entry)) (now (newentries .entry))
         (now (newcorners .entry)) (now (newweights .entry)) (now (newvalues .entry))) in
         r ≡ backupsVerdict (modelOf m) (levelOf m (standingIn x)) (levelOf m l)) ⌝ }
 {
     let s = levels::standing_in(state);
+    let reached = reaches::masks_hold(
+        transition,
+        observation,
+        masks,
+        newactions,
+        newchoices,
+        newmasks,
+        c,
+        vectors,
+    );
+    let Verdict::Fine = reached else {
+        return reached;
+    };
     let floor = checks::floors_hold(
         transition,
         observation,
         reward,
+        masks,
         entries,
         newactions,
         newchoices,
+        newmasks,
         newentries,
         c,
         vectors,
@@ -238,7 +265,7 @@ fn judge_backups<'a, 'b, 'c>(
     )
 }
 
-// 7 to 15.
+// 7 to 12, 21, 13 to 15.
 pub fn judge_offer<'a, 'b, 'c>(
     transition: &'a [u16],
     observation: &'a [u16],
@@ -247,6 +274,7 @@ pub fn judge_offer<'a, 'b, 'c>(
     state: &'b [usize],
     actions: &'b [u8],
     choices: &'b [u16],
+    masks: &'b [u64],
     entries: &'b [i64],
     corners: &'b [i64],
     weights: &'b [u32],
@@ -257,15 +285,16 @@ pub fn judge_offer<'a, 'b, 'c>(
     points: usize,
     newactions: &'c [u8],
     newchoices: &'c [u16],
+    newmasks: &'c [u64],
     newentries: &'c [i64],
     newcorners: &'c [i64],
     newweights: &'c [u32],
     newvalues: &'c [i64],
 ) -> Verdict
     ensures { λ r. ⌜ (let m = tablesIn c (now (transition .entry)) (now (observation .entry)) (now (reward .entry)) in
-        let x = lent (now (state .entry)) (cells (now (actions .entry)) (now (choices .entry)) (now (entries .entry)) (now (corners .entry))
-        (now (weights .entry)) (now (values .entry))) (rows (now (informed .entry)) (now (qmdp .entry))) in
-        let l = lentFor vectors points (cells (now (newactions .entry)) (now (newchoices .entry)) (now (newentries .entry))
+        let x = lent (now (state .entry)) (cells (now (actions .entry)) (now (choices .entry)) (now (masks .entry)) (now (entries .entry))
+        (now (corners .entry)) (now (weights .entry)) (now (values .entry))) (rows (now (informed .entry)) (now (qmdp .entry))) in
+        let l = lentFor vectors points (cells (now (newactions .entry)) (now (newchoices .entry)) (now (newmasks .entry)) (now (newentries .entry))
         (now (newcorners .entry)) (now (newweights .entry)) (now (newvalues .entry))) in
         r ≡ offerVerdict m x l) ⌝ }
 {
@@ -277,6 +306,7 @@ pub fn judge_offer<'a, 'b, 'c>(
         state,
         actions,
         choices,
+        masks,
         entries,
         corners,
         weights,
@@ -287,6 +317,7 @@ pub fn judge_offer<'a, 'b, 'c>(
         points,
         newactions,
         newchoices,
+        newmasks,
         newentries,
         newcorners,
         newweights,
@@ -303,6 +334,7 @@ pub fn judge_offer<'a, 'b, 'c>(
         state,
         actions,
         choices,
+        masks,
         entries,
         corners,
         weights,
@@ -313,6 +345,7 @@ pub fn judge_offer<'a, 'b, 'c>(
         points,
         newactions,
         newchoices,
+        newmasks,
         newentries,
         newcorners,
         newweights,

@@ -40,6 +40,7 @@ fn room_for(count: usize, verdicts: usize, lower: usize, upper: usize, advice: u
 // The answer at each mixture, written at its number.
 fn write_answers<'b>(
     actions: &'b [u8],
+    masks: &'b [u64],
     entries: &'b [i64],
     corners: &'b [i64],
     weights: &'b [u32],
@@ -56,12 +57,12 @@ fn write_answers<'b>(
     upper: &mut [i64],
     advice: &mut [u8],
 )
-    requires { ⌜ Asked n m vectors points (now actions) (now entries) (now corners) (now weights) (now informed) (now gains) ⌝ }
+    requires { ⌜ Asked n m vectors points (now actions) (now masks) (now entries) (now corners) (now weights) (now informed) (now gains) ⌝ }
     requires { ⌜ count * n ≤ length (now mixtures) ⌝ }
     requires { ⌜ (count ≤ length (now verdicts)) × ((count ≤ length (now lower)) × ((count ≤ length (now upper)) × (count ≤ length (now advice)))) ⌝ }
     ensures { λ _. ⌜ answers (now (verdicts .exit)) (now (lower .exit)) (now (upper .exit)) (now (advice .exit))
-        ≡ written (λ i. answerIn n m vectors points (now (actions .entry)) (now (entries .entry)) (now (corners .entry)) (now (weights .entry))
-        (now (informed .entry)) (now (gains .entry)) (rowIn n (now (mixtures .entry)) i)) count
+        ≡ written (λ i. answerIn n m vectors points (now (actions .entry)) (now (masks .entry)) (now (entries .entry)) (now (corners .entry))
+        (now (weights .entry)) (now (informed .entry)) (now (gains .entry)) (rowIn n (now (mixtures .entry)) i)) count
         (answers (now (verdicts .entry)) (now (lower .entry)) (now (upper .entry)) (now (advice .entry))) ⌝ }
 {
     for i in 0..count {
@@ -69,6 +70,7 @@ fn write_answers<'b>(
         let end = at + n;
         let b = bounds::answer(
             actions,
+            masks,
             entries,
             corners,
             weights,
@@ -100,6 +102,7 @@ pub fn each<'a, 'b>(
     c: Counts,
     state: &'b [usize],
     actions: &'b [u8],
+    masks: &'b [u64],
     entries: &'b [i64],
     corners: &'b [i64],
     weights: &'b [u32],
@@ -114,13 +117,13 @@ pub fn each<'a, 'b>(
     advice: &mut [u8],
 ) -> Verdict
     ensures { λ r. ⌜ ((choices : List ℕ) → r ≡ eachVerdict (tablesIn c (now (transition .entry)) (now (observation .entry)) (now (reward .entry)))
-        (lent (now (state .entry)) (cells (now (actions .entry)) choices (now (entries .entry)) (now (corners .entry)) (now (weights .entry))
-        (now (values .entry))) (rows (now (informed .entry)) (now (qmdp .entry)))) (now (mixtures .entry)) count
+        (lent (now (state .entry)) (cells (now (actions .entry)) choices (now (masks .entry)) (now (entries .entry)) (now (corners .entry))
+        (now (weights .entry)) (now (values .entry))) (rows (now (informed .entry)) (now (qmdp .entry)))) (now (mixtures .entry)) count
         (answers (now (verdicts .entry)) (now (lower .entry)) (now (upper .entry)) (now (advice .entry)))) ⌝ }
     ensures { λ _. ⌜ ((choices : List ℕ) → answers (now (verdicts .exit)) (now (lower .exit)) (now (upper .exit)) (now (advice .exit))
         ≡ eachOf (tablesIn c (now (transition .entry)) (now (observation .entry)) (now (reward .entry)))
-        (lent (now (state .entry)) (cells (now (actions .entry)) choices (now (entries .entry)) (now (corners .entry)) (now (weights .entry))
-        (now (values .entry))) (rows (now (informed .entry)) (now (qmdp .entry)))) (now (mixtures .entry)) count
+        (lent (now (state .entry)) (cells (now (actions .entry)) choices (now (masks .entry)) (now (entries .entry)) (now (corners .entry))
+        (now (weights .entry)) (now (values .entry))) (rows (now (informed .entry)) (now (qmdp .entry)))) (now (mixtures .entry)) count
         (answers (now (verdicts .entry)) (now (lower .entry)) (now (upper .entry)) (now (advice .entry)))) ⌝ }
 {
     let standing = bounds::judge_standing(
@@ -130,6 +133,7 @@ pub fn each<'a, 'b>(
         c,
         state,
         actions,
+        masks,
         entries,
         corners,
         weights,
@@ -157,6 +161,7 @@ pub fn each<'a, 'b>(
     let gains = sawtooth::gains(corners, weights, values, s.points, n);
     write_answers(
         actions,
+        masks,
         entries,
         corners,
         weights,

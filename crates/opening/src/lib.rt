@@ -1,15 +1,16 @@
 // Opening a certifier: level 0 and its rows over what is lent, or a refusal, which writes nothing.
 ghost use mathlib.Core.Path.{_≡_};
-ghost use mathlib.Core.Bool.{_&&_};
+ghost use mathlib.Core.Bool.{true, _&&_};
 ghost use Prim.Native.Nat.{_*_, _≤_, _<_};
 ghost use lib.Dec.{leb};
 ghost use lib.ListN.{length};
 ghost use lib.IntN.{pos};
 ghost use Rattle.integers.specs.Cells.{laid};
-ghost use Rattle.tables.specs.Limits.{maxObservations};
+ghost use Rattle.tables.specs.Limits.{maxStates, maxObservations};
 ghost use Rattle.tables.specs.Storage.{tablesIn};
 ghost use Rattle.tables.specs.Verdicts.{_before_, unless};
 ghost use Rattle.tables.specs.Judged.{tablesVerdict};
+ghost use Rattle.masks.specs.Masks.{maskOf};
 ghost use Rattle.levels.specs.Storage.{stateSize, cells, rows, lent, longEnough, longRows};
 ghost use Rattle.runs.specs.State.{openVerdict, opened};
 use integers::cells;
@@ -29,6 +30,7 @@ fn judge_open<'a>(
     state: usize,
     actions: usize,
     choices: usize,
+    masks: usize,
     entries: usize,
     corners: usize,
     weights: usize,
@@ -37,7 +39,7 @@ fn judge_open<'a>(
     qmdp: usize,
 ) -> Verdict
     ensures { λ r. ⌜ r ≡ (tablesVerdict (tablesIn c (now (transition .entry)) (now (observation .entry)) (now (reward .entry))) before
-        unless (leb stateSize state && ((leb (1 * c .observations) choices && longEnough (c .states) 1 0 actions entries corners weights values)
+        unless (leb stateSize state && ((leb (1 * c .observations) choices && longEnough (c .states) 1 0 actions masks entries corners weights values)
         && longRows (c .actions) (c .states) informed qmdp)) 9 0) ⌝ }
 {
     let tables = judge::judge_tables(transition, observation, reward, c);
@@ -55,6 +57,7 @@ fn judge_open<'a>(
         s.points,
         actions,
         choices,
+        masks,
         entries,
         corners,
         weights,
@@ -72,24 +75,28 @@ fn judge_open<'a>(
     Verdict::Fine
 }
 
-// Level 0 over the slices: one zero vector, zero corners.
+// Level 0 over the slices: one zero vector that covers all states, zero corners.
 fn lay_level_0(
     n: usize,
     k: usize,
     actions: &mut [u8],
     choices: &mut [u16],
+    masks: &mut [u64],
     entries: &mut [i64],
     corners: &mut [i64],
 )
-    requires { ⌜ k ≤ maxObservations ⌝ }
-    requires { ⌜ (0 < length (now actions)) × ((k ≤ length (now choices)) × ((n ≤ length (now entries)) × (n ≤ length (now corners)))) ⌝ }
+    requires { ⌜ (0 < n) × ((n ≤ maxStates) × (k ≤ maxObservations)) ⌝ }
+    requires { ⌜ (0 < length (now actions)) × ((k ≤ length (now choices)) × ((0 < length (now masks)) × ((n ≤ length (now entries)) ×
+        (n ≤ length (now corners))))) ⌝ }
     ensures { λ _. ⌜ now (actions .exit) ≡ laid 1 (λ v. 0) (now (actions .entry)) ⌝ }
     ensures { λ _. ⌜ now (choices .exit) ≡ laid k (λ o. 0) (now (choices .entry)) ⌝ }
+    ensures { λ _. ⌜ now (masks .exit) ≡ laid 1 (λ v. maskOf n (λ s. true)) (now (masks .entry)) ⌝ }
     ensures { λ _. ⌜ now (entries .exit) ≡ laid n (λ s. pos 0) (now (entries .entry)) ⌝ }
     ensures { λ _. ⌜ now (corners .exit) ≡ laid n (λ s. pos 0) (now (corners .entry)) ⌝ }
 {
     actions[0] = 0;
     cells::paste_u16(choices, 0, &[0u16; Tables::OBSERVATIONS], k);
+    masks[0] = masks::all(n);
     cells::clear_i64(entries, n);
     cells::clear_i64(corners, n);
 }
@@ -103,6 +110,7 @@ pub fn open<'a>(
     state: &mut [usize],
     actions: &mut [u8],
     choices: &mut [u16],
+    masks: &mut [u64],
     entries: &mut [i64],
     corners: &mut [i64],
     weights: &[u32],
@@ -111,13 +119,13 @@ pub fn open<'a>(
     qmdp: &mut [i64],
 ) -> Verdict
     ensures { λ r. ⌜ (let m = tablesIn c (now (transition .entry)) (now (observation .entry)) (now (reward .entry)) in
-        let x = lent (now (state .entry)) (cells (now (actions .entry)) (now (choices .entry)) (now (entries .entry)) (now (corners .entry))
-        (now (weights .entry)) (now (values .entry))) (rows (now (informed .entry)) (now (qmdp .entry))) in
+        let x = lent (now (state .entry)) (cells (now (actions .entry)) (now (choices .entry)) (now (masks .entry)) (now (entries .entry))
+        (now (corners .entry)) (now (weights .entry)) (now (values .entry))) (rows (now (informed .entry)) (now (qmdp .entry))) in
         r ≡ openVerdict m x) ⌝ }
     ensures { λ _. ⌜ (let m = tablesIn c (now (transition .entry)) (now (observation .entry)) (now (reward .entry)) in
-        let x = lent (now (state .entry)) (cells (now (actions .entry)) (now (choices .entry)) (now (entries .entry)) (now (corners .entry))
-        (now (weights .entry)) (now (values .entry))) (rows (now (informed .entry)) (now (qmdp .entry))) in
-        lent (now (state .exit)) (cells (now (actions .exit)) (now (choices .exit)) (now (entries .exit)) (now (corners .exit))
+        let x = lent (now (state .entry)) (cells (now (actions .entry)) (now (choices .entry)) (now (masks .entry)) (now (entries .entry))
+        (now (corners .entry)) (now (weights .entry)) (now (values .entry))) (rows (now (informed .entry)) (now (qmdp .entry))) in
+        lent (now (state .exit)) (cells (now (actions .exit)) (now (choices .exit)) (now (masks .exit)) (now (entries .exit)) (now (corners .exit))
         (now (weights .entry)) (now (values .entry))) (rows (now (informed .exit)) (now (qmdp .exit)))
         ≡ opened m x) ⌝ }
 {
@@ -129,6 +137,7 @@ pub fn open<'a>(
         state.len(),
         actions.len(),
         choices.len(),
+        masks.len(),
         entries.len(),
         corners.len(),
         weights.len(),
@@ -140,7 +149,15 @@ pub fn open<'a>(
         return verdict;
     };
     levels::put_standing(state, Standing::fresh());
-    lay_level_0(c.states, c.observations, actions, choices, entries, corners);
+    lay_level_0(
+        c.states,
+        c.observations,
+        actions,
+        choices,
+        masks,
+        entries,
+        corners,
+    );
     cells::clear_i64(informed, c.actions * c.states);
     cells::clear_i64(qmdp, c.actions * c.states);
     Verdict::Fine

@@ -9,15 +9,18 @@ ghost use Rattle.tables.specs.Limits.{maxStates, maxVectors, maxEntry};
 ghost use Rattle.plans.specs.Limits.{maxPoints};
 ghost use Rattle.tables.specs.Steps.{rowsTo};
 ghost use Rattle.tables.specs.Storage.{rowPlace};
+ghost use Rattle.masks.specs.Masks.{maskedIn};
 ghost use Rattle.levels.specs.Storage.{pointIn};
 ghost use Rattle.levels.specs.Judged.{rowsWithin, totalHolds, valueHolds, valuesWithin, weightsVerdict};
 use levels::Level;
+use tables::State;
 use tables::Tables;
+use tables::Vector;
 use tables::Verdict;
 use tables::Weights;
 use tables::read;
 
-// 11 of entries and corners: the first row, of width w, with a number outside ± limit.
+// 11 of corners, and 7 of rows: the first row, of width w, with a number outside ± limit.
 pub fn rows_within(cells: &[i64], rows: usize, w: usize, limit: u64, number: u8) -> Verdict
     requires { ⌜ (rows ≤ maxVectors) × ((w ≤ maxStates) × (limit < 2 ^ 63)) ⌝ }
     requires { ⌜ rows * w ≤ length (now cells) ⌝ }
@@ -30,6 +33,31 @@ pub fn rows_within(cells: &[i64], rows: usize, w: usize, limit: u64, number: u8)
             if !integers::within(limit, cells[at]) {
                 found = Verdict::Refused(number, i);
                 break 'rows;
+            }
+        }
+    }
+    found
+}
+
+// 11 of entries: the first vector with one outside ± limit, at a state that it covers.
+pub fn entries_within<'a>(
+    masks: &'a [u64],
+    entries: &'a [i64],
+    vectors: usize,
+    n: usize,
+    limit: u64,
+) -> Verdict
+    requires { ⌜ (vectors ≤ maxVectors) × ((n ≤ maxStates) × (limit < 2 ^ 63)) ⌝ }
+    requires { ⌜ (vectors ≤ length (now masks)) × (vectors * n ≤ length (now entries)) ⌝ }
+    ensures { λ r. ⌜ r ≡ rowsWithin 11 vectors n limit (maskedIn n (now (masks .entry)) (now (entries .entry))) ⌝ }
+{
+    let mut found = Verdict::Fine;
+    'vectors: for v in 0..vectors {
+        for s in 0..n {
+            let e = masks::entry_at(masks, entries, n, Vector(v), State(s));
+            if !integers::within(limit, e) {
+                found = Verdict::Refused(11, v);
+                break 'vectors;
             }
         }
     }

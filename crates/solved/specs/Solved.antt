@@ -1,6 +1,6 @@
 -- The level that a solver's alpha file and policy graph file say, over the level that stands.
 use Prim.Native.Nat.{ℕ, suc, zero}
-use mathlib.Core.Bool.{cond}
+use mathlib.Core.Bool.{true, cond}
 use mathlib.Core.List.{List}
 use lib.Dec.{eqb}
 use Rattle.integers.specs.Whole.{lesser}
@@ -26,6 +26,7 @@ solved M t L alphaFile graphFile points weight =
       vectors = vectorsIn n alphaFile;
       action = action;
       choice = choice;
+      covers = λ v s. true;
       entry = λ v s. lesser (ticksAt n alphaFile v s) (backedUp M (action v) (follows L (choice v)) s);
       corner = λ s. leastValue M L (corner-weight s);
       points = points;

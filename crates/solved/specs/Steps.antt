@@ -1,14 +1,18 @@
 -- What the code's steps ask and say.
 use Prim.Native.Nat.{ℕ, _+_, _≤_, _<_}
 use mathlib.Core.Path.{_≡_}
+use mathlib.Core.Bool.{true}
 use mathlib.Core.List.{List}
-use lib.ListN.{getD}
+use lib.ListN.{length, getD}
 use lib.IntN.{ℤ, pos}
 use Rattle.integers.specs.Cells.{padded}
 use Rattle.tables.specs.declared.Counts.{Counts}
 use Rattle.tables.specs.Limits.{maxStates, maxObservations, maxVectors, maxLevels}
+use Rattle.tables.specs.declared.Verdict.{Verdict}
 use Rattle.tables.specs.Storage.{modelIn}
+use Rattle.tables.specs.Verdicts.{unless, firstOf}
 use Rattle.plans.specs.Level.{Level}
+use Rattle.reaches.specs.Steps.{reachedIn, ActionStored}
 use Rattle.candidates.specs.Steps.{uponIn, Upon}
 use Rattle.solver.specs.Files.{vectorsIn, actionAt, ticksAt, nextAt}
 use Rattle.solver.specs.Steps.{BothAt}
@@ -39,14 +43,26 @@ pub record Says (n k t : ℕ) (alphaFile graphFile : List ℕ) (v : ℕ) (r : Sa
   pub onward : ReadTo n k alphaFile graphFile (v + 1) (r .alpha) (r .graph)
 
 -- the vectors that the files say, over the entries of level t
-abbrev pub vectorsOver : Counts → List ℕ → List ℕ → List ℤ → List ℤ → ℕ → ℕ → List ℕ → List ℕ → Level
-vectorsOver c transition observation reward entries standing t alphaFile graphFile =
-    solved (modelIn c transition observation reward) t (uponIn c standing entries) alphaFile graphFile 0 (λ i s. 0)
+abbrev pub vectorsOver : Counts → List ℕ → List ℕ → List ℤ → List ℕ → List ℤ → ℕ → ℕ → List ℕ → List ℕ → Level
+vectorsOver c transition observation reward masks entries standing t alphaFile graphFile =
+    solved (modelIn c transition observation reward) t (uponIn c standing masks entries) alphaFile graphFile 0 (λ i s. 0)
+
+-- tables, the masks of a standing level, and files that are not refused, by 10 neither
+pub record Choosing (c : Counts) (transition observation masks : List ℕ) (t : ℕ) (alphaFile graphFile : List ℕ) (count : ℕ) : Type 0 where
+  pub some-states : 0 < c .states
+  pub files : Files (c .states) (c .observations) alphaFile graphFile count
+  pub acts : (v : ℕ) → v < count → ActionStored (c .states) (c .observations) transition observation (actionAt (c .states) alphaFile v)
+  pub chooses : (v : ℕ) → v < count → (o : ℕ) → o < c .observations → choicesAt (c .observations) t graphFile v o < length masks
+
+-- 21 of vectors that cover all states
+abbrev pub masksOver : Counts → List ℕ → List ℕ → List ℕ → ℕ → (ℕ → ℕ) → (ℕ → ℕ → ℕ) → Verdict
+masksOver c transition observation masks count action choice =
+    firstOf count (λ v. unless (reachedIn (c .states) (c .observations) transition observation masks (λ s. true) (action v) (choice v)) 21 v)
 
 -- standing vectors that can be built upon, and files that are not refused, by 10 neither
-pub record Solving (c : Counts) (transition observation : List ℕ) (reward entries : List ℤ) (standing t : ℕ) (alphaFile graphFile : List ℕ) (count : ℕ) :
-    Type 0 where
-  pub upon : Upon c transition observation reward entries standing
+pub record Solving (c : Counts) (transition observation : List ℕ) (reward : List ℤ) (masks : List ℕ) (entries : List ℤ) (standing t : ℕ)
+    (alphaFile graphFile : List ℕ) (count : ℕ) : Type 0 where
+  pub upon : Upon c transition observation reward masks entries standing
   pub below : t < maxLevels
   pub few : count ≤ maxVectors
   pub files : Files (c .states) (c .observations) alphaFile graphFile count

@@ -1,4 +1,4 @@
-// The level that a solver's alpha file and policy graph file say, over the level that stands: its vectors read from both, judged by 10 to 12, and written
+// The level that a solver's alpha file and policy graph file say, over the level that stands: its vectors read from both, judged by 10, 21, 11 and 12, and written
 // over lent slices.
 ghost use mathlib.Core.Path.{_≡_};
 ghost use Prim.Native.Nat.{ℕ, _+_, _*_, _≤_, _<_};
@@ -19,7 +19,7 @@ ghost use Rattle.candidates.specs.Steps.{uponIn, Upon};
 ghost use Rattle.builder.specs.Steps.{RowsFit, Filled};
 ghost use Rattle.solver.specs.Files.{vectorsIn, actionAt};
 ghost use Rattle.solved.specs.Solved.{chosenOver};
-ghost use Rattle.solved.specs.Steps.{choicesAt, ReadTo, Files, Says, vectorsOver, Solving, Gives};
+ghost use Rattle.solved.specs.Steps.{choicesAt, ReadTo, Files, Says, vectorsOver, Choosing, masksOver, Solving, Gives};
 use alphas::NextNodes;
 use alphas::NodeAt;
 use alphas::Ticks;
@@ -125,6 +125,7 @@ fn entries_of<'a>(
     transition: &'a [u16],
     observation: &'a [u16],
     reward: &'a [i64],
+    masks: &[u64],
     entries: &[i64],
     c: Counts,
     standing: usize,
@@ -132,18 +133,19 @@ fn entries_of<'a>(
     chosen: &[u16],
     a: Action,
 ) -> Foreseen
-    requires { ⌜ Upon c (now transition) (now observation) (now reward) (now entries) standing ⌝ }
+    requires { ⌜ Upon c (now transition) (now observation) (now reward) (now masks) (now entries) standing ⌝ }
     requires { ⌜ (a .0 < c .actions) × (length (now chosen) ≡ maxObservations) ⌝ }
     requires { ⌜ ((o : ℕ) → o < c .observations → getD (now chosen) o 0 < standing) ⌝ }
     ensures { λ r. ⌜ r ≡ padded (pos 0) maxStates (c .states) (λ s. lesser (getD ticks s (pos 0))
         (backedUp (modelIn c (now (transition .entry)) (now (observation .entry)) (now (reward .entry))) (a .0)
-        (follows (uponIn c standing (now (entries .entry))) (λ o. getD (now (chosen .entry)) o 0)) s)) ⌝ }
+        (follows (uponIn c standing (now (masks .entry)) (now (entries .entry))) (λ o. getD (now (chosen .entry)) o 0)) s)) ⌝ }
 {
     let n = c.states;
     let f = sums::foreseen(
         observation,
         n,
         c.observations,
+        masks,
         entries,
         chosen,
         Vector(0),
@@ -158,6 +160,7 @@ fn row_at<'a, 'c>(
     transition: &'a [u16],
     observation: &'a [u16],
     reward: &'a [i64],
+    masks: &[u64],
     entries: &[i64],
     c: Counts,
     standing: usize,
@@ -169,10 +172,11 @@ fn row_at<'a, 'c>(
     p: usize,
     q: usize,
 ) -> Row
-    requires { ⌜ Solving c (now transition) (now observation) (now reward) (now entries) standing t (now alpha) (now graph) count ⌝ }
+    requires { ⌜ Solving c (now transition) (now observation) (now reward) (now masks) (now entries) standing t (now alpha) (now graph) count ⌝ }
     requires { ⌜ (v < count) × (ReadTo (c .states) (c .observations) (now alpha) (now graph) v p q) ⌝ }
     ensures { λ r. ⌜ Gives (c .states) (c .observations) (now (alpha .entry)) (now (graph .entry)) (vectorsOver c (now (transition .entry))
-        (now (observation .entry)) (now (reward .entry)) (now (entries .entry)) standing t (now (alpha .entry)) (now (graph .entry))) v r ⌝ }
+        (now (observation .entry)) (now (reward .entry)) (now (masks .entry)) (now (entries .entry)) standing t (now (alpha .entry))
+        (now (graph .entry))) v r ⌝ }
 {
     let x = said_at(alpha, graph, c.states, c.observations, t, v, p, q);
     let ticks = x.ticks;
@@ -181,6 +185,7 @@ fn row_at<'a, 'c>(
         transition,
         observation,
         reward,
+        masks,
         entries,
         c,
         standing,
@@ -197,7 +202,7 @@ fn row_at<'a, 'c>(
     }
 }
 
-// ---- 10 to 12
+// ---- 10, 21, 11 and 12
 
 // 10 of vector v: its action, then what it chooses.
 fn vector_exists(
@@ -250,11 +255,54 @@ fn numbers_hold<'c>(
     Verdict::Fine
 }
 
+// 21: the first vector that chooses one which does not cover a state that is reached.
+fn masks_hold<'a, 'c>(
+    transition: &'a [u16],
+    observation: &'a [u16],
+    masks: &[u64],
+    c: Counts,
+    t: usize,
+    alpha: &'c [u8],
+    graph: &'c [u8],
+    count: usize,
+) -> Verdict
+    requires { ⌜ Choosing c (now transition) (now observation) (now masks) t (now alpha) (now graph) count ⌝ }
+    ensures { λ r. ⌜ r ≡ masksOver c (now (transition .entry)) (now (observation .entry)) (now (masks .entry)) count
+        (actionAt (c .states) (now (alpha .entry))) (choicesAt (c .observations) t (now (graph .entry))) ⌝ }
+{
+    let n = c.states;
+    let k = c.observations;
+    let all = masks::all(n);
+    let mut p: usize = 0;
+    let mut q: usize = 0;
+    for v in 0..count {
+        let x = said_at(alpha, graph, n, k, t, v, p, q);
+        let chosen = x.chosen;
+        if !reaches::reached_covered(
+            transition,
+            observation,
+            masks,
+            &chosen,
+            n,
+            k,
+            Vector(0),
+            Action(x.action),
+            all,
+        ) {
+            return Verdict::Refused(21, v);
+        }
+        p = x.alpha;
+        q = x.graph;
+    }
+    Verdict::Fine
+}
+
 // 11: the first vector with an entry outside its range.
 fn entries_hold<'a, 'c>(
     transition: &'a [u16],
     observation: &'a [u16],
     reward: &'a [i64],
+    masks: &[u64],
     entries: &[i64],
     c: Counts,
     standing: usize,
@@ -263,9 +311,9 @@ fn entries_hold<'a, 'c>(
     graph: &'c [u8],
     count: usize,
 ) -> Verdict
-    requires { ⌜ Solving c (now transition) (now observation) (now reward) (now entries) standing t (now alpha) (now graph) count ⌝ }
+    requires { ⌜ Solving c (now transition) (now observation) (now reward) (now masks) (now entries) standing t (now alpha) (now graph) count ⌝ }
     ensures { λ r. ⌜ r ≡ rowsWithin 11 count (c .states) (range (t + 1)) (vectorsOver c (now (transition .entry)) (now (observation .entry))
-        (now (reward .entry)) (now (entries .entry)) standing t (now (alpha .entry)) (now (graph .entry)) .entry) ⌝ }
+        (now (reward .entry)) (now (masks .entry)) (now (entries .entry)) standing t (now (alpha .entry)) (now (graph .entry)) .entry) ⌝ }
 {
     let limit = standing::range_of(t + 1);
     let mut p: usize = 0;
@@ -275,6 +323,7 @@ fn entries_hold<'a, 'c>(
             transition,
             observation,
             reward,
+            masks,
             entries,
             c,
             standing,
@@ -297,11 +346,12 @@ fn entries_hold<'a, 'c>(
     Verdict::Fine
 }
 
-// 10 to 12 of the level, but for corners and values, which 11 cannot meet.
+// 10, 21, 11 and 12 of the level, but for corners and values, which 11 cannot meet.
 pub fn judge_level<'a, 'c>(
     transition: &'a [u16],
     observation: &'a [u16],
     reward: &'a [i64],
+    masks: &[u64],
     entries: &[i64],
     c: Counts,
     standing: usize,
@@ -312,12 +362,13 @@ pub fn judge_level<'a, 'c>(
     given: &[u32],
     points: usize,
 ) -> Verdict
-    requires { ⌜ (Upon c (now transition) (now observation) (now reward) (now entries) standing) × ((t < maxLevels) × (count ≤ maxVectors)) ⌝ }
+    requires { ⌜ (Upon c (now transition) (now observation) (now reward) (now masks) (now entries) standing) × ((t < maxLevels) × (count ≤ maxVectors)) ⌝ }
     requires { ⌜ Files (c .states) (c .observations) (now alpha) (now graph) count ⌝ }
     requires { ⌜ (points ≤ maxBuilt) × (points * c .states ≤ length (now given)) ⌝ }
-    ensures { λ r. ⌜ (let W = vectorsOver c (now (transition .entry)) (now (observation .entry)) (now (reward .entry)) (now (entries .entry)) standing t
-        (now (alpha .entry)) (now (graph .entry)) in
+    ensures { λ r. ⌜ (let W = vectorsOver c (now (transition .entry)) (now (observation .entry)) (now (reward .entry)) (now (masks .entry))
+        (now (entries .entry)) standing t (now (alpha .entry)) (now (graph .entry)) in
         r ≡ (numbersIn 10 count (c .actions) (c .observations) standing (W .action) (W .choice)
+        before masksOver c (now (transition .entry)) (now (observation .entry)) (now (masks .entry)) count (W .action) (W .choice)
         before rowsWithin 11 count (c .states) (range (t + 1)) (W .entry)
         before weightsVerdict (c .states) points (pointIn (c .states) (now (given .entry))))) ⌝ }
 {
@@ -325,10 +376,24 @@ pub fn judge_level<'a, 'c>(
     let Verdict::Fine = numbers else {
         return numbers;
     };
+    let reached = masks_hold(
+        transition,
+        observation,
+        masks,
+        c,
+        t,
+        alpha,
+        graph,
+        count,
+    );
+    let Verdict::Fine = reached else {
+        return reached;
+    };
     let ranges = entries_hold(
         transition,
         observation,
         reward,
+        masks,
         entries,
         c,
         standing,
@@ -350,6 +415,7 @@ pub fn write_vectors<'a, 'c>(
     transition: &'a [u16],
     observation: &'a [u16],
     reward: &'a [i64],
+    masks: &[u64],
     entries: &[i64],
     c: Counts,
     standing: usize,
@@ -359,16 +425,19 @@ pub fn write_vectors<'a, 'c>(
     count: usize,
     newactions: &mut [u8],
     newchoices: &mut [u16],
+    newmasks: &mut [u64],
     newentries: &mut [i64],
 )
-    requires { ⌜ Solving c (now transition) (now observation) (now reward) (now entries) standing t (now alpha) (now graph) count ⌝ }
-    requires { ⌜ RowsFit (c .states) (c .observations) count (now newactions) (now newchoices) (now newentries) ⌝ }
+    requires { ⌜ Solving c (now transition) (now observation) (now reward) (now masks) (now entries) standing t (now alpha) (now graph) count ⌝ }
+    requires { ⌜ RowsFit (c .states) (c .observations) count (now newactions) (now newchoices) (now newmasks) (now newentries) ⌝ }
     ensures { λ _. ⌜ Filled (c .states) (c .observations) (vectorsOver c (now (transition .entry)) (now (observation .entry)) (now (reward .entry))
-        (now (entries .entry)) standing t (now (alpha .entry)) (now (graph .entry))) count (now (newactions .entry)) (now (newchoices .entry))
-        (now (newentries .entry)) (now (newactions .exit)) (now (newchoices .exit)) (now (newentries .exit)) ⌝ }
+        (now (masks .entry)) (now (entries .entry)) standing t (now (alpha .entry)) (now (graph .entry))) count (now (newactions .entry)) (now (newchoices .entry))
+        (now (newmasks .entry))
+        (now (newentries .entry)) (now (newactions .exit)) (now (newchoices .exit)) (now (newmasks .exit)) (now (newentries .exit)) ⌝ }
 {
     let n = c.states;
     let k = c.observations;
+    let all = masks::all(n);
     let mut p: usize = 0;
     let mut q: usize = 0;
     for v in 0..count {
@@ -376,6 +445,7 @@ pub fn write_vectors<'a, 'c>(
             transition,
             observation,
             reward,
+            masks,
             entries,
             c,
             standing,
@@ -390,6 +460,7 @@ pub fn write_vectors<'a, 'c>(
         let chosen = x.chosen;
         let row = x.entries;
         newactions[v] = shape::number(Action(x.action));
+        newmasks[v] = all;
         cells::paste_u16(newchoices, read::start(v, k), &chosen, k);
         cells::paste_i64(newentries, read::start(v, n), &row, n);
         p = x.alpha;

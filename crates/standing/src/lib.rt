@@ -1,4 +1,5 @@
-// 7: whether what a certifier holds is within its limits: tables, the level that stands, rows. And 11, which an offered level is asked too. Nothing is written.
+// 7: whether what a certifier holds is within its limits: tables, the level that stands, rows. And 11, which an offered level is asked too. Nothing is
+        written.
 ghost use mathlib.Core.Path.{_≡_};
 ghost use mathlib.Core.List.{List, []};
 ghost use Prim.Native.Nat.{ℕ, _*_, _≤_};
@@ -26,6 +27,7 @@ pub fn range_of(t: usize) -> u64
 
 // 11: entries, then corners, then point values.
 pub fn ranges_hold<'a>(
+    masks: &'a [u64],
     entries: &'a [i64],
     corners: &'a [i64],
     weights: &'a [u32],
@@ -36,14 +38,14 @@ pub fn ranges_hold<'a>(
     t: usize,
 ) -> Verdict
     requires { ⌜ (n ≤ maxStates) × ((t ≤ maxLevels) × ((vectors ≤ maxVectors) × (points ≤ maxPoints))) ⌝ }
-    requires { ⌜ (vectors * n ≤ length (now entries)) × ((n ≤ length (now corners)) ×
-        ((points * n ≤ length (now weights)) × (points ≤ length (now values)))) ⌝ }
+    requires { ⌜ (vectors ≤ length (now masks)) × ((vectors * n ≤ length (now entries)) × ((n ≤ length (now corners)) ×
+        ((points * n ≤ length (now weights)) × (points ≤ length (now values))))) ⌝ }
     ensures { λ r. ⌜ r ≡ rangesVerdict n t
-        (levelIn n 0 vectors [] [] (now (entries .entry)) (now (corners .entry)) points (now (weights .entry))
+        (levelIn n 0 vectors [] [] (now (masks .entry)) (now (entries .entry)) (now (corners .entry)) points (now (weights .entry))
         (now (values .entry))) ⌝ }
 {
     let limit = range_of(t);
-    let floor = ranges::rows_within(entries, vectors, n, limit, 11);
+    let floor = ranges::entries_within(masks, entries, vectors, n, limit);
     let Verdict::Fine = floor else {
         return floor;
     };
@@ -77,6 +79,7 @@ pub fn standing_holds<'a, 'b>(
     c: Counts,
     state: &'b [usize],
     actions: &'b [u8],
+    masks: &'b [u64],
     entries: &'b [i64],
     corners: &'b [i64],
     weights: &'b [u32],
@@ -85,8 +88,8 @@ pub fn standing_holds<'a, 'b>(
     qmdp: &'b [i64],
 ) -> bool
     ensures { λ r. ⌜ ((choices : List ℕ) → r ≡ holds (tablesIn c (now (transition .entry)) (now (observation .entry)) (now (reward .entry)))
-        (lent (now (state .entry)) (cells (now (actions .entry)) choices (now (entries .entry)) (now (corners .entry)) (now (weights .entry))
-        (now (values .entry))) (rows (now (informed .entry)) (now (qmdp .entry))))) ⌝ }
+        (lent (now (state .entry)) (cells (now (actions .entry)) choices (now (masks .entry)) (now (entries .entry)) (now (corners .entry))
+        (now (weights .entry)) (now (values .entry))) (rows (now (informed .entry)) (now (qmdp .entry))))) ⌝ }
 {
     let tables = judge::judge_tables(transition, observation, reward, c);
     let Verdict::Fine = tables else {
@@ -107,6 +110,7 @@ pub fn standing_holds<'a, 'b>(
         s.vectors,
         s.points,
         actions.len(),
+        masks.len(),
         entries.len(),
         corners.len(),
         weights.len(),
@@ -118,6 +122,7 @@ pub fn standing_holds<'a, 'b>(
         return false;
     }
     let ranges = ranges_hold(
+        masks,
         entries,
         corners,
         weights,

@@ -1,0 +1,2 @@
+-- What the test of masks is handed.
+pub mod Steps
