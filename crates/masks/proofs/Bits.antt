@@ -3,16 +3,18 @@
 --   bits-same          numbers below 2 ^ k with the same bits are the same
 --   mask-below         a mask of states below n is below 2 ^ n
 --   mask-covers        it has the states that it was made of
+--   mask-none, mask-with, mask-without   as a loop makes it
 --   mask-cong          masks of the same states are the same
 --   mask-all           that of all states is 2 ^ n - 1
+--   mask-doubled       and twice that of all but the last, and 1
 --   mask-narrowed      that of a mask's own states below n is what is left of it below 2 ^ n
+--   includes-covers    a mask covers each of the states that it has
 --   includes-every     one mask has each of the states of another
-use Rattle.integers.proofs.Kit.{_≡_, _∙_, refl, ap, sym, subst, true, false, Bool, cond, _||_, ℕ, _≤_, _<_, _+_, _*_, _-_, suc, zero, _^_, _/_, _%_, arith, add-one, decLt}
-use Rattle.integers.proofs.Kit.{eqb, eq-eqb, ne-eqb, eqb-true}
+use Rattle.integers.proofs.Kit.{_≡_, _∙_, refl, ap, sym, true, false, Bool, cond, _||_, ℕ, _≤_, _<_, _+_, _*_, _-_, suc, zero, _^_, _/_, _%_, arith}
+use Rattle.integers.proofs.Kit.{add-one, add-zero, decLt, eqb, eq-eqb, ne-eqb, eqb-true}
 use mathlib.Core.Bool.{not}
 use Prim.Native.Nat.{min}
 use native.Mathlib.Nat as NatL
-use lib.Arith.{digits-mod}
 use lib.Bits.{bitAnd, and-step, and-le-r, and-shr}
 use lib.Pow.{pow-pos, pow-add, split, shr-shr, high, shr-lt}
 use Rattle.integers.specs.Whole.{totalTo}
@@ -65,6 +67,19 @@ mask-step n f = ap (λ (x : ℕ). maskOf n f + x) (by (f n))
     by true = omega arith
     by false = omega arith
 
+-- as a loop makes it
+pub mask-none : (f : ℕ → Bool) → maskOf 0 f ≡ 0
+unfolding maskOf totalTo
+mask-none f = refl
+
+pub mask-with : (n : ℕ) (f : ℕ → Bool) {m : ℕ} → m ≡ maskOf n f → f n ≡ true → m + 2 ^ n ≡ maskOf (n + 1) f
+unfolding maskOf totalTo
+mask-with n f e h = rw (add-one, h, e)
+
+pub mask-without : (n : ℕ) (f : ℕ → Bool) {m : ℕ} → m ≡ maskOf n f → f n ≡ false → m ≡ maskOf (n + 1) f
+unfolding maskOf totalTo
+mask-without n f e h = rw (add-one, h, e, add-zero)
+
 unit-small : (b : Bool) → unit b ≤ 1
 unfolding unit
 unit-small true = omega arith
@@ -105,6 +120,11 @@ unfolding maskOf totalTo unit
 mask-all zero = refl
 mask-all (suc n) = rw NatL.pow-suc (omega (arith, mask-all n))
 
+-- twice the mask of all but the last state, and 1
+pub mask-doubled : (n : ℕ) → 0 < n → (2 ^ (n - 1) - 1) * 2 + 1 ≡ maskOf n (λ s. true)
+mask-doubled zero h = absurd (omega arith)
+mask-doubled (suc n) h = let e : suc n - 1 ≡ n = omega arith in rw e (omega (arith, mask-all (suc n), NatL.pow-suc 2 n, pow-pos n))
+
 -- a bit is known by whether it is 1
 bit-known : (a b : ℕ) → a < 2 → b < 2 → eqb a 1 ≡ eqb b 1 → a ≡ b
 bit-known zero zero la lb e = refl
@@ -134,6 +154,14 @@ includes-bit mask states s =
     ∙ NatL.mul-add-mod-self-right (bitAnd (mask / 2 ^ s / 2) (states / 2 ^ s / 2)) 2 (min (bit mask s) (bit states s))
     ∙ NatL.mod-eq-of-lt (omega (arith, NatL.min-le-left (bit mask s) (bit states s), bit-small mask s))
 
+-- a mask covers each of the states that it has
+pub includes-covers : (mask states s : ℕ) → includes mask states ≡ true → covered states s ≡ true → covered mask s ≡ true
+unfolding covered
+includes-covers mask states s h c =
+    let m : min (bit mask s) (bit states s) ≡ 1
+    = sym (includes-bit mask states s) ∙ ap (λ (x : ℕ). bit x s) (eqb-true (bitAnd mask states) states h) ∙ eqb-true (bit states s) 1 c in
+    eq-eqb (bit mask s) 1 (omega (arith, m, NatL.min-le-left (bit mask s) (bit states s), bit-small mask s))
+
 -- A mask has each of the states that f holds of, exactly when it covers each of them.
 -- Where it does, the bits of both together are those of the latter, bit by bit; where they are, each bit of the latter is one of the mask. Qed.
 module _ (n mask : ℕ) (f : ℕ → Bool) where
@@ -154,14 +182,11 @@ module _ (n mask : ℕ) (f : ℕ → Bool) where
           rw z (NatL.min-zero (bit mask s))
 
   of-bits : bitAnd mask (maskOf n f) ≡ maskOf n f → (s : ℕ) → s < n → has s ≡ true
-  unfolding has covered
+  unfolding has
   of-bits e s l = by (f s) refl
     where
-      by : (b : Bool) → f s ≡ b → (not b || eqb (bit mask s) 1) ≡ true
-      by true k =
-          let b : bit (maskOf n f) s ≡ 1 = eqb-true _ _ (mask-covers n f s l ∙ k) in
-          let m : min (bit mask s) (bit (maskOf n f) s) ≡ 1 = sym (includes-bit mask (maskOf n f) s) ∙ ap (λ (x : ℕ). bit x s) e ∙ b in
-          eq-eqb (bit mask s) 1 (omega (arith, m, NatL.min-le-left (bit mask s) (bit (maskOf n f) s), bit-small mask s))
+      by : (b : Bool) → f s ≡ b → (not b || covered mask s) ≡ true
+      by true k = includes-covers mask (maskOf n f) s (eq-eqb _ _ e) (mask-covers n f s l ∙ k)
       by false k = refl
 
   pub includes-every : includes mask (maskOf n f) ≡ every n (λ s. not (f s) || covered mask s)

@@ -80,7 +80,7 @@ pub fn some_has(masks: &[u64], vectors: usize, states: u64) -> bool
 }
 
 // The entry of a vector at a state, or 0 where it does not cover the state.
-pub fn entry_at<'a>(masks: &'a [u64], entries: &'a [i64], n: usize, v: Vector, s: State) -> i64
+pub fn entry_at(masks: &[u64], entries: &[i64], n: usize, v: Vector, s: State) -> i64
     requires { ⌜ (n ≤ maxStates) × (v .0 < maxVectors) ⌝ }
     requires { ⌜ s .0 < n ⌝ }
     requires { ⌜ (v .0 < length (now masks)) × (rowsTo n (v .0) ≤ length (now entries)) ⌝ }

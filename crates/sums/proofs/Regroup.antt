@@ -46,11 +46,11 @@ module _ (c : Counts) (T O : List ℕ) (R : List ℤ) where
       (sum-cong (c .states) _ _ (λ s' l. ap (λ (z : ℤ). transitionIn (c .states) T s a s' · z) (h s' l) ∙ spread _ next a s'))
 
   -- so it is with what is foreseen by the vectors chosen
-  pub backup-regrouped : (entries : List ℤ) (choices : List ℕ) (v : ℕ) (f : List ℤ) (a s : ℕ)
-      → ((s' : ℕ) → s' < c .states → getD f s' (pos 0) ≡ foreseenIn (c .states) (c .observations) O entries choices v a s')
-      → backupIn (c .states) (c .discount) T R f a s ≡ backup (modelIn c T O R) a (chosenIn (c .states) (c .observations) entries choices v) s
+  pub backup-regrouped : (masks : List ℕ) (entries : List ℤ) (choices : List ℕ) (v : ℕ) (f : List ℤ) (a s : ℕ)
+      → ((s' : ℕ) → s' < c .states → getD f s' (pos 0) ≡ foreseenIn (c .states) (c .observations) O masks entries choices v a s')
+      → backupIn (c .states) (c .discount) T R f a s ≡ backup (modelIn c T O R) a (chosenIn (c .states) (c .observations) masks entries choices v) s
   unfolding foreseenIn
-  backup-regrouped entries choices v f a s h = backup-foreseen (chosenIn (c .states) (c .observations) entries choices v) f a s h
+  backup-regrouped masks entries choices v f a s h = backup-foreseen (chosenIn (c .states) (c .observations) masks entries choices v) f a s h
 
 -- ---- how large they are
 
@@ -73,13 +73,14 @@ module _ {n a s' : ℕ} {cells p : List ℕ} (fit : TransitionsFit n cells a) (l
   unfolding movedIn
   moved-limit = moved-part n (omega arith)
 
-module _ {n k v a : ℕ} {cells choices : List ℕ} {entries : List ℤ} (fit : ObservationsFit n k cells a) (follow : ChosenFit n k entries choices v) where
+module _ {n k v a : ℕ} {cells masks choices : List ℕ} {entries : List ℤ} (fit : ObservationsFit n k cells a)
+    (follow : ChosenFit n k masks entries choices v) where
   -- what is foreseen at a state is made of terms within the limits
-  pub foreseen-terms : {s' : ℕ} → s' < n → Terms k one maxEntry (observationIn n k cells a s') (λ o. chosenIn n k entries choices v o s')
+  pub foreseen-terms : {s' : ℕ} → s' < n → Terms k one maxEntry (observationIn n k cells a s') (λ o. chosenIn n k masks entries choices v o s')
   foreseen-terms {s'} l = record { weights = fit .observation s' l; values = λ o h. follow .entries-fit .entry _ (follow .vector o h) s' l }
 
   -- so it is within its limit
-  pub foreseen-limit : k ≤ maxObservations → {s' : ℕ} → s' < n → natAbs (foreseenIn n k cells entries choices v a s') ≤ foreseenLimit
+  pub foreseen-limit : k ≤ maxObservations → {s' : ℕ} → s' < n → natAbs (foreseenIn n k cells masks entries choices v a s') ≤ foreseenLimit
   unfolding foreseenIn
   foreseen-limit few l = omega (arith, terms-limit (foreseen-terms l) k (omega arith))
 

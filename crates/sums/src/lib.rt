@@ -143,7 +143,8 @@ pub fn foreseen(
     requires { ⌜ (n ≤ maxStates) × ((k ≤ maxObservations) × (a .0 < maxActions)) ⌝ }
     requires { ⌜ ObservationsFit n k (now cells) (a .0) ⌝ }
     requires { ⌜ ChosenFit n k (now masks) (now entries) (now choices) (v .0) ⌝ }
-    ensures { λ r. ⌜ r ≡ padded (pos 0) maxStates n (foreseenIn n k (now (cells .entry)) (now (masks .entry)) (now (entries .entry)) (now (choices .entry)) (v .0) (a .0)) ⌝ }
+    ensures { λ r. ⌜ r
+        ≡ padded (pos 0) maxStates n (foreseenIn n k (now (cells .entry)) (now (masks .entry)) (now (entries .entry)) (now (choices .entry)) (v .0) (a .0)) ⌝ }
 {
     let mut f = [0i64; Tables::STATES];
     for to in 0..n {

@@ -3,10 +3,11 @@ use Rattle.sums.proofs.foreseen.Statement.{statement}
 use Rattle.sums.proofs.foreseen.Tie as tie
 
 abbrev Inv-loop : tie.InvT-loop
-Inv-loop cells n k entries choices v a f₀ to₀ f to = (to ≤ n) × (f ≡ padded (pos 0) maxStates to (foreseenIn n k cells entries choices (v .0) (a .0)))
+Inv-loop cells n k masks entries choices v a f₀ to₀ f to =
+    (to ≤ n) × (f ≡ padded (pos 0) maxStates to (foreseenIn n k cells masks entries choices (v .0) (a .0)))
 
 abbrev μ-loop : tie.MeasureT-loop
-μ-loop cells n k entries choices v a f₀ to₀ f to = n - to
+μ-loop cells n k masks entries choices v a f₀ to₀ f to = n - to
 
 loop-again : tie.Need-loop-again Inv-loop μ-loop
 loop-again c = (
@@ -16,7 +17,7 @@ loop-again c = (
 
 returns : tie.Need-returns Inv-loop μ-loop
 returns c =
-    let e : c .before .loop .to ≡ c .before .before .before .before .args .n = omega arith in
+    let e : c .before .loop .to ≡ c .before .before .before .before .before .args .n = omega arith in
     rw e at (c .before .loop .inv .1)
 
 pub foreseen-spec : {M : Type 1} → statement M
