@@ -4,7 +4,8 @@ use Rattle.tables.specs.declared.Tables.{Tables}
 use Rattle.tables.specs.Limits.{maxLevels}
 use Rattle.tables.specs.Model.{Valid}
 use Rattle.tables.specs.Storage.{countsOf, modelOf}
-use Rattle.tables.specs.Steps.{EntriesFit, Stored}
+use Rattle.tables.specs.Steps.{Stored}
+use Rattle.masks.specs.Steps.{MaskedFit}
 use Rattle.plans.specs.Limits.{range}
 use Rattle.plans.specs.Level.{Shaped}
 use Rattle.levels.specs.Storage.{LentLevel, levelOf, floorIn, roofIn}
@@ -13,7 +14,7 @@ use Rattle.backups.specs.Steps.{Roofed}
 
 -- ---- a part of a level is within the limits, if the whole is; what is not lent of it is 0 throughout
 module _ (m : Tables) (some : 0 < m .actions) (t : ℕ) (l : LentLevel) (shaped : Shaped (modelOf m) t (levelOf m l)) where
-  pub floor-shaped : Shaped (modelOf m) t (floorIn (m .states) (m .observations) (l .vectors) [] [] (l .cells .entries))
+  pub floor-shaped : Shaped (modelOf m) t (floorIn (m .states) (m .observations) (l .vectors) [] [] (l .cells .masks) (l .cells .entries))
   floor-shaped = record {
     some-vectors = shaped .some-vectors;
     few-vectors = shaped .few-vectors;
@@ -40,9 +41,9 @@ module _ (m : Tables) (some : 0 < m .actions) (t : ℕ) (l : LentLevel) (shaped 
 -- ---- a level in slices that are long enough, over tables that are not refused
 module _ (m : Tables) (l : LentLevel) (valid : Valid (modelOf m)) (stored : Stored (countsOf m) (m .transition) (m .observation) (m .reward))
     (long : Readable m l) (shaped : Shaped (modelOf m) maxLevels (levelOf m l)) where
-  pub entries-lent : EntriesFit (m .states) (l .vectors) (l .cells .entries)
+  pub entries-lent : MaskedFit (m .states) (l .vectors) (l .cells .masks) (l .cells .entries)
   unfolding range
-  entries-lent = record { few = shaped .few-vectors; stored = long .entries; entry = shaped .entry-in }
+  entries-lent = record { few = shaped .few-vectors; masks-long = long .masks; stored = long .entries; entry = shaped .entry-in }
 
   pub roof-lent : Roofed (countsOf m) (m .transition) (m .observation) (m .reward) (l .cells .corners) (l .points) (l .cells .weights) (l .cells .values)
   roof-lent = record {
