@@ -76,6 +76,7 @@ record Table : Type 0 where
   counts-not : totalsOf dough stands (1 ∷ 0 ∷ []) .verdict ≡ Refused 22 0
   counts-partly : totalsOf dough stands (1 ∷ 1 ∷ []) .verdict ≡ Refused 22 0
   no-weight : totalsOf dough stands (0 ∷ 0 ∷ []) .verdict ≡ Refused 17 0
+  too-heavy : totalsOf dough stands (1_000_001 ∷ 0 ∷ []) .verdict ≡ Refused 17 0
   -- nothing is built upon vectors that cover a part; 12 comes first
   none-covers-all : buildVerdict dough stands 1 half ≡ Refused 22 0
   no-point : buildVerdict dough stands 1 (slices 0 (replicate 2 0)) ≡ Refused 12 0
@@ -102,6 +103,7 @@ table = record {
   counts-not = refl;
   counts-partly = refl;
   no-weight = refl;
+  too-heavy = refl;
   none-covers-all = refl;
   no-point = refl;
   rests = refl;
