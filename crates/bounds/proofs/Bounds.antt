@@ -57,9 +57,9 @@ pub best-below : {vectors i : ℕ} (n : ℕ) (masks : List ℕ) (entries : List 
 best-below n masks entries q some e = rw e (of-in _ _ _ some)
 
 -- the best vector counts, where some vector does: it covers each state with a weight above 0
-pub best-covers : {vectors i : ℕ} (n : ℕ) (masks : List ℕ) (entries : List ℤ) (q : List ℕ) → someIncludes masks vectors (supportIn n q) ≡ true
+pub best-covers : (n vectors : ℕ) (masks : List ℕ) (entries : List ℤ) (q : List ℕ) {i : ℕ} → someIncludes masks vectors (supportIn n q) ≡ true
     → i ≡ bestIn n vectors masks entries q → (s : ℕ) → s < n → 0 < weightIn q s → coveredIn masks i s ≡ true
-best-covers n masks entries q some e s l above =
+best-covers n vectors masks entries q some e s l above =
     rw e (includes-covers _ (supportIn n q) s (of-some _ _ _ some) (support-covers n q s l above))
 
 -- by its parts

@@ -3,6 +3,7 @@ use Rattle.integers.proofs.Kit.{getD, pos, w64, toZ, ofZ}
 use Rattle.integers.proofs.Lists.{row-below}
 use Rattle.integers.proofs.Words.{answer}
 use Rattle.masks.specs.Masks.{coveredIn, maskedIn}
+use Rattle.masks.specs.Steps.{someIncludes}
 use Rattle.plans.specs.Level.{product}
 use Rattle.products.proofs.Weighed.{product-masked}
 use Rattle.sawtooth.specs.Steps.{ceilingIn}
@@ -38,7 +39,8 @@ covers : (c : tie.After-best-vector)
     → let a = start c .args in (s : ℕ) → s < a .n → 0 < weightIn (a .q .now) s → coveredIn (a .masks .now) (c .best-vector .result .0) s ≡ true
 covers c =
     let a = start c in
-    best-covers (a .args .n) (a .args .masks .now) (a .args .entries .now) (a .args .q .now) (rw (a .pre .1 .1 .0) at (a .pre .1 .1 .1)) (at-best c)
+    let counted = sym (ap (λ (x : ℕ). someIncludes (a .args .masks .now) (a .args .vectors) x) (a .pre .1 .1 .0)) ∙ a .pre .1 .1 .1 in
+    best-covers (a .args .n) (a .args .vectors) (a .args .masks .now) (a .args .entries .now) (a .args .q .now) counted (at-best c)
 
 at-lower : (c : tie.After-product)
     → let a = start (chosen c) .args in toZ w64 (ofZ w64 (c .product .result))

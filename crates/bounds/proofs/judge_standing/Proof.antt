@@ -9,7 +9,7 @@ use Rattle.bounds.proofs.judge_standing.Statement.{statement}
 use Rattle.bounds.proofs.judge_standing.Tie as tie
 
 abbrev start : tie.After-standing-holds → tie.Start
-start c = c .before .before .before .before .before .before
+start c = c .before .before .before .before .before .before .before
 
 abbrev of-certifier : tie.Else1 → tie.Start
 of-certifier c = start (c .before)

@@ -11,7 +11,7 @@ use Rattle.bounds.proofs.totals.Tie as tie
 
 -- from each place to the one before it
 abbrev start : tie.After-judge-standing → tie.Start
-start c = c .before .before .before .before .before .before .before
+start c = c .before .before .before .before .before .before .before .before
 
 abbrev of-certifier : tie.After-enum-told → tie.Start
 of-certifier c = start (c .before .before)
