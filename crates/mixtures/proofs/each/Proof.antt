@@ -18,7 +18,7 @@ use Rattle.mixtures.proofs.each.Tie as tie
 
 -- from each place to the one before it
 abbrev start : tie.After-judge-standing → tie.Start
-start c = c .before .before .before .before .before .before .before .before .before
+start c = c .before .before .before .before .before .before .before .before .before .before
 
 abbrev of-certifier : tie.After-enum-told → tie.Start
 of-certifier c = start (c .before .before)
@@ -45,7 +45,7 @@ tables c = tablesIn (c .args .c) (c .args .transition .now) (c .args .observatio
 abbrev certifier : tie.Start → List ℕ → Lent
 certifier c choices =
     let a = c .args in
-    lent (a .state .now) (cells (a .actions .now) choices (a .entries .now) (a .corners .now) (a .weights .now) (a .values .now))
+    lent (a .state .now) (cells (a .actions .now) choices (a .masks .now) (a .entries .now) (a .corners .now) (a .weights .now) (a .values .now))
     (rows (a .informed .now) (a .qmdp .now))
 
 abbrev lent-for : tie.Start → Answers
@@ -139,8 +139,8 @@ write-answers-requires c κs =
 abbrev answer-at : tie.After-gains → Standing → ℕ → Bounds
 answer-at c t i =
     let a = of-standing (c .before) .args in
-    answerIn (a .c .states) (a .c .actions) (t .vectors) (t .points) (a .actions .now) (a .entries .now) (a .corners .now) (a .weights .now)
-    (a .informed .now) (c .gains .result) (rowIn (a .c .states) (a .mixtures .now) i)
+    answerIn (a .c .states) (a .c .actions) (t .vectors) (t .points) (a .actions .now) (a .masks .now) (a .entries .now) (a .corners .now)
+    (a .weights .now) (a .informed .now) (c .gains .result) (rowIn (a .c .states) (a .mixtures .now) i)
 
 answer-is : (c : tie.After-gains) (choices : List ℕ) (i : ℕ) → let s = of-standing (c .before) in
     answer-at c (c .before .standing-in .result) i ≡ totalsOf (tables s) (certifier s choices) (rowIn (s .args .c .states) (s .args .mixtures .now) i)
@@ -171,7 +171,7 @@ pub each-spec : {M : Type 1} → statement M
 each-spec =
     tie.close (tie.spec (λ c κs. search needs) (λ c. search needs) (λ c. search needs) returns some-states returns-2 (λ c κs. search needs) returns-3
     standing-in-requires gains-requires as-long write-answers-requires
-    (λ c. of-answers c .write-answers .kept .1 .1 .1 .1 .1 .1 .1 .1 .1 .1 .1 .1 .0)
     (λ c. of-answers c .write-answers .kept .1 .1 .1 .1 .1 .1 .1 .1 .1 .1 .1 .1 .1 .0)
     (λ c. of-answers c .write-answers .kept .1 .1 .1 .1 .1 .1 .1 .1 .1 .1 .1 .1 .1 .1 .0)
-    (λ c. of-answers c .write-answers .kept .1 .1 .1 .1 .1 .1 .1 .1 .1 .1 .1 .1 .1 .1 .1 .0) returns-4)
+    (λ c. of-answers c .write-answers .kept .1 .1 .1 .1 .1 .1 .1 .1 .1 .1 .1 .1 .1 .1 .1 .0)
+    (λ c. of-answers c .write-answers .kept .1 .1 .1 .1 .1 .1 .1 .1 .1 .1 .1 .1 .1 .1 .1 .1 .0) returns-4)

@@ -10,18 +10,20 @@ use Rattle.mixtures.proofs.write_answers.Statement.{statement}
 use Rattle.mixtures.proofs.write_answers.Tie as tie
 
 abbrev Inv-loop : tie.InvT-loop
-Inv-loop actions entries corners weights informed gains n m vectors points mixtures count verdicts₀ lower₀ upper₀ advice₀ i₀ verdicts lower upper advice i =
+Inv-loop actions masks entries corners weights informed gains n m vectors points
+    mixtures count verdicts₀ lower₀ upper₀ advice₀ i₀ verdicts lower upper advice i =
     (i ≤ count) × (answers verdicts lower upper advice
-    ≡ written (λ j. answerIn n m vectors points actions entries corners weights informed gains (rowIn n mixtures j))
+    ≡ written (λ j. answerIn n m vectors points actions masks entries corners weights informed gains (rowIn n mixtures j))
     i (answers verdicts₀ lower₀ upper₀ advice₀))
 
 abbrev μ-loop : tie.MeasureT-loop
-μ-loop actions entries corners weights informed gains n m vectors points mixtures count verdicts₀ lower₀ upper₀ advice₀ i₀ verdicts lower upper advice i =
+μ-loop actions masks entries corners weights informed gains n m vectors points
+    mixtures count verdicts₀ lower₀ upper₀ advice₀ i₀ verdicts lower upper advice i =
     count - i
 
 -- from each place to the one before it
 abbrev start : tie.In-loop Inv-loop μ-loop → tie.Start Inv-loop μ-loop
-start c = c .before .before .before .before .before .before .before .before
+start c = c .before .before .before .before .before .before .before .before .before
 
 abbrev of-answer : tie.After-answer Inv-loop μ-loop → tie.In-loop Inv-loop μ-loop
 of-answer c = c .before .before
@@ -36,7 +38,7 @@ of-number c = of-refusal (c .before)
 abbrev Answer : tie.Start Inv-loop μ-loop → ℕ → Bounds
 Answer s j =
     let a = s .args in
-    answerIn (a .n) (a .m) (a .vectors) (a .points) (a .actions .now) (a .entries .now) (a .corners .now) (a .weights .now) (a .informed .now)
+    answerIn (a .n) (a .m) (a .vectors) (a .points) (a .actions .now) (a .masks .now) (a .entries .now) (a .corners .now) (a .weights .now) (a .informed .now)
     (a .gains .now) (rowIn (a .n) (a .mixtures .now) j)
 
 -- what is known of the slices
@@ -48,10 +50,10 @@ room s = let h = s .pre .1 .1 in record { verdicts = h .0; lower = h .1 .0; uppe
 
 -- what the types say of their lengths
 lower-fits : (s : tie.Start Inv-loop μ-loop) → length (s .args .lower .now) * 8 < 2 ^ 64
-lower-fits s = omega (arith, s .good .1 .1 .1 .1 .1 .1 .1 .1 .1 .1 .1 .0)
+lower-fits s = omega (arith, s .good .1 .1 .1 .1 .1 .1 .1 .1 .1 .1 .1 .1 .0)
 
 upper-fits : (s : tie.Start Inv-loop μ-loop) → length (s .args .upper .now) * 8 < 2 ^ 64
-upper-fits s = omega (arith, s .good .1 .1 .1 .1 .1 .1 .1 .1 .1 .1 .1 .1 .0)
+upper-fits s = omega (arith, s .good .1 .1 .1 .1 .1 .1 .1 .1 .1 .1 .1 .1 .1 .0)
 
 fit : (c : tie.In-loop Inv-loop μ-loop) → c .before .loop .i * start c .args .n + start c .args .n ≤ length (start c .args .mixtures .now)
 fit c = let s = start c in part-fits (s .args .n) (s .args .count) (c .before .loop .i) (length (s .args .mixtures .now)) (s .pre .1 .0) (c .loop-test .taken)
@@ -63,11 +65,11 @@ long c = written-long (Answer (start c)) _ (c .before .loop .inv .1) (room (star
 answer-is : (c : tie.After-answer Inv-loop μ-loop) → c .answer .result ≡ Answer (start (of-answer c)) (of-answer c .before .loop .i)
 answer-is c =
     let a = start (of-answer c) .args in
-    c .answer .ensures ∙ ap (λ (b : List ℕ). answerIn (a .n) (a .m) (a .vectors) (a .points) (a .actions .now) (a .entries .now) (a .corners .now)
-    (a .weights .now) (a .informed .now) (a .gains .now) b) (part-is (a .n) (of-answer c .before .loop .i) (a .mixtures .now))
+    c .answer .ensures ∙ ap (λ (b : List ℕ). answerIn (a .n) (a .m) (a .vectors) (a .points) (a .actions .now) (a .masks .now) (a .entries .now)
+    (a .corners .now) (a .weights .now) (a .informed .now) (a .gains .now) b) (part-is (a .n) (of-answer c .before .loop .i) (a .mixtures .now))
 
 loop-holds : tie.Need-loop-holds Inv-loop μ-loop
-loop-holds c = (omega arith, written-none (Answer (c .before .before .before .before .before .before)) _ _ _ _)
+loop-holds c = (omega arith, written-none (Answer (c .before .before .before .before .before .before .before)) _ _ _ _)
 
 answer-requires : tie.Need-answer-requires Inv-loop μ-loop
 answer-requires c κs = start (c .before) .pre .0
@@ -106,15 +108,15 @@ loop-again c =
     )
 
 left : (c : tie.After-loop Inv-loop μ-loop) → let l = c .before .loop in
-    let s = c .before .before .before .before .before .before .before .before in
+    let s = c .before .before .before .before .before .before .before .before .before in
     AnswersAsLong (lent s) (answers (l .verdicts) (l .lower) (l .upper) (l .advice))
 left c =
-    let s = c .before .before .before .before .before .before .before .before in
+    let s = c .before .before .before .before .before .before .before .before .before in
     written-long (Answer s) _ (c .before .loop .inv .1) (room s) (c .before .loop .inv .0)
 
 returns : tie.Need-returns Inv-loop μ-loop
 returns c =
-    let e : c .before .loop .i ≡ c .before .before .before .before .before .before .before .before .args .count = omega
+    let e : c .before .loop .i ≡ c .before .before .before .before .before .before .before .before .before .args .count = omega
     (arith, c .loop-test .left, c .before .loop .inv .0) in
     rw e at (c .before .loop .inv .1)
 
