@@ -23,6 +23,12 @@ of-offer c = c .before .before .before .before .before .before .before .before .
 abbrev of-totals : tie.After-totals → tie.After-served2
 of-totals c = c .before .before .before .before .before .before .before .before .before
 
+abbrev of-accepted : tie.After-totals → tie.After-offer
+of-accepted c = of-offer (of-totals c .before)
+
+abbrev of-built : tie.After-totals → tie.After-build
+of-built c = of-building (of-accepted c)
+
 served-requires : tie.Need-served-requires
 served-requires c κs =
     let b = c .before .before .before .before .before .before .before in
@@ -63,20 +69,17 @@ climbed c =
     climbed-next (s .pre .1) (s .pre .0) (b .build .ensures .1 .1 (s .args .choices .now)) refl (o .offer .ensures .1)
 
 returns : tie.Need-returns
-returns c = let o = of-offer (of-totals c .before) in (climbed (of-totals c), c .totals .ensures .0 (certifier o .cells .choices))
+returns c = (climbed (of-totals c), c .totals .ensures .0 (certifier (of-accepted c) .cells .choices))
 
 pub rung-spec : {M : Type 1} → statement M
 rung-spec =
     tie.close (tie.spec (λ c κs. search needs) served-requires add-offer (λ c κs. search needs) served-requires-2 (λ c κs. search needs)
-    (λ c. of-offer (of-totals c .before) .offer .kept .1 .1 .1 .1 .0) (λ c. of-offer (of-totals c .before) .offer .kept .1 .1 .1 .1 .1 .0)
-    (λ c. of-offer (of-totals c .before) .offer .kept .1 .1 .1 .1 .1 .1 .0) (λ c. of-offer (of-totals c .before) .offer .kept .1 .1 .1 .1 .1 .1 .1 .0)
-    (λ c. of-offer (of-totals c .before) .offer .kept .1 .1 .1 .1 .1 .1 .1 .1 .0)
-    (λ c. of-offer (of-totals c .before) .offer .kept .1 .1 .1 .1 .1 .1 .1 .1 .1 .0)
-    (λ c. of-offer (of-totals c .before) .offer .kept .1 .1 .1 .1 .1 .1 .1 .1 .1 .1 .0)
-    (λ c. of-offer (of-totals c .before) .offer .kept .1 .1 .1 .1 .1 .1 .1 .1 .1 .1 .1 .0)
-    (λ c. of-offer (of-totals c .before) .offer .kept .1 .1 .1 .1 .1 .1 .1 .1 .1 .1 .1 .1 .0)
-    (λ c. of-building (of-offer (of-totals c .before)) .build .kept .1 .1 .1 .1 .1 .1 .1 .1 .1 .1 .1 .1 .1 .1 .0)
-    (λ c. of-building (of-offer (of-totals c .before)) .build .kept .1 .1 .1 .1 .1 .1 .1 .1 .1 .1 .1 .1 .1 .1 .1 .0)
-    (λ c. of-building (of-offer (of-totals c .before)) .build .kept .1 .1 .1 .1 .1 .1 .1 .1 .1 .1 .1 .1 .1 .1 .1 .1 .0)
-    (λ c. of-building (of-offer (of-totals c .before)) .build .kept .1 .1 .1 .1 .1 .1 .1 .1 .1 .1 .1 .1 .1 .1 .1 .1 .1 .0)
-    (λ c. of-building (of-offer (of-totals c .before)) .build .kept .1 .1 .1 .1 .1 .1 .1 .1 .1 .1 .1 .1 .1 .1 .1 .1 .1 .1 .0) returns)
+    (λ c. of-accepted c .offer .kept .1 .1 .1 .1 .0) (λ c. of-accepted c .offer .kept .1 .1 .1 .1 .1 .0)
+    (λ c. of-accepted c .offer .kept .1 .1 .1 .1 .1 .1 .0) (λ c. of-accepted c .offer .kept .1 .1 .1 .1 .1 .1 .1 .0)
+    (λ c. of-accepted c .offer .kept .1 .1 .1 .1 .1 .1 .1 .1 .0) (λ c. of-accepted c .offer .kept .1 .1 .1 .1 .1 .1 .1 .1 .1 .0)
+    (λ c. of-accepted c .offer .kept .1 .1 .1 .1 .1 .1 .1 .1 .1 .1 .0) (λ c. of-accepted c .offer .kept .1 .1 .1 .1 .1 .1 .1 .1 .1 .1 .1 .0)
+    (λ c. of-accepted c .offer .kept .1 .1 .1 .1 .1 .1 .1 .1 .1 .1 .1 .1 .0) (λ c. of-built c .build .kept .1 .1 .1 .1 .1 .1 .1 .1 .1 .1 .1 .1 .1 .1 .0)
+    (λ c. of-built c .build .kept .1 .1 .1 .1 .1 .1 .1 .1 .1 .1 .1 .1 .1 .1 .1 .0)
+    (λ c. of-built c .build .kept .1 .1 .1 .1 .1 .1 .1 .1 .1 .1 .1 .1 .1 .1 .1 .1 .0)
+    (λ c. of-built c .build .kept .1 .1 .1 .1 .1 .1 .1 .1 .1 .1 .1 .1 .1 .1 .1 .1 .1 .0)
+    (λ c. of-built c .build .kept .1 .1 .1 .1 .1 .1 .1 .1 .1 .1 .1 .1 .1 .1 .1 .1 .1 .1 .0) returns)

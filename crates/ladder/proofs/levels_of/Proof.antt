@@ -1,6 +1,5 @@
 use Rattle.integers.proofs.Kit.{_≡_, _∙_, refl, ap, ℕ, _≤_, _-_, arith, needs, length}
 use Rattle.tables.specs.Limits.{maxStates}
-use Rattle.tables.specs.declared.Tables.{Tables}
 use Rattle.tables.proofs.Fitting.{Long}
 use Rattle.levels.specs.Storage.{Cells, Lent, cells, rows, lent}
 use Rattle.levels.proofs.Over.{AsLong}
