@@ -1,2 +1,2 @@
--- What the program knows of its certifier.
-pub mod Climb
+-- What the program says of its start numbers.
+pub mod Start

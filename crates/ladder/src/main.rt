@@ -1,15 +1,13 @@
 // ladder: reads a model file from standard input, makes its start numbers into one point, builds and offers levels 1 to 3, and prints for each:
 // level, lower, upper, gap at that point, action. A refused file prints its number and place. Input that cannot be read prints no line.
 ghost use mathlib.Core.Path.{_≡_};
-ghost use Prim.Native.Nat.{_+_, _<_};
 ghost use Rattle.tables.specs.declared.Verdict.the-variants.{Fine};
-ghost use Rattle.tables.specs.Limits.{maxStates, maxLevels};
+ghost use Rattle.tables.specs.Limits.{maxStates};
 ghost use Rattle.tables.specs.Model.{Valid};
-ghost use Rattle.tables.specs.Storage.{weightIn, modelOf, tablesIn};
+ghost use Rattle.tables.specs.Storage.{weightIn, modelOf};
 ghost use Rattle.plans.specs.Level.{IsPoint};
-ghost use Rattle.levels.specs.Storage.{cells, rows, lent};
-ghost use Rattle.runs.specs.Demand3.{ModelAccepted, PointsHold};
-ghost use Rattle.ladder.specs.Climb.{Climbed, Asked, Alike};
+ghost use Rattle.ladder.specs.Start.{Alike};
+use climbing::POINTS;
 use levels::Standing;
 use libc::STDERR_FILENO;
 use libc::STDIN_FILENO;
@@ -23,19 +21,11 @@ use tables::Verdict;
 
 const LEVELS: usize = 3;
 
-// Each level is built of one point: a vector at each corner and at the point.
-const POINTS: usize = 1;
-
 const VECTORS: usize = Tables::STATES + POINTS;
 
 const ROWS: usize = Tables::ACTIONS * Tables::STATES;
 
 type Mixture = [u32; Tables::STATES];
-
-// The answer of a call that cannot refuse: each caller is proved to hand in no refusal.
-fn served(v: Verdict)
-    requires { ⌜ v ≡ Fine ⌝ }
-{}
 
 // The start numbers as the weights of a mixture.
 fn mixture(start: Start) -> Mixture
@@ -64,8 +54,10 @@ fn print_signed(x: i64, end: &[u8]) -> bool {
     print_unsigned(integers::magnitude(x), end)
 }
 
-// A line of totals; false where it could not be written.
-fn print_totals(number: usize, r: Bounds) -> bool {
+// The line of a level's totals, which were not refused; false where it could not be written.
+fn print_totals(number: usize, r: Bounds) -> bool
+    requires { ⌜ r .verdict ≡ Fine ⌝ }
+{
     if !print_unsigned(number as u64, b" ") {
         return false;
     }
@@ -92,220 +84,7 @@ fn print_refusal(number: u8, place: usize) -> bool {
     print_unsigned(place as u64, b"\n")
 }
 
-// The line of level t, which stands; false where it could not be written.
-fn print_level<'a, 'b>(
-    transition: &'a [u16],
-    observation: &'a [u16],
-    reward: &'a [i64],
-    c: Counts,
-    t: usize,
-    state: &'b [usize],
-    actions: &'b [u8],
-    entries: &'b [i64],
-    corners: &'b [i64],
-    weights: &'b [u32],
-    values: &'b [i64],
-    informed: &'b [i64],
-    qmdp: &'b [i64],
-    given: &[u32],
-) -> bool
-    requires { ⌜ Asked (tablesIn c (now transition) (now observation) (now reward)) (now state) (now actions) (now entries) (now corners)
-        (now weights) (now values) (now informed) (now qmdp) (now given) ⌝ }
-{
-    let r = bounds::totals(
-        transition,
-        observation,
-        reward,
-        c,
-        state,
-        actions,
-        entries,
-        corners,
-        weights,
-        values,
-        informed,
-        qmdp,
-        given,
-    );
-    let told = r.verdict;
-    served(told);
-    print_totals(t, r)
-}
-
-// One level higher: the level that the builder makes of the point, offered, and its line; false where that could not be written.
-fn rung<'a>(
-    transition: &'a [u16],
-    observation: &'a [u16],
-    reward: &'a [i64],
-    c: Counts,
-    t: usize,
-    state: &mut [usize],
-    actions: &mut [u8],
-    choices: &mut [u16],
-    entries: &mut [i64],
-    corners: &mut [i64],
-    weights: &mut [u32],
-    values: &mut [i64],
-    informed: &mut [i64],
-    qmdp: &mut [i64],
-    given: &[u32],
-    newactions: &mut [u8],
-    newchoices: &mut [u16],
-    newentries: &mut [i64],
-    newcorners: &mut [i64],
-    newvalues: &mut [i64],
-) -> bool
-    requires { ⌜ t < maxLevels ⌝ }
-    requires { ⌜ Climbed t (tablesIn c (now transition) (now observation) (now reward))
-        (lent (now state) (cells (now actions) (now choices) (now entries) (now corners)
-        (now weights) (now values)) (rows (now informed) (now qmdp)))
-        (cells (now newactions) (now newchoices) (now newentries) (now newcorners) (now given) (now newvalues)) ⌝ }
-    ensures { λ _. ⌜ Climbed (t + 1) (tablesIn c (now (transition .entry)) (now (observation .entry)) (now (reward .entry)))
-        (lent (now (state .exit)) (cells (now (actions .exit)) (now (choices .exit)) (now (entries .exit)) (now (corners .exit))
-        (now (weights .exit)) (now (values .exit))) (rows (now (informed .exit)) (now (qmdp .exit))))
-        (cells (now (newactions .exit)) (now (newchoices .exit)) (now (newentries .exit)) (now (newcorners .exit)) (now (given .entry))
-        (now (newvalues .exit))) ⌝ }
-{
-    let made = building::build(
-        transition,
-        observation,
-        reward,
-        c,
-        &state[..],
-        &actions[..],
-        &entries[..],
-        &corners[..],
-        &weights[..],
-        &values[..],
-        &informed[..],
-        &qmdp[..],
-        given,
-        POINTS,
-        newactions,
-        newchoices,
-        newentries,
-        newcorners,
-        newvalues,
-    );
-    served(made);
-    let accepted = offering::offer(
-        transition,
-        observation,
-        reward,
-        c,
-        state,
-        actions,
-        choices,
-        entries,
-        corners,
-        weights,
-        values,
-        informed,
-        qmdp,
-        c.states + POINTS,
-        POINTS,
-        &newactions[..],
-        &newchoices[..],
-        &newentries[..],
-        &newcorners[..],
-        given,
-        &newvalues[..],
-    );
-    served(accepted);
-    print_level(
-        transition,
-        observation,
-        reward,
-        c,
-        t + 1,
-        &state[..],
-        &actions[..],
-        &entries[..],
-        &corners[..],
-        &weights[..],
-        &values[..],
-        &informed[..],
-        &qmdp[..],
-        given,
-    )
-}
-
-// The lines of the levels; false where one could not be written.
-fn climb<'a>(
-    transition: &'a [u16],
-    observation: &'a [u16],
-    reward: &'a [i64],
-    c: Counts,
-    state: &mut [usize],
-    actions: &mut [u8],
-    choices: &mut [u16],
-    entries: &mut [i64],
-    corners: &mut [i64],
-    weights: &mut [u32],
-    values: &mut [i64],
-    informed: &mut [i64],
-    qmdp: &mut [i64],
-    given: &[u32],
-    newactions: &mut [u8],
-    newchoices: &mut [u16],
-    newentries: &mut [i64],
-    newcorners: &mut [i64],
-    newvalues: &mut [i64],
-) -> bool
-    requires { ⌜ ModelAccepted (tablesIn c (now transition) (now observation) (now reward))
-        (lent (now state) (cells (now actions) (now choices) (now entries) (now corners)
-        (now weights) (now values)) (rows (now informed) (now qmdp))) ⌝ }
-    requires { ⌜ PointsHold (tablesIn c (now transition) (now observation) (now reward))
-        (lent (now state) (cells (now actions) (now choices) (now entries) (now corners)
-        (now weights) (now values)) (rows (now informed) (now qmdp))) 1
-        (cells (now newactions) (now newchoices) (now newentries) (now newcorners) (now given) (now newvalues)) ⌝ }
-{
-    let opened = opening::open(
-        transition,
-        observation,
-        reward,
-        c,
-        state,
-        actions,
-        choices,
-        entries,
-        corners,
-        &weights[..],
-        &values[..],
-        informed,
-        qmdp,
-    );
-    served(opened);
-    for t in 0..LEVELS {
-        if !rung(
-            transition,
-            observation,
-            reward,
-            c,
-            t,
-            state,
-            actions,
-            choices,
-            entries,
-            corners,
-            weights,
-            values,
-            informed,
-            qmdp,
-            given,
-            newactions,
-            newchoices,
-            newentries,
-            newcorners,
-            newvalues,
-        ) {
-            return false;
-        }
-    }
-    true
-}
-
-// The lines of the levels over slices of its own.
+// The lines of the levels, over slices of its own; false where one could not be written.
 fn levels_of(tables: Tables, given: Mixture) -> bool
     requires { ⌜ Valid (modelOf tables) ⌝ }
     requires { ⌜ IsPoint (tables .states) (weightIn given) ⌝ }
@@ -324,32 +103,56 @@ fn levels_of(tables: Tables, given: Mixture) -> bool
     let mut newentries = [0i64; VECTORS * Tables::STATES];
     let mut newcorners = [0i64; Tables::STATES];
     let mut newvalues = [0i64; POINTS];
-    climb(
+    let c = Counts {
+        states: tables.states,
+        actions: tables.actions,
+        observations: tables.observations,
+        discount: tables.discount,
+    };
+    let opened = opening::open(
         &tables.transition,
         &tables.observation,
         &tables.reward,
-        Counts {
-            states: tables.states,
-            actions: tables.actions,
-            observations: tables.observations,
-            discount: tables.discount,
-        },
+        c,
         &mut state,
         &mut actions,
         &mut choices,
         &mut entries,
         &mut corners,
-        &mut weights,
-        &mut values,
+        &weights,
+        &values,
         &mut informed,
         &mut qmdp,
-        &given,
-        &mut newactions,
-        &mut newchoices,
-        &mut newentries,
-        &mut newcorners,
-        &mut newvalues,
-    )
+    );
+    climbing::served(opened);
+    for t in 0..LEVELS {
+        let r = climbing::rung(
+            &tables.transition,
+            &tables.observation,
+            &tables.reward,
+            c,
+            t,
+            &mut state,
+            &mut actions,
+            &mut choices,
+            &mut entries,
+            &mut corners,
+            &mut weights,
+            &mut values,
+            &mut informed,
+            &mut qmdp,
+            &given,
+            &mut newactions,
+            &mut newchoices,
+            &mut newentries,
+            &mut newcorners,
+            &mut newvalues,
+        );
+        if !print_totals(t + 1, r) {
+            return false;
+        }
+    }
+    true
 }
 
 // What is printed of a file; false where it could not be written.

@@ -1,85 +1,21 @@
 // A list of offers that lies packed in slices, run through the calls one after the other.
 ghost use mathlib.Core.Path.{_≡_};
 ghost use mathlib.Core.List.{List};
-ghost use Prim.Native.Nat.{_+_, _*_, _≤_};
-ghost use lib.Dec.{leb};
+ghost use Prim.Native.Nat.{ℕ};
 ghost use Rattle.tables.specs.declared.Verdict.the-variants.{Fine};
-ghost use Rattle.tables.specs.Limits.{maxStates, maxObservations};
 ghost use Rattle.tables.specs.Storage.{tablesIn};
 ghost use Rattle.levels.specs.Storage.{LentLevel, Lent, cells, rows, lent};
-ghost use Rattle.levels.specs.Judged.{offerVerdict};
-ghost use Rattle.runs.specs.State.{offered};
 ghost use Rattle.runs.specs.Demand3.{ModelAccepted, run, tally, acceptances, after};
-ghost use Rattle.replay.specs.Replay.{packed, offerIn, offersIn, blocksFit, replayAnswer, replayed, ReplayHolds};
-ghost use Rattle.replay.specs.Steps.{Packs};
-use levels::Level;
+ghost use Rattle.blocks.specs.Blocks.{packed};
+ghost use Rattle.blocks.specs.Steps.{Packs};
+ghost use Rattle.replay.specs.Replay.{offersIn, replayVerdict, replayAnswer, replayed, ReplayHolds};
 use tables::Counts;
-use tables::Tables;
 use tables::Verdict;
 
 // How many offers were accepted; 0 with a refusal.
 pub struct Replayed {
     pub verdict: Verdict,
     pub accepted: usize,
-}
-
-// Whether so many blocks of a width lie in a slice of such a length.
-fn enough(count: usize, width: usize, long: usize) -> bool
-    ensures { λ r. ⌜ r ≡ leb (count * width) long ⌝ }
-{
-    if width == 0 {
-        return true;
-    }
-    count <= long / width
-}
-
-// 9: whether slices of such lengths have so many blocks, of v vectors and p points.
-fn blocks_fit(
-    n: usize,
-    k: usize,
-    count: usize,
-    v: usize,
-    p: usize,
-    vectors: usize,
-    points: usize,
-    actions: usize,
-    choices: usize,
-    entries: usize,
-    corners: usize,
-    weights: usize,
-    values: usize,
-) -> bool
-    requires { ⌜ (n ≤ maxStates) × (k ≤ maxObservations) ⌝ }
-    ensures { λ r. ⌜ r ≡ blocksFit n k count v p vectors points actions choices entries corners weights values ⌝ }
-{
-    if Tables::VECTORS < v {
-        return false;
-    }
-    if Level::POINTS < p {
-        return false;
-    }
-    if vectors < count {
-        return false;
-    }
-    if points < count {
-        return false;
-    }
-    if !enough(count, v, actions) {
-        return false;
-    }
-    if !enough(count, v * k, choices) {
-        return false;
-    }
-    if !enough(count, v * n, entries) {
-        return false;
-    }
-    if !enough(count, n, corners) {
-        return false;
-    }
-    if !enough(count, p * n, weights) {
-        return false;
-    }
-    enough(count, p, values)
 }
 
 // 1 of an acceptance, 0 of a refusal.
@@ -90,85 +26,6 @@ fn counted_of(v: Verdict) -> usize
         Verdict::Fine => 1,
         Verdict::Refused(_, _) => 0,
     }
-}
-
-// Offers what lies in block i.
-fn offer_block<'a, 'b>(
-    transition: &'a [u16],
-    observation: &'a [u16],
-    reward: &'a [i64],
-    c: Counts,
-    state: &mut [usize],
-    actions: &mut [u8],
-    choices: &mut [u16],
-    entries: &mut [i64],
-    corners: &mut [i64],
-    weights: &mut [u32],
-    values: &mut [i64],
-    informed: &mut [i64],
-    qmdp: &mut [i64],
-    i: usize,
-    v: usize,
-    p: usize,
-    vectors: &'b [usize],
-    points: &'b [usize],
-    newactions: &'b [u8],
-    newchoices: &'b [u16],
-    newentries: &'b [i64],
-    newcorners: &'b [i64],
-    newweights: &'b [u32],
-    newvalues: &'b [i64],
-) -> Verdict
-    requires { ⌜ Packs (c .states) (c .observations) (i + 1) (packed v p (now vectors) (now points) (cells (now newactions) (now newchoices)
-        (now newentries) (now newcorners) (now newweights) (now newvalues))) ⌝ }
-    ensures { λ r. ⌜ (let m = tablesIn c (now (transition .entry)) (now (observation .entry)) (now (reward .entry)) in
-        let x = lent (now (state .entry)) (cells (now (actions .entry)) (now (choices .entry)) (now (entries .entry)) (now (corners .entry))
-        (now (weights .entry)) (now (values .entry))) (rows (now (informed .entry)) (now (qmdp .entry))) in
-        let b = packed v p (now (vectors .entry)) (now (points .entry)) (cells (now (newactions .entry)) (now (newchoices .entry))
-        (now (newentries .entry)) (now (newcorners .entry)) (now (newweights .entry)) (now (newvalues .entry))) in
-        r ≡ offerVerdict m x (offerIn m b i)) ⌝ }
-    ensures { λ _. ⌜ (let m = tablesIn c (now (transition .entry)) (now (observation .entry)) (now (reward .entry)) in
-        let x = lent (now (state .entry)) (cells (now (actions .entry)) (now (choices .entry)) (now (entries .entry)) (now (corners .entry))
-        (now (weights .entry)) (now (values .entry))) (rows (now (informed .entry)) (now (qmdp .entry))) in
-        let b = packed v p (now (vectors .entry)) (now (points .entry)) (cells (now (newactions .entry)) (now (newchoices .entry))
-        (now (newentries .entry)) (now (newcorners .entry)) (now (newweights .entry)) (now (newvalues .entry))) in
-        lent (now (state .exit)) (cells (now (actions .exit)) (now (choices .exit)) (now (entries .exit)) (now (corners .exit))
-        (now (weights .exit)) (now (values .exit))) (rows (now (informed .exit)) (now (qmdp .exit)))
-        ≡ offered m x (offerIn m b i)) ⌝ }
-{
-    let n = c.states;
-    let choice = v * c.observations;
-    let entry = v * n;
-    let weight = p * n;
-    let a = i * v;
-    let o = i * choice;
-    let e = i * entry;
-    let s = i * n;
-    let w = i * weight;
-    let u = i * p;
-    offering::offer(
-        transition,
-        observation,
-        reward,
-        c,
-        state,
-        actions,
-        choices,
-        entries,
-        corners,
-        weights,
-        values,
-        informed,
-        qmdp,
-        vectors[i],
-        points[i],
-        &newactions[a..a + v],
-        &newchoices[o..o + choice],
-        &newentries[e..e + entry],
-        &newcorners[s..s + n],
-        &newweights[w..w + weight],
-        &newvalues[u..u + p],
-    )
 }
 
 // Offers what lies in each block, in their order: how many were accepted.
@@ -217,7 +74,7 @@ fn offer_all<'a, 'b>(
 {
     let mut accepted: usize = 0;
     for i in 0..count {
-        let verdict = offer_block(
+        let verdict = blocks::offer_block(
             transition,
             observation,
             reward,
@@ -246,6 +103,74 @@ fn offer_all<'a, 'b>(
         accepted = accepted + counted_of(verdict);
     }
     accepted
+}
+
+// Whether a list is offered at all: 7 of the certifier, 9 of the list's slices.
+fn judge_list<'a, 'b, 'c>(
+    transition: &'a [u16],
+    observation: &'a [u16],
+    reward: &'a [i64],
+    c: Counts,
+    state: &'b [usize],
+    actions: &'b [u8],
+    entries: &'b [i64],
+    corners: &'b [i64],
+    weights: &'b [u32],
+    values: &'b [i64],
+    informed: &'b [i64],
+    qmdp: &'b [i64],
+    count: usize,
+    v: usize,
+    p: usize,
+    vectors: &'c [usize],
+    points: &'c [usize],
+    newactions: &'c [u8],
+    newchoices: &'c [u16],
+    newentries: &'c [i64],
+    newcorners: &'c [i64],
+    newweights: &'c [u32],
+    newvalues: &'c [i64],
+) -> Verdict
+    ensures { λ r. ⌜ (let m = tablesIn c (now (transition .entry)) (now (observation .entry)) (now (reward .entry)) in
+        let b = packed v p (now (vectors .entry)) (now (points .entry)) (cells (now (newactions .entry)) (now (newchoices .entry))
+        (now (newentries .entry)) (now (newcorners .entry)) (now (newweights .entry)) (now (newvalues .entry))) in
+        (choices : List ℕ) → r ≡ replayVerdict m (lent (now (state .entry)) (cells (now (actions .entry)) choices (now (entries .entry))
+        (now (corners .entry)) (now (weights .entry)) (now (values .entry))) (rows (now (informed .entry)) (now (qmdp .entry)))) b count) ⌝ }
+{
+    if !standing::standing_holds(
+        transition,
+        observation,
+        reward,
+        c,
+        state,
+        actions,
+        entries,
+        corners,
+        weights,
+        values,
+        informed,
+        qmdp,
+    ) {
+        return Verdict::Refused(7, 0);
+    }
+    if !blocks::blocks_fit(
+        c.states,
+        c.observations,
+        count,
+        v,
+        p,
+        vectors.len(),
+        points.len(),
+        newactions.len(),
+        newchoices.len(),
+        newentries.len(),
+        newcorners.len(),
+        newweights.len(),
+        newvalues.len(),
+    ) {
+        return Verdict::Refused(9, 0);
+    }
+    Verdict::Fine
 }
 
 // Offers a list of any content, one level after the other, to the certifier that is lent; or refused by 7 or 9 and nothing is offered. Each block has room
@@ -300,7 +225,7 @@ pub fn replay<'a, 'b>(
         (x₀ : Lent) (ls : List LentLevel) → ModelAccepted m x₀ → x ≡ after m x₀ ls → r .verdict ≡ Fine
         → ReplayHolds m x₀ ls (offersIn m b count) y (r .accepted)) ⌝ }
 {
-    if !standing::standing_holds(
+    let verdict = judge_list(
         transition,
         observation,
         reward,
@@ -313,32 +238,24 @@ pub fn replay<'a, 'b>(
         &values[..],
         &informed[..],
         &qmdp[..],
-    ) {
-        return Replayed {
-            verdict: Verdict::Refused(7, 0),
-            accepted: 0,
-        };
-    }
-    if !blocks_fit(
-        c.states,
-        c.observations,
         count,
         v,
         p,
-        vectors.len(),
-        points.len(),
-        newactions.len(),
-        newchoices.len(),
-        newentries.len(),
-        newcorners.len(),
-        newweights.len(),
-        newvalues.len(),
-    ) {
+        vectors,
+        points,
+        newactions,
+        newchoices,
+        newentries,
+        newcorners,
+        newweights,
+        newvalues,
+    );
+    let Verdict::Fine = verdict else {
         return Replayed {
-            verdict: Verdict::Refused(9, 0),
+            verdict: verdict,
             accepted: 0,
         };
-    }
+    };
     let accepted = offer_all(
         transition,
         observation,

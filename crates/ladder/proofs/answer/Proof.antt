@@ -1,5 +1,5 @@
 use borrow.Author.Needs.{needs}
-use Rattle.ladder.proofs.Climbing.{read-given}
+use Rattle.ladder.proofs.Own.{read-given}
 use Rattle.ladder.proofs.answer.Statement.{statement}
 use Rattle.ladder.proofs.answer.Tie as tie
 

@@ -1,33 +1,158 @@
-use Rattle.integers.proofs.Kit.{_≤_, arith, needs, length, replicate}
+use Rattle.integers.proofs.Kit.{_≡_, _∙_, refl, ap, ℕ, _≤_, _-_, arith, needs, length}
 use Rattle.tables.specs.Limits.{maxStates}
 use Rattle.tables.proofs.Fitting.{Long}
-use Rattle.levels.specs.Storage.{stateSize, lent}
-use Rattle.ladder.proofs.Climbing.{noneYet, none-roomy, noRows, none-rows, own-open, own-points}
+use Rattle.levels.specs.Storage.{Cells, Lent, cells, rows, lent}
+use Rattle.levels.proofs.Over.{AsLong}
+use Rattle.runs.specs.declared.Bounds.{Bounds}
+use Rattle.runs.specs.Demand3.{ModelAccepted, PointsHold}
+use Rattle.climbing.specs.Climb.{Climbed}
+use Rattle.climbing.proofs.Climbing.{climbed-0, totals-given}
+use Rattle.ladder.proofs.Own.{Sized, LentSized, sized-on, lent-on, noneYet, none-sized, fresh, fresh-sized, own-open, own-points}
 use Rattle.ladder.proofs.levels_of.Statement.{statement}
 use Rattle.ladder.proofs.levels_of.Tie as tie
 
-abbrev start : tie.After-newvalues → tie.Start
+-- the levels that the program climbs
+abbrev levels : ℕ
+levels = 3
+
+abbrev Inv-loop : tie.InvT-loop
+Inv-loop tables given state₀ actions₀ choices₀ entries₀ corners₀ weights₀ values₀ informed₀ qmdp₀ newactions₀ newchoices₀ newentries₀ newcorners₀ newvalues₀
+    c t₀ state actions choices entries corners weights values informed qmdp newactions newchoices newentries newcorners newvalues t =
+    let z = lent state (cells actions choices entries corners weights values) (rows informed qmdp) in
+    let y = cells newactions newchoices newentries newcorners given newvalues in
+    (t ≤ levels) × (Climbed t tables z y × (LentSized z × Sized y))
+
+abbrev μ-loop : tie.MeasureT-loop
+μ-loop tables given state₀ actions₀ choices₀ entries₀ corners₀ weights₀ values₀ informed₀ qmdp₀ newactions₀ newchoices₀ newentries₀ newcorners₀ newvalues₀
+    c t₀ state actions choices entries corners weights values informed qmdp newactions newchoices newentries newcorners newvalues t =
+    levels - t
+
+-- from each place to the one before it
+abbrev start : tie.After-open Inv-loop μ-loop → tie.Start Inv-loop μ-loop
 start c =
+    let d = c .before .before .before .before .before .before .before .before .before .before in
+    d .before .before .before .before .before .before .before
+
+abbrev of-opening : tie.After-served Inv-loop μ-loop → tie.After-open Inv-loop μ-loop
+of-opening c = c .before .before .before .before .before .before .before .before
+
+abbrev of-state : tie.After-state3 Inv-loop μ-loop → tie.At-loop Inv-loop μ-loop
+of-state c = c .before .before .before .before .before .before .before .before .before
+
+abbrev of-corners : tie.After-corners3 Inv-loop μ-loop → tie.At-loop Inv-loop μ-loop
+of-corners c = of-state (c .before .before .before .before)
+
+abbrev of-qmdp : tie.After-qmdp3 Inv-loop μ-loop → tie.At-loop Inv-loop μ-loop
+of-qmdp c = of-corners (c .before .before .before .before)
+
+abbrev of-entries : tie.After-newentries Inv-loop μ-loop → tie.At-loop Inv-loop μ-loop
+of-entries c = of-qmdp (c .before .before .before .before)
+
+abbrev in-loop : tie.After-newvalues Inv-loop μ-loop → tie.In-loop Inv-loop μ-loop
+in-loop c =
     let d = c .before .before .before .before .before .before .before .before .before .before .before in
     d .before .before .before .before .before .before .before .before .before .before .before
 
-long : (c : tie.Start) → Long (c .args .t1)
-long c = search (needs, c .good .0)
+abbrev in-turn : tie.After-rung Inv-loop μ-loop → tie.In-loop Inv-loop μ-loop
+in-turn c = in-loop (c .before)
 
-wide : (c : tie.Start) → maxStates ≤ length (c .args .t2)
-wide c = search (needs, c .good .1)
+abbrev of-rung : tie.After-newvalues2 Inv-loop μ-loop → tie.After-rung Inv-loop μ-loop
+of-rung c = c .before .before .before .before .before .before .before .before .before .before .before .before .before .before
 
-climb-requires : tie.Need-climb-requires
-climb-requires c κs =
-    let s = start c in
-    let m = s .args .t1 in
-    let v = s .pre .0 in
-    let x = lent (replicate stateSize 0) (noneYet (replicate maxStates 0)) noRows in
-    let room = none-roomy (replicate maxStates 0) (omega arith) in
-    (own-open m v (long s) x (omega arith) room none-rows, own-points m v x (noneYet (s .args .t2)) room (none-roomy (s .args .t2) (wide s)) (s .pre .1))
+-- the tables open in the program's own slices, and each level has room
+long : (s : tie.Start Inv-loop μ-loop) → Long (s .args .t1)
+long s = search (needs, s .good .0)
+
+wide : (s : tie.Start Inv-loop μ-loop) → maxStates ≡ length (s .args .t2)
+wide s = search (needs, s .good .1)
+
+opens : (s : tie.Start Inv-loop μ-loop) → ModelAccepted (s .args .t1) fresh
+opens s = own-open (s .args .t1) (s .pre .0) (long s) fresh fresh-sized
+
+points : (s : tie.Start Inv-loop μ-loop) → PointsHold (s .args .t1) fresh 1 (noneYet (s .args .t2))
+points s =
+    own-points (s .args .t1) (s .pre .0) fresh (noneYet (s .args .t2)) fresh-sized (none-sized (s .args .t2) (wide s)) (s .pre .1)
+
+-- as the opening left them, at the loop, and after a turn
+abbrev opened : tie.After-open Inv-loop μ-loop → Lent
+opened c =
+    let l = c .«open» .last .1 .1 .1 .1 in
+    let f = fresh .cells in
+    lent (l .0) (cells (l .1 .0) (l .1 .1 .0) (l .1 .1 .1 .0) (l .1 .1 .1 .1 .0) (f .weights) (f .values))
+    (rows (l .1 .1 .1 .1 .1 .1 .1 .0) (l .1 .1 .1 .1 .1 .1 .1 .1 .0))
+
+opened-sized : (c : tie.After-open Inv-loop μ-loop) → LentSized (opened c)
+opened-sized c =
+    let k = c .«open» .kept .1 .1 .1 .1 in
+    let x : AsLong (fresh .cells) (opened c .cells) =
+    record { actions = k .1 .0; choices = k .1 .1 .0; entries = k .1 .1 .1 .0; corners = k .1 .1 .1 .1 .0; weights = refl; values = refl } in
+    lent-on fresh-sized (k .0) x (k .1 .1 .1 .1 .1 .1 .1 .0) (k .1 .1 .1 .1 .1 .1 .1 .1 .0)
+
+abbrev climbed : tie.After-rung Inv-loop μ-loop → Lent
+climbed c =
+    let l = c .rung .last .1 .1 .1 .1 .1 in
+    lent (l .0) (cells (l .1 .0) (l .1 .1 .0) (l .1 .1 .1 .0) (l .1 .1 .1 .1 .0) (l .1 .1 .1 .1 .1 .0) (l .1 .1 .1 .1 .1 .1 .0))
+    (rows (l .1 .1 .1 .1 .1 .1 .1 .0) (l .1 .1 .1 .1 .1 .1 .1 .1 .0))
+
+abbrev built : tie.After-rung Inv-loop μ-loop → Cells
+built c =
+    let l = c .rung .last .1 .1 .1 .1 .1 .1 .1 .1 .1 .1 .1 .1 .1 .1 .1 in
+    cells (l .0) (l .1 .0) (l .1 .1 .0) (l .1 .1 .1 .0) (start (of-opening (in-turn c .before .before)) .args .t2) (l .1 .1 .1 .1 .0)
+
+climbed-sized : (c : tie.After-rung Inv-loop μ-loop) → LentSized (climbed c)
+climbed-sized c =
+    let h = in-turn c .before .loop .inv .1 .1 .0 in
+    let k = c .rung .kept .1 .1 .1 .1 .1 in
+    lent-on h (k .0) record {
+      actions = k .1 .0;
+      choices = k .1 .1 .0;
+      entries = k .1 .1 .1 .0;
+      corners = k .1 .1 .1 .1 .0;
+      weights = k .1 .1 .1 .1 .1 .0;
+      values = k .1 .1 .1 .1 .1 .1 .0;
+    } (k .1 .1 .1 .1 .1 .1 .1 .0) (k .1 .1 .1 .1 .1 .1 .1 .1 .0)
+
+built-sized : (c : tie.After-rung Inv-loop μ-loop) → Sized (built c)
+built-sized c =
+    let k = c .rung .kept .1 .1 .1 .1 .1 .1 .1 .1 .1 .1 .1 .1 .1 .1 .1 in
+    sized-on (in-turn c .before .loop .inv .1 .1 .1)
+    record { actions = k .0; choices = k .1 .0; entries = k .1 .1 .0; corners = k .1 .1 .1 .0; weights = refl; values = k .1 .1 .1 .1 .0 }
+
+served-requires : tie.Need-served-requires Inv-loop μ-loop
+served-requires c κs = let o = c .before .before .before .before .before .before .before in o .«open» .ensures .0 ∙ opens (start o)
+
+loop-holds : tie.Need-loop-holds Inv-loop μ-loop
+loop-holds c =
+    let o = of-opening c in
+    let s = start o in
+    (omega arith, (climbed-0 {z = opened o} (opens s) (points s) (o .«open» .ensures .1), (opened-sized o, none-sized (s .args .t2) (wide s))))
+
+rung-requires : tie.Need-rung-requires Inv-loop μ-loop
+rung-requires c κs =
+    let l = in-loop c in
+    (omega (arith, l .loop-test .taken), l .before .loop .inv .1 .0)
+
+print-totals-requires : tie.Need-print-totals-requires Inv-loop μ-loop
+print-totals-requires c κs =
+    let r = of-rung c .rung .ensures in
+    ap (λ (b : Bounds). b .verdict) (r .1) ∙ totals-given (r .0) (omega arith)
+
+loop-again : tie.Need-loop-again Inv-loop μ-loop
+loop-again c =
+    let r = of-rung (c .before .before) in
+    (omega (arith, in-turn r .loop-test .taken), (r .rung .ensures .0, (climbed-sized r, built-sized r)))
 
 pub levels-of-spec : {M : Type 1} → statement M
 levels-of-spec =
-    tie.close (tie.spec (λ c. search needs) (λ c. search needs) (λ c. search needs) (λ c. search needs) (λ c. search needs) (λ c. search needs)
-    (λ c. search needs) (λ c. search needs) (λ c. search needs) (λ c. search needs) (λ c. search needs) (λ c. search needs) (λ c. search needs)
-    (λ c. search needs) (λ c. search needs) climb-requires (λ c. search needs))
+    tie.close (tie.spec Inv-loop μ-loop
+    (λ c. refl) (λ c. refl) (λ c. refl) (λ c. refl) (λ c. refl) (λ c. refl) (λ c. refl) (λ c. refl) (λ c. refl) (λ c κs. search needs)
+    served-requires loop-holds (λ c. of-state c .loop .inv .1 .1 .0 .state) (λ c. of-state (c .before) .loop .inv .1 .1 .0 .cells .actions)
+    (λ c. of-state (c .before .before) .loop .inv .1 .1 .0 .cells .choices) (λ c. of-state (c .before .before .before) .loop .inv .1 .1 .0 .cells .entries)
+    (λ c. of-corners c .loop .inv .1 .1 .0 .cells .corners) (λ c. of-corners (c .before) .loop .inv .1 .1 .0 .cells .weights)
+    (λ c. of-corners (c .before .before) .loop .inv .1 .1 .0 .cells .values) (λ c. of-corners (c .before .before .before) .loop .inv .1 .1 .0 .informed)
+    (λ c. of-qmdp c .loop .inv .1 .1 .0 .qmdp) (λ c. of-qmdp (c .before) .loop .inv .1 .1 .1 .weights)
+    (λ c. of-qmdp (c .before .before) .loop .inv .1 .1 .1 .actions) (λ c. of-qmdp (c .before .before .before) .loop .inv .1 .1 .1 .choices)
+    (λ c. of-entries c .loop .inv .1 .1 .1 .entries) (λ c. of-entries (c .before) .loop .inv .1 .1 .1 .corners)
+    (λ c. of-entries (c .before .before) .loop .inv .1 .1 .1 .values) rung-requires (λ c. omega (arith, in-turn (of-rung c) .loop-test .taken))
+    print-totals-requires (λ c. search needs) (λ c. omega (arith, in-turn (of-rung (c .before .before)) .loop-test .taken))
+    (λ c. omega (arith, in-turn (of-rung (c .before .before)) .loop-test .taken)) loop-again (λ c. search needs))

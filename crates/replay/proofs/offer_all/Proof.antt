@@ -1,8 +1,9 @@
 use Rattle.integers.proofs.Kit.{_≡_, _≤_, _<_, _-_, _^_, arith, needs}
 use Rattle.tables.specs.Storage.{tablesIn}
 use Rattle.levels.specs.Storage.{Lent, cells, rows, lent}
-use Rattle.replay.specs.Replay.{packed}
-use Rattle.replay.proofs.Runs.{packs-less, LentAsLong, same-lengths, longer, Running, counted-few, running-none, running-more}
+use Rattle.blocks.specs.Blocks.{packed}
+use Rattle.blocks.proofs.Blocks.{packs-less}
+use Rattle.replay.proofs.Runs.{LentAsLong, same-lengths, longer, Running, counted-few, running-none, running-more}
 use Rattle.replay.proofs.offer_all.Statement.{statement}
 use Rattle.replay.proofs.offer_all.Tie as tie
 

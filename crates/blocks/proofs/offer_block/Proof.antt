@@ -5,10 +5,10 @@ use Rattle.tables.specs.Storage.{tablesIn}
 use Rattle.levels.specs.Storage.{LentLevel, Lent, cells, rows, lent}
 use Rattle.levels.specs.Judged.{offerVerdict}
 use Rattle.runs.specs.State.{offered}
-use Rattle.replay.specs.Replay.{Packed, packed}
-use Rattle.replay.proofs.Runs.{Block, block-fits, partsOf, offer-is}
-use Rattle.replay.proofs.offer_block.Statement.{statement}
-use Rattle.replay.proofs.offer_block.Tie as tie
+use Rattle.blocks.specs.Blocks.{Packed, packed}
+use Rattle.blocks.proofs.Blocks.{Block, block-fits, partsOf, offer-is}
+use Rattle.blocks.proofs.offer_block.Statement.{statement}
+use Rattle.blocks.proofs.offer_block.Tie as tie
 
 -- from each place to the one before it
 abbrev start : tie.After-struct-known → tie.Start

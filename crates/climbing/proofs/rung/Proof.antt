@@ -1,10 +1,10 @@
 use Rattle.integers.proofs.Kit.{_∙_, refl, _+_, arith, needs}
 use Rattle.tables.specs.Storage.{tablesIn}
 use Rattle.levels.specs.Storage.{Cells, Lent, cells, rows, lent}
-use Rattle.ladder.specs.Climb.{Climbed}
-use Rattle.ladder.proofs.Climbing.{few-states, built-given, built-accepted, climbed-next, asked}
-use Rattle.ladder.proofs.rung.Statement.{statement}
-use Rattle.ladder.proofs.rung.Tie as tie
+use Rattle.climbing.specs.Climb.{Climbed}
+use Rattle.climbing.proofs.Climbing.{few-states, built-given, built-accepted, climbed-next}
+use Rattle.climbing.proofs.rung.Statement.{statement}
+use Rattle.climbing.proofs.rung.Tie as tie
 
 -- from each place to the one before it
 abbrev start : tie.After-build → tie.Start
@@ -20,8 +20,14 @@ of-building c =
 abbrev of-offer : tie.After-qmdp → tie.After-offer
 of-offer c = c .before .before .before .before .before .before .before .before .before .before .before .before .before
 
-abbrev of-line : tie.After-print-level → tie.After-served2
-of-line c = c .before .before .before .before .before .before .before .before .before
+abbrev of-totals : tie.After-totals → tie.After-served2
+of-totals c = c .before .before .before .before .before .before .before .before .before
+
+abbrev of-accepted : tie.After-totals → tie.After-offer
+of-accepted c = of-offer (of-totals c .before)
+
+abbrev of-built : tie.After-totals → tie.After-build
+of-built c = of-building (of-accepted c)
 
 served-requires : tie.Need-served-requires
 served-requires c κs =
@@ -62,23 +68,18 @@ climbed c =
     let s = start b in
     climbed-next (s .pre .1) (s .pre .0) (b .build .ensures .1 .1 (s .args .choices .now)) refl (o .offer .ensures .1)
 
-add-print-level : tie.Need-add-print-level
-add-print-level c = omega (arith, start (of-building (of-offer (c .before))) .pre .0)
-
-print-level-requires : tie.Need-print-level-requires
-print-level-requires c κs = asked (climbed (c .before .before .before .before .before .before .before .before)) (omega arith) refl
+returns : tie.Need-returns
+returns c = (climbed (of-totals c), c .totals .ensures .0 (certifier (of-accepted c) .cells .choices))
 
 pub rung-spec : {M : Type 1} → statement M
 rung-spec =
-    tie.close (tie.spec (λ c κs. search needs) served-requires add-offer (λ c κs. search needs) served-requires-2 add-print-level print-level-requires
-    (λ c. of-offer (of-line c .before) .offer .kept .1 .1 .1 .1 .0) (λ c. of-offer (of-line c .before) .offer .kept .1 .1 .1 .1 .1 .0)
-    (λ c. of-offer (of-line c .before) .offer .kept .1 .1 .1 .1 .1 .1 .0) (λ c. of-offer (of-line c .before) .offer .kept .1 .1 .1 .1 .1 .1 .1 .0)
-    (λ c. of-offer (of-line c .before) .offer .kept .1 .1 .1 .1 .1 .1 .1 .1 .0) (λ c. of-offer (of-line c .before) .offer .kept .1 .1 .1 .1 .1 .1 .1 .1 .1 .0)
-    (λ c. of-offer (of-line c .before) .offer .kept .1 .1 .1 .1 .1 .1 .1 .1 .1 .1 .0)
-    (λ c. of-offer (of-line c .before) .offer .kept .1 .1 .1 .1 .1 .1 .1 .1 .1 .1 .1 .0)
-    (λ c. of-offer (of-line c .before) .offer .kept .1 .1 .1 .1 .1 .1 .1 .1 .1 .1 .1 .1 .0)
-    (λ c. of-building (of-offer (of-line c .before)) .build .kept .1 .1 .1 .1 .1 .1 .1 .1 .1 .1 .1 .1 .1 .1 .0)
-    (λ c. of-building (of-offer (of-line c .before)) .build .kept .1 .1 .1 .1 .1 .1 .1 .1 .1 .1 .1 .1 .1 .1 .1 .0)
-    (λ c. of-building (of-offer (of-line c .before)) .build .kept .1 .1 .1 .1 .1 .1 .1 .1 .1 .1 .1 .1 .1 .1 .1 .1 .0)
-    (λ c. of-building (of-offer (of-line c .before)) .build .kept .1 .1 .1 .1 .1 .1 .1 .1 .1 .1 .1 .1 .1 .1 .1 .1 .1 .0)
-    (λ c. of-building (of-offer (of-line c .before)) .build .kept .1 .1 .1 .1 .1 .1 .1 .1 .1 .1 .1 .1 .1 .1 .1 .1 .1 .1 .0) (λ c. climbed (of-line c)))
+    tie.close (tie.spec (λ c κs. search needs) served-requires add-offer (λ c κs. search needs) served-requires-2 (λ c κs. search needs)
+    (λ c. of-accepted c .offer .kept .1 .1 .1 .1 .0) (λ c. of-accepted c .offer .kept .1 .1 .1 .1 .1 .0)
+    (λ c. of-accepted c .offer .kept .1 .1 .1 .1 .1 .1 .0) (λ c. of-accepted c .offer .kept .1 .1 .1 .1 .1 .1 .1 .0)
+    (λ c. of-accepted c .offer .kept .1 .1 .1 .1 .1 .1 .1 .1 .0) (λ c. of-accepted c .offer .kept .1 .1 .1 .1 .1 .1 .1 .1 .1 .0)
+    (λ c. of-accepted c .offer .kept .1 .1 .1 .1 .1 .1 .1 .1 .1 .1 .0) (λ c. of-accepted c .offer .kept .1 .1 .1 .1 .1 .1 .1 .1 .1 .1 .1 .0)
+    (λ c. of-accepted c .offer .kept .1 .1 .1 .1 .1 .1 .1 .1 .1 .1 .1 .1 .0) (λ c. of-built c .build .kept .1 .1 .1 .1 .1 .1 .1 .1 .1 .1 .1 .1 .1 .1 .0)
+    (λ c. of-built c .build .kept .1 .1 .1 .1 .1 .1 .1 .1 .1 .1 .1 .1 .1 .1 .1 .0)
+    (λ c. of-built c .build .kept .1 .1 .1 .1 .1 .1 .1 .1 .1 .1 .1 .1 .1 .1 .1 .1 .0)
+    (λ c. of-built c .build .kept .1 .1 .1 .1 .1 .1 .1 .1 .1 .1 .1 .1 .1 .1 .1 .1 .1 .0)
+    (λ c. of-built c .build .kept .1 .1 .1 .1 .1 .1 .1 .1 .1 .1 .1 .1 .1 .1 .1 .1 .1 .1 .0) returns)

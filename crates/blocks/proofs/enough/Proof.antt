@@ -1,7 +1,7 @@
 use native.Mathlib.Omega.{arith}
-use Rattle.replay.proofs.Runs.{enough-none, enough-some}
-use Rattle.replay.proofs.enough.Statement.{statement}
-use Rattle.replay.proofs.enough.Tie as tie
+use Rattle.blocks.proofs.Blocks.{enough-none, enough-some}
+use Rattle.blocks.proofs.enough.Statement.{statement}
+use Rattle.blocks.proofs.enough.Tie as tie
 
 returns-2 : tie.Need-returns-2
 returns-2 c = let a = c .before .args in enough-some (a .count) (a .width) (a .long) (omega (arith, c .if1 .left))

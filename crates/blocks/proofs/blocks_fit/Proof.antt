@@ -2,8 +2,8 @@ use Rattle.integers.proofs.Kit.{_≡_, _∙_, sym, Bool, _&&_, _≤_, _*_, arit
 use Rattle.tables.specs.Limits.{maxStates, maxObservations, maxVectors}
 use Rattle.plans.specs.Limits.{maxPoints}
 use Rattle.standing.proofs.Stages.{fails, holds-on}
-use Rattle.replay.proofs.blocks_fit.Statement.{statement}
-use Rattle.replay.proofs.blocks_fit.Tie as tie
+use Rattle.blocks.proofs.blocks_fit.Statement.{statement}
+use Rattle.blocks.proofs.blocks_fit.Tie as tie
 
 -- from each test that was passed to the one before it
 abbrev of-counts : tie.Else4 → tie.Start

@@ -3,7 +3,7 @@ use Prim.Native.Nat.{ℕ, _*_, _≤_}
 use lib.ListN.{length}
 use Rattle.tables.specs.Limits.{maxStates, maxObservations, maxVectors}
 use Rattle.plans.specs.Limits.{maxPoints}
-use Rattle.replay.specs.Replay.{Packed}
+use Rattle.blocks.specs.Blocks.{Packed}
 
 -- so many blocks are there, of a model with n states and k observations
 pub record Packs (n k count : ℕ) (b : Packed) : Type 0 where

@@ -1,0 +1,2 @@
+-- Laws of offers packed in slices.
+pub mod Blocks

@@ -1,0 +1,3 @@
+-- Offers packed in slices.
+pub mod Blocks
+pub mod Steps

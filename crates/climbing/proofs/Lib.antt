@@ -1,0 +1,2 @@
+-- Laws of a certifier that climbs.
+pub mod Climbing

@@ -1,0 +1,2 @@
+-- What is known of a certifier that climbs.
+pub mod Climb
