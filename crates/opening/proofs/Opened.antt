@@ -1,10 +1,11 @@
 -- What is written is what opening is said to leave. Assumes nothing.
-use Rattle.integers.proofs.Kit.{_≡_, _∙_, ap, sym, List, _∷_, ℕ, _*_, arith, drop, ℤ, pos}
+use Rattle.integers.proofs.Kit.{_≡_, _∙_, ap, sym, true, List, _∷_, ℕ, _*_, arith, drop, ℤ, pos}
 use Rattle.integers.specs.Cells.{laid, laidRows}
 use Rattle.integers.proofs.Lists.{laid-none, laidRows-none}
 use Rattle.tables.specs.declared.Tables.{Tables}
 use Rattle.tables.specs.declared.Verdict.{Verdict}
 use Rattle.tables.specs.declared.Verdict.the-variants.{Fine, Refused}
+use Rattle.masks.specs.Masks.{maskOf}
 use Rattle.plans.specs.Level.{level0}
 use Rattle.plans.specs.Rows.{informed, qmdp}
 use Rattle.levels.specs.Storage.{rows, Lent, stateSize, cells, lent, over}
@@ -23,17 +24,18 @@ module _ (m : Tables) (x : Lent) where
 
   -- level 0 and its rows over the slices
   pub opened-fine : {v : Verdict} → v ≡ openVerdict m x → v ≡ Fine
-      → {state actions choices : List ℕ} {entries corners f q : List ℤ}
+      → {state actions choices masks : List ℕ} {entries corners f q : List ℤ}
       → state ≡ 0 ∷ 1 ∷ 0 ∷ drop stateSize (x .state)
       → actions ≡ laid 1 (λ v. 0) (x .cells .actions)
       → choices ≡ laid (m .observations) (λ o. 0) (x .cells .choices)
+      → masks ≡ laid 1 (λ v. maskOf (m .states) (λ s. true)) (x .cells .masks)
       → entries ≡ laid (m .states) (λ s. pos 0) (x .cells .entries)
       → corners ≡ laid (m .states) (λ s. pos 0) (x .cells .corners)
       → f ≡ laid (m .actions * m .states) (λ i. pos 0) (x .rows .informed)
       → q ≡ laid (m .actions * m .states) (λ i. pos 0) (x .rows .qmdp)
-      → lent state (cells actions choices entries corners (x .cells .weights) (x .cells .values)) (rows f q) ≡ opened m x
+      → lent state (cells actions choices masks entries corners (x .cells .weights) (x .cells .values)) (rows f q) ≡ opened m x
   unfolding opened over level0 informed qmdp laidRows
-  opened-fine e fine s a b c d f q =
+  opened-fine e fine s a b k c d f q =
       rw (sym e ∙ fine)
-      (lent-same s (cells-same a (b ∙ row-alone 0 (m .observations) (x .cells .choices)) (c ∙ row-alone (pos 0) (m .states) (x .cells .entries)) d
+      (lent-same s (cells-same a (b ∙ row-alone 0 (m .observations) (x .cells .choices)) k (c ∙ row-alone (pos 0) (m .states) (x .cells .entries)) d
       (sym (laidRows-none (m .states) (level0 .weight) (x .cells .weights))) (sym (laid-none _ (x .cells .values)))) f q)

@@ -4,9 +4,9 @@ use Rattle.integers.proofs.Searches.{and-true}
 use Rattle.tables.specs.declared.Verdict.{Verdict}
 use Rattle.tables.specs.declared.Verdict.the-variants.{Fine, Refused}
 use Rattle.tables.specs.Limits.{maxVectors}
-use Rattle.tables.specs.Storage.{entryIn}
 use Rattle.tables.specs.Judged.{countWithin}
 use Rattle.tables.proofs.Refusals.{stops, goes, first-cong}
+use Rattle.masks.specs.Masks.{maskedIn}
 use Rattle.plans.specs.Limits.{maxPoints, range}
 use Rattle.plans.specs.Level.{Level}
 use Rattle.levels.specs.Storage.{pointIn, levelIn}
@@ -40,10 +40,10 @@ unfolding rowsWithin
 rows-single number rows limit cells =
     first-cong rows _ _ (λ i l. first-cong 1 _ _ (λ x b. let e : i * 1 + x ≡ i = omega arith in rw e))
 
-module _ (n t vectors points : ℕ) (entries corners : List ℤ) (weights : List ℕ) (values : List ℤ) {limit : ℕ} (r : limit ≡ range t) {floor : Verdict}
-    (e : floor ≡ rowsWithin 11 vectors n limit (entryIn n entries)) where
+module _ (n t vectors points : ℕ) (masks : List ℕ) (entries corners : List ℤ) (weights : List ℕ) (values : List ℤ) {limit : ℕ} (r : limit ≡ range t)
+    {floor : Verdict} (e : floor ≡ rowsWithin 11 vectors n limit (maskedIn n masks entries)) where
   abbrev W : Level
-  W = levelIn n 0 vectors [] [] entries corners points weights values
+  W = levelIn n 0 vectors [] [] masks entries corners points weights values
 
   pub entries-refused : {k i : ℕ} → floor ≡ Refused k i → floor ≡ rangesVerdict n t W
   unfolding rangesVerdict
@@ -60,8 +60,8 @@ module _ (n t vectors points : ℕ) (entries corners : List ℤ) (weights : List
     values-left h v = goes (rw r at e) f (goes (rw r at g ∙ rows-single _ _ _ corners) h (rw r at v))
 
 -- actions and choices are not read
-pub ranges-read : (n k t vectors points : ℕ) (actions choices : List ℕ) (entries corners : List ℤ) (weights : List ℕ) (values : List ℤ)
-    → rangesVerdict n t (levelIn n 0 vectors [] [] entries corners points weights values)
-    ≡ rangesVerdict n t (levelIn n k vectors actions choices entries corners points weights values)
+pub ranges-read : (n k t vectors points : ℕ) (actions choices masks : List ℕ) (entries corners : List ℤ) (weights : List ℕ) (values : List ℤ)
+    → rangesVerdict n t (levelIn n 0 vectors [] [] masks entries corners points weights values)
+    ≡ rangesVerdict n t (levelIn n k vectors actions choices masks entries corners points weights values)
 unfolding rangesVerdict
-ranges-read n k t vectors points actions choices entries corners weights values = refl
+ranges-read n k t vectors points actions choices masks entries corners weights values = refl

@@ -1,5 +1,5 @@
-// 7: whether what a certifier holds is within its limits: tables, the level that stands, rows. And 11, which an offered level is asked too. Nothing is
-        written.
+// 7: whether what a certifier holds is within its limits: tables, the level that stands, rows. And 11, which an offered level is asked too.
+// Nothing is written.
 ghost use mathlib.Core.Path.{_≡_};
 ghost use mathlib.Core.List.{List, []};
 ghost use Prim.Native.Nat.{ℕ, _*_, _≤_};

@@ -36,7 +36,8 @@ abbrev of-state : tie.After-complete → tie.Else1
 of-state c = c .before .before
 
 said : (c : tie.After-complete) → let a = start (of-state c .before .before .before) .args in c .complete .result
-    ≡ (leb (1 * a .c .observations) (a .choices) && longEnough (a .c .states) 1 0 (a .actions) (a .entries) (a .corners) (a .weights) (a .values))
+    ≡ (leb (1 * a .c .observations) (a .choices)
+    && longEnough (a .c .states) 1 0 (a .actions) (a .masks) (a .entries) (a .corners) (a .weights) (a .values))
 said c = rw (c .before .fresh .ensures) at (c .complete .ensures)
 
 returns-3 : tie.Need-returns-3

@@ -15,13 +15,13 @@ use Rattle.opening.proofs.open.Tie as tie
 
 -- from each place to the one before it
 abbrev start : tie.After-judge-open → tie.Start
-start c = c .before .before .before .before .before .before .before
+start c = c .before .before .before .before .before .before .before .before
 
 abbrev of-verdict : tie.After-fresh → tie.After-judge-open
 of-verdict c = c .before .before .before .before
 
 abbrev of-state : tie.After-lay-level-0 → tie.After-put-standing
-of-state c = c .before .before .before .before .before .before .before
+of-state c = c .before .before .before .before .before .before .before .before
 
 abbrev tables : tie.Start → Tables
 tables c = tablesIn (c .args .c) (c .args .transition .now) (c .args .observation .now) (c .args .reward .now)
@@ -29,7 +29,7 @@ tables c = tablesIn (c .args .c) (c .args .transition .now) (c .args .observatio
 abbrev certifier : tie.Start → Lent
 certifier c =
     let a = c .args in
-    lent (a .state .now) (cells (a .actions .now) (a .choices .now) (a .entries .now) (a .corners .now) (a .weights .now) (a .values .now))
+    lent (a .state .now) (cells (a .actions .now) (a .choices .now) (a .masks .now) (a .entries .now) (a .corners .now) (a .weights .now) (a .values .now))
     (rows (a .informed .now) (a .qmdp .now))
 
 said : (c : tie.After-judge-open) → c .judge-open .result ≡ openVerdict (tables (start c)) (certifier (start c))
@@ -52,19 +52,22 @@ put-standing-requires c κs = let s = start (of-verdict c) in room-for-level-0 (
 abbrev Room : tie.Start → Type 0
 Room s =
     let a = s .args in
-    (a .c .observations ≤ maxObservations) × ((0 < length (a .actions .now)) ×
-    ((a .c .observations ≤ length (a .choices .now)) × ((a .c .states ≤ length (a .entries .now)) × (a .c .states ≤ length (a .corners .now)))))
+    ((0 < a .c .states) × ((a .c .states ≤ maxStates) × (a .c .observations ≤ maxObservations))) × ((0 < length (a .actions .now)) ×
+    ((a .c .observations ≤ length (a .choices .now)) × ((0 < length (a .masks .now)) × ((a .c .states ≤ length (a .entries .now)) ×
+    (a .c .states ≤ length (a .corners .now))))))
 
 room : (c : tie.After-fresh) → Room (start (of-verdict c))
 unfolding level0
 room c =
     let s = start (of-verdict c) in
     let v = tables-valid (tables s) (fine-tables (tables s) (certifier s) (opens c)) in
-    let r = room-for-level-0 (tables s) (certifier s) (opens c) .1 .0 in
-    (v .few-observations, (omega (arith, r .read .actions), (omega (arith, r .choices), (omega (arith, r .read .entries), r .read .corners))))
+    let r = room-for-level-0 (tables s) (certifier s) (opens c) .1 .0 in (
+      (v .some-states, (v .few-states, v .few-observations)),
+      (omega (arith, r .read .actions), (omega (arith, r .choices), (omega (arith, r .read .masks), (omega (arith, r .read .entries), r .read .corners)))),
+    )
 
 lay-level-0-requires : tie.Need-lay-level-0-requires
-lay-level-0-requires c κs = room (c .before .before .before .before .before .before .before)
+lay-level-0-requires c κs = room (c .before .before .before .before .before .before .before .before)
 
 written : (c : tie.After-put-standing) → c .put-standing .last .0 ≡ 0 ∷ 1 ∷ 0 ∷ drop stateSize (start (of-verdict (c .before)) .args .state .now)
 written c =
@@ -83,14 +86,17 @@ rows-room : (c : tie.After-fresh) → let a = start (of-verdict c) .args in
     (a .c .actions * a .c .states ≤ length (a .informed .now)) × (a .c .actions * a .c .states ≤ length (a .qmdp .now))
 rows-room c = let s = start (of-verdict c) in room-for-level-0 (tables s) (certifier s) (opens c) .1 .1
 
+abbrev of-laid : tie.After-struct-known → tie.After-lay-level-0
+of-laid c = c .before .before .before .before .before .before .before .before .before .before
+
 abbrev of-level : tie.After-clear-i64 → tie.After-lay-level-0
-of-level c = c .before .before .before .before .before .before .before .before .before
+of-level c = of-laid (c .before)
 
 abbrev of-informed : tie.After-qmdp → tie.After-clear-i64
 of-informed c = c .before .before .before .before .before
 
 clear-i64-requires : tie.Need-clear-i64-requires
-clear-i64-requires c κs = let f = of-state (c .before .before .before .before .before .before .before .before) .before in rows-room f .0
+clear-i64-requires c κs = let f = of-state (of-laid c) .before in rows-room f .0
 
 clear-i64-requires-2 : tie.Need-clear-i64-requires-2
 clear-i64-requires-2 c κs = let f = of-state (of-level (c .before .before .before)) .before in rows-room f .1
@@ -106,15 +112,15 @@ returns-2 c =
     let e = l .lay-level-0 .ensures in (
       sym (opens f),
       opened-fine (tables s) (certifier s) (said j) (f .before .before .enum-told .given .1) (written p) (e .0)
-          (e .1 .0) (e .1 .1 .0) (e .1 .1 .1) (k .clear-i64 .ensures) (c .before .clear-i642 .ensures),
+          (e .1 .0) (e .1 .1 .0) (e .1 .1 .1 .0) (e .1 .1 .1 .1) (k .clear-i64 .ensures) (c .before .clear-i642 .ensures),
     )
 
 pub open-spec : {M : Type 1} → statement M
 open-spec =
     tie.close (tie.spec (λ c κs. search needs) (λ c. search needs) (λ c. search needs) returns (λ c κs. search needs) put-standing-requires
-    lay-level-0-requires (λ c. omega (arith, few (of-state (c .before .before .before .before .before .before .before .before) .before))) clear-i64-requires
+    lay-level-0-requires (λ c. omega (arith, few (of-state (of-laid c) .before))) clear-i64-requires
     (λ c. omega (arith, few (of-state (of-level (c .before .before .before)) .before))) clear-i64-requires-2
     (λ c. of-state (of-level (of-informed c)) .put-standing .kept .0) (λ c. of-level (of-informed c) .lay-level-0 .kept .1 .1 .0)
     (λ c. of-level (of-informed c) .lay-level-0 .kept .1 .1 .1 .0) (λ c. of-level (of-informed c) .lay-level-0 .kept .1 .1 .1 .1 .0)
-    (λ c. of-level (of-informed c) .lay-level-0 .kept .1 .1 .1 .1 .1 .0) (λ c. of-informed c .clear-i64 .kept .0)
-    (λ c. c .before .clear-i642 .kept .0) returns-2)
+    (λ c. of-level (of-informed c) .lay-level-0 .kept .1 .1 .1 .1 .1 .0) (λ c. of-level (of-informed c) .lay-level-0 .kept .1 .1 .1 .1 .1 .1 .0)
+    (λ c. of-informed c .clear-i64 .kept .0) (λ c. c .before .clear-i642 .kept .0) returns-2)

@@ -7,35 +7,35 @@ use Rattle.standing.proofs.ranges_hold.Tie as tie
 
 -- from each place to the one before it
 abbrev start : tie.After-range-of → tie.Start
-start c = c .before .before
+start c = c .before .before .before
 
-abbrev of-entries : tie.After-rows-within → tie.After-range-of
+abbrev of-entries : tie.After-entries-within → tie.After-range-of
 of-entries c = c .before
 
-abbrev of-corners : tie.After-rows-within2 → tie.After-rows-within
+abbrev of-corners : tie.After-rows-within → tie.After-entries-within
 of-corners c = c .before .before .before
 
 small : (c : tie.After-range-of) → c .range-of .result ≤ maxEntry
 small c = rw (c .range-of .ensures) (range-limit (start c .args .t) (start c .pre .0 .1 .0))
 
-rows-within-requires : tie.Need-rows-within-requires
-rows-within-requires c κs =
+entries-within-requires : tie.Need-entries-within-requires
+entries-within-requires c κs =
     let s = start c in
-    ((s .pre .0 .1 .1 .0, (s .pre .0 .0, omega (arith, small c))), s .pre .1 .0)
+    ((s .pre .0 .1 .1 .0, (s .pre .0 .0, omega (arith, small c))), (s .pre .1 .0, s .pre .1 .1 .0))
 
 returns : tie.Need-returns
 returns c =
     let e = c .before .before in
     let r = of-entries e in
     let a = start r .args in
-    entries-refused (a .n) (a .t) (a .vectors) (a .points) (a .entries .now) (a .corners .now) (a .weights .now) (a .values .now) (r .range-of .ensures)
-    (e .rows-within .ensures) (c .enum-told2 .given .1)
+    entries-refused (a .n) (a .t) (a .vectors) (a .points) (a .masks .now) (a .entries .now) (a .corners .now) (a .weights .now) (a .values .now)
+    (r .range-of .ensures) (e .entries-within .ensures) (c .enum-told2 .given .1)
 
-rows-within-requires-2 : tie.Need-rows-within-requires-2
-rows-within-requires-2 c κs =
+rows-within-requires : tie.Need-rows-within-requires
+rows-within-requires c κs =
     let r = of-entries (c .before .before) in
     let s = start r in
-    ((omega (arith, s .pre .0 .0), (omega arith, omega (arith, small r))), omega (arith, s .pre .1 .1 .0))
+    ((omega (arith, s .pre .0 .0), (omega arith, omega (arith, small r))), omega (arith, s .pre .1 .1 .1 .0))
 
 returns-2 : tie.Need-returns-2
 returns-2 c =
@@ -43,14 +43,14 @@ returns-2 c =
     let e = of-corners g in
     let r = of-entries e in
     let a = start r .args in
-    corners-refused (a .n) (a .t) (a .vectors) (a .points) (a .entries .now) (a .corners .now) (a .weights .now) (a .values .now) (r .range-of .ensures)
-    (e .rows-within .ensures) (g .before .enum-told .given .1) (g .rows-within2 .ensures) (c .enum-told4 .given .1)
+    corners-refused (a .n) (a .t) (a .vectors) (a .points) (a .masks .now) (a .entries .now) (a .corners .now) (a .weights .now) (a .values .now)
+    (r .range-of .ensures) (e .entries-within .ensures) (g .before .enum-told .given .1) (g .rows-within .ensures) (c .enum-told4 .given .1)
 
 values-within-requires : tie.Need-values-within-requires
 values-within-requires c κs =
     let r = of-entries (of-corners (c .before .before)) in
     let s = start r in
-    ((s .pre .0 .0, (s .pre .0 .1 .1 .1, small r)), s .pre .1 .1 .1)
+    ((s .pre .0 .0, (s .pre .0 .1 .1 .1, small r)), s .pre .1 .1 .1 .1)
 
 returns-3 : tie.Need-returns-3
 returns-3 c =
@@ -58,10 +58,11 @@ returns-3 c =
     let e = of-corners g in
     let r = of-entries e in
     let a = start r .args in
-    values-left (a .n) (a .t) (a .vectors) (a .points) (a .entries .now) (a .corners .now) (a .weights .now) (a .values .now) (r .range-of .ensures)
-    (e .rows-within .ensures) (g .before .enum-told .given .1) (g .rows-within2 .ensures) (c .before .enum-told3 .given .1) (c .values-within .ensures)
+    values-left (a .n) (a .t) (a .vectors) (a .points) (a .masks .now) (a .entries .now) (a .corners .now) (a .weights .now) (a .values .now)
+    (r .range-of .ensures) (e .entries-within .ensures) (g .before .enum-told .given .1) (g .rows-within .ensures)
+    (c .before .enum-told3 .given .1) (c .values-within .ensures)
 
 pub ranges-hold-spec : {M : Type 1} → statement M
 ranges-hold-spec =
-    tie.close (tie.spec (λ c κs. search needs) rows-within-requires (λ c. search needs) (λ c. search needs) returns rows-within-requires-2
+    tie.close (tie.spec (λ c κs. search needs) entries-within-requires (λ c. search needs) (λ c. search needs) returns rows-within-requires
     (λ c. search needs) (λ c. search needs) returns-2 values-within-requires returns-3)

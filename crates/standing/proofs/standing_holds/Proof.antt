@@ -19,7 +19,7 @@ use Rattle.standing.proofs.standing_holds.Tie as tie
 
 -- from each test that was passed to the one before it
 abbrev start : tie.After-judge-tables → tie.Start
-start c = c .before .before .before .before .before .before
+start c = c .before .before .before .before .before .before .before
 
 abbrev of-tables : tie.After-enum-told → tie.Start
 of-tables c = start (c .before .before)
@@ -126,7 +126,7 @@ abbrev level : tie.Else3 → LentLevel
 level c =
     let a = of-tables (of-state (of-number (of-counts c) .before)) .args in
     let s = state (of-number (of-counts c)) in
-    lentFor (s .vectors) (s .points) (cells (a .actions .now) [] (a .entries .now) (a .corners .now) (a .weights .now) (a .values .now))
+    lentFor (s .vectors) (s .points) (cells (a .actions .now) [] (a .masks .now) (a .entries .now) (a .corners .now) (a .weights .now) (a .values .now))
 
 abbrev model : tie.Else3 → Tables
 model c = tables (of-tables (of-state (of-number (of-counts c) .before)))
@@ -177,7 +177,7 @@ ranges-hold-requires c κs =
     let f = few (of-read r) in
     rw (stands n) (
       (few-states (of-state (n .before)), (leb-true _ _ (few-levels (of-counts (of-read r))), f)),
-      (long r .entries, (long r .corners, (long r .weights, long r .values))),
+      (long r .masks, (long r .entries, (long r .corners, (long r .weights, long r .values)))),
     )
 
 -- 11, of the level as it stands
@@ -186,8 +186,8 @@ Ranges c choices =
     let a = of-tables (of-state (of-number (of-counts (of-read (of-actions c))) .before)) .args in
     let s = state (of-number (of-counts (of-read (of-actions c)))) in
     rangesVerdict (a .c .states) (s .number)
-    (levelIn (a .c .states) (a .c .observations) (s .vectors) (a .actions .now) choices (a .entries .now) (a .corners .now) (s .points) (a .weights .now)
-    (a .values .now))
+    (levelIn (a .c .states) (a .c .observations) (s .vectors) (a .actions .now) choices (a .masks .now) (a .entries .now) (a .corners .now) (s .points)
+    (a .weights .now) (a .values .now))
 
 ranges-said : (c : tie.After-ranges-hold) (choices : List ℕ) → c .ranges-hold .result ≡ Ranges (c .before) choices
 ranges-said c choices =
@@ -195,8 +195,8 @@ ranges-said c choices =
     let a = of-tables (of-state (n .before)) .args in
     let s = state n in
     (rw (stands n) at (c .ranges-hold .ensures))
-    ∙ ranges-read (a .c .states) (a .c .observations) (s .number) (s .vectors) (s .points) (a .actions .now) choices (a .entries .now) (a .corners .now)
-    (a .weights .now) (a .values .now)
+    ∙ ranges-read (a .c .states) (a .c .observations) (s .number) (s .vectors) (s .points) (a .actions .now) choices (a .masks .now) (a .entries .now)
+    (a .corners .now) (a .weights .now) (a .values .now)
 
 returns-7 : tie.Need-returns-7
 unfolding holdsUpTo
