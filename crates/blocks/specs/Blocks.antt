@@ -30,25 +30,26 @@ offerIn m b i =
     let n : ℕ = m .states in
     let x : Cells = b .cells in
     lentFor (getD (b .vectors) i 0) (getD (b .points) i 0)
-    (cells (rowIn (b .v) (x .actions) i) (rowIn (b .v * m .observations) (x .choices) i) (rowIn (b .v * n) (x .entries) i) (rowIn n (x .corners) i)
-    (rowIn (b .p * n) (x .weights) i) (rowIn (b .p) (x .values) i))
+    (cells (rowIn (b .v) (x .actions) i) (rowIn (b .v * m .observations) (x .choices) i) (rowIn (b .v) (x .masks) i) (rowIn (b .v * n) (x .entries) i)
+    (rowIn n (x .corners) i) (rowIn (b .p * n) (x .weights) i) (rowIn (b .p) (x .values) i))
 
 -- 9: more room in a block than a level may have, or slices of such lengths too short for so many blocks of a model with n states and k observations
-abbrev pub blocksFit : ℕ → ℕ → ℕ → ℕ → ℕ → ℕ → ℕ → ℕ → ℕ → ℕ → ℕ → ℕ → ℕ → Bool
-blocksFit n k count v p vectors points actions choices entries corners weights values =
+abbrev pub blocksFit : ℕ → ℕ → ℕ → ℕ → ℕ → ℕ → ℕ → ℕ → ℕ → ℕ → ℕ → ℕ → ℕ → ℕ → Bool
+blocksFit n k count v p vectors points actions choices masks entries corners weights values =
     leb v maxVectors
     && (leb p maxPoints
     && (leb count vectors
     && (leb count points
     && (leb (count * v) actions
     && (leb (count * (v * k)) choices
+    && (leb (count * v) masks
     && (leb (count * (v * n)) entries
     && (leb (count * n) corners
     && (leb (count * (p * n)) weights
-    && leb (count * p) values))))))))
+    && leb (count * p) values)))))))))
 
 abbrev pub packedFits : Tables → Packed → ℕ → Bool
 packedFits m b count =
     let x : Cells = b .cells in
     blocksFit (m .states) (m .observations) count (b .v) (b .p) (length (b .vectors)) (length (b .points)) (length (x .actions)) (length (x .choices))
-    (length (x .entries)) (length (x .corners)) (length (x .weights)) (length (x .values))
+    (length (x .masks)) (length (x .entries)) (length (x .corners)) (length (x .weights)) (length (x .values))

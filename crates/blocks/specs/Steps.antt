@@ -15,6 +15,7 @@ pub record Packs (n k count : ℕ) (b : Packed) : Type 0 where
   pub points : count ≤ length (b .points)
   pub actions : count * b .v ≤ length (b .cells .actions)
   pub choices : count * (b .v * k) ≤ length (b .cells .choices)
+  pub masks : count * b .v ≤ length (b .cells .masks)
   pub entries : count * (b .v * n) ≤ length (b .cells .entries)
   pub corners : count * n ≤ length (b .cells .corners)
   pub weights : count * (b .p * n) ≤ length (b .cells .weights)

@@ -35,13 +35,14 @@ pub fn blocks_fit(
     points: usize,
     actions: usize,
     choices: usize,
+    masks: usize,
     entries: usize,
     corners: usize,
     weights: usize,
     values: usize,
 ) -> bool
     requires { ⌜ (n ≤ maxStates) × (k ≤ maxObservations) ⌝ }
-    ensures { λ r. ⌜ r ≡ blocksFit n k count v p vectors points actions choices entries corners weights values ⌝ }
+    ensures { λ r. ⌜ r ≡ blocksFit n k count v p vectors points actions choices masks entries corners weights values ⌝ }
 {
     if Tables::VECTORS < v {
         return false;
@@ -59,6 +60,9 @@ pub fn blocks_fit(
         return false;
     }
     if !enough(count, v * k, choices) {
+        return false;
+    }
+    if !enough(count, v, masks) {
         return false;
     }
     if !enough(count, v * n, entries) {
@@ -82,6 +86,7 @@ pub fn offer_block<'a, 'b>(
     state: &mut [usize],
     actions: &mut [u8],
     choices: &mut [u16],
+    masks: &mut [u64],
     entries: &mut [i64],
     corners: &mut [i64],
     weights: &mut [u32],
@@ -95,25 +100,26 @@ pub fn offer_block<'a, 'b>(
     points: &'b [usize],
     newactions: &'b [u8],
     newchoices: &'b [u16],
+    newmasks: &'b [u64],
     newentries: &'b [i64],
     newcorners: &'b [i64],
     newweights: &'b [u32],
     newvalues: &'b [i64],
 ) -> Verdict
-    requires { ⌜ Packs (c .states) (c .observations) (i + 1) (packed v p (now vectors) (now points) (cells (now newactions) (now newchoices)
+    requires { ⌜ Packs (c .states) (c .observations) (i + 1) (packed v p (now vectors) (now points) (cells (now newactions) (now newchoices) (now newmasks)
         (now newentries) (now newcorners) (now newweights) (now newvalues))) ⌝ }
     ensures { λ r. ⌜ (let m = tablesIn c (now (transition .entry)) (now (observation .entry)) (now (reward .entry)) in
-        let x = lent (now (state .entry)) (cells (now (actions .entry)) (now (choices .entry)) (now (entries .entry)) (now (corners .entry))
-        (now (weights .entry)) (now (values .entry))) (rows (now (informed .entry)) (now (qmdp .entry))) in
-        let b = packed v p (now (vectors .entry)) (now (points .entry)) (cells (now (newactions .entry)) (now (newchoices .entry))
+        let x = lent (now (state .entry)) (cells (now (actions .entry)) (now (choices .entry)) (now (masks .entry)) (now (entries .entry))
+        (now (corners .entry)) (now (weights .entry)) (now (values .entry))) (rows (now (informed .entry)) (now (qmdp .entry))) in
+        let b = packed v p (now (vectors .entry)) (now (points .entry)) (cells (now (newactions .entry)) (now (newchoices .entry)) (now (newmasks .entry))
         (now (newentries .entry)) (now (newcorners .entry)) (now (newweights .entry)) (now (newvalues .entry))) in
         r ≡ offerVerdict m x (offerIn m b i)) ⌝ }
     ensures { λ _. ⌜ (let m = tablesIn c (now (transition .entry)) (now (observation .entry)) (now (reward .entry)) in
-        let x = lent (now (state .entry)) (cells (now (actions .entry)) (now (choices .entry)) (now (entries .entry)) (now (corners .entry))
-        (now (weights .entry)) (now (values .entry))) (rows (now (informed .entry)) (now (qmdp .entry))) in
-        let b = packed v p (now (vectors .entry)) (now (points .entry)) (cells (now (newactions .entry)) (now (newchoices .entry))
+        let x = lent (now (state .entry)) (cells (now (actions .entry)) (now (choices .entry)) (now (masks .entry)) (now (entries .entry))
+        (now (corners .entry)) (now (weights .entry)) (now (values .entry))) (rows (now (informed .entry)) (now (qmdp .entry))) in
+        let b = packed v p (now (vectors .entry)) (now (points .entry)) (cells (now (newactions .entry)) (now (newchoices .entry)) (now (newmasks .entry))
         (now (newentries .entry)) (now (newcorners .entry)) (now (newweights .entry)) (now (newvalues .entry))) in
-        lent (now (state .exit)) (cells (now (actions .exit)) (now (choices .exit)) (now (entries .exit)) (now (corners .exit))
+        lent (now (state .exit)) (cells (now (actions .exit)) (now (choices .exit)) (now (masks .exit)) (now (entries .exit)) (now (corners .exit))
         (now (weights .exit)) (now (values .exit))) (rows (now (informed .exit)) (now (qmdp .exit)))
         ≡ offered m x (offerIn m b i)) ⌝ }
 {
@@ -135,6 +141,7 @@ pub fn offer_block<'a, 'b>(
         state,
         actions,
         choices,
+        masks,
         entries,
         corners,
         weights,
@@ -145,6 +152,7 @@ pub fn offer_block<'a, 'b>(
         points[i],
         &newactions[a..a + v],
         &newchoices[o..o + choice],
+        &newmasks[a..a + v],
         &newentries[e..e + entry],
         &newcorners[s..s + n],
         &newweights[w..w + weight],

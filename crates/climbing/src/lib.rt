@@ -29,6 +29,7 @@ pub fn rung<'a>(
     state: &mut [usize],
     actions: &mut [u8],
     choices: &mut [u16],
+    masks: &mut [u64],
     entries: &mut [i64],
     corners: &mut [i64],
     weights: &mut [u32],
@@ -38,22 +39,23 @@ pub fn rung<'a>(
     given: &[u32],
     newactions: &mut [u8],
     newchoices: &mut [u16],
+    newmasks: &mut [u64],
     newentries: &mut [i64],
     newcorners: &mut [i64],
     newvalues: &mut [i64],
 ) -> Bounds
     requires { ⌜ t < maxLevels ⌝ }
     requires { ⌜ Climbed t (tablesIn c (now transition) (now observation) (now reward))
-        (lent (now state) (cells (now actions) (now choices) (now entries) (now corners)
+        (lent (now state) (cells (now actions) (now choices) (now masks) (now entries) (now corners)
         (now weights) (now values)) (rows (now informed) (now qmdp)))
-        (cells (now newactions) (now newchoices) (now newentries) (now newcorners) (now given) (now newvalues)) ⌝ }
+        (cells (now newactions) (now newchoices) (now newmasks) (now newentries) (now newcorners) (now given) (now newvalues)) ⌝ }
     ensures { λ _. ⌜ Climbed (t + 1) (tablesIn c (now (transition .entry)) (now (observation .entry)) (now (reward .entry)))
-        (lent (now (state .exit)) (cells (now (actions .exit)) (now (choices .exit)) (now (entries .exit)) (now (corners .exit))
+        (lent (now (state .exit)) (cells (now (actions .exit)) (now (choices .exit)) (now (masks .exit)) (now (entries .exit)) (now (corners .exit))
         (now (weights .exit)) (now (values .exit))) (rows (now (informed .exit)) (now (qmdp .exit))))
-        (cells (now (newactions .exit)) (now (newchoices .exit)) (now (newentries .exit)) (now (newcorners .exit)) (now (given .entry))
+        (cells (now (newactions .exit)) (now (newchoices .exit)) (now (newmasks .exit)) (now (newentries .exit)) (now (newcorners .exit)) (now (given .entry))
         (now (newvalues .exit))) ⌝ }
     ensures { λ r. ⌜ r ≡ totalsOf (tablesIn c (now (transition .entry)) (now (observation .entry)) (now (reward .entry)))
-        (lent (now (state .exit)) (cells (now (actions .exit)) (now (choices .exit)) (now (entries .exit)) (now (corners .exit))
+        (lent (now (state .exit)) (cells (now (actions .exit)) (now (choices .exit)) (now (masks .exit)) (now (entries .exit)) (now (corners .exit))
         (now (weights .exit)) (now (values .exit))) (rows (now (informed .exit)) (now (qmdp .exit)))) (now (given .entry)) ⌝ }
 {
     let made = building::build(
@@ -63,6 +65,7 @@ pub fn rung<'a>(
         c,
         &state[..],
         &actions[..],
+        &masks[..],
         &entries[..],
         &corners[..],
         &weights[..],
@@ -73,6 +76,7 @@ pub fn rung<'a>(
         POINTS,
         newactions,
         newchoices,
+        newmasks,
         newentries,
         newcorners,
         newvalues,
@@ -86,6 +90,7 @@ pub fn rung<'a>(
         state,
         actions,
         choices,
+        masks,
         entries,
         corners,
         weights,
@@ -96,6 +101,7 @@ pub fn rung<'a>(
         POINTS,
         &newactions[..],
         &newchoices[..],
+        &newmasks[..],
         &newentries[..],
         &newcorners[..],
         given,
@@ -109,6 +115,7 @@ pub fn rung<'a>(
         c,
         &state[..],
         &actions[..],
+        &masks[..],
         &entries[..],
         &corners[..],
         &weights[..],

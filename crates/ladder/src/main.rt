@@ -92,6 +92,7 @@ fn levels_of(tables: Tables, given: Mixture) -> bool
     let mut state = [0usize; Standing::SIZE];
     let mut actions = [0u8; VECTORS];
     let mut choices = [0u16; VECTORS * Tables::OBSERVATIONS];
+    let mut masks = [0u64; VECTORS];
     let mut entries = [0i64; VECTORS * Tables::STATES];
     let mut corners = [0i64; Tables::STATES];
     let mut weights = [0u32; POINTS * Tables::STATES];
@@ -100,6 +101,7 @@ fn levels_of(tables: Tables, given: Mixture) -> bool
     let mut qmdp = [0i64; ROWS];
     let mut newactions = [0u8; VECTORS];
     let mut newchoices = [0u16; VECTORS * Tables::OBSERVATIONS];
+    let mut newmasks = [0u64; VECTORS];
     let mut newentries = [0i64; VECTORS * Tables::STATES];
     let mut newcorners = [0i64; Tables::STATES];
     let mut newvalues = [0i64; POINTS];
@@ -117,6 +119,7 @@ fn levels_of(tables: Tables, given: Mixture) -> bool
         &mut state,
         &mut actions,
         &mut choices,
+        &mut masks,
         &mut entries,
         &mut corners,
         &weights,
@@ -135,6 +138,7 @@ fn levels_of(tables: Tables, given: Mixture) -> bool
             &mut state,
             &mut actions,
             &mut choices,
+            &mut masks,
             &mut entries,
             &mut corners,
             &mut weights,
@@ -144,6 +148,7 @@ fn levels_of(tables: Tables, given: Mixture) -> bool
             &given,
             &mut newactions,
             &mut newchoices,
+            &mut newmasks,
             &mut newentries,
             &mut newcorners,
             &mut newvalues,

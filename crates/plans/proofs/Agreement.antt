@@ -4,7 +4,7 @@ use Rattle.integers.proofs.Kit.{_≡_, _∙_, refl, ap, true, Bool, _||_, ℕ, 
 use Rattle.integers.specs.Whole.{_·_, sumTo, totalTo, largestTo}
 use Rattle.integers.specs.Search.{some, firstLargestOf}
 use Rattle.integers.proofs.Sums.{sum-cong, total-cong, largestTo-cong}
-use Rattle.integers.proofs.Searches.{or-true, every-at, at-every, every-cong, some-cong, of-in, of-some, of-cong}
+use Rattle.integers.proofs.Searches.{or-true, every-at, at-every, every-cong, some-at, some-cong, of-in, of-some, of-cong}
 use Rattle.tables.specs.Limits.{K}
 use Rattle.tables.specs.Model.{Model, successor, expectedReward, backup}
 use Rattle.plans.specs.Level.{Level, coversAll, counts, product, smallest, orNone, drop, gain, ceiling, backupAt, corner-weight, follows, Meets, ShapedUpTo, IsPoint, Agree}
@@ -31,6 +31,11 @@ counts-covers n L b v h s l above =
 pub all-counts : (n : ℕ) (L : Level) (b : ℕ → ℕ) (v : ℕ) → coversAll n L v ≡ true → counts n L b v ≡ true
 unfolding coversAll counts
 all-counts n L b v h = at-every n _ (λ s l. rw (every-at n (L .covers v) h s l) (or-true (eqb (b s) 0)))
+
+pub some-covers-counts : (M : Model) (L : Level) → 0 < L .vectors → someCoversAll M L ≡ true → (b : ℕ → ℕ) → someCounts M L b ≡ true
+some-covers-counts M L one h b =
+    let v = firstLargestOf (L .vectors) (coversAll (M .states) L) (λ v. pos 0) in
+    some-at (L .vectors) _ v (of-in _ _ _ one) (all-counts (M .states) L b v (of-some _ _ _ h))
 
 -- ---- products, drops and ceilings
 pub product-cong : (n : ℕ) (q q' : ℕ → ℕ) (e e' : ℕ → ℤ) → ((s : ℕ) → s < n → q s ≡ q' s) → ((s : ℕ) → s < n → e s ≡ e' s)

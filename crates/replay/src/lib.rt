@@ -37,6 +37,7 @@ fn offer_all<'a, 'b>(
     state: &mut [usize],
     actions: &mut [u8],
     choices: &mut [u16],
+    masks: &mut [u64],
     entries: &mut [i64],
     corners: &mut [i64],
     weights: &mut [u32],
@@ -50,25 +51,26 @@ fn offer_all<'a, 'b>(
     points: &'b [usize],
     newactions: &'b [u8],
     newchoices: &'b [u16],
+    newmasks: &'b [u64],
     newentries: &'b [i64],
     newcorners: &'b [i64],
     newweights: &'b [u32],
     newvalues: &'b [i64],
 ) -> usize
-    requires { ⌜ Packs (c .states) (c .observations) count (packed v p (now vectors) (now points) (cells (now newactions) (now newchoices)
+    requires { ⌜ Packs (c .states) (c .observations) count (packed v p (now vectors) (now points) (cells (now newactions) (now newchoices) (now newmasks)
         (now newentries) (now newcorners) (now newweights) (now newvalues))) ⌝ }
     ensures { λ r. ⌜ (let m = tablesIn c (now (transition .entry)) (now (observation .entry)) (now (reward .entry)) in
-        let x = lent (now (state .entry)) (cells (now (actions .entry)) (now (choices .entry)) (now (entries .entry)) (now (corners .entry))
-        (now (weights .entry)) (now (values .entry))) (rows (now (informed .entry)) (now (qmdp .entry))) in
-        let b = packed v p (now (vectors .entry)) (now (points .entry)) (cells (now (newactions .entry)) (now (newchoices .entry))
+        let x = lent (now (state .entry)) (cells (now (actions .entry)) (now (choices .entry)) (now (masks .entry)) (now (entries .entry))
+        (now (corners .entry)) (now (weights .entry)) (now (values .entry))) (rows (now (informed .entry)) (now (qmdp .entry))) in
+        let b = packed v p (now (vectors .entry)) (now (points .entry)) (cells (now (newactions .entry)) (now (newchoices .entry)) (now (newmasks .entry))
         (now (newentries .entry)) (now (newcorners .entry)) (now (newweights .entry)) (now (newvalues .entry))) in
         r ≡ acceptances m x (offersIn m b count)) ⌝ }
     ensures { λ _. ⌜ (let m = tablesIn c (now (transition .entry)) (now (observation .entry)) (now (reward .entry)) in
-        let x = lent (now (state .entry)) (cells (now (actions .entry)) (now (choices .entry)) (now (entries .entry)) (now (corners .entry))
-        (now (weights .entry)) (now (values .entry))) (rows (now (informed .entry)) (now (qmdp .entry))) in
-        let b = packed v p (now (vectors .entry)) (now (points .entry)) (cells (now (newactions .entry)) (now (newchoices .entry))
+        let x = lent (now (state .entry)) (cells (now (actions .entry)) (now (choices .entry)) (now (masks .entry)) (now (entries .entry))
+        (now (corners .entry)) (now (weights .entry)) (now (values .entry))) (rows (now (informed .entry)) (now (qmdp .entry))) in
+        let b = packed v p (now (vectors .entry)) (now (points .entry)) (cells (now (newactions .entry)) (now (newchoices .entry)) (now (newmasks .entry))
         (now (newentries .entry)) (now (newcorners .entry)) (now (newweights .entry)) (now (newvalues .entry))) in
-        lent (now (state .exit)) (cells (now (actions .exit)) (now (choices .exit)) (now (entries .exit)) (now (corners .exit))
+        lent (now (state .exit)) (cells (now (actions .exit)) (now (choices .exit)) (now (masks .exit)) (now (entries .exit)) (now (corners .exit))
         (now (weights .exit)) (now (values .exit))) (rows (now (informed .exit)) (now (qmdp .exit)))
         ≡ run m x (offersIn m b count)) ⌝ }
 {
@@ -82,6 +84,7 @@ fn offer_all<'a, 'b>(
             state,
             actions,
             choices,
+            masks,
             entries,
             corners,
             weights,
@@ -95,6 +98,7 @@ fn offer_all<'a, 'b>(
             points,
             newactions,
             newchoices,
+            newmasks,
             newentries,
             newcorners,
             newweights,
@@ -113,6 +117,7 @@ fn judge_list<'a, 'b, 'c>(
     c: Counts,
     state: &'b [usize],
     actions: &'b [u8],
+    masks: &'b [u64],
     entries: &'b [i64],
     corners: &'b [i64],
     weights: &'b [u32],
@@ -126,15 +131,16 @@ fn judge_list<'a, 'b, 'c>(
     points: &'c [usize],
     newactions: &'c [u8],
     newchoices: &'c [u16],
+    newmasks: &'c [u64],
     newentries: &'c [i64],
     newcorners: &'c [i64],
     newweights: &'c [u32],
     newvalues: &'c [i64],
 ) -> Verdict
     ensures { λ r. ⌜ (let m = tablesIn c (now (transition .entry)) (now (observation .entry)) (now (reward .entry)) in
-        let b = packed v p (now (vectors .entry)) (now (points .entry)) (cells (now (newactions .entry)) (now (newchoices .entry))
+        let b = packed v p (now (vectors .entry)) (now (points .entry)) (cells (now (newactions .entry)) (now (newchoices .entry)) (now (newmasks .entry))
         (now (newentries .entry)) (now (newcorners .entry)) (now (newweights .entry)) (now (newvalues .entry))) in
-        (choices : List ℕ) → r ≡ replayVerdict m (lent (now (state .entry)) (cells (now (actions .entry)) choices (now (entries .entry))
+        (choices : List ℕ) → r ≡ replayVerdict m (lent (now (state .entry)) (cells (now (actions .entry)) choices (now (masks .entry)) (now (entries .entry))
         (now (corners .entry)) (now (weights .entry)) (now (values .entry))) (rows (now (informed .entry)) (now (qmdp .entry)))) b count) ⌝ }
 {
     if !standing::standing_holds(
@@ -144,6 +150,7 @@ fn judge_list<'a, 'b, 'c>(
         c,
         state,
         actions,
+        masks,
         entries,
         corners,
         weights,
@@ -163,6 +170,7 @@ fn judge_list<'a, 'b, 'c>(
         points.len(),
         newactions.len(),
         newchoices.len(),
+        newmasks.len(),
         newentries.len(),
         newcorners.len(),
         newweights.len(),
@@ -183,6 +191,7 @@ pub fn replay<'a, 'b>(
     state: &mut [usize],
     actions: &mut [u8],
     choices: &mut [u16],
+    masks: &mut [u64],
     entries: &mut [i64],
     corners: &mut [i64],
     weights: &mut [u32],
@@ -196,31 +205,32 @@ pub fn replay<'a, 'b>(
     points: &'b [usize],
     newactions: &'b [u8],
     newchoices: &'b [u16],
+    newmasks: &'b [u64],
     newentries: &'b [i64],
     newcorners: &'b [i64],
     newweights: &'b [u32],
     newvalues: &'b [i64],
 ) -> Replayed
     ensures { λ r. ⌜ (let m = tablesIn c (now (transition .entry)) (now (observation .entry)) (now (reward .entry)) in
-        let x = lent (now (state .entry)) (cells (now (actions .entry)) (now (choices .entry)) (now (entries .entry)) (now (corners .entry))
-        (now (weights .entry)) (now (values .entry))) (rows (now (informed .entry)) (now (qmdp .entry))) in
-        let b = packed v p (now (vectors .entry)) (now (points .entry)) (cells (now (newactions .entry)) (now (newchoices .entry))
+        let x = lent (now (state .entry)) (cells (now (actions .entry)) (now (choices .entry)) (now (masks .entry)) (now (entries .entry))
+        (now (corners .entry)) (now (weights .entry)) (now (values .entry))) (rows (now (informed .entry)) (now (qmdp .entry))) in
+        let b = packed v p (now (vectors .entry)) (now (points .entry)) (cells (now (newactions .entry)) (now (newchoices .entry)) (now (newmasks .entry))
         (now (newentries .entry)) (now (newcorners .entry)) (now (newweights .entry)) (now (newvalues .entry))) in
         r ≡ replayAnswer m x b count) ⌝ }
     ensures { λ _. ⌜ (let m = tablesIn c (now (transition .entry)) (now (observation .entry)) (now (reward .entry)) in
-        let x = lent (now (state .entry)) (cells (now (actions .entry)) (now (choices .entry)) (now (entries .entry)) (now (corners .entry))
-        (now (weights .entry)) (now (values .entry))) (rows (now (informed .entry)) (now (qmdp .entry))) in
-        let b = packed v p (now (vectors .entry)) (now (points .entry)) (cells (now (newactions .entry)) (now (newchoices .entry))
+        let x = lent (now (state .entry)) (cells (now (actions .entry)) (now (choices .entry)) (now (masks .entry)) (now (entries .entry))
+        (now (corners .entry)) (now (weights .entry)) (now (values .entry))) (rows (now (informed .entry)) (now (qmdp .entry))) in
+        let b = packed v p (now (vectors .entry)) (now (points .entry)) (cells (now (newactions .entry)) (now (newchoices .entry)) (now (newmasks .entry))
         (now (newentries .entry)) (now (newcorners .entry)) (now (newweights .entry)) (now (newvalues .entry))) in
-        lent (now (state .exit)) (cells (now (actions .exit)) (now (choices .exit)) (now (entries .exit)) (now (corners .exit))
+        lent (now (state .exit)) (cells (now (actions .exit)) (now (choices .exit)) (now (masks .exit)) (now (entries .exit)) (now (corners .exit))
         (now (weights .exit)) (now (values .exit))) (rows (now (informed .exit)) (now (qmdp .exit)))
         ≡ replayed m x b count) ⌝ }
     ensures { λ r. ⌜ (let m = tablesIn c (now (transition .entry)) (now (observation .entry)) (now (reward .entry)) in
-        let x = lent (now (state .entry)) (cells (now (actions .entry)) (now (choices .entry)) (now (entries .entry)) (now (corners .entry))
-        (now (weights .entry)) (now (values .entry))) (rows (now (informed .entry)) (now (qmdp .entry))) in
-        let b = packed v p (now (vectors .entry)) (now (points .entry)) (cells (now (newactions .entry)) (now (newchoices .entry))
+        let x = lent (now (state .entry)) (cells (now (actions .entry)) (now (choices .entry)) (now (masks .entry)) (now (entries .entry))
+        (now (corners .entry)) (now (weights .entry)) (now (values .entry))) (rows (now (informed .entry)) (now (qmdp .entry))) in
+        let b = packed v p (now (vectors .entry)) (now (points .entry)) (cells (now (newactions .entry)) (now (newchoices .entry)) (now (newmasks .entry))
         (now (newentries .entry)) (now (newcorners .entry)) (now (newweights .entry)) (now (newvalues .entry))) in
-        let y = lent (now (state .exit)) (cells (now (actions .exit)) (now (choices .exit)) (now (entries .exit)) (now (corners .exit))
+        let y = lent (now (state .exit)) (cells (now (actions .exit)) (now (choices .exit)) (now (masks .exit)) (now (entries .exit)) (now (corners .exit))
         (now (weights .exit)) (now (values .exit))) (rows (now (informed .exit)) (now (qmdp .exit))) in
         (x₀ : Lent) (ls : List LentLevel) → ModelAccepted m x₀ → x ≡ after m x₀ ls → r .verdict ≡ Fine
         → ReplayHolds m x₀ ls (offersIn m b count) y (r .accepted)) ⌝ }
@@ -232,6 +242,7 @@ pub fn replay<'a, 'b>(
         c,
         &state[..],
         &actions[..],
+        &masks[..],
         &entries[..],
         &corners[..],
         &weights[..],
@@ -245,6 +256,7 @@ pub fn replay<'a, 'b>(
         points,
         newactions,
         newchoices,
+        newmasks,
         newentries,
         newcorners,
         newweights,
@@ -264,6 +276,7 @@ pub fn replay<'a, 'b>(
         state,
         actions,
         choices,
+        masks,
         entries,
         corners,
         weights,
@@ -277,6 +290,7 @@ pub fn replay<'a, 'b>(
         points,
         newactions,
         newchoices,
+        newmasks,
         newentries,
         newcorners,
         newweights,
