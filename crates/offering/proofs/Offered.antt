@@ -1,29 +1,50 @@
 -- What is written is what an offer is said to leave. Assumes nothing.
-use Rattle.integers.proofs.Kit.{_≡_, _∙_, refl, sym, List, _∷_, ℕ, _+_, drop, ℤ, pos}
+use Rattle.integers.proofs.Kit.{_≡_, _∙_, refl, sym, List, _∷_, ℕ, _≤_, _+_, drop, ℤ}
 use Rattle.integers.specs.Cells.{laidRows}
 use Rattle.integers.proofs.Lists.{laidRows-flat}
 use Rattle.tables.specs.declared.Tables.{Tables}
 use Rattle.tables.specs.declared.Verdict.{Verdict}
 use Rattle.tables.specs.declared.Verdict.the-variants.{Fine, Refused}
+use Rattle.tables.specs.Limits.{maxVectors}
+use Rattle.tables.specs.Model.{Valid}
 use Rattle.tables.specs.Storage.{modelOf}
+use Rattle.plans.specs.Limits.{maxPoints}
 use Rattle.plans.specs.Rows.{informedNext, qmdpNext}
-use Rattle.levels.specs.Storage.{Cells, LentLevel, rows, Lent, stateSize, lent, levelOf, over, numberIn, informedIn, qmdpIn}
+use Rattle.levels.specs.Storage.{Cells, LentLevel, rows, Lent, stateSize, lent, lentFor, levelOf, over, numberIn, informedIn, qmdpIn}
 use Rattle.levels.specs.Judged.{offerVerdict}
-use Rattle.levels.proofs.Over.{cells-same, lent-same}
+use Rattle.levels.proofs.Over.{Complete, cells-same, lent-same}
 use Rattle.runs.specs.State.{offered}
-use Rattle.offering.specs.Steps.{laidBy}
+use Rattle.offering.specs.Steps.{Lays, laidBy}
+
+-- slices that are complete for a level within the limits
+pub lays : (m : Tables) (y : Cells) {vectors points : ℕ} → Valid (modelOf m) → vectors ≤ maxVectors → points ≤ maxPoints
+    → Complete m (lentFor vectors points y)
+    → Lays (m .states) (m .observations) vectors points (y .actions) (y .choices) (y .masks) (y .entries) (y .corners) (y .weights) (y .values)
+lays m y v few-vectors few-points c = record {
+  some-states = v .some-states;
+  few-states = v .few-states;
+  few-observations = v .few-observations;
+  few-vectors = few-vectors;
+  few-points = few-points;
+  actions-long = c .read .actions;
+  choices-long = c .choices;
+  masks-long = c .read .masks;
+  entries-long = c .read .entries;
+  corners-long = c .read .corners;
+  weights-long = c .read .weights;
+  values-long = c .read .values;
+}
 
 module _ (m : Tables) (x : Lent) (l : LentLevel) where
   pub offered-refused : {k i : ℕ} {v : Verdict} → v ≡ offerVerdict m x l → v ≡ Refused k i → x ≡ offered m x l
   unfolding offered
   offered-refused e f = rw (sym e ∙ f)
 
-  -- the cells of a level, laid as they lie, are its rows
+  -- choices and weights, laid as they lie, are their rows
   laid-over : laidBy (m .states) (m .observations) (l .vectors) (l .points) (l .cells) (x .cells) ≡ over m (levelOf m l) (x .cells)
   unfolding over
   laid-over =
-      cells-same refl (sym (laidRows-flat (l .vectors) (m .observations) (l .cells .choices) (x .cells .choices) 0))
-      (sym (laidRows-flat (l .vectors) (m .states) (l .cells .entries) (x .cells .entries) (pos 0))) refl
+      cells-same refl (sym (laidRows-flat (l .vectors) (m .observations) (l .cells .choices) (x .cells .choices) 0)) refl refl refl
       (sym (laidRows-flat (l .points) (m .states) (l .cells .weights) (x .cells .weights) 0)) refl
 
   pub offered-fine : {v : Verdict} → v ≡ offerVerdict m x l → v ≡ Fine → {state : List ℕ} {y : Cells} {f q : List ℤ}

@@ -1,6 +1,6 @@
 -- The writing of a level: the first cells of one set of slices over those of another; masks without states that there are not, entries where they are
 -- covered and 0 elsewhere.
-use Prim.Native.Nat.{ℕ, _*_, _≤_}
+use Prim.Native.Nat.{ℕ, _*_, _≤_, _<_}
 use mathlib.Core.List.{List}
 use lib.ListN.{length, getD}
 use lib.IntN.{ℤ, pos}

@@ -9,7 +9,7 @@ use Rattle.levels.specs.Judged.{offerVerdict}
 use Rattle.runs.proofs.Judged.{RowsIn, Accepted, accepted}
 use Rattle.rows.specs.Steps.{Ready}
 use Rattle.rows.proofs.Stepped.{ready, seen}
-use Rattle.offering.proofs.Offered.{offered-refused, offered-fine}
+use Rattle.offering.proofs.Offered.{lays, offered-refused, offered-fine}
 use Rattle.offering.proofs.offer.Statement.{statement}
 use Rattle.offering.proofs.offer.Tie as tie
 
@@ -17,7 +17,7 @@ use Rattle.offering.proofs.offer.Tie as tie
 abbrev start : tie.After-judge-offer → tie.Start
 start c =
     let d = c .before .before .before .before .before .before .before .before .before .before .before .before in
-    d .before .before .before .before .before .before .before
+    d .before .before .before .before .before .before .before .before .before .before
 
 abbrev of-verdict : tie.After-standing-in-arg → tie.After-judge-offer
 of-verdict c = c .before .before .before
@@ -25,11 +25,17 @@ of-verdict c = c .before .before .before
 abbrev of-standing : tie.After-put-standing → tie.After-standing-in
 of-standing c = c .before .before .before
 
+abbrev to-lay : tie.After-lay-level-arg7 → tie.After-put-standing
+to-lay c = c .before .before .before .before .before .before .before .before .before
+
 abbrev of-state : tie.After-lay-level → tie.After-put-standing
-of-state c = c .before .before .before .before .before .before .before .before .before
+of-state c = to-lay (c .before)
+
+abbrev to-step : tie.After-step-arg2 → tie.After-lay-level
+to-step c = c .before .before .before .before .before .before .before .before .before .before .before .before .before
 
 abbrev of-level : tie.After-qmdp → tie.After-lay-level
-of-level c = c .before .before .before .before .before .before .before .before .before .before .before .before .before .before
+of-level c = to-step (c .before .before .before)
 
 -- what is lent
 abbrev tables : tie.Start → Tables
@@ -38,14 +44,14 @@ tables c = tablesIn (c .args .c) (c .args .transition .now) (c .args .observatio
 abbrev certifier : tie.Start → Lent
 certifier c =
     let a = c .args in
-    lent (a .state .now) (cells (a .actions .now) (a .choices .now) (a .entries .now) (a .corners .now) (a .weights .now) (a .values .now))
+    lent (a .state .now) (cells (a .actions .now) (a .choices .now) (a .masks .now) (a .entries .now) (a .corners .now) (a .weights .now) (a .values .now))
     (rows (a .informed .now) (a .qmdp .now))
 
 abbrev offered : tie.Start → LentLevel
 offered c =
     let a = c .args in
     lentFor (a .vectors) (a .points)
-    (cells (a .newactions .now) (a .newchoices .now) (a .newentries .now) (a .newcorners .now) (a .newweights .now) (a .newvalues .now))
+    (cells (a .newactions .now) (a .newchoices .now) (a .newmasks .now) (a .newentries .now) (a .newcorners .now) (a .newweights .now) (a .newvalues .now))
 
 said : (c : tie.After-judge-offer) → let s = start c in c .judge-offer .result ≡ offerVerdict (tables s) (certifier s) (offered s)
 said c = c .judge-offer .ensures
@@ -75,47 +81,27 @@ written c =
     c .put-standing .ensures
     ∙ ap (λ (n : ℕ). (n + 1) ∷ s .args .vectors ∷ s .args .points ∷ drop stateSize (s .args .state .now)) (number-is (of-standing c))
 
-add-t47 : tie.Need-add-t47
-add-t47 c = let n = c .before .before in omega (arith, number-is n, passed (n .before) .room)
+add-t51 : tie.Need-add-t51
+add-t51 c = let n = c .before .before in omega (arith, number-is n, passed (n .before) .room)
 
 put-standing-requires : tie.Need-put-standing-requires
 put-standing-requires c κs = passed (c .before .before .before) .standing .state-long
 
 lay-level-requires : tie.Need-lay-level-requires
 lay-level-requires c κs =
-    let p = passed (c .before .before .before .before .before .before .before .before .before .before .before .before) in
+    let n = of-standing (to-lay c) .before in
+    let a = start (of-verdict n) in
+    let p = passed n in
     let v = p .standing .valid-tables in
     let few = p .shaped in (
-      record {
-        few-states = v .few-states;
-        few-observations = v .few-observations;
-        few-vectors = few .few-vectors;
-        few-points = few .few-points;
-        actions-long = p .held .read .actions;
-        choices-long = p .held .choices;
-        entries-long = p .held .read .entries;
-        corners-long = p .held .read .corners;
-        weights-long = p .held .read .weights;
-        values-long = p .held .read .values;
-      },
-      record {
-        few-states = v .few-states;
-        few-observations = v .few-observations;
-        few-vectors = few .few-vectors;
-        few-points = few .few-points;
-        actions-long = p .given .read .actions;
-        choices-long = p .given .choices;
-        entries-long = p .given .read .entries;
-        corners-long = p .given .read .corners;
-        weights-long = p .given .read .weights;
-        values-long = p .given .read .values;
-      },
+      lays (tables a) (certifier a .cells) v (few .few-vectors) (few .few-points) (p .held),
+      lays (tables a) (offered a .cells) v (few .few-vectors) (few .few-points) (p .given),
     )
 
 -- the rows that stand are within the range of their level
 step-requires : tie.Need-step-requires
 step-requires c κs =
-    let l = c .before .before .before .before .before .before .before .before .before .before .before in
+    let l = to-step c in
     let n = of-standing (of-state l) .before in
     let a = start (of-verdict n) .args in
     let p = passed n .standing in
@@ -143,9 +129,10 @@ returns-2 c =
 pub offer-spec : {M : Type 1} → statement M
 offer-spec =
     tie.close (tie.spec (λ c κs. search needs) (λ c. search needs) (λ c. search needs) (λ c. refl) (λ c. refl) (λ c. refl)
-    (λ c. refl) (λ c. refl) (λ c. refl) (λ c. refl) (λ c. refl) (λ c. refl)
-    returns standing-in-requires add-t47 put-standing-requires lay-level-requires step-requires
+    (λ c. refl) (λ c. refl) (λ c. refl) (λ c. refl) (λ c. refl) (λ c. refl) (λ c. refl)
+    returns standing-in-requires add-t51 put-standing-requires lay-level-requires step-requires
     (λ c. of-state (of-level c) .put-standing .kept .0) (λ c. of-level c .lay-level .kept .1 .1 .0) (λ c. of-level c .lay-level .kept .1 .1 .1 .0)
     (λ c. of-level c .lay-level .kept .1 .1 .1 .1 .0) (λ c. of-level c .lay-level .kept .1 .1 .1 .1 .1 .0)
     (λ c. of-level c .lay-level .kept .1 .1 .1 .1 .1 .1 .0) (λ c. of-level c .lay-level .kept .1 .1 .1 .1 .1 .1 .1 .0)
+    (λ c. of-level c .lay-level .kept .1 .1 .1 .1 .1 .1 .1 .1 .0)
     (λ c. c .before .before .step .kept .1 .1 .1 .1 .0) (λ c. c .before .before .step .kept .1 .1 .1 .1 .1 .0) returns-2)
