@@ -1,6 +1,6 @@
 -- Cells that are marked one after the other, and what an index stands for. Assumes nothing.
 use Rattle.integers.proofs.Kit.{_≡_, _∙_, refl, ap, sym, true, false, Bool, cond, _||_, List, [], _∷_, ℕ, _≤_, _<_, _+_, suc, zero, arith, add-one}
-use Rattle.integers.proofs.Kit.{ne-eqb, eq-eqb, eqb, length, getD, set, ℤ}
+use Rattle.integers.proofs.Kit.{add-zero, ne-eqb, eq-eqb, eqb, length, getD, set, ℤ}
 use borrow.Author.Tests.{eqb-false}
 use Rattle.integers.specs.Search.{some}
 use Rattle.tables.specs.Storage.{rowPlace, cellPlace}
@@ -84,6 +84,10 @@ module _ {A : Type 0} where
   pub marking-end : {p : ℕ → ℕ → Bool} {v : A} {l l' : List A} {k : ℕ} (n : ℕ) → Marking p v l k l' → k ≡ n → l' ≡ marked (λ i. some n (λ j. p j i)) v l
   marking-end {p} {v} {l} n m e = m .is ∙ ap (λ (n : ℕ). marked (λ i. some n (λ j. p j i)) v l) e
 
+  -- one test alone
+  once : (p : ℕ → ℕ → Bool) (v : A) (l : List A) {l' : List A} → l' ≡ marked (p 0) v l → l' ≡ marked (λ i. some 1 (λ j. p j i)) v l
+  once p v l e = marking-end 1 (marking-more (marking-start p v l) e) refl
+
 star-within : (t : Bool) (n i : ℕ) → (t ≡ false → i < n) → cond t 0 i + cond t n 1 ≤ n
 star-within true n i h = omega arith
 star-within false n i h = omega (arith, h refl)
@@ -101,6 +105,22 @@ pub stated-by : (m n w a s x p : ℕ) (l : List ℕ) {b bs r rs y ys : ℕ}
     → marked (λ i. some bs (λ b'. some rs (λ r'. some ys (λ j. eqb i (cellPlace n w (b + b') (r + r') (y + j)))))) p l ≡ stated m n w a s x p l
 unfolding stated
 stated-by m n w a s x p l b bs r rs y ys = rw (b, bs, r, rs, y, ys) refl
+
+stands-alone : (n i : ℕ) → i < n → (i ≡ lowest n i) × (1 ≡ spread n i)
+stands-alone n i h = let e = ne-eqb i n (λ e. omega arith) in (sym (ap (λ (t : Bool). cond t 0 i) e), sym (ap (λ (t : Bool). cond t n 1) e))
+
+-- and without a star one cell is
+pub stated-one : (m n w a s x p : ℕ) (l : List ℕ) → a < m → s < n → x < w → set l (cellPlace n w a s x) p ≡ stated m n w a s x p l
+stated-one m n w a s x p l la ls lx =
+    let block = stands-alone m a la in
+    let row = stands-alone n s ls in
+    let place = stands-alone w x lx in
+    let same : cellPlace n w a s x ≡ cellPlace n w (a + 0) (s + 0) (x + 0) = rw (add-zero a, add-zero s, add-zero x) refl in
+    once (λ b i. some 1 (λ r. some 1 (λ j. eqb i (cellPlace n w (a + b) (s + r) (x + j))))) p l
+    (once (λ r i. some 1 (λ j. eqb i (cellPlace n w (a + 0) (s + r) (x + j)))) p l
+    (once (λ j i. eqb i (cellPlace n w (a + 0) (s + 0) (x + j))) p l
+    (ap (λ (q : ℕ). set l q p) same ∙ write-marks (cellPlace n w (a + 0) (s + 0) (x + 0)) p l)))
+    ∙ stated-by m n w a s x p l (block .0) (block .1) (row .0) (row .1) (place .0) (place .1)
 
 pub rewarded-by : (m n a s : ℕ) (v : ℤ) (l : List ℤ) {r rs y ys : ℕ}
     → r ≡ lowest m a → rs ≡ spread m a → y ≡ lowest n s → ys ≡ spread n s

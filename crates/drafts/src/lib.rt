@@ -1,11 +1,12 @@
 // What a statement of a model file does to the cells of a table: an index stands for itself, a star for all.
 ghost use mathlib.Core.Path.{_≡_};
-ghost use Prim.Native.Nat.{_+_, _*_, _≤_};
+ghost use Prim.Native.Nat.{_+_, _*_, _≤_, _<_};
 ghost use lib.Dec.{eqb};
-ghost use lib.ListN.{length};
+ghost use lib.ListN.{length, set};
 ghost use Rattle.integers.specs.Search.{some};
 ghost use Rattle.tables.specs.Limits.{maxStates, maxActions};
 ghost use Rattle.tables.specs.Storage.{rowPlace, cellPlace};
+ghost use Rattle.tables.specs.Steps.{cellsTo};
 ghost use Rattle.drafts.specs.Drafts.{marked, lowest, spread, stated, rewarded};
 use tables::read;
 
@@ -93,8 +94,8 @@ fn mark_blocks(
     }
 }
 
-// p is stated for block a, row s and place x of a table of m blocks of n rows of width w.
-pub fn state(cells: &mut [u16], m: usize, n: usize, w: usize, a: usize, s: usize, x: usize, p: u16)
+// p for all that a, s and x stand for, in a table of m blocks of n rows of width w.
+fn mark_all(cells: &mut [u16], m: usize, n: usize, w: usize, a: usize, s: usize, x: usize, p: u16)
     requires { ⌜ (m ≤ maxActions) × ((n ≤ maxStates) × (w ≤ maxStates)) ⌝ }
     requires { ⌜ (a ≤ m) × ((s ≤ n) × (x ≤ w)) ⌝ }
     requires { ⌜ m * n * w ≤ length (now cells) ⌝ }
@@ -107,6 +108,30 @@ pub fn state(cells: &mut [u16], m: usize, n: usize, w: usize, a: usize, s: usize
     let place = lowest_of(w, x);
     let count = spread_of(w, x);
     mark_blocks(cells, block, blocks, n, row, rows, w, place, count, p);
+}
+
+// p in place x of row s of block a alone.
+fn mark_one(cells: &mut [u16], n: usize, w: usize, a: usize, s: usize, x: usize, p: u16)
+    requires { ⌜ (a < maxActions) × ((n ≤ maxStates) × (w ≤ maxStates)) ⌝ }
+    requires { ⌜ (s < n) × (x < w) ⌝ }
+    requires { ⌜ cellsTo n w a ≤ length (now cells) ⌝ }
+    ensures { λ _. ⌜ now (cells .exit) ≡ set (now (cells .entry)) (cellPlace n w a s x) p ⌝ }
+{
+    cells[read::cell(read::row(a, n, s), w, x)] = p;
+}
+
+// p is stated for block a, row s and place x of a table of m blocks of n rows of width w.
+pub fn state(cells: &mut [u16], m: usize, n: usize, w: usize, a: usize, s: usize, x: usize, p: u16)
+    requires { ⌜ (m ≤ maxActions) × ((n ≤ maxStates) × (w ≤ maxStates)) ⌝ }
+    requires { ⌜ (a ≤ m) × ((s ≤ n) × (x ≤ w)) ⌝ }
+    requires { ⌜ m * n * w ≤ length (now cells) ⌝ }
+    ensures { λ _. ⌜ now (cells .exit) ≡ stated m n w a s x p (now (cells .entry)) ⌝ }
+{
+    if (a < m) & (s < n) & (x < w) {
+        mark_one(cells, n, w, a, s, x, p);
+    } else {
+        mark_all(cells, m, n, w, a, s, x, p);
+    }
 }
 
 // v in `count` cells from x on, of `rows` rows of width n from row a on.

@@ -33,7 +33,7 @@ fn amount_in(
     requires { ⌜ (start + from ≤ stop) × ((stop ≤ length (now file)) × (Short form)) ⌝ }
     ensures { λ r. ⌜ r ≡ found start stop (limited least most (amountOf form (drop from (bytesOf (now (file .entry)) start stop)))) ⌝ }
 {
-    let a = numerals::amount_of(&file[start..stop], from, form);
+    let a = amounts::amount_of(&file[start..stop], from, form);
     let Amount::Is(v) = a else {
         return Read::Refused(2, start);
     };

@@ -29,14 +29,14 @@ never : {A : Type 0} → false ≡ true → A
 never e = absurd (false≢true e)
 
 pub digit-byte : (b : ℕ) → isDigit (classOf b) ≡ true → (48 ≤ b) × (b ≤ 57)
-digit-byte b = by-class (λ k. isDigit k ≡ true → (48 ≤ b) × (b ≤ 57)) b never (λ h. never) (λ h. never) (λ l h e. (l, h)) (λ h. never) (λ h. never)
+digit-byte b = by-class (λ k. isDigit k ≡ true → (48 ≤ b) × (b ≤ 57)) b (λ h. never) (λ h. never) (λ h. never) (λ l h e. (l, h)) (λ h. never) (λ h. never)
     (λ h. never) never
 
 pub low-byte : (b : ℕ) → b < 48 → isDigit (classOf b) ≡ false
-low-byte b h = by-class (λ k. isDigit k ≡ false) b refl (λ _. refl) (λ _. refl) (λ l _. absurd (omega arith)) (λ _. refl) (λ _. refl) (λ _. refl) refl
+low-byte b h = by-class (λ k. isDigit k ≡ false) b (λ _. refl) (λ _. refl) (λ _. refl) (λ l _. absurd (omega arith)) (λ _. refl) (λ _. refl) (λ _. refl) refl
 
 pub point-byte : (b : ℕ) → isPoint (classOf b) ≡ true → b ≡ 46
-point-byte b = by-class (λ k. isPoint k ≡ true → b ≡ 46) b never (λ h. never) (λ h. never) (λ l h. never) (λ h e. h) (λ h. never) (λ h. never) never
+point-byte b = by-class (λ k. isPoint k ≡ true → b ≡ 46) b (λ h. never) (λ h. never) (λ h. never) (λ l h. never) (λ h e. h) (λ h. never) (λ h. never) never
 
 pub negative-none : (w : List ℕ) → length w ≡ 0 → negative w ≡ false
 negative-none [] e = refl

@@ -1,10 +1,9 @@
-// Numbers as a word writes them.
+// Numbers as a word writes them: their forms, their digits and their sign.
 ghost use mathlib.Core.Path.{_≡_};
-ghost use mathlib.Core.Bool.{true};
 ghost use Prim.Native.Nat.{_+_, _^_, _≤_, _<_};
-ghost use lib.ListN.{length, drop};
-ghost use Rattle.numerals.specs.Numeral.{mostPower, pointed, enough, scaled, powered, exponent, decimal, fraction, amountOf, negative, signed};
-ghost use Rattle.numerals.specs.Steps.{mostRead, mostWhole, mostUnits, Short, Written};
+ghost use lib.ListN.{length};
+ghost use Rattle.numerals.specs.Numeral.{negative, signed};
+ghost use Rattle.numerals.specs.Steps.{mostRead, Written};
 use words::Class;
 
 // How a number is written: up to `digits` digits, then optionally a point and up to `places` digits. It counts in units of which
@@ -53,8 +52,6 @@ impl Form {
         places: 0,
         loose: false,
     };
-
-    pub const POWER: u64 = 3; // the most that an exponent says
 }
 
 // A number in the units asked for, or a word that does not fit the form.
@@ -64,9 +61,9 @@ pub enum Amount {
 }
 
 // Where digits end, and the number that they write.
-struct Digits {
-    end: usize,
-    value: u64,
+pub struct Digits {
+    pub end: usize,
+    pub value: u64,
 }
 
 // The end of a word, or of `most` bytes from an offset on.
@@ -81,7 +78,7 @@ fn bounded(length: usize, from: usize, most: usize) -> usize
 }
 
 // The digits from an offset on, `most` of them at most. Bytes below them are told first, so that the class takes one test more.
-fn digits_from(w: &[u8], from: usize, most: usize) -> Digits
+pub fn digits_from(w: &[u8], from: usize, most: usize) -> Digits
     requires { ⌜ (from ≤ length (now w)) × (most ≤ mostRead) ⌝ }
     ensures { λ r. ⌜ Written (now (w .entry)) from most (r .end) (r .value) ⌝ }
 {
@@ -104,15 +101,25 @@ fn digits_from(w: &[u8], from: usize, most: usize) -> Digits
 }
 
 // 10 to the power of `places`.
-fn scale(places: usize) -> u64
+pub fn scale(places: usize) -> u64
     requires { ⌜ places ≤ mostRead ⌝ }
     ensures { λ r. ⌜ r ≡ 10 ^ places ⌝ }
 {
-    let mut u: u64 = 1;
-    for _ in 0..places {
-        u = u * 10;
+    match places {
+        0 => 1,
+        1 => 10,
+        2 => 100,
+        3 => 1_000,
+        4 => 10_000,
+        5 => 100_000,
+        6 => 1_000_000,
+        7 => 10_000_000,
+        8 => 100_000_000,
+        9 => 1_000_000_000,
+        10 => 10_000_000_000,
+        11 => 100_000_000_000,
+        _ => 1_000_000_000_000,
     }
-    u
 }
 
 // Whether a word begins with a minus.
@@ -138,133 +145,4 @@ pub fn with_sign(minus: bool, v: u64) -> i64
         return 0 - (v as i64);
     }
     v as i64
-}
-
-// 10 to a power times a number, or the number over it, if that is whole.
-fn scaled_by(minus: bool, power: usize, v: u64) -> Amount
-    requires { ⌜ (power ≤ mostPower) × (v ≤ mostUnits true) ⌝ }
-    ensures { λ r. ⌜ r ≡ scaled minus power v ⌝ }
-{
-    let u = scale(power);
-    if minus {
-        if v % u != 0 {
-            return Amount::Not;
-        }
-        return Amount::Is(v / u);
-    }
-    Amount::Is(v * u)
-}
-
-// After an `e`: an optional minus and one digit.
-fn powered_by(w: &[u8], v: u64) -> Amount
-    requires { ⌜ v ≤ mostUnits true ⌝ }
-    ensures { λ r. ⌜ r ≡ powered v (now (w .entry)) ⌝ }
-{
-    let minus = is_negative(w);
-    let from = minus as usize;
-    let d = digits_from(w, from, 1);
-    if d.end == from {
-        return Amount::Not;
-    }
-    if d.end < w.len() {
-        return Amount::Not;
-    }
-    if Form::POWER < d.value {
-        return Amount::Not;
-    }
-    scaled_by(minus, d.value as usize, v)
-}
-
-// An exponent, from its `e` on.
-fn marked_of(w: &[u8], from: usize, loose: bool, v: u64) -> Amount
-    requires { ⌜ (from < length (now w)) × (v ≤ mostUnits loose) ⌝ }
-    ensures { λ r. ⌜ r ≡ exponent loose v (drop from (now (w .entry))) ⌝ }
-{
-    if w[from] != b'e' {
-        return Amount::Not;
-    }
-    if !loose {
-        return Amount::Not;
-    }
-    powered_by(&w[from + 1..], v)
-}
-
-// What follows the digits: mostly nothing.
-fn exponent_of(w: &[u8], from: usize, loose: bool, v: u64) -> Amount
-    requires { ⌜ (from ≤ length (now w)) × (v ≤ mostUnits loose) ⌝ }
-    ensures { λ r. ⌜ r ≡ exponent loose v (drop from (now (w .entry))) ⌝ }
-{
-    if from == w.len() {
-        return Amount::Is(v);
-    }
-    marked_of(w, from, loose, v)
-}
-
-// Whether n digits before a point and k after it make a number.
-fn is_enough(loose: bool, n: usize, k: usize) -> bool
-    ensures { λ r. ⌜ r ≡ enough loose n k ⌝ }
-{
-    if n == 0 {
-        return loose & (0 < k);
-    }
-    if k == 0 {
-        return loose;
-    }
-    true
-}
-
-// What follows a point.
-fn decimal_of(w: &[u8], from: usize, form: Form, n: usize, whole: u64) -> Amount
-    requires { ⌜ (from ≤ length (now w)) × ((Short form) × (whole ≤ mostWhole (form .loose))) ⌝ }
-    ensures { λ r. ⌜ r ≡ decimal form n whole (drop from (now (w .entry))) ⌝ }
-{
-    let d = digits_from(w, from, form.places);
-    let k = d.end - from;
-    if !is_enough(form.loose, n, k) {
-        return Amount::Not;
-    }
-    exponent_of(
-        w,
-        d.end,
-        form.loose,
-        whole + d.value * scale(form.places - k),
-    )
-}
-
-// Whether a point stands at an offset.
-fn is_pointed(w: &[u8], from: usize) -> bool
-    requires { ⌜ from ≤ length (now w) ⌝ }
-    ensures { λ r. ⌜ r ≡ pointed (drop from (now (w .entry))) ⌝ }
-{
-    if from == w.len() {
-        return false;
-    }
-    let k = words::class_of(w[from]);
-    match k {
-        Class::Point => true,
-        _ => false,
-    }
-}
-
-// What follows a whole part of n digits.
-fn fraction_of(w: &[u8], from: usize, form: Form, n: usize, whole: u64) -> Amount
-    requires { ⌜ (from ≤ length (now w)) × ((Short form) × (whole ≤ mostWhole (form .loose))) ⌝ }
-    ensures { λ r. ⌜ r ≡ fraction form n whole (drop from (now (w .entry))) ⌝ }
-{
-    if is_pointed(w, from) {
-        return decimal_of(w, from + 1, form, n, whole);
-    }
-    if n == 0 {
-        return Amount::Not;
-    }
-    exponent_of(w, from, form.loose, whole)
-}
-
-// The number of a word from an offset on.
-pub fn amount_of(w: &[u8], from: usize, form: Form) -> Amount
-    requires { ⌜ (from ≤ length (now w)) × (Short form) ⌝ }
-    ensures { λ r. ⌜ r ≡ amountOf form (drop from (now (w .entry))) ⌝ }
-{
-    let d = digits_from(w, from, form.digits);
-    fraction_of(w, d.end, form, d.end - from, d.value * scale(form.places))
 }

@@ -1,8 +1,9 @@
 -- Laws of the words of a file: the class of a byte, and what the byte at a place does to the words from there on. Assumes nothing.
 use Prim.Native.Nat.{ℕ, suc, _+_, _-_, _≤_, _<_}
 use mathlib.Core.Path.{_≡_, refl, sym, ap, _∙_}
-use mathlib.Core.Bool.{Bool, true, false, _&&_, _||_, cond, and-eq-true-iff}
+use mathlib.Core.Bool.{Bool, true, false, _&&_, _||_, cond, and-eq-true-iff, true≢false}
 use mathlib.Core.List.{List, [], _∷_}
+use native.Mathlib.Decide.{decLe}
 use native.Mathlib.Omega.{arith}
 use native.Mathlib.Numerals.{add-one}
 use borrow.Author.Tests.{eq-eqb, ne-eqb, eqb-true, leb-true}
@@ -14,17 +15,24 @@ use Rattle.words.specs.declared.Class.the-variants.{Space, Colon, Hash, 
 use Rattle.words.specs.Class.{classOf}
 use Rattle.words.specs.Words.{Role, parts, alone, opens, belongs, roleOf, Words, word, end, run, whereBelongs, Mode, between, inside, comment, step}
 use Rattle.words.specs.Words.{wordsOf, wordsIn}
-use Rattle.words.specs.Steps.{Run}
+use Rattle.words.specs.Steps.{isSpace, isEnd, Run}
 
 -- ---- the class of a byte, by its tests
 test : (P : Class → Type 0) (t : Bool) (x y : Class) → (t ≡ true → P x) → P y → P (cond t x y)
 test P true x y p q = p refl
 test P false x y p q = q
 
-pub by-class : (P : Class → Type 0) (b : ℕ) → P Space → (b ≡ 58 → P Colon) → (b ≡ 35 → P Hash) → (48 ≤ b → b ≤ 57 → P Digit)
+low-space : (b : ℕ) → (eqb b 32 || (eqb b 9 || (eqb b 13 || eqb b 10))) ≡ true → b ≤ 32
+low-space b e =
+    elim (decLe b 32) [
+      | yes l ↦ l
+      | no n ↦ absurd (true≢false (sym e ∙ simp (ne-eqb b 32 (omega arith), ne-eqb b 9 (omega arith), ne-eqb b 13 (omega arith), ne-eqb b 10 (omega arith))))
+    ]
+
+pub by-class : (P : Class → Type 0) (b : ℕ) → (b ≤ 32 → P Space) → (b ≡ 58 → P Colon) → (b ≡ 35 → P Hash) → (48 ≤ b → b ≤ 57 → P Digit)
     → (b ≡ 46 → P Point) → (b ≡ 45 → P Minus) → (b ≡ 42 → P Star) → P Rest → P (classOf b)
 by-class P b space colon hash digit point minus star rest =
-    test P (eqb b 32 || (eqb b 9 || (eqb b 13 || eqb b 10))) _ _ (λ e. space)
+    test P (eqb b 32 || (eqb b 9 || (eqb b 13 || eqb b 10))) _ _ (λ e. space (low-space b e))
     (test P _ _ _ (λ e. colon (eqb-true b 58 e))
     (test P _ _ _ (λ e. hash (eqb-true b 35 e))
     (test P (leb 48 b && leb b 57) _ _ (λ e. let both = and-eq-true-iff (leb 48 b) (leb b 57) .0 e in digit (leb-true 48 b (both .0)) (leb-true b 57 (both .1)))
@@ -36,24 +44,39 @@ by-class P b space colon hash digit point minus star rest =
 abbrev pub roleIn : List ℕ → ℕ → Role
 roleIn s at = roleOf (classOf (getD s at 0))
 
--- it belongs to no word that began before it
-abbrev pub Ends : Role → Type 0
-Ends parts = Unit
-Ends alone = Unit
-Ends opens = Unit
-Ends belongs = ⊥
+-- it, by its value: no space lies above 32
+pub by-role : (P : Role → Type 0) (b : ℕ) → (b ≤ 32 → P parts) → (b ≡ 58 → P alone) → (b ≡ 35 → P opens) → P belongs → P (roleOf (classOf b))
+by-role P b space colon hash other =
+    by-class (λ k. P (roleOf k)) b space colon hash (λ _ _. other) (λ _. other) (λ _. other) (λ _. other) other
 
-ends-run : (r : Role) (w : List ℕ) → Ends r → whereBelongs r w ≡ []
+pub no-end : (r : Role) → isEnd r ≡ false → r ≡ belongs
+no-end parts e = absurd (true≢false e)
+no-end alone e = absurd (true≢false e)
+no-end opens e = absurd (true≢false e)
+no-end belongs e = refl
+
+pub space-parts : (r : Role) → isSpace r ≡ true → r ≡ parts
+space-parts parts e = refl
+space-parts alone e = absurd (true≢false (sym e))
+space-parts opens e = absurd (true≢false (sym e))
+space-parts belongs e = absurd (true≢false (sym e))
+
+pub belongs-else : (b : ℕ) → isSpace (roleOf (classOf b)) ≡ false → (b ≡ 58 → ⊥) → (b ≡ 35 → ⊥) → roleOf (classOf b) ≡ belongs
+belongs-else b no-space no-colon no-hash =
+    by-role (λ r. isSpace r ≡ false → r ≡ belongs) b (λ _ e. absurd (true≢false e)) (λ e _. absurd (no-colon e)) (λ e _. absurd (no-hash e)) (λ _. refl)
+    no-space
+
+ends-run : (r : Role) (w : List ℕ) → isEnd r ≡ true → whereBelongs r w ≡ []
 ends-run parts w e = refl
 ends-run alone w e = refl
 ends-run opens w e = refl
-ends-run belongs w e = absurd e
+ends-run belongs w e = absurd (true≢false (sym e))
 
-ends-step : (r : Role) (at b : ℕ) (s : List ℕ) (next : Mode → Words) → Ends r → step inside r at b s next ≡ step between r at b s next
+ends-step : (r : Role) (at b : ℕ) (s : List ℕ) (next : Mode → Words) → isEnd r ≡ true → step inside r at b s next ≡ step between r at b s next
 ends-step parts at b s next e = refl
 ends-step alone at b s next e = refl
 ends-step opens at b s next e = refl
-ends-step belongs at b s next e = absurd e
+ends-step belongs at b s next e = absurd (true≢false (sym e))
 
 -- ---- at the end of the file
 pub at-end : (m : Mode) (s : List ℕ) (at : ℕ) → at ≡ length s → wordsIn m s at ≡ end (length s)
@@ -108,7 +131,7 @@ module _ (s : List ℕ) (at : ℕ) (h : at < length s) where
       }
 
   -- any other ends it
-  pub run-ends : Ends (roleIn s at) → Run s at at
+  pub run-ends : isEnd (roleIn s at) ≡ true → Run s at at
   unfolding run
   run-ends e =
       let z : at - at ≡ 0 = omega arith in

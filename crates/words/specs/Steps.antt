@@ -1,11 +1,26 @@
 -- What the code's steps say of the words of a file.
 use Prim.Native.Nat.{ℕ, _-_, _≤_, _<_}
+use mathlib.Core.Bool.{Bool, true, false}
 use mathlib.Core.Path.{_≡_}
 use mathlib.Core.List.{List}
 use lib.ListN.{length, take, drop}
 use Rattle.words.specs.declared.Word.{Word}
 use Rattle.words.specs.declared.Word.the-variants.{At, End}
-use Rattle.words.specs.Words.{run, wordsIn, between, inside, told}
+use Rattle.words.specs.Words.{Role, parts, alone, opens, belongs, run, wordsIn, between, inside, told}
+
+-- a byte parts words
+abbrev pub isSpace : Role → Bool
+isSpace parts = true
+isSpace alone = false
+isSpace opens = false
+isSpace belongs = false
+
+-- it belongs to no word that began before it
+abbrev pub isEnd : Role → Bool
+isEnd parts = true
+isEnd alone = true
+isEnd opens = true
+isEnd belongs = false
 
 -- the bytes from a up to r are the rest of a word that began before a
 pub record Run (s : List ℕ) (a r : ℕ) : Type 0 where

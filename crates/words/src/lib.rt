@@ -3,8 +3,8 @@ ghost use mathlib.Core.Path.{_≡_};
 ghost use Prim.Native.Nat.{_≤_};
 ghost use lib.ListN.{length};
 ghost use Rattle.words.specs.Class.{classOf};
-ghost use Rattle.words.specs.Words.{wordsIn, between, comment};
-ghost use Rattle.words.specs.Steps.{Run, Next};
+ghost use Rattle.words.specs.Words.{roleOf, wordsIn, between, comment};
+ghost use Rattle.words.specs.Steps.{isSpace, isEnd, Run, Next};
 
 pub enum Class {
     Space,
@@ -35,6 +35,30 @@ pub fn class_of(b: u8) -> Class
     }
 }
 
+// Whether a byte parts words. Nearly all of the others lie above the spaces, so that is tested first.
+fn is_space(b: u8) -> bool
+    ensures { λ r. ⌜ r ≡ isSpace (roleOf (classOf b)) ⌝ }
+{
+    if b' ' < b {
+        return false;
+    }
+    let k = class_of(b);
+    match k {
+        Class::Space => true,
+        _ => false,
+    }
+}
+
+// Whether a byte belongs to no word that began before it.
+fn is_end(b: u8) -> bool
+    ensures { λ r. ⌜ r ≡ isEnd (roleOf (classOf b)) ⌝ }
+{
+    if b'#' < b {
+        return b == b':';
+    }
+    (b == b'#') | is_space(b)
+}
+
 // Where the next word starts and stops, or that none is left.
 pub enum Word {
     At(usize, usize),
@@ -63,15 +87,10 @@ fn word_end(s: &[u8], from: usize) -> usize
 {
     let mut at = from;
     while at < s.len() {
-        let k = class_of(s[at]);
-        match k {
-            Class::Space | Class::Colon | Class::Hash => {
-                return at;
-            }
-            _ => {
-                at += 1;
-            }
+        if is_end(s[at]) {
+            return at;
         }
+        at += 1;
     }
     at
 }
@@ -82,20 +101,15 @@ pub fn word_at(s: &[u8], from: usize) -> Word
 {
     let mut at = from;
     while at < s.len() {
-        let k = class_of(s[at]);
-        match k {
-            Class::Space => {
-                at += 1;
-            }
-            Class::Hash => {
-                at = line_end(s, at + 1);
-            }
-            Class::Colon => {
-                return Word::At(at, at + 1);
-            }
-            _ => {
-                return Word::At(at, word_end(s, at + 1));
-            }
+        let b = s[at];
+        if is_space(b) {
+            at += 1;
+        } else if b == b'#' {
+            at = line_end(s, at + 1);
+        } else if b == b':' {
+            return Word::At(at, at + 1);
+        } else {
+            return Word::At(at, word_end(s, at + 1));
         }
     }
     Word::End

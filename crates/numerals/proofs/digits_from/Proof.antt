@@ -1,4 +1,7 @@
-use Rattle.numerals.proofs.Prelude.{ℕ, suc, _+_, _-_, _*_, _^_, _≤_, _<_, _≡_, refl, sym, _∙_, arith, needs, drop, digits, value}
+use Rattle.numerals.proofs.Prelude.{ℕ, suc, _^_, _<_, _≡_, refl, sym, _∙_, arith, needs}
+use Prim.Native.Nat.{_+_, _-_, _*_, _≤_}
+use lib.ListN.{drop}
+use Rattle.numerals.specs.Numeral.{digits, value}
 use mathlib.Core.Bool.{true, false}
 use mathlib.Core.List.{List, [], _∷_}
 use native.Mathlib.Decide.{decLt}

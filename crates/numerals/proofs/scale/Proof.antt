@@ -1,36 +1,32 @@
-use Rattle.numerals.proofs.Prelude.{ℕ, _-_, _*_, _^_, _≤_, _≡_, sym, ap, _∙_, arith}
-use native.Mathlib.Nat.{pow-suc, pow-zero}
-use native.Mathlib.Numerals.{add-one}
+use Rattle.numerals.proofs.Prelude.{ℕ, _^_, _≡_, sym, ap, arith}
+use Prim.Native.Nat.{_+_, _≤_}
 use Rattle.numerals.specs.Steps.{mostRead}
-use Rattle.numerals.proofs.Laws.{power-least}
 use Rattle.numerals.proofs.scale.Statement.{statement}
 use Rattle.numerals.proofs.scale.Tie as tie
 
-abbrev Inv-loop : tie.InvT-loop
-Inv-loop places u₀ counter₀ u i = (i ≤ places) × ((places ≤ mostRead) × (u ≡ 10 ^ i))
+power : {places n : ℕ} → places ≡ n → 10 ^ n ≡ 10 ^ places
+power e = sym (ap (λ (n : ℕ). 10 ^ n) e)
 
-abbrev μ-loop : tie.MeasureT-loop
-μ-loop places u₀ counter₀ u i = places - i
+-- none of six that follow each other
+beyond : {p n : ℕ} → n ≤ p → (p ≡ n → ⊥) → (p ≡ n + 1 → ⊥) → (p ≡ n + 2 → ⊥) → (p ≡ n + 3 → ⊥) → (p ≡ n + 4 → ⊥) → (p ≡ n + 5 → ⊥) → n + 6 ≤ p
+beyond l n₀ n₁ n₂ n₃ n₄ n₅ = omega arith
 
-loop-holds : tie.Need-loop-holds Inv-loop μ-loop
-loop-holds c = (omega arith, (c .pre, sym (pow-zero 10)))
+most : {p : ℕ} → p ≤ mostRead → mostRead ≤ p → p ≡ mostRead
+most a b = omega arith
 
-mul-u : tie.Need-mul-u Inv-loop μ-loop
-mul-u c =
-    let l = c .before .loop in
-    omega (arith, l .inv .1 .1, power-least (let few : l .counter ≤ mostRead = omega (arith, l .inv) in few))
-
-loop-again : tie.Need-loop-again Inv-loop μ-loop
-loop-again c =
-    let l = c .before .loop in
-    (omega arith, (l .inv .1 .0, ap (λ (u : ℕ). u * 10) (l .inv .1 .1) ∙ rw (add-one, pow-suc)))
-
-returns : tie.Need-returns Inv-loop μ-loop
-returns c =
-    let l = c .before .loop in
-    let all : l .counter ≡ c .before .before .args .places = omega arith in
-    l .inv .1 .1 ∙ ap (λ (i : ℕ). 10 ^ i) all
+-- the power after all that are listed
+returns-13 : tie.Need-returns-13
+returns-13 c =
+    let r = c .match .rest in
+    let l = r .0 .0 .0 .0 .0 .0 in
+    let six = beyond {n = 0} (omega arith) (l .0 .0 .0 .0 .0 .1) (l .0 .0 .0 .0 .1) (l .0 .0 .0 .1) (l .0 .0 .1) (l .0 .1) (l .1) in
+    power
+    (most (c .before .pre) (beyond {n = 6} six (r .0 .0 .0 .0 .0 .1) (r .0 .0 .0 .0 .1) (r .0 .0 .0 .1) (r .0 .0 .1) (r .0 .1) (r .1)))
 
 pub scale-spec : {M : Type 1} → statement M
 scale-spec =
-    tie.close (tie.spec Inv-loop μ-loop loop-holds mul-u (λ c. omega arith) (λ c. omega arith) loop-again returns)
+    tie.close (tie.spec
+    (λ c. power (c .match .keys1)) (λ c. power (c .match .keys2)) (λ c. power (c .match .keys3)) (λ c. power (c .match .keys4))
+    (λ c. power (c .match .keys5)) (λ c. power (c .match .keys6)) (λ c. power (c .match .keys7)) (λ c. power (c .match .keys8))
+    (λ c. power (c .match .keys9)) (λ c. power (c .match .keys10)) (λ c. power (c .match .keys11)) (λ c. power (c .match .keys12))
+    returns-13)

@@ -1,11 +1,12 @@
-use Rattle.words.proofs.Prelude.{ℕ, _≤_, _<_, _-_, _≡_, refl, _∙_, [], _∷_, arith, needs, length, Class, belongs, roleOf, between, wordsIn, by-keys}
-use Rattle.words.proofs.Prelude.{at-end}
+use Rattle.words.proofs.Prelude.{ℕ, _≤_, _<_, _-_, _≡_, refl, sym, _∙_, arith, needs, length, roleOf, between, wordsIn, at-end}
+use mathlib.Core.Path.{ap}
 use mathlib.Core.List.{List}
+use lib.ListN.{getD}
 use Rattle.words.specs.declared.Word.{Word}
 use Rattle.words.specs.declared.Word.the-variants.{At, End}
-use Rattle.words.specs.Words.{alone, parts, opens}
+use Rattle.words.specs.Class.{classOf}
 use Rattle.words.specs.Steps.{Inside, Worded, Next}
-use Rattle.words.proofs.Laws.{step-by, colon-word, plain-word}
+use Rattle.words.proofs.Laws.{roleIn, space-parts, belongs-else, step-by, colon-word, plain-word}
 use Rattle.words.proofs.word_at.Statement.{statement}
 use Rattle.words.proofs.word_at.Tie as tie
 
@@ -39,33 +40,33 @@ found {s} {from} {at} {w = x} k h w = record {
 
 returns : tie.Need-returns Inv-loop μ-loop
 returns c =
-    let s = c .before .before .before .before .before .before .before .args .s .now in
-    let l = c .before .before .before .before .before .loop in
-    let e = by-keys (λ (k : Class). roleOf k ≡ alone) (1 ∷ []) (c .before .before .class-of .ensures) (refl, tt) (c .before .match .keys3) in
+    let s = c .before .before .before .before .before .before .before .before .args .s .now in
+    let l = c .before .before .before .before .before .before .loop in
+    let e = ap (λ (b : ℕ). roleOf (classOf b)) (c .if3 .taken) in
     found (l .inv) (omega arith) (record { is = colon-word s (l .at) (omega arith) e; lies = (omega arith, (omega arith, omega arith)) })
 
 loop-again : tie.Need-loop-again Inv-loop μ-loop
 loop-again c =
-    let s = c .before .before .before .before .before .before .before .args .s .now in
-    let l = c .before .before .before .before .before .loop in
-    let e = by-keys (λ (k : Class). roleOf k ≡ parts) (0 ∷ []) (c .before .before .class-of .ensures) (refl, tt) (c .before .match .keys1) in
+    let s = c .before .before .before .before .before .before .args .s .now in
+    let l = c .before .before .before .before .loop in
+    let e = space-parts (roleIn s (l .at)) (sym (c .before .is-space .ensures) ∙ c .if1 .taken) in
     further (l .inv) (omega arith) (omega arith) (step-by s (l .at) (omega arith) between e)
 
 loop-again-2 : tie.Need-loop-again-2 Inv-loop μ-loop
 loop-again-2 c =
     let s = c .before .before .before .before .before .before .before .before .args .s .now in
     let l = c .before .before .before .before .before .before .loop in
-    let e = by-keys (λ (k : Class). roleOf k ≡ opens) (2 ∷ []) (c .before .before .before .class-of .ensures) (refl, tt) (c .before .before .match .keys2) in
+    let e = ap (λ (b : ℕ). roleOf (classOf b)) (c .before .if2 .taken) in
     let line = c .line-end .ensures in
     further (l .inv) (omega arith) (line .1 .0) (step-by s (l .at) (omega arith) between e ∙ line .1 .1)
 
 returns-2 : tie.Need-returns-2 Inv-loop μ-loop
 returns-2 c =
-    let s = c .before .before .before .before .before .before .before .args .s .now in
-    let l = c .before .before .before .before .before .loop in
+    let s = c .before .before .before .before .before .before .before .before .before .args .s .now in
+    let l = c .before .before .before .before .before .before .before .loop in
     let w = c .word-end .ensures in
-    let e = by-keys (λ (k : Class). roleOf k ≡ belongs) (3 ∷ 4 ∷ 5 ∷ 6 ∷ 7 ∷ []) (c .before .before .class-of .ensures) (search needs)
-    (c .before .match .keys4) in
+    let no-space = sym (c .before .before .before .before .is-space .ensures) ∙ c .before .before .before .if1 .left in
+    let e = belongs-else (getD s (l .at) 0) no-space (c .before .if3 .left) (c .before .before .if2 .left) in
     found (l .inv) (omega arith) (record { is = plain-word s (l .at) (omega arith) e w; lies = (omega arith, (omega (arith, w .up), w .low)) })
 
 returns-3 : tie.Need-returns-3 Inv-loop μ-loop
@@ -80,5 +81,5 @@ returns-3 c =
 pub word-at-spec : {M : Type 1} → statement M
 word-at-spec =
     tie.close (tie.spec Inv-loop μ-loop (λ c. record { up = omega arith; low = λ h. h; same = λ h. refl }) (λ c. omega arith) (λ c κs. search needs)
-    (λ c. c .match .keys1) (λ c. omega arith) (λ c. omega arith) loop-again (λ c. c .match .keys2) (λ c. omega arith) (λ c κs. omega arith)
-    (λ c. omega arith) loop-again-2 (λ c. c .match .keys3) (λ c. omega arith) returns (λ c. omega arith) (λ c κs. omega arith) returns-2 returns-3)
+    (λ c. omega arith) (λ c. omega arith) loop-again (λ c. omega arith) (λ c κs. omega arith)
+    (λ c. omega arith) loop-again-2 (λ c. omega arith) returns (λ c. omega arith) (λ c κs. omega arith) returns-2 returns-3)

@@ -1,6 +1,6 @@
-use Rattle.words.proofs.Prelude.{ℕ, _-_, _≤_, _≡_, [], _∷_, arith, needs, length, Class, belongs, roleOf, by-keys}
+use Rattle.words.proofs.Prelude.{ℕ, _-_, _≤_, sym, _∙_, arith, needs, length}
 use Rattle.words.specs.Steps.{Run}
-use Rattle.words.proofs.Laws.{Ends, end-run, run-more, run-ends}
+use Rattle.words.proofs.Laws.{roleIn, no-end, end-run, run-more, run-ends}
 use Rattle.words.proofs.word_end.Statement.{statement}
 use Rattle.words.proofs.word_end.Tie as tie
 
@@ -15,16 +15,13 @@ returns : tie.Need-returns Inv-loop μ-loop
 returns c =
     let s = c .before .before .before .before .before .before .args .s .now in
     let l = c .before .before .before .before .loop in
-    let k = c .before .class-of in
-    l .inv .1 (l .at)
-    (run-ends s (l .at) (omega arith) (by-keys (λ (k : Class). Ends (roleOf k)) (0 ∷ 1 ∷ 2 ∷ []) (k .ensures) (search needs) (c .match .keys1)))
+    l .inv .1 (l .at) (run-ends s (l .at) (omega arith) (sym (c .before .is-end .ensures) ∙ c .if1 .taken))
 
 loop-again : tie.Need-loop-again Inv-loop μ-loop
 loop-again c =
     let s = c .before .before .before .before .before .before .args .s .now in
     let l = c .before .before .before .before .loop in
-    let k = c .before .class-of in
-    let e = by-keys (λ (k : Class). roleOf k ≡ belongs) (3 ∷ 4 ∷ 5 ∷ 6 ∷ 7 ∷ []) (k .ensures) (search needs) (c .match .keys2) in
+    let e = no-end (roleIn s (l .at)) (sym (c .before .is-end .ensures) ∙ c .if1 .left) in
     (omega arith, λ r w. l .inv .1 r (run-more s (l .at) (omega arith) e w))
 
 returns-2 : tie.Need-returns-2 Inv-loop μ-loop

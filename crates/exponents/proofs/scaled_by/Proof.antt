@@ -1,11 +1,12 @@
-use Rattle.numerals.proofs.Prelude.{ℕ, _^_, _≤_, _<_, _≡_, arith, needs}
+use Rattle.exponents.proofs.Prelude.{ℕ, _≤_, _≡_, arith, needs}
+use Prim.Native.Nat.{_^_, _<_}
 use mathlib.Core.Bool.{true}
 use native.Mathlib.Nat.{mul-le-mul}
 use Rattle.numerals.specs.Numeral.{mostPower}
 use Rattle.numerals.specs.Steps.{mostUnits}
 use Rattle.numerals.proofs.Laws.{power-least, power-some, scaled-times, scaled-over, scaled-not}
-use Rattle.numerals.proofs.scaled_by.Statement.{statement}
-use Rattle.numerals.proofs.scaled_by.Tie as tie
+use Rattle.exponents.proofs.scaled_by.Statement.{statement}
+use Rattle.exponents.proofs.scaled_by.Tie as tie
 
 power-positive : {u : ℕ} (p : ℕ) → u ≡ 10 ^ p → 0 < u
 power-positive p e = omega (arith, e, power-some p)

@@ -1,14 +1,15 @@
-use Rattle.numerals.proofs.Prelude.{ℕ, _+_, _-_, _*_, _^_, _≤_, _<_, _≡_, sym, ap, _∙_, arith, needs, drop, digits, value}
+use Rattle.amounts.proofs.Prelude.{ℕ, _-_, _*_, _^_, _≤_, _≡_, sym, ap, _∙_, arith, needs, drop, digits, value}
+use Prim.Native.Nat.{_+_, _<_}
 use mathlib.Core.Bool.{true, false, true≢false}
 use mathlib.Core.List.{List}
 use native.Mathlib.Decide.{decLt}
 use borrow.Author.Tests.{not-true, not-false}
 use lib.Seq.{drop-drop}
 use Rattle.numerals.specs.Numeral.{enough, exponent}
 use Rattle.numerals.specs.Steps.{mostPlaces, mostUnits, Written}
 use Rattle.numerals.proofs.Laws.{filled-up, room, places-read, decimal-is, decimal-not, written-all, digit-exponent}
-use Rattle.numerals.proofs.decimal_of.Statement.{statement}
-use Rattle.numerals.proofs.decimal_of.Tie as tie
+use Rattle.amounts.proofs.decimal_of.Statement.{statement}
+use Rattle.amounts.proofs.decimal_of.Tie as tie
 
 -- digits that are not too many are all read
 all-read : (w : List ℕ) {from most end v : ℕ} → Written w from most end v → digits (drop from w) ≤ most → end - from ≡ digits (drop from w)

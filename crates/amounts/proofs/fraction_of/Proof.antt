@@ -1,9 +1,9 @@
-use Rattle.numerals.proofs.Prelude.{sym, ap, _∙_, arith, needs, drop}
+use Rattle.amounts.proofs.Prelude.{sym, ap, _∙_, arith, needs, drop}
 use lib.Seq.{drop-drop}
 use Rattle.numerals.specs.Numeral.{decimal}
 use Rattle.numerals.proofs.Laws.{pointed-low, fraction-pointed, fraction-plain, fraction-none}
-use Rattle.numerals.proofs.fraction_of.Statement.{statement}
-use Rattle.numerals.proofs.fraction_of.Tie as tie
+use Rattle.amounts.proofs.fraction_of.Statement.{statement}
+use Rattle.amounts.proofs.fraction_of.Tie as tie
 
 decimal-of-requires : tie.Need-decimal-of-requires
 decimal-of-requires c κs =

@@ -1,6 +1,6 @@
 use Rattle.numerals.proofs.Laws.{enough-none, enough-whole, enough-both}
-use Rattle.numerals.proofs.is_enough.Statement.{statement}
-use Rattle.numerals.proofs.is_enough.Tie as tie
+use Rattle.amounts.proofs.is_enough.Statement.{statement}
+use Rattle.amounts.proofs.is_enough.Tie as tie
 
 pub is-enough-spec : {M : Type 1} → statement M
 is-enough-spec =

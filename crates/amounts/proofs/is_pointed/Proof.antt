@@ -1,12 +1,13 @@
-use Rattle.numerals.proofs.Prelude.{_≡_, refl, sym, _∙_, arith, needs}
+use Rattle.amounts.proofs.Prelude.{_≡_, sym, _∙_, arith, needs}
+use mathlib.Core.Path.{refl}
 use mathlib.Core.Bool.{true, false}
 use mathlib.Core.List.{[], _∷_}
 use Rattle.words.specs.declared.Class.{Class}
 use Rattle.words.proofs.Keys.{by-keys}
 use Rattle.numerals.specs.Numeral.{isPoint}
 use Rattle.numerals.proofs.Laws.{pointed-end, pointed-in}
-use Rattle.numerals.proofs.is_pointed.Statement.{statement}
-use Rattle.numerals.proofs.is_pointed.Tie as tie
+use Rattle.amounts.proofs.is_pointed.Statement.{statement}
+use Rattle.amounts.proofs.is_pointed.Tie as tie
 
 returns : tie.Need-returns
 returns c = sym (pointed-end (c .before .before .args .w .now) (c .before .before .args .from) (c .if1 .taken))

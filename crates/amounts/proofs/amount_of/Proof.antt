@@ -1,10 +1,11 @@
-use Rattle.numerals.proofs.Prelude.{ℕ, _-_, _*_, _^_, _≤_, _≡_, sym, ap, _∙_, arith, needs, drop, digits, value, product}
+use Rattle.amounts.proofs.Prelude.{ℕ, _-_, _*_, _^_, _≤_, _≡_, sym, ap, _∙_, arith, needs, drop, digits, value}
+use Rattle.numerals.proofs.Laws.{product}
 use native.Mathlib.Decide.{decLt}
 use lib.Seq.{drop-drop}
 use Rattle.numerals.specs.Steps.{mostWhole}
 use Rattle.numerals.proofs.Laws.{room, digits-read, places-read, amount-is, amount-not, written-all, digit-fraction}
-use Rattle.numerals.proofs.amount_of.Statement.{statement}
-use Rattle.numerals.proofs.amount_of.Tie as tie
+use Rattle.amounts.proofs.amount_of.Statement.{statement}
+use Rattle.amounts.proofs.amount_of.Tie as tie
 
 -- the whole part is small
 small : (c : tie.After-struct-known2) → c .before .before .before .digits-from .result .value * c .before .scale .result

@@ -1,14 +1,15 @@
-use Rattle.numerals.proofs.Prelude.{ℕ, _+_, _-_, _≤_, _≡_, sym, ap, subst, _∙_, arith, needs, drop}
+use Rattle.exponents.proofs.Prelude.{ℕ, _≤_, _≡_, sym, ap, subst, _∙_, arith, needs, drop}
+use Prim.Native.Nat.{_+_, _-_}
 use mathlib.Core.Bool.{Bool, true, true≢false}
 use mathlib.Core.List.{List}
 use borrow.Author.Tests.{not-true, not-false}
 use lib.ListN.{length, take, length-drop}
 use lib.Seq.{take-all}
 use Rattle.numerals.specs.Numeral.{powered}
 use Rattle.numerals.specs.Steps.{mostUnits}
 use Rattle.numerals.proofs.Laws.{exponent-is, exponent-not}
-use Rattle.numerals.proofs.marked_of.Statement.{statement}
-use Rattle.numerals.proofs.marked_of.Tie as tie
+use Rattle.exponents.proofs.marked_of.Statement.{statement}
+use Rattle.exponents.proofs.marked_of.Tie as tie
 
 rest-is : (at : ℕ) (w : List ℕ) → take (length w - at) (drop at w) ≡ drop at w
 rest-is at w = take-all (length w - at) (drop at w) (omega (arith, length-drop at w))
