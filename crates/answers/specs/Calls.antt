@@ -22,7 +22,7 @@ use Rattle.answers.specs.declared.Replay.{Replay}
 
 -- the version of the calls' names, parameters and answers
 abbrev pub layoutVersion : ℕ
-layoutVersion = 3
+layoutVersion = 4
 
 -- tables that are handed in: states, actions, observations, discount, T, O, R
 abbrev pub model : ℕ → ℕ → ℕ → ℕ → List ℕ → List ℕ → List ℤ → Tables

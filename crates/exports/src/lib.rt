@@ -1,13 +1,16 @@
 // The interface for C and Rust: opening, offering and building over slices that programs lend. Whatever is handed in, a call ends without fault, and one
 // that refuses leaves every lent slice as it was.
 ghost use mathlib.Core.Path.{_≡_};
+ghost use mathlib.Core.Bool.{true};
 ghost use mathlib.Core.List.{List};
 ghost use Prim.Native.Nat.{ℕ, _<_};
 ghost use Rattle.tables.specs.Limits.{maxLevels};
+ghost use Rattle.tables.specs.Storage.{modelOf};
+ghost use Rattle.plans.specs.Build.{someCoversAll};
 ghost use Rattle.levels.specs.Storage.{LentLevel, Lent, cells, rows, lent, lentFor};
 ghost use Rattle.levels.specs.Judged.{offerVerdict};
 ghost use Rattle.runs.specs.State.{openVerdict, opened, offered, buildVerdict, builtOf};
-ghost use Rattle.runs.specs.Demand3.{ModelAccepted, after, steps, PointsHold};
+ghost use Rattle.runs.specs.Demand3.{ModelAccepted, after, steps, last, PointsHold};
 ghost use Rattle.answers.specs.Calls.{layoutVersion, model, refusalOf, Builds};
 use answers::Refusal;
 use tables::Counts;
@@ -17,7 +20,7 @@ use tables::Counts;
 pub extern "C" fn biidhaqun_version() -> u64
     ensures { λ r. ⌜ r ≡ layoutVersion ⌝ }
 {
-    3
+    4
 }
 
 // Opens a certifier on tables, at level 0. Nothing is written to weights and values: level 0 has no point.
@@ -208,8 +211,8 @@ pub extern "C" fn biidhaqun_build<'a, 'b>(
         (now (given .entry)) (now (newvalues .entry)) in
         let made = cells (now (newactions .exit)) (now (newchoices .exit)) (now (newmasks .exit)) (now (newentries .exit)) (now (newcorners .exit))
         (now (given .entry)) (now (newvalues .exit)) in
-        ModelAccepted tables x → standing ≡ after tables x ls → steps tables x ls < maxLevels → PointsHold tables x count y →
-        Builds tables x ls count y r made) ⌝ }
+        ModelAccepted tables x → standing ≡ after tables x ls → steps tables x ls < maxLevels
+        → someCoversAll (modelOf tables) (last tables x ls) ≡ true → PointsHold tables x count y → Builds tables x ls count y r made) ⌝ }
 {
     let c = Counts {
         states: n,

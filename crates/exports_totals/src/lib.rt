@@ -5,9 +5,9 @@ ghost use mathlib.Core.List.{List};
 ghost use Prim.Native.Nat.{ℕ, _<_};
 ghost use Rattle.levels.specs.Storage.{LentLevel, Lent, cells, rows, lent};
 ghost use Rattle.tables.specs.Verdicts.{left};
-ghost use Rattle.runs.specs.State.{mixtureHolds, totalsOf};
+ghost use Rattle.runs.specs.State.{totalsOf};
 ghost use Rattle.mixtures.specs.Each.{answers, eachVerdict, eachOf};
-ghost use Rattle.runs.specs.Demand3.{ModelAccepted, after, steps};
+ghost use Rattle.runs.specs.Demand3.{ModelAccepted, after, steps, MixtureHolds};
 ghost use Rattle.worths.specs.Storage.{lentGraph};
 ghost use Rattle.worth.specs.Judged.{worthAnswer};
 ghost use Rattle.answers.specs.Calls.{model, refusalOf, totalsBy, worthBy, Brackets};
@@ -48,7 +48,7 @@ pub extern "C" fn biidhaqun_totals<'a, 'b>(
         let tables = model n m k g (now (transition .entry)) (now (observation .entry)) (now (reward .entry)) in
         let standing = lent (now (state .entry)) (cells (now (actions .entry)) choices (now (masks .entry)) (now (entries .entry)) (now (corners .entry))
         (now (weights .entry)) (now (values .entry))) (rows (now (informed .entry)) (now (qmdp .entry))) in
-        ModelAccepted tables x → standing ≡ after tables x ls → 0 < steps tables x ls → mixtureHolds n (now (mixture .entry)) ≡ true →
+        ModelAccepted tables x → standing ≡ after tables x ls → 0 < steps tables x ls → MixtureHolds tables x ls (now (mixture .entry)) →
         Brackets tables x ls (now (mixture .entry)) r) ⌝ }
 {
     let c = Counts {

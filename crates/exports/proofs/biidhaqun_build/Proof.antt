@@ -5,7 +5,7 @@ use Rattle.exports.proofs.biidhaqun_build.Tie as tie
 
 -- where the certifier answered
 abbrev called : tie.After-refusal-of → tie.After-build
-called c = c .before .before .before .before .before .before .before .before
+called c = c .before .before .before .before .before .before .before .before .before .before
 
 returns : tie.Need-returns
 returns c =
@@ -15,15 +15,16 @@ returns c =
       λ choices. same ∙ ap refusalOf (b .0 choices),
       (
         b .1 .0,
-        λ choices x ls o e h p.
-            record { verdict = v; answer = same; holds = b .1 .1 choices x ls o e h p },
+        λ choices x ls o e h k p. record { verdict = v; answer = same; holds = b .1 .1 choices x ls o e h k p },
       ),
     )
 
 pub biidhaqun-build-spec : {M : Type 1} → statement M
 biidhaqun-build-spec =
     tie.close (tie.spec (λ c κs. search needs) (λ c κs. search needs)
-    (λ c. called c .build .kept .1 .1 .1 .1 .1 .1 .1 .1 .1 .1 .1 .1 .1 .1 .0) (λ c. called c .build .kept .1 .1 .1 .1 .1 .1 .1 .1 .1 .1 .1 .1 .1 .1 .1 .0)
+    (λ c. called c .build .kept .1 .1 .1 .1 .1 .1 .1 .1 .1 .1 .1 .1 .1 .1 .1 .0)
     (λ c. called c .build .kept .1 .1 .1 .1 .1 .1 .1 .1 .1 .1 .1 .1 .1 .1 .1 .1 .0)
     (λ c. called c .build .kept .1 .1 .1 .1 .1 .1 .1 .1 .1 .1 .1 .1 .1 .1 .1 .1 .1 .0)
-    (λ c. called c .build .kept .1 .1 .1 .1 .1 .1 .1 .1 .1 .1 .1 .1 .1 .1 .1 .1 .1 .1 .0) returns)
+    (λ c. called c .build .kept .1 .1 .1 .1 .1 .1 .1 .1 .1 .1 .1 .1 .1 .1 .1 .1 .1 .1 .0)
+    (λ c. called c .build .kept .1 .1 .1 .1 .1 .1 .1 .1 .1 .1 .1 .1 .1 .1 .1 .1 .1 .1 .1 .0)
+    (λ c. called c .build .kept .1 .1 .1 .1 .1 .1 .1 .1 .1 .1 .1 .1 .1 .1 .1 .1 .1 .1 .1 .1 .0) returns)

@@ -5,7 +5,7 @@ use Rattle.exports.proofs.biidhaqun_offer.Tie as tie
 
 -- where the certifier answered
 abbrev called : tie.After-refusal-of → tie.After-offer
-called c = c .before .before .before .before .before .before .before .before .before .before .before .before .before .before
+called c = c .before .before .before .before .before .before .before .before .before .before .before .before .before .before .before .before
 
 returns : tie.Need-returns
 returns c =
@@ -18,4 +18,5 @@ biidhaqun-offer-spec =
     (λ c. called c .offer .kept .1 .1 .1 .1 .0) (λ c. called c .offer .kept .1 .1 .1 .1 .1 .0) (λ c. called c .offer .kept .1 .1 .1 .1 .1 .1 .0)
     (λ c. called c .offer .kept .1 .1 .1 .1 .1 .1 .1 .0) (λ c. called c .offer .kept .1 .1 .1 .1 .1 .1 .1 .1 .0)
     (λ c. called c .offer .kept .1 .1 .1 .1 .1 .1 .1 .1 .1 .0) (λ c. called c .offer .kept .1 .1 .1 .1 .1 .1 .1 .1 .1 .1 .0)
-    (λ c. called c .offer .kept .1 .1 .1 .1 .1 .1 .1 .1 .1 .1 .1 .0) (λ c. called c .offer .kept .1 .1 .1 .1 .1 .1 .1 .1 .1 .1 .1 .1 .0) returns)
+    (λ c. called c .offer .kept .1 .1 .1 .1 .1 .1 .1 .1 .1 .1 .1 .0) (λ c. called c .offer .kept .1 .1 .1 .1 .1 .1 .1 .1 .1 .1 .1 .1 .0)
+    (λ c. called c .offer .kept .1 .1 .1 .1 .1 .1 .1 .1 .1 .1 .1 .1 .1 .0) returns)

@@ -5,7 +5,7 @@ use Rattle.exports.proofs.biidhaqun_open.Tie as tie
 
 -- where the certifier answered
 abbrev called : tie.After-refusal-of → tie.After-open
-called c = c .before .before .before .before .before .before .before .before .before .before .before
+called c = c .before .before .before .before .before .before .before .before .before .before .before .before .before
 
 returns : tie.Need-returns
 returns c =
@@ -17,4 +17,5 @@ biidhaqun-open-spec =
     tie.close (tie.spec (λ c κs. search needs) (λ c κs. search needs)
     (λ c. called c .«open» .kept .1 .1 .1 .1 .0) (λ c. called c .«open» .kept .1 .1 .1 .1 .1 .0) (λ c. called c .«open» .kept .1 .1 .1 .1 .1 .1 .0)
     (λ c. called c .«open» .kept .1 .1 .1 .1 .1 .1 .1 .0) (λ c. called c .«open» .kept .1 .1 .1 .1 .1 .1 .1 .1 .0)
-    (λ c. called c .«open» .kept .1 .1 .1 .1 .1 .1 .1 .1 .1 .1 .1 .0) (λ c. called c .«open» .kept .1 .1 .1 .1 .1 .1 .1 .1 .1 .1 .1 .1 .0) returns)
+    (λ c. called c .«open» .kept .1 .1 .1 .1 .1 .1 .1 .1 .1 .0) (λ c. called c .«open» .kept .1 .1 .1 .1 .1 .1 .1 .1 .1 .1 .1 .1 .0)
+    (λ c. called c .«open» .kept .1 .1 .1 .1 .1 .1 .1 .1 .1 .1 .1 .1 .1 .0) returns)
