@@ -7,6 +7,7 @@
 --   mask-cong          masks of the same states are the same
 --   mask-all           that of all states is 2 ^ n - 1
 --   mask-doubled       and twice that of all but the last, and 1
+--   ones-covers        the mask 2 ^ k - 1 covers each state below k
 --   mask-narrowed      that of a mask's own states below n is what is left of it below 2 ^ n
 --   includes-covers    a mask covers each of the states that it has
 --   includes-every     one mask has each of the states of another
@@ -124,6 +125,12 @@ mask-all (suc n) = rw NatL.pow-suc (omega (arith, mask-all n))
 pub mask-doubled : (n : ℕ) → 0 < n → (2 ^ (n - 1) - 1) * 2 + 1 ≡ maskOf n (λ s. true)
 mask-doubled zero h = absurd (omega arith)
 mask-doubled (suc n) h = let e : suc n - 1 ≡ n = omega arith in rw e (omega (arith, mask-all (suc n), NatL.pow-suc 2 n, pow-pos n))
+
+-- all bits below k are 1
+pub ones-covers : (k s : ℕ) → s < k → covered (2 ^ k - 1) s ≡ true
+ones-covers k s l =
+    let e : 2 ^ k - 1 ≡ maskOf k (λ s. true) = omega (arith, mask-all k) in
+    ap (λ (m : ℕ). covered m s) e ∙ mask-covers k (λ s. true) s l
 
 -- a bit is known by whether it is 1
 bit-known : (a b : ℕ) → a < 2 → b < 2 → eqb a 1 ≡ eqb b 1 → a ≡ b

@@ -1,2 +1,3 @@
--- Laws for this crate's proofs.
+-- Laws for this crate's proofs and those above it.
+pub mod Weighed
 pub mod Places

@@ -1,7 +1,7 @@
 // Products of weights with vectors, the first vector with the largest of those whose masks have some states, and the largest product of rows.
 ghost use mathlib.Core.Path.{_≡_};
 ghost use mathlib.Core.Bool.{true};
-ghost use Prim.Native.Nat.{ℕ, _+_, _≤_, _<_, _^_};
+ghost use Prim.Native.Nat.{ℕ, _+_, _≤_, _<_};
 ghost use lib.ListN.{length, getD};
 ghost use lib.IntN.{pos, natAbs};
 ghost use Rattle.integers.specs.Whole.{Below};
@@ -32,10 +32,10 @@ pub fn product(q: &[u64], cells: &[i64], at: usize, n: usize) -> i64
 }
 
 // The first vector with the largest product, of those whose masks have some states, among them all with a weight above 0.
-pub fn best_vector<'a>(
+pub fn best_vector(
     q: &[u64],
-    masks: &'a [u64],
-    entries: &'a [i64],
+    masks: &[u64],
+    entries: &[i64],
     n: usize,
     vectors: usize,
     states: u64,
@@ -43,7 +43,7 @@ pub fn best_vector<'a>(
     requires { ⌜ (n ≤ maxStates) × (0 < vectors) ⌝ }
     requires { ⌜ Below maxReached n (now q) ⌝ }
     requires { ⌜ MaskedFit n vectors (now masks) (now entries) ⌝ }
-    requires { ⌜ ((s : ℕ) → s < n → 0 < weightIn (now q) s → covered states s ≡ true) × (states < 2 ^ n) ⌝ }
+    requires { ⌜ ((s : ℕ) → s < n → 0 < weightIn (now q) s → covered states s ≡ true) ⌝ }
     ensures { λ r. ⌜ r .0 ≡ firstLargestOf vectors (λ v. includes (getD (now (masks .entry)) v 0) states)
         (λ v. product n (weightIn (now (q .entry))) (maskedIn n (now (masks .entry)) (now (entries .entry)) v)) ⌝ }
 {

@@ -6,7 +6,7 @@ ghost use Prim.Native.Nat.{_≤_, _<_};
 ghost use lib.Dec.{ltb, eqb};
 ghost use lib.ListN.{length};
 ghost use Rattle.integers.specs.Search.{every, some};
-ghost use Rattle.tables.specs.Limits.{maxStates, maxActions};
+ghost use Rattle.tables.specs.Limits.{maxStates, maxActions, maxObservations};
 ghost use Rattle.tables.specs.Storage.{transitionIn, observationIn, choiceIn, modelIn};
 ghost use Rattle.tables.specs.Steps.{cellsTo};
 ghost use Rattle.masks.specs.Masks.{covered, coveredIn};
@@ -39,17 +39,17 @@ fn reached(transition: &[u16], n: usize, mask: u64, a: Action, to: State) -> boo
 }
 
 // Whether the vector that v chooses for each observation, with O above 0 at a state, covers the state.
-fn seen_covered<'b>(
+fn seen_covered(
     observation: &[u16],
-    masks: &'b [u64],
-    choices: &'b [u16],
+    masks: &[u64],
+    choices: &[u16],
     n: usize,
     k: usize,
     v: Vector,
     a: Action,
     to: State,
 ) -> bool
-    requires { ⌜ (n ≤ maxStates) × ((a .0 < maxActions) × (to .0 < n)) ⌝ }
+    requires { ⌜ (n ≤ maxStates) × ((k ≤ maxObservations) × ((a .0 < maxActions) × (to .0 < n))) ⌝ }
     requires { ⌜ cellsTo n k (a .0) ≤ length (now observation) ⌝ }
     requires { ⌜ Chooses k (now masks) (now choices) (v .0) ⌝ }
     ensures { λ r. ⌜ r ≡ every k (λ o. eqb (observationIn n k (now (observation .entry)) (a .0) (to .0) o) 0
@@ -68,14 +68,8 @@ fn seen_covered<'b>(
 }
 
 // Whether the vectors that v chooses cover all states: then they cover all that are reached.
-fn chosen_cover<'b>(
-    masks: &'b [u64],
-    choices: &'b [u16],
-    n: usize,
-    k: usize,
-    v: Vector,
-) -> bool
-    requires { ⌜ (0 < n) × (n ≤ maxStates) ⌝ }
+fn chosen_cover(masks: &[u64], choices: &[u16], n: usize, k: usize, v: Vector) -> bool
+    requires { ⌜ (0 < n) × ((n ≤ maxStates) × (k ≤ maxObservations)) ⌝ }
     requires { ⌜ Chooses k (now masks) (now choices) (v .0) ⌝ }
     ensures { λ r. ⌜ r ≡ every k (λ o. every n (coveredIn (now (masks .entry)) (choiceIn k (now (choices .entry)) (v .0) o))) ⌝ }
 {
@@ -91,11 +85,11 @@ fn chosen_cover<'b>(
 }
 
 // 21 of a vector with a mask, an action and choices.
-pub fn reached_covered<'a, 'b>(
+pub fn reached_covered<'a>(
     transition: &'a [u16],
     observation: &'a [u16],
-    masks: &'b [u64],
-    choices: &'b [u16],
+    masks: &[u64],
+    choices: &[u16],
     n: usize,
     k: usize,
     v: Vector,

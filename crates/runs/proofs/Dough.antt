@@ -232,7 +232,7 @@ best-of-two = record {
 }
 
 -- totals and action, then the two ceilings
-abbrev given : ℤ → ℤ → ℤ → ℕ → ℤ → ℤ → Bounds
+abbrev pub given : ℤ → ℤ → ℤ → ℕ → ℤ → ℤ → Bounds
 given low high apart a saw row =
     record { verdict = Fine; lower = low; upper = high; gap = apart; action = record { 0 = a }; sawtooth = saw; informed = row }
 

@@ -1,6 +1,7 @@
 -- How large worths are, and how one step makes them of those with a step less. Assumes nothing.
-use Rattle.integers.proofs.Kit.{_≡_, _∙_, refl, ap, sym, List, ℕ, _≤_, _<_, _+_, _*_, suc, zero, arith, mul-le-mul, add-one}
+use Rattle.integers.proofs.Kit.{_≡_, _∙_, refl, ap, sym, List, ℕ, _≤_, _<_, _+_, _*_, _-_, _^_, suc, zero, arith, mul-le-mul, add-one}
 use Rattle.integers.proofs.Kit.{length, getD, replicate, length-replicate, paste, ℤ, pos, natAbs}
+use lib.ListN.{getD-replicate}
 use Rattle.integers.specs.Whole.{floorDiv, Within}
 use Rattle.integers.specs.Cells.{padded}
 use Rattle.integers.proofs.Lists.{padded-at, padded-cong, padded-length, laidRows-none, laidRows-at, laidRows-cong, laidRows-more}
@@ -11,6 +12,9 @@ use Rattle.tables.specs.Limits.{maxStates, maxActions, K}
 use Rattle.tables.specs.Model.{Model, backedUp}
 use Rattle.tables.specs.Storage.{entryIn, modelIn}
 use Rattle.tables.specs.Steps.{EntriesFit}
+use Rattle.masks.specs.Masks.{maskedIn}
+use Rattle.masks.specs.Steps.{MaskedFit}
+use Rattle.masks.proofs.Bits.{ones-covers}
 use Rattle.sums.specs.Steps.{foreseenIn, backupIn, TransitionsFit, ObservationsFit, RewardsFit, ChosenFit, foreseenLimit}
 use Rattle.tables.proofs.Fitting.{rows-stored}
 use Rattle.sums.proofs.Regroup.{backup-regrouped, foreseen-limit, transitions-fit, observations-fit, rewards-fit}
@@ -31,6 +35,13 @@ worth-range M G h (suc d) v s lv ls =
     floor-range K K-positive (range (suc d)) _
     (backup-within M d (h .valid) (G .action v) (h .action-in v lv) (λ o s'. worthOf M G d (G .next v o) s')
     (λ o b s' l. worth-range M G h d (G .next v o) s' (h .next-in v lv o b) l) s ls)
+
+-- the masks of a graph's nodes, each of which covers all states
+abbrev pub nodeMasks : List ℕ
+nodeMasks = replicate maxNodes (2 ^ 64 - 1)
+
+nodes-covered : (n : ℕ) (entries : List ℤ) (v s : ℕ) → v < maxNodes → s < maxStates → maskedIn n nodeMasks entries v s ≡ entryIn n entries v s
+nodes-covered n entries v s lv ls = rw (getD-replicate maxNodes v (2 ^ 64 - 1) 0 lv, ones-covers 64 s (omega arith))
 
 -- no row is filled yet
 pub worths-none-yet : (n : ℕ) (worth : ℕ → ℕ → ℤ) → replicate (maxNodes * maxStates) (pos 0) ≡ worthsBy n 0 worth
@@ -61,10 +72,18 @@ module _ {c : Counts} {nodes : ℕ} {T O : List ℕ} {R : List ℤ} {actions nex
     pub action-below : a < maxActions
     action-below = omega (arith, acts-in, h .sound .valid .few-actions)
 
-    pub chosen : ChosenFit (c .states) (c .observations) before next v
+    masked : MaskedFit (c .states) nodes nodeMasks before
+    masked = record {
+      few = fit .few;
+      masks-long = rw (length-replicate maxNodes (2 ^ 64 - 1)) (h .sound .few-nodes);
+      stored = fit .stored;
+      entry = λ i l s b. rw (nodes-covered (c .states) before i s (omega (arith, l, h .sound .few-nodes)) (omega (arith, b, few-states))) (fit .entry i l s b);
+    }
+
+    pub chosen : ChosenFit (c .states) (c .observations) nodeMasks before next v
     chosen = record {
       vectors = nodes;
-      entries-fit = fit;
+      entries-fit = masked;
       row = omega (arith, exists, h .sound .few-nodes);
       stored = rows-stored (c .observations) v nodes exists (h .graph .next-stored);
       vector = h .sound .next-in v exists;
@@ -79,7 +98,7 @@ module _ {c : Counts} {nodes : ℕ} {T O : List ℕ} {R : List ℤ} {actions nex
     pub rewards : RewardsFit (c .states) R a
     rewards = rewards-fit c T O R (h .sound .valid) (h .tables) a acts-in
 
-    module _ {f : List ℤ} (ahead : f ≡ padded (pos 0) maxStates (c .states) (foreseenIn (c .states) (c .observations) O before next v a)) where
+    module _ {f : List ℤ} (ahead : f ≡ padded (pos 0) maxStates (c .states) (foreseenIn (c .states) (c .observations) O nodeMasks before next v a)) where
       pub foreseen-long : maxStates ≡ length f
       foreseen-long = sym (rw ahead (padded-length (pos 0) maxStates _ _ few-states))
 
@@ -91,7 +110,9 @@ module _ {c : Counts} {nodes : ℕ} {T O : List ℕ} {R : List ℤ} {actions nex
           → r ≡ padded (pos 0) maxStates (c .states) (backedUpOf c nodes T O R actions next before v)
       unfolding backedUp
       row-is e = e ∙ padded-cong (pos 0) maxStates (c .states) _ _ (λ s l. ap (λ (z : ℤ). floorDiv z K)
-          (backup-regrouped c T O R before next v f a s (λ s' b. rw ahead (padded-at (pos 0) maxStates _ _ s' (pos 0) b)) ∙ rw acts refl))
+          (backup-regrouped c T O R nodeMasks before next v f a s (λ s' b. rw ahead (padded-at (pos 0) maxStates _ _ s' (pos 0) b))
+          ∙ backup-cong model a _ _ s (λ o k s' b. nodes-covered (c .states) before (graph .next v o) s'
+          (omega (arith, h .sound .next-in v exists o k, h .sound .few-nodes)) (omega (arith, b, few-states))) ∙ rw acts refl))
 
   -- ---- all nodes
   module _ (worth : ℕ → ℕ → ℤ) where

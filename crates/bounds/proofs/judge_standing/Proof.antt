@@ -21,7 +21,7 @@ tables c = tablesIn (c .args .c) (c .args .transition .now) (c .args .observatio
 abbrev certifier : tie.Start → List ℕ → Lent
 certifier c choices =
     let a = c .args in
-    lent (a .state .now) (cells (a .actions .now) choices (a .entries .now) (a .corners .now) (a .weights .now) (a .values .now))
+    lent (a .state .now) (cells (a .actions .now) choices (a .masks .now) (a .entries .now) (a .corners .now) (a .weights .now) (a .values .now))
     (rows (a .informed .now) (a .qmdp .now))
 
 above-zero : (t : ℕ) → (t ≡ 0 → ⊥) → ltb 0 t ≡ true

@@ -5,16 +5,19 @@ use Rattle.tables.specs.Storage.{tablesIn}
 use Rattle.levels.specs.Storage.{LentLevel, Lent, cells, rows, lent, lentFor, standingAt}
 use Rattle.runs.proofs.Judged.{Fitting, fitting}
 use Rattle.backups.proofs.Roofs.{corners-fit, points-fit, values-fit}
-use Rattle.judging.proofs.Offers.{refused-13, refused-14, left-15, judging, standing-roof, offered-roof, offered-shaped}
+use Rattle.judging.proofs.Offers.{refused-21, refused-13, refused-14, left-15, reaching, judging, standing-roof, offered-roof, offered-shaped}
 use Rattle.judging.proofs.judge_backups.Statement.{statement}
 use Rattle.judging.proofs.judge_backups.Tie as tie
 
 -- from each place to the one before it
-abbrev start : tie.After-standing-in → tie.Start
-start c = c .before .before .before .before .before .before .before .before .before .before
+abbrev first : tie.After-shared-slice-known11 → tie.Start
+first c = c .before .before .before .before .before .before .before .before .before .before .before
 
-abbrev of-floor : tie.After-floors-hold → tie.After-standing-in
-of-floor c = c .before
+abbrev start : tie.After-masks-hold → tie.Start
+start c = first (c .before .before)
+
+abbrev of-floor : tie.After-floors-hold → tie.After-masks-hold
+of-floor c = c .before .before .before
 
 abbrev of-roof : tie.After-corners-hold → tie.After-floors-hold
 of-roof c = c .before .before .before
@@ -26,68 +29,79 @@ tables c = tablesIn (c .args .c) (c .args .transition .now) (c .args .observatio
 abbrev certifier : tie.Start → Lent
 certifier c =
     let a = c .args in
-    lent (a .state .now) (cells (a .actions .now) (a .choices .now) (a .entries .now) (a .corners .now) (a .weights .now) (a .values .now))
-    (rows (a .informed .now) (a .qmdp .now))
+    lent (a .state .now) (cells (a .actions .now) (a .choices .now) (a .masks .now) (a .entries .now) (a .corners .now) (a .weights .now)
+    (a .values .now)) (rows (a .informed .now) (a .qmdp .now))
 
 abbrev offered : tie.Start → LentLevel
 offered c =
     let a = c .args in
     lentFor (a .vectors) (a .points)
-    (cells (a .newactions .now) (a .newchoices .now) (a .newentries .now) (a .newcorners .now) (a .newweights .now) (a .newvalues .now))
+    (cells (a .newactions .now) (a .newchoices .now) (a .newmasks .now) (a .newentries .now) (a .newcorners .now) (a .newweights .now) (a .newvalues .now))
 
 known : (c : tie.Start) → Fitting maxVectors (tables c) (certifier c) (offered c)
 known c = fitting maxVectors (tables c) (certifier c) (offered c) (c .pre)
 
-stands : (c : tie.After-standing-in) → c .standing-in .result ≡ standingAt (start c .args .state .now)
+stands : (c : tie.After-standing-in) → c .standing-in .result ≡ standingAt (first (c .before) .args .state .now)
 stands c = c .standing-in .ensures
 
-standing-in-requires : tie.Need-standing-in-requires
-standing-in-requires c κs = known (c .before .before .before .before .before .before .before .before .before) .standing .state-long
-
-floors-hold-requires : tie.Need-floors-hold-requires
-floors-hold-requires c κs = let s = start c in judging (tables s) (certifier s) (offered s) (known s)
+masks-hold-requires : tie.Need-masks-hold-requires
+masks-hold-requires c κs = let s = first (c .before) in reaching (tables s) (certifier s) (offered s) (known s)
 
 returns : tie.Need-returns
 returns c =
-    let f = c .before .before in
-    let s = start (of-floor f) in
-    refused-13 (tables s) (certifier s) (offered s) (f .floors-hold .ensures) (c .enum-told2 .given .1)
+    let m = c .before .before in
+    let s = start m in
+    refused-21 (tables s) (certifier s) (offered s) (m .masks-hold .ensures) (c .enum-told2 .given .1)
 
-corners-hold-requires : tie.Need-corners-hold-requires
-corners-hold-requires c κs =
-    let b = of-floor (c .before .before) in
-    let s = start b in
-    rw (stands b) (standing-roof (tables s) (certifier s) (offered s) (known s), corners-fit (offered-roof (tables s) (certifier s) (offered s) (known s)))
+floors-hold-requires : tie.Need-floors-hold-requires
+floors-hold-requires c κs = let s = start (c .before .before) in judging (tables s) (certifier s) (offered s) (known s)
 
 returns-2 : tie.Need-returns-2
 returns-2 c =
+    let f = c .before .before in
+    let m = of-floor f in
+    let s = start m in
+    refused-13 (tables s) (certifier s) (offered s) (m .masks-hold .ensures) (f .before .enum-told .given .1) (f .floors-hold .ensures)
+    (c .enum-told4 .given .1)
+
+corners-hold-requires : tie.Need-corners-hold-requires
+corners-hold-requires c κs =
+    let m = of-floor (c .before .before) in
+    let s = start m in
+    rw (stands (m .before))
+    (standing-roof (tables s) (certifier s) (offered s) (known s), corners-fit (offered-roof (tables s) (certifier s) (offered s) (known s)))
+
+returns-3 : tie.Need-returns-3
+returns-3 c =
     let r = c .before .before in
     let f = of-roof r in
-    let b = of-floor f in
-    let s = start b in
-    refused-14 (tables s) (certifier s) (offered s) (f .floors-hold .ensures) (r .before .enum-told .given .1)
-    (rw (stands b) at (r .corners-hold .ensures)) (c .enum-told4 .given .1)
+    let m = of-floor f in
+    let s = start m in
+    refused-14 (tables s) (certifier s) (offered s) (m .masks-hold .ensures) (f .before .enum-told .given .1) (f .floors-hold .ensures)
+    (r .before .enum-told3 .given .1) (rw (stands (m .before)) at (r .corners-hold .ensures)) (c .enum-told6 .given .1)
 
 points-hold-requires : tie.Need-points-hold-requires
 points-hold-requires c κs =
-    let b = of-floor (of-roof (c .before .before)) in
-    let s = start b in
+    let m = of-floor (of-roof (c .before .before)) in
+    let s = start m in
     let w = offered-roof (tables s) (certifier s) (offered s) (known s) in
-    rw (stands b) (
+    rw (stands (m .before)) (
       standing-roof (tables s) (certifier s) (offered s) (known s),
       (points-fit w, (values-fit w, offered-shaped (tables s) (certifier s) (offered s) (known s) .total)),
     )
 
-returns-3 : tie.Need-returns-3
-returns-3 c =
+returns-4 : tie.Need-returns-4
+returns-4 c =
     let r = c .before .before .before in
     let f = of-roof r in
-    let b = of-floor f in
-    let s = start b in
-    left-15 (tables s) (certifier s) (offered s) (f .floors-hold .ensures) (r .before .enum-told .given .1)
-    (rw (stands b) at (r .corners-hold .ensures)) (rw (stands b) at (c .points-hold .ensures)) (c .before .enum-told3 .given .1)
+    let m = of-floor f in
+    let s = start m in
+    left-15 (tables s) (certifier s) (offered s) (m .masks-hold .ensures) (f .before .enum-told .given .1) (f .floors-hold .ensures)
+    (r .before .enum-told3 .given .1) (rw (stands (m .before)) at (r .corners-hold .ensures)) (rw (stands (m .before)) at (c .points-hold .ensures))
+    (c .before .enum-told5 .given .1)
 
 pub judge-backups-spec : {M : Type 1} → statement M
 judge-backups-spec =
-    tie.close (tie.spec standing-in-requires floors-hold-requires (λ c. search needs) (λ c. search needs) returns corners-hold-requires (λ c. search needs)
-    (λ c. search needs) returns-2 points-hold-requires returns-3)
+    tie.close (tie.spec (λ c κs. known (first c) .standing .state-long) masks-hold-requires (λ c. search needs) (λ c. search needs) returns
+    floors-hold-requires (λ c. search needs) (λ c. search needs) returns-2 corners-hold-requires (λ c. search needs) (λ c. search needs) returns-3
+    points-hold-requires returns-4)

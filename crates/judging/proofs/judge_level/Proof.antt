@@ -8,7 +8,7 @@ use Rattle.judging.proofs.judge_level.Statement.{statement}
 use Rattle.judging.proofs.judge_level.Tie as tie
 
 abbrev start : tie.After-numbers-exist → tie.Start
-start c = c .before .before .before .before
+start c = c .before .before .before .before .before
 
 abbrev of-numbers : tie.After-ranges-hold → tie.After-numbers-exist
 of-numbers c = c .before .before .before
@@ -18,14 +18,14 @@ abbrev Ranges : tie.Start → Verdict
 Ranges c =
     let a = c .args in
     rangesVerdict (a .c .states) (a .t)
-    (levelIn (a .c .states) (a .c .observations) (a .vectors) (a .actions .now) (a .choices .now) (a .entries .now) (a .corners .now) (a .points)
-    (a .weights .now) (a .values .now))
+    (levelIn (a .c .states) (a .c .observations) (a .vectors) (a .actions .now) (a .choices .now) (a .masks .now) (a .entries .now) (a .corners .now)
+    (a .points) (a .weights .now) (a .values .now))
 
 ranges-said : (c : tie.After-ranges-hold) → c .ranges-hold .result ≡ Ranges (start (of-numbers c))
 ranges-said c =
     let a = start (of-numbers c) .args in
     c .ranges-hold .ensures
-    ∙ ranges-read (a .c .states) (a .c .observations) (a .t) (a .vectors) (a .points) (a .actions .now) (a .choices .now) (a .entries .now)
+    ∙ ranges-read (a .c .states) (a .c .observations) (a .t) (a .vectors) (a .points) (a .actions .now) (a .choices .now) (a .masks .now) (a .entries .now)
     (a .corners .now) (a .weights .now) (a .values .now)
 
 returns : tie.Need-returns

@@ -9,7 +9,7 @@ use Rattle.tables.proofs.Refusals.{breaks, passes}
 use Rattle.plans.specs.Limits.{maxPoints}
 use Rattle.levels.specs.declared.Standing.{Standing}
 use Rattle.levels.specs.Storage.{LentLevel, Lent, cells, rows, lent, lentFor, standingAt, complete}
-use Rattle.levels.specs.Judged.{countsHold, fits, holds, shapeVerdict, shapeUpTo}
+use Rattle.levels.specs.Judged.{countsHold, fits, holds, shapeUpTo}
 use Rattle.levels.proofs.Over.{complete-true}
 use Rattle.runs.proofs.Judged.{Held, standing-true}
 use Rattle.standing.proofs.Stages.{counts-few}
@@ -18,7 +18,7 @@ use Rattle.judging.proofs.judge_shape.Tie as tie
 
 -- from each test that was passed to the one before it
 abbrev start : tie.After-standing-holds → tie.Start
-start c = c .before .before .before .before .before .before .before .before .before .before
+start c = c .before .before .before .before .before .before .before .before .before .before .before .before
 
 abbrev of-certifier : tie.Else1 → tie.Start
 of-certifier c = start (c .before)
@@ -42,14 +42,14 @@ tables c = tablesIn (c .args .c) (c .args .transition .now) (c .args .observatio
 abbrev certifier : tie.Start → Lent
 certifier c =
     let a = c .args in
-    lent (a .state .now) (cells (a .actions .now) (a .choices .now) (a .entries .now) (a .corners .now) (a .weights .now) (a .values .now))
-    (rows (a .informed .now) (a .qmdp .now))
+    lent (a .state .now) (cells (a .actions .now) (a .choices .now) (a .masks .now) (a .entries .now) (a .corners .now) (a .weights .now)
+    (a .values .now)) (rows (a .informed .now) (a .qmdp .now))
 
 abbrev offered : tie.Start → LentLevel
 offered c =
     let a = c .args in
     lentFor (a .vectors) (a .points)
-    (cells (a .newactions .now) (a .newchoices .now) (a .newentries .now) (a .newcorners .now) (a .newweights .now) (a .newvalues .now))
+    (cells (a .newactions .now) (a .newchoices .now) (a .newmasks .now) (a .newentries .now) (a .newcorners .now) (a .newweights .now) (a .newvalues .now))
 
 -- ---- what each test says
 said-7 : (c : tie.After-standing-holds) → c .standing-holds .result ≡ holds (tables (start c)) (certifier (start c))
@@ -151,7 +151,7 @@ judge-level-requires c κs =
     let n = of-counts e .before .before in
     rw (number-is n) (
       (f .0, (f .1 .0, (f .1 .1 .0, (f .1 .1 .1, omega (arith, below (of-counts e)))))),
-      ((l .read .actions, (l .choices, l .read .entries)), (l .read .corners, (l .read .weights, l .read .values))),
+      ((l .read .actions, (l .choices, (l .read .masks, l .read .entries))), (l .read .corners, (l .read .weights, l .read .values))),
     )
 
 returns-6 : tie.Need-returns-6

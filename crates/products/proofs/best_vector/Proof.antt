@@ -1,77 +1,140 @@
-use Rattle.integers.proofs.Kit.{needs, ℕ, _+_, _≤_, _-_, _≡_, sym, _∙_, arith, true, ℤ, w64, toZ, ofZ, ap, false, ⊎-elim, ltZ}
+use Rattle.integers.proofs.Kit.{needs, ℕ, _+_, _≤_, _<_, _-_, suc, zero, _≡_, _∙_, refl, sym, ap, arith, Bool, true, false, List, getD, ℤ}
+use Rattle.integers.proofs.Kit.{w64, toZ, ofZ, ⊎-elim, ltZ, not-false, not-true}
+use mathlib.Core.Bool.{not}
+use Rattle.integers.proofs.Parts.{is-T}
 use Rattle.integers.proofs.Words.{answer}
+use Rattle.integers.specs.Search.{firstLargestOf}
+use Rattle.integers.proofs.Searches.{below-suc, or-true, of-first, of-later, of-same, of-in}
+use Rattle.tables.specs.Storage.{weightIn}
+use Rattle.masks.specs.Masks.{coveredIn, maskedIn}
+use Rattle.masks.specs.Steps.{includes}
+use Rattle.masks.proofs.Bits.{includes-covers}
 use Rattle.plans.specs.Level.{product}
-use Rattle.integers.specs.Search.{firstLargest}
-use Rattle.integers.proofs.Searches.{largest-first, largest-later, largest-same}
-use Rattle.products.proofs.Places.{worth, from-start, here}
+use Rattle.products.proofs.Weighed.{product-masked}
+use Rattle.products.proofs.Places.{from-start, here-masked}
 use Rattle.products.proofs.best_vector.Statement.{statement}
 use Rattle.products.proofs.best_vector.Tie as tie
 
--- a turn of the search: the best so far, what it is worth, and what vector v is worth
-module _ (f : ℕ → ℤ) (v : ℕ) {best : ℕ} {most here : ℤ} (so-far : best ≡ firstLargest v f) (held : most ≡ f best) (seen : here ≡ f v) where
-  larger : {b : ℕ} {m : ℤ} → ltZ most here ≡ true → b ≡ v → m ≡ here → (b ≡ firstLargest (v + 1) f) × (m ≡ f b)
-  larger t e g = (e ∙ sym (largest-later v f (rw (← so-far, ← held, ← seen) t)), g ∙ seen ∙ ap f (sym e))
+-- what the search has below v: the first largest so far, and f there, where one was met that p holds of
+record Found (p : ℕ → Bool) (f : ℕ → ℤ) (v : ℕ) (found : Bool) (best : ℕ) (most : ℤ) : Type 0 where
+  place : best ≡ firstLargestOf v p f
+  met : found ≡ true → (p best ≡ true) × (most ≡ f best)
+  none : found ≡ false → (i : ℕ) → i < v → p i ≡ false
 
-  not-larger : {b : ℕ} {m : ℤ} → ltZ most here ≡ false → b ≡ best → m ≡ most → (b ≡ firstLargest (v + 1) f) × (m ≡ f b)
-  not-larger t e g = (e ∙ so-far ∙ sym (largest-same v f (rw (← so-far, ← held, ← seen) t)), g ∙ held ∙ ap f (sym e))
+module _ (p : ℕ → Bool) (f : ℕ → ℤ) where
+  found-nothing : {most : ℤ} → Found p f 0 false 0 most
+  unfolding firstLargestOf
+  found-nothing = record { place = refl; met = λ e. absurd (is-T e); none = λ e i l. absurd (omega arith) }
+
+  -- the first that is met
+  first-met : (v : ℕ) → p v ≡ true → ((i : ℕ) → i < v → p i ≡ false) → firstLargestOf (v + 1) p f ≡ v
+  first-met zero e none = of-first p f
+  first-met (suc v) e none = of-later p f (suc v) e (rw (none _ (of-in p f (suc v) (omega arith))) refl)
+
+  module _ {v best : ℕ} {found : Bool} {most : ℤ} (so-far : Found p f v found best most) where
+    -- p does not hold of v
+    passed : {r : Bool} {b : ℕ} {m : ℤ} → p v ≡ false → r ≡ found → b ≡ best → m ≡ most → Found p f (v + 1) r b m
+    passed h e g k = record {
+      place = g ∙ so-far .place ∙ sym (of-same p f v (rw h refl));
+      met = λ t. rw (g, k) (so-far .met (sym e ∙ t));
+      none = λ t i l. below-suc v (so-far .none (sym e ∙ t)) h i (omega arith);
+    }
+
+    -- it does, and f is larger there, or not
+    module _ {here : ℤ} (holds : p v ≡ true) (seen : here ≡ f v) where
+      larger : ltZ most here ≡ true → found ≡ true → firstLargestOf (v + 1) p f ≡ v
+      larger t e = of-later p f v holds (rw (← so-far .place, ← so-far .met e .1, ← seen, t) (or-true (not (p best))))
+
+      taken : {r : Bool} {b : ℕ} {m : ℤ} → firstLargestOf (v + 1) p f ≡ v → r ≡ true → b ≡ v → m ≡ here → Found p f (v + 1) r b m
+      taken first e g k = record {
+        place = g ∙ sym first;
+        met = λ t. (ap p g ∙ holds, k ∙ seen ∙ ap f (sym g));
+        none = λ t. absurd (is-T (sym t ∙ e));
+      }
+
+      left : {r : Bool} {b : ℕ} {m : ℤ} → found ≡ true → ltZ most here ≡ false → r ≡ found → b ≡ best → m ≡ most → Found p f (v + 1) r b m
+      left h t e g k = record {
+        place = g ∙ so-far .place ∙ sym (of-same p f v (rw (holds, ← so-far .place, so-far .met h .0, ← so-far .met h .1, ← seen, t) refl));
+        met = λ u. rw (g, k) (so-far .met h);
+        none = λ u. absurd (is-T (sym u ∙ e ∙ h));
+      }
+
+-- which vectors count, and what they are worth
+abbrev counted : List ℕ → ℕ → ℕ → Bool
+counted masks states v = includes (getD masks v 0) states
+
+abbrev masked : List ℕ → List ℕ → List ℤ → ℕ → ℕ → ℤ
+masked q masks entries n v = product n (weightIn q) (maskedIn n masks entries v)
 
 abbrev Inv-loop : tie.InvT-loop
-Inv-loop q entries n vectors best₀ most₀ v₀ best most v =
-    ((1 ≤ v) × (v ≤ vectors)) × ((best ≡ firstLargest v (worth q entries n)) × (toZ w64 most ≡ worth q entries n best))
+Inv-loop q masks entries n vectors states found₀ best₀ most₀ v₀ found best most v =
+    (v ≤ vectors) × Found (counted masks states) (masked q masks entries n) v found best (toZ w64 most)
 
 abbrev μ-loop : tie.MeasureT-loop
-μ-loop q entries n vectors best₀ most₀ v₀ best most v = vectors - v
+μ-loop q masks entries n vectors states found₀ best₀ most₀ v₀ found best most v = vectors - v
+
+abbrev turn : tie.After-has Inv-loop μ-loop → tie.At-loop Inv-loop μ-loop
+turn c = c .before .before .before
+
+abbrev start : tie.At-loop Inv-loop μ-loop → tie.Start Inv-loop μ-loop
+start c = c .before .before .before
+
+-- a vector that counts covers each state with a weight above 0
+covers : (c : tie.Then1 Inv-loop μ-loop) → let l = turn (c .before) in
+    let a = start l .args in
+    (s : ℕ) → s < a .n → 0 < weightIn (a .q .now) s → coveredIn (a .masks .now) (l .loop .v) s ≡ true
+covers c s b w =
+    let l = turn (c .before) in
+    let a = start l in
+    includes-covers (getD (a .args .masks .now) (l .loop .v) 0) (a .args .states) s (sym (c .before .has .ensures) ∙ c .if1 .taken) (a .pre .1 .1 .1 s b w)
 
 product-requires : tie.Need-product-requires Inv-loop μ-loop
 product-requires c κs =
-    let a = c .before .before in
-    let h = here (a .args .entries .now) (a .args .n) (a .args .vectors) 0 (a .pre .1 .1) (a .pre .0 .1) (c .start .ensures) in
+    let l = turn (c .before .before) in
+    let a = start l in
+    let h = here-masked (a .args .q .now) (a .args .entries .now) (a .args .n) (a .args .vectors) (l .loop .v) (omega arith) (c .start .ensures)
+    (a .args .masks .now) (a .pre .1 .1 .0) (covers (c .before)) in
     ((a .pre .0 .0, h .inside), (a .pre .1 .0, h .within))
 
-loop-holds : tie.Need-loop-holds Inv-loop μ-loop
-loop-holds c =
-    let a = c .before .before .before .args in (
-      (omega arith, omega arith),
-      (
-        sym (largest-first _),
-        from-start (a .q .now) (a .entries .now) (a .n) 0 (c .before .start .ensures) (answer (c .product .ok) (c .product .ensures)),
-      ),
-    )
-
-start-requires-2 : tie.Need-start-requires-2 Inv-loop μ-loop
-start-requires-2 c κs = let a = c .before .before .before .before .before in (omega (arith, a .pre .1 .1 .few), a .pre .0 .0)
-
-product-requires-2 : tie.Need-product-requires-2 Inv-loop μ-loop
-product-requires-2 c κs =
-    let a = c .before .before .before .before .before .before in
-    let v = c .before .before .loop .v in
-    let h = here (a .args .entries .now) (a .args .n) (a .args .vectors) v (a .pre .1 .1) (omega arith) (c .start2 .ensures) in
-    ((a .pre .0 .0, h .inside), (a .pre .1 .0, h .within))
-
--- what vector v is worth
-seen : (c : tie.After-product2 Inv-loop μ-loop) → let a = c .before .before .before .before .before .before .before .args in toZ w64
-    (ofZ w64 (c .product2 .result)) ≡ worth (a .q .now) (a .entries .now) (a .n) (c .before .before .before .loop .v)
+-- what the vector is worth
+seen : (c : tie.After-product Inv-loop μ-loop) → let l = turn (c .before .before .before) in
+    let a = start l .args in
+    toZ w64 (ofZ w64 (c .product .result)) ≡ masked (a .q .now) (a .masks .now) (a .entries .now) (a .n) (l .loop .v)
 seen c =
-    let a = c .before .before .before .before .before .before .before .args in
-    from-start (a .q .now) (a .entries .now) (a .n) (c .before .before .before .loop .v) (c .before .start2 .ensures)
-    (answer (c .product2 .ok) (c .product2 .ensures))
+    let l = turn (c .before .before .before) in
+    let a = start l .args in
+    from-start (a .q .now) (a .entries .now) (a .n) (l .loop .v) (c .before .start .ensures) (answer (c .product .ok) (c .product .ensures))
+    ∙ sym (product-masked (a .n) (weightIn (a .q .now)) (a .masks .now) (a .entries .now) (l .loop .v) (covers (c .before .before)))
 
 loop-again : tie.Need-loop-again Inv-loop μ-loop
 loop-again c =
-    let turn = c .before .before .before .before .loop .inv .1 in (
-      (omega arith, omega arith),
+    let l = turn (c .before) in
+    let a = start l .args in
+    let p = counted (a .masks .now) (a .states) in
+    let f = masked (a .q .now) (a .masks .now) (a .entries .now) (a .n) in
+    let so-far = l .loop .inv .1 in
+    let tested = sym (c .before .has .ensures) in (
+      omega arith,
       ⊎-elim
-          (λ w. larger _ _ (turn .0) (turn .1) (seen (c .before)) (w .0 .taken) (w .1) (ap (toZ w64) (w .2)))
-          (λ w. not-larger _ _ (turn .0) (turn .1) (seen (c .before)) (w .0 .left) (w .1) (ap (toZ w64) (w .2)))
+          (λ w.
+          let here = seen (record { before = record { before = record { before = c .before; if1 = w .0 }; start = w .1 }; product = w .2 }) in
+          let holds = tested ∙ w .0 .taken in
+          let first = ⊎-elim (λ u. first-met p f (l .loop .v) holds (so-far .none (not-true _ (u .taken))))
+          (λ u. larger p f so-far holds here (u .1 .taken) (not-false _ (u .0 .left))) (w .3 .came) in
+          taken p f so-far holds here first (w .4) (w .5) (ap (toZ w64) (w .6)))
+          (⊎-elim
+          (λ w.
+          let here = seen (record { before = record { before = record { before = c .before; if1 = w .0 }; start = w .1 }; product = w .2 }) in
+          left p f so-far (tested ∙ w .0 .taken) here (not-false _ (w .3 .left)) (w .4 .left) (w .5) (w .6) (ap (toZ w64) (w .7)))
+          (λ w. passed p f so-far (tested ∙ w .0 .left) (w .1) (w .2) (ap (toZ w64) (w .3))))
           (c .if1 .came),
     )
 
 returns : tie.Need-returns Inv-loop μ-loop
 returns c =
-    let e : c .before .loop .v ≡ c .before .before .before .before .before .args .vectors = omega arith in
-    rw e at (c .before .loop .inv .1 .0)
+    let e : c .before .loop .v ≡ start (c .before) .args .vectors = omega arith in
+    rw e at (c .before .loop .inv .1 .place)
 
 pub best-vector-spec : {M : Type 1} → statement M
-best-vector-spec =
-    tie.close (tie.spec Inv-loop μ-loop (λ c κs. search needs) product-requires loop-holds start-requires-2 product-requires-2 (λ c. omega arith)
-    (λ c. omega arith) loop-again returns)
+best-vector-spec = tie.close (tie.spec Inv-loop μ-loop (λ c. (omega arith, found-nothing _ _)) (λ c. search needs) (λ c. search needs) (λ c κs. search needs)
+    (λ c κs. search needs) product-requires (λ c. omega arith) (λ c. omega arith) loop-again returns)

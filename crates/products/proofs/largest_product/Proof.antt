@@ -15,7 +15,7 @@ abbrev μ-loop : tie.MeasureT-loop
 product-requires : tie.Need-product-requires Inv-loop μ-loop
 product-requires c κs =
     let a = c .before .before in
-    let h = here (a .args .entries .now) (a .args .n) (a .args .vectors) 0 (a .pre .1 .1) (a .pre .0 .1) (c .start .ensures) in
+    let h = here (a .args .q .now) (a .args .entries .now) (a .args .n) (a .args .vectors) 0 (a .pre .0 .1) (c .start .ensures) (a .pre .1 .1) in
     ((a .pre .0 .0, h .inside), (a .pre .1 .0, h .within))
 
 loop-holds : tie.Need-loop-holds Inv-loop μ-loop
@@ -33,7 +33,7 @@ product-requires-2 : tie.Need-product-requires-2 Inv-loop μ-loop
 product-requires-2 c κs =
     let a = c .before .before .before .before .before .before in
     let v = c .before .before .loop .v in
-    let h = here (a .args .entries .now) (a .args .n) (a .args .vectors) v (a .pre .1 .1) (omega arith) (c .start2 .ensures) in
+    let h = here (a .args .q .now) (a .args .entries .now) (a .args .n) (a .args .vectors) v (omega arith) (c .start2 .ensures) (a .pre .1 .1) in
     ((a .pre .0 .0, h .inside), (a .pre .1 .0, h .within))
 
 -- the product with vector v

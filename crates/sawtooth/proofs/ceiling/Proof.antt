@@ -8,7 +8,7 @@ use Rattle.sawtooth.proofs.ceiling.Statement.{statement}
 use Rattle.sawtooth.proofs.ceiling.Tie as tie
 
 product-requires : tie.Need-product-requires
-product-requires c κs = let a = c .before .before .before .before .pre in ((search needs, search needs), (a .1 .0, first-fit (a .1 .1 .0)))
+product-requires c κs = let a = c .before .before .before .before .pre in ((search needs, search needs), (a .1 .0, λ s l above. first-fit (a .1 .1 .0) s l))
 
 small : (c : tie.After-largest-drop) → c .largest-drop .result ≤ maxReached * maxGain
 small c =

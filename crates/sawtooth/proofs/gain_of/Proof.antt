@@ -10,8 +10,7 @@ product-requires c κs =
       (search needs, search needs),
       (
         record { long = a .pre .1 .1 .0 .long; below = λ i l. omega (arith, a .pre .1 .1 .0 .below i l) },
-        first-fit
-            (a .pre .1 .0),
+        λ s l above. first-fit (a .pre .1 .0) s l,
       ),
     )
 

@@ -46,13 +46,15 @@ value c = answer (c .entry-at .ok) (c .entry-at .ensures ∙ rw (c .before .choi
 add-scaled-requires : tie.Need-add-scaled-requires Inv-loop μ-loop
 add-scaled-requires c κs =
     let observed = c .before .before in
-    term-fits (terms (start (turn observed))) _ (turn observed .loop .inv .1) (observed .observation-at .ensures) (value c) (omega arith) (lit< tt) (omega arith)
+    let l = turn observed in
+    term-fits (terms (start l)) _ (l .loop .inv .1) (observed .observation-at .ensures) (value c) (omega arith) (lit< tt) (omega arith)
 
 loop-again : tie.Need-loop-again Inv-loop μ-loop
 loop-again c =
-    let observed = c .before .before .before in (
+    let observed = c .before .before .before in
+    let l = turn observed in (
       search needs,
-      term-added (terms (start (turn observed))) _ (turn observed .loop .inv .1) (observed .observation-at .ensures) (value (c .before))
+      term-added (terms (start l)) _ (l .loop .inv .1) (observed .observation-at .ensures) (value (c .before))
           (answer (c .add-scaled .ok) (c .add-scaled .ensures)),
     )
 
