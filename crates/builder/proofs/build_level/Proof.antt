@@ -9,10 +9,10 @@ use Rattle.builder.proofs.build_level.Tie as tie
 
 -- places of the code, each from one after it
 abbrev begun : tie.After-build-vectors-arg3 → tie.Start
-begun c = c .before .before .before .before .before .before .before .before .before
+begun c = c .before .before .before .before .before .before .before .before .before .before .before
 
 abbrev vectors-made : tie.After-build-corners-arg → tie.After-build-vectors
-vectors-made c = c .before .before .before .before .before .before
+vectors-made c = c .before .before .before .before .before .before .before .before
 
 abbrev corners-made : tie.After-build-values-arg → tie.After-build-corners
 corners-made c = c .before .before
@@ -30,7 +30,7 @@ fit c = complete-true _ _ (c .pre .1 .1 .1)
 
 build-vectors-requires : tie.Need-build-vectors-requires
 build-vectors-requires c κs =
-    let s = begun c in
+    let s = begun (c .before) in
     let f = fit s in
     let p = s .pre .1 .1 .0 in
     (s .pre .0, ((p .0, f .read .weights), (p .1, record { actions-fit = f .read .actions; choices-fit = f .choices; entries-fit = f .read .entries })))

@@ -25,14 +25,14 @@ abbrev μ-loop : tie.MeasureT-loop
 μ-loop T O R standing weights c vectors points actions₀ choices₀ entries₀ n k count v₀ actions choices entries v = c .states + points - v
 
 add-count : tie.Need-add-count Inv-loop μ-loop
-add-count c = let p = c .before .before .before .before .before .pre in omega (arith, p .0 .valid .few-states, p .1 .0 .0)
+add-count c = let p = c .before .before .before .before .before .before .before .pre in omega (arith, p .0 .valid .few-states, p .1 .0 .0)
 
 below : (c : tie.In-loop Inv-loop μ-loop) → c .before .loop .v < maxVectors
-below c = let p = c .before .before .before .before .before .before .before .pre in omega (arith, c .loop-test .taken, p .0 .valid .few-states, p .1 .0 .0)
+below c = let p = c .before .before .before .before .before .before .before .before .before .before .pre in omega (arith, c .loop-test .taken, p .0 .valid .few-states, p .1 .0 .0)
 
 seed-weights-requires : tie.Need-seed-weights-requires Inv-loop μ-loop
 seed-weights-requires c κs =
-    let s = c .before .before .before .before .before .before .before in
+    let s = c .before .before .before .before .before .before .before .before .before .before in
     let a = s .args in (
       (s .pre .0 .valid .few-states, omega (arith, c .loop-test .taken, s .pre .1 .0 .0)),
       λ h. rows-stored (a .c .states) (c .before .loop .v - a .c .states) (a .points) (omega (arith, c .loop-test .taken)) (s .pre .1 .0 .1),
@@ -40,7 +40,7 @@ seed-weights-requires c κs =
 
 best-candidate-requires : tie.Need-best-candidate-requires Inv-loop μ-loop
 best-candidate-requires c κs =
-    let s = c .before .before .before .before .before .before .before .before .before in
+    let s = c .before .before .before .before .before .before .before .before .before .before .before .before in
     let a = s .args in
     let made = c .before .seed-weights .ensures in (
       s .pre .0,
@@ -64,13 +64,13 @@ of-entries c = of-choices (c .before .before .before .before .before .before)
 
 -- it is the turn's vector of the built level
 made : (c : tie.After-best-candidate Inv-loop μ-loop)
-    → let a = c .before .before .before .before .before .before .before .before .before .before .args in
+    → let a = c .before .before .before .before .before .before .before .before .before .before .before .before .before .args in
     Made (a .c .states) (a .c .observations)
     (W (a .c) (a .transition .now) (a .observation .now) (a .reward .now) (a .standing .now) (a .weights .now) (a .vectors) (a .points))
     (c .before .before .before .before .loop .v)
     (c .best-candidate .result)
 made c =
-    let s = c .before .before .before .before .before .before .before .before .before .before in
+    let s = c .before .before .before .before .before .before .before .before .before .before .before .before .before in
     vector-made (s .args .points) (pointIn (s .args .c .states) (s .args .weights .now)) (c .before .before .before .before .loop .v)
     (c .before .before .seed-weights .result) (s .pre .0)
     (c .before .before .seed-weights .ensures .0) (c .best-candidate .ensures)
@@ -78,11 +78,11 @@ made c =
 -- there is room for its rows
 room : (c : tie.After-best-candidate Inv-loop μ-loop)
     → let l = c .before .before .before .before in
-    let m = c .before .before .before .before .before .before .before .before .before .before .args .c in
+    let m = c .before .before .before .before .before .before .before .before .before .before .before .before .before .args .c in
     Room (m .states) (m .observations) (l .loop .v) (l .loop .actions) (l .loop .choices) (l .loop .entries)
 room c =
     let l = c .before .before .before .before in
-    rows-room _ _ _ (c .before .before .before .before .before .before .before .before .before .before .pre .1 .1 .1) (l .loop .inv .1)
+    rows-room _ _ _ (c .before .before .before .before .before .before .before .before .before .before .before .before .before .pre .1 .1 .1) (l .loop .inv .1)
     (c .before .before .before .loop-test .taken)
 
 start-requires : tie.Need-start-requires Inv-loop μ-loop
@@ -126,15 +126,15 @@ loop-again c =
 
 -- the slices are as long as they were
 long : (c : tie.After-loop Inv-loop μ-loop)
-    → let a = c .before .before .before .before .before .before .before .args in
+    → let a = c .before .before .before .before .before .before .before .before .before .before .args in
     let l = c .before .loop in
     VectorsAsLong (a .actions .now) (a .choices .now) (a .entries .now) (l .actions) (l .choices) (l .entries)
-long c = filled-long _ _ _ (c .before .before .before .before .before .before .before .pre .1 .1 .1) (c .before .loop .inv .1) (c .before .loop .inv .0)
+long c = filled-long _ _ _ (c .before .before .before .before .before .before .before .before .before .before .pre .1 .1 .1) (c .before .loop .inv .1) (c .before .loop .inv .0)
 
 returns : tie.Need-returns Inv-loop μ-loop
 returns c =
     let l = c .before in
-    let a = c .before .before .before .before .before .before .before .args in
+    let a = c .before .before .before .before .before .before .before .before .before .before .args in
     let e : l .loop .v ≡ a .c .states + a .points = omega (arith, c .loop-test .left, l .loop .inv .0) in
     rw e at (l .loop .inv .1)
 
