@@ -83,7 +83,7 @@ answerIn n m vectors points actions masks entries corners weights informed gains
 
 -- a standing level in slices with its informed rows and its gains, within the limits, so that nothing overflows
 pub record Asked (n m vectors points : ℕ) (actions masks : List ℕ) (entries corners : List ℤ) (weights : List ℕ) (informed : List ℤ) (gains : List ℕ) :
-  Type 0
+    Type 0
   where
     pub few-states : n ≤ maxStates
     pub some-actions : 0 < m

@@ -72,8 +72,7 @@ bounds-at-requires c κs =
     let e = c .before in
     let u = e .before .before in
     let p = weighed u in
-    let s = of-mixture p in
-    (
+    let s = of-mixture p in (
       s .pre,
       (
         rw (p .point-weights .ensures) (widened-below (s .pre .few-states) (known (p .before))),

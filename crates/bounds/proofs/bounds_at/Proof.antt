@@ -74,8 +74,7 @@ below c = let a = start c in best-below (a .args .n) (a .args .masks .now) (a .a
 best-vector-requires : tie.Need-best-vector-requires
 best-vector-requires c κs =
     let a = c .before .before .before .before .before in
-    let h = a .pre in
-    (
+    let h = a .pre in (
       (h .0 .few-states, h .0 .some-vectors),
       (
         below-reached (h .1 .0),
