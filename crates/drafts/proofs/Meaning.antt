@@ -4,6 +4,7 @@ use Rattle.integers.proofs.Kit.{decLt, ne-eqb, eq-eqb, eqb-true, eqb, length, g
 use borrow.Author.Tests.{eqb-false}
 use Rattle.integers.specs.Search.{some}
 use Rattle.integers.proofs.Lists.{cell-below, row-below}
+use Rattle.integers.proofs.Searches.{or-false, some-none}
 use Rattle.tables.specs.Storage.{rowPlace, cellPlace, cellIn, rewardIn}
 use Rattle.drafts.specs.Drafts.{markedFrom, marked, among, stated, rewarded}
 
@@ -38,15 +39,6 @@ eqb-sym a b = by (eqb a b) refl
     by false e = sym (ne-eqb b a (λ q. eqb-false a b e (sym q)))
 
 -- ---- one among those that an index stands for
-
-some-none : (n : ℕ) (p : ℕ → Bool) → ((k : ℕ) → k < n → p k ≡ false) → some n p ≡ false
-unfolding some
-some-none zero p h = refl
-some-none (suc n) p h = rw (some-none n p (λ k l. h k (omega arith)), h n (omega arith))
-
-or-false : (t : Bool) → (t || false) ≡ t
-or-false true = refl
-or-false false = refl
 
 -- a test that only j passes, where t holds
 some-one : (n j : ℕ) (t : Bool) (p : ℕ → Bool) → j < n → ((k : ℕ) → k < n → p k ≡ (eqb j k && t)) → some n p ≡ t

@@ -30,14 +30,14 @@ pub part-is : (n i : ℕ) (packed : List ℕ) → take (i * n + n - i * n) (drop
 part-is n i packed = ap (λ (j : ℕ). take j (drop (i * n) packed)) (let q : i * n + n - i * n ≡ n = omega arith in q)
 
 -- ---- the slices that are written
-pub record Room (count : ℕ) (y : Answers) : Type 0 where
+pub record AnswersRoom (count : ℕ) (y : Answers) : Type 0 where
   pub verdicts : count ≤ length (y .verdicts)
   pub lower : count ≤ length (y .lower)
   pub upper : count ≤ length (y .upper)
   pub advice : count ≤ length (y .advice)
 
 pub room-true : (count : ℕ) (y : Answers)
-    → roomFor count (length (y .verdicts)) (length (y .lower)) (length (y .upper)) (length (y .advice)) ≡ true → Room count y
+    → roomFor count (length (y .verdicts)) (length (y .lower)) (length (y .upper)) (length (y .advice)) ≡ true → AnswersRoom count y
 room-true count y e =
     let l = and-true _ _ e in
     let u = and-true _ _ (l .1) in
@@ -54,7 +54,8 @@ pub record AnswersAsLong (y z : Answers) : Type 0 where
   pub upper : length (z .upper) ≡ length (y .upper)
   pub advice : length (z .advice) ≡ length (y .advice)
 
-pub written-long : (answer : ℕ → Bounds) (y : Answers) {z : Answers} {i count : ℕ} → z ≡ written answer i y → Room count y → i ≤ count → AnswersAsLong y z
+pub written-long : (answer : ℕ → Bounds) (y : Answers) {z : Answers} {i count : ℕ} → z ≡ written answer i y → AnswersRoom count y → i ≤ count
+    → AnswersAsLong y z
 written-long answer y {z} {i} e room b = rw e record {
   verdicts = laid-length i _ (y .verdicts) (omega (arith, room .verdicts));
   lower = laid-length i _ (y .lower) (omega (arith, room .lower));
@@ -67,7 +68,7 @@ module _ (answer : ℕ → Bounds) (v₀ : List ℕ) (l₀ u₀ : List ℤ) (a�
   written-none = sym (same (laid-none _ v₀) (laid-none _ l₀) (laid-none _ u₀) (laid-none _ a₀))
 
   pub written-more : {i count k w : ℕ} {v : List ℕ} {l u : List ℤ} {a : List ℕ} {x y : ℤ}
-      → answers v l u a ≡ written answer i (answers v₀ l₀ u₀ a₀) → Room count (answers v₀ l₀ u₀ a₀) → i < count → k ≡ refusalIn (answer i .verdict)
+      → answers v l u a ≡ written answer i (answers v₀ l₀ u₀ a₀) → AnswersRoom count (answers v₀ l₀ u₀ a₀) → i < count → k ≡ refusalIn (answer i .verdict)
       → x ≡ answer i .lower → y ≡ answer i .upper → w ≡ answer i .action .0
       → answers (set v i k) (set l i x) (set u i y) (set a i w) ≡ written answer (i + 1) (answers v₀ l₀ u₀ a₀)
   written-more {i} e room b k x y w = same

@@ -7,7 +7,8 @@ use Rattle.integers.proofs.Sums.{sum-cong, total-cong, largestTo-cong}
 use Rattle.integers.proofs.Searches.{or-true, every-at, at-every, every-cong, some-at, some-cong, of-in, of-some, of-cong}
 use Rattle.tables.specs.Limits.{K}
 use Rattle.tables.specs.Model.{Model, successor, expectedReward, backup}
-use Rattle.plans.specs.Level.{Level, coversAll, counts, product, smallest, orNone, drop, gain, ceiling, backupAt, corner-weight, follows, Meets, ShapedUpTo, IsPoint, Agree}
+use Rattle.plans.specs.Level.{Level, coversAll, counts, product, smallest, orNone, drop, gain, ceiling, backupAt, corner-weight, follows}
+use Rattle.plans.specs.Level.{Meets, ShapedUpTo, IsPoint, Agree}
 use Rattle.plans.specs.Build.{someCoversAll}
 use Rattle.plans.specs.Totals.{someCounts, best, lower, advice}
 

@@ -31,8 +31,8 @@ certified-next {M} {t} {L} c W m = record {
 
 -- Some plan opens with the advice and earns at least the lower total; no plan earns more than the upper.
 -- The lower total is the product of the best vector that counts, and the advice is its action. That vector exists, so it has a plan that fits the model,
--- opens with that action and earns at least the product, since all weight lies on states that it covers (`floor`). The upper total is the ceiling or the best informed row, and no plan that fits passes either
--- (`roof`, `rows-roof`). Qed.
+-- opens with that action and earns at least the product, since all weight lies on states that it covers (`floor`). The upper total is the ceiling or the
+-- best informed row, and no plan that fits passes either (`roof`, `rows-roof`). Qed.
 pub bracket : {M : Model} {t : ℕ} {L : Level} {F Q : ℕ → ℕ → ℤ} → 0 < M .actions → Certified M t L → RowsCertified M t F Q → 0 < L .vectors
     → (b : ℕ → ℕ) → someCounts M L b ≡ true → Bracket M t L F b
 unfolding lower advice upper

@@ -7,14 +7,14 @@ use Rattle.modelfile.specs.declared.ModelFile.{ModelFile}
 use Rattle.reading.specs.Reading.{roomVerdict, readVerdict}
 
 -- what `roomVerdict` tests
-pub record Room (n rows k transition observation reward start : ℕ) : Type 0 where
+pub record TablesRoom (n rows k transition observation reward start : ℕ) : Type 0 where
   pub transitions : rows * n ≤ transition
   pub observed : rows * k ≤ observation
   pub rewards : rows ≤ reward
   pub starts : n ≤ start
 
 pub room-fine : (n rows k transition observation reward start : ℕ) → roomVerdict n rows k transition observation reward start ≡ Fine
-    → Room n rows k transition observation reward start
+    → TablesRoom n rows k transition observation reward start
 unfolding roomVerdict
 room-fine n rows k transition observation reward start e =
     let t = before-fine _ _ e in

@@ -27,7 +27,8 @@ use Rattle.levels.specs.Storage.{Cells, LentLevel, Lent, rows, stateSize, level
 use Rattle.levels.specs.Storage.{informedIn, qmdpIn}
 use Rattle.levels.specs.Judged.{holds}
 use Rattle.levels.proofs.Laws.{passed, fine-before}
-use Rattle.levels.proofs.Over.{read-elsewhere, covers-elsewhere, Complete, AsLong, as-long, long-long, complete-true, complete-is, complete-long, over-agree, over-long, over-same}
+use Rattle.levels.proofs.Over.{read-elsewhere, covers-elsewhere, Complete, AsLong, as-long, long-long, complete-true, complete-is, complete-long}
+use Rattle.levels.proofs.Over.{over-agree, over-long, over-same}
 use Rattle.levels.proofs.Over.{informed-over, qmdp-over, informed-long, qmdp-long}
 use Rattle.runs.specs.declared.Bounds.{Bounds}
 use Rattle.tables.specs.Verdicts.{left}
@@ -290,9 +291,10 @@ module _ (m : Tables) (x : Lent) (o : ModelAccepted m x) (ls : List LentLevel) w
 -- refused offer changes nothing. An accepted one passed every test: it has the shape of the next level and meets its inequalities over the standing level.
 -- Inequalities read only parts that agree, so it meets them over the last accepted level too, and is certified with one step more (`certified-next`).
 -- The rows step from 0 with each acceptance, so they are those of level t, which no plan passes (`rows-certified`).
--- Totals are given, since `Reached` passes 7, the number is above 0 and some vector counts. They are those of the last accepted level, with which the standing one agrees, and
--- the totals of a certified level bracket what plans earn (`bracket`). Building is not refused either: the built level has the shape of the next level and
--- meets its inequalities over the standing one (`built-shaped`, `built-meets`); what is laid of it agrees with it, so it passes every test of an offer. Qed.
+-- Totals are given, since `Reached` passes 7, the number is above 0 and some vector counts. They are those of the last accepted level, with which the
+-- standing one agrees, and the totals of a certified level bracket what plans earn (`bracket`). Building is not refused either, if some vector covers all
+-- states: the built level has the shape of the next level and meets its inequalities over the standing one (`built-shaped`, `built-meets`); what is laid of
+-- it agrees with it, so it passes every test of an offer. Qed.
 pub demand3 : (m : Tables) (x : Lent) → ModelAccepted m x → (ls : List LentLevel) → Demand3 m x ls
 demand3 m x o ls = record { state = state-holds m x o ls; rows = rows-are m x o ls; totals = totals-hold m x o ls; build = build-holds m x o ls }
 

@@ -4,7 +4,7 @@ use Rattle.runs.specs.declared.Bounds.{Bounds}
 use Rattle.bounds.specs.Steps.{answerIn}
 use Rattle.tables.specs.Storage.{rowIn}
 use Rattle.mixtures.specs.Each.{Answers, answers, refusalIn, written}
-use Rattle.mixtures.proofs.Answers.{part-fits, part-is, Room, AnswersAsLong, written-none, written-more, written-long}
+use Rattle.mixtures.proofs.Answers.{part-fits, part-is, AnswersRoom, AnswersAsLong, written-none, written-more, written-long}
 use Rattle.bounds.proofs.Bounds.{acts-within, sizes-within}
 use Rattle.mixtures.proofs.write_answers.Statement.{statement}
 use Rattle.mixtures.proofs.write_answers.Tie as tie
@@ -45,7 +45,7 @@ Answer s j =
 abbrev lent : tie.Start Inv-loop μ-loop → Answers
 lent s = answers (s .args .verdicts .now) (s .args .lower .now) (s .args .upper .now) (s .args .advice .now)
 
-room : (s : tie.Start Inv-loop μ-loop) → Room (s .args .count) (lent s)
+room : (s : tie.Start Inv-loop μ-loop) → AnswersRoom (s .args .count) (lent s)
 room s = let h = s .pre .1 .1 in record { verdicts = h .0; lower = h .1 .0; upper = h .1 .1 .0; advice = h .1 .1 .1 }
 
 -- what the types say of their lengths

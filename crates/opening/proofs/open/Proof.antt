@@ -49,14 +49,14 @@ put-standing-requires : tie.Need-put-standing-requires
 put-standing-requires c κs = let s = start (of-verdict c) in room-for-level-0 (tables s) (certifier s) (opens c) .0
 
 -- the counts, and the lengths of the slices over which level 0 is laid
-abbrev Room : tie.Start → Type 0
-Room s =
+abbrev Level0Room : tie.Start → Type 0
+Level0Room s =
     let a = s .args in
     ((0 < a .c .states) × ((a .c .states ≤ maxStates) × (a .c .observations ≤ maxObservations))) × ((0 < length (a .actions .now)) ×
     ((a .c .observations ≤ length (a .choices .now)) × ((0 < length (a .masks .now)) × ((a .c .states ≤ length (a .entries .now)) ×
     (a .c .states ≤ length (a .corners .now))))))
 
-room : (c : tie.After-fresh) → Room (start (of-verdict c))
+room : (c : tie.After-fresh) → Level0Room (start (of-verdict c))
 unfolding level0
 room c =
     let s = start (of-verdict c) in

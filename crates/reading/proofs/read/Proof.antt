@@ -11,7 +11,7 @@ use Rattle.modelfile.specs.ModelFile.{modelFile}
 use Rattle.modelfile.proofs.Opens.{read-valid}
 use Rattle.reading.specs.declared.TablesRead.{TablesRead}
 use Rattle.reading.specs.Reading.{readVerdict, noCounts, laidTransitions, laidObservations, laidRewards, laidStart}
-use Rattle.reading.proofs.Room.{Room, room-fine, refused-file, after-file}
+use Rattle.reading.proofs.Room.{TablesRoom, room-fine, refused-file, after-file}
 use Rattle.reading.proofs.read.Statement.{statement}
 use Rattle.reading.proofs.read.Tie as tie
 
@@ -55,7 +55,7 @@ few c = let v = valid c in sizes record { actions = v .few-actions; states = v .
 
 roomy : (c : tie.After-enum-told3) → let m = of-file (of-room (of-verdict c)) .read .result .tables in
     let a = start (of-file (of-room (of-verdict c))) .args in
-    Room (m .states) (m .actions * m .states) (m .observations) (length (a .transition .now)) (length (a .observation .now)) (length (a .reward .now))
+    TablesRoom (m .states) (m .actions * m .states) (m .observations) (length (a .transition .now)) (length (a .observation .now)) (length (a .reward .now))
     (length (a .start .now))
 roomy c = room-fine _ _ _ _ _ _ _ (sym (of-verdict c .judge-room .ensures) ∙ c .enum-told3 .given .1)
 
