@@ -82,16 +82,6 @@ sizes s =
 sized : (c : tie.Else4) → sizes (begun c) ≡ true
 sized c = and-is (le-leb _ _ (of-room c .if3 .left)) (sym (c .before .complete .ensures) ∙ not-false _ (c .if4 .left))
 
-covers-all : (c : tie.After-some-has) (choices : List ℕ) → let s = begun (of-totals (of-masks c) .before) in
-    c .some-has .result ≡ someCoversAll (modelOf (tables s)) (levelOf (tables s) (standingIn (certifier s choices)))
-covers-all c choices =
-    let e = of-totals (of-masks c) .before in
-    let s = begun e in
-    c .some-has .ensures
-    ∙ ap (λ (k : ℕ). someIncludes (s .args .masks .now) k (c .before .all .result)) (vectors-are (stood e))
-    ∙ ap (someIncludes (s .args .masks .now) (standingAt (s .args .state .now) .vectors)) (c .before .all .ensures)
-    ∙ some-covers (tables s) (certifier s choices)
-
 -- ---- a refusal after the tests that were passed
 abbrev To8 : tie.Start → List ℕ → Verdict → Verdict
 To8 s choices w =
@@ -158,6 +148,17 @@ all-requires c κs = let v = known (stood (of-totals c .before) .before) .valid-
 
 some-has-requires : tie.Need-some-has-requires
 some-has-requires c κs = let n = stood (of-totals (c .before) .before) in omega (arith, vectors-are n, known (n .before) .read .masks)
+
+-- what the test of the masks says
+covers-all : (c : tie.After-some-has) (choices : List ℕ) → let s = begun (of-totals (of-masks c) .before) in
+    c .some-has .result ≡ someCoversAll (modelOf (tables s)) (levelOf (tables s) (standingIn (certifier s choices)))
+covers-all c choices =
+    let e = of-totals (of-masks c) .before in
+    let s = begun e in
+    c .some-has .ensures
+    ∙ ap (λ (k : ℕ). someIncludes (s .args .masks .now) k (c .before .all .result)) (vectors-are (stood e))
+    ∙ ap (someIncludes (s .args .masks .now) (standingAt (s .args .state .now) .vectors)) (c .before .all .ensures)
+    ∙ some-covers (tables s) (certifier s choices)
 
 returns-6 : tie.Need-returns-6
 returns-6 c choices =
