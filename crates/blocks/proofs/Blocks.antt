@@ -40,7 +40,8 @@ packs m b count n k e =
     let points = and-true _ _ (vectors .1) in
     let actions = and-true _ _ (points .1) in
     let choices = and-true _ _ (actions .1) in
-    let entries = and-true _ _ (choices .1) in
+    let masks = and-true _ _ (choices .1) in
+    let entries = and-true _ _ (masks .1) in
     let corners = and-true _ _ (entries .1) in
     let weights = and-true _ _ (corners .1) in
     record {
@@ -52,6 +53,7 @@ packs m b count n k e =
       points = leb-true _ _ (points .0);
       actions = leb-true _ _ (actions .0);
       choices = leb-true _ _ (choices .0);
+      masks = leb-true _ _ (masks .0);
       entries = leb-true _ _ (entries .0);
       corners = leb-true _ _ (corners .0);
       weights = leb-true _ _ (weights .0);
@@ -71,6 +73,7 @@ packs-less {n} {k} {count} {i} {b} l h = record {
   points = omega (arith, h .points);
   actions = fewer (b .v) i count _ l (h .actions);
   choices = fewer (b .v * k) i count _ l (h .choices);
+  masks = fewer (b .v) i count _ l (h .masks);
   entries = fewer (b .v * n) i count _ l (h .entries);
   corners = fewer n i count _ l (h .corners);
   weights = fewer (b .p * n) i count _ l (h .weights);
@@ -106,13 +109,13 @@ partsOf m b i =
     let n : ℕ = m .states in
     let x : Cells = b .cells in
     lentFor (getD (b .vectors) i 0) (getD (b .points) i 0)
-    (cells (part (b .v) i (x .actions)) (part (b .v * m .observations) i (x .choices)) (part (b .v * n) i (x .entries)) (part n i (x .corners))
-    (part (b .p * n) i (x .weights)) (part (b .p) i (x .values)))
+    (cells (part (b .v) i (x .actions)) (part (b .v * m .observations) i (x .choices)) (part (b .v) i (x .masks)) (part (b .v * n) i (x .entries))
+    (part n i (x .corners)) (part (b .p * n) i (x .weights)) (part (b .p) i (x .values)))
 
 pub offer-is : (m : Tables) (b : Packed) (i : ℕ) → partsOf m b i ≡ offerIn m b i
 offer-is m b i =
     let n : ℕ = m .states in
     let x : Cells = b .cells in
     ap (λ (y : Cells). lentFor (getD (b .vectors) i 0) (getD (b .points) i 0) y)
-    (cells-same (block-is (b .v) i (x .actions)) (block-is (b .v * m .observations) i (x .choices)) (block-is (b .v * n) i (x .entries))
-    (block-is n i (x .corners)) (block-is (b .p * n) i (x .weights)) (block-is (b .p) i (x .values)))
+    (cells-same (block-is (b .v) i (x .actions)) (block-is (b .v * m .observations) i (x .choices)) (block-is (b .v) i (x .masks))
+    (block-is (b .v * n) i (x .entries)) (block-is n i (x .corners)) (block-is (b .p * n) i (x .weights)) (block-is (b .p) i (x .values)))

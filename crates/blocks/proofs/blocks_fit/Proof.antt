@@ -15,17 +15,20 @@ of-actions c = c .before .before
 abbrev of-choices : tie.Else6 → tie.Else5
 of-choices c = c .before .before
 
-abbrev of-entries : tie.Else7 → tie.Else6
+abbrev of-masks : tie.Else7 → tie.Else6
+of-masks c = c .before .before
+
+abbrev of-entries : tie.Else8 → tie.Else7
 of-entries c = c .before .before
 
-abbrev of-corners : tie.Else8 → tie.Else7
+abbrev of-corners : tie.Else9 → tie.Else8
 of-corners c = c .before .before
 
-abbrev of-weights : tie.Else9 → tie.Else8
+abbrev of-weights : tie.Else10 → tie.Else9
 of-weights c = c .before .before
 
-abbrev start : tie.Else8 → tie.Start
-start c = of-counts (of-actions (of-choices (of-entries (of-corners c))))
+abbrev start : tie.Else9 → tie.Start
+start c = of-counts (of-actions (of-choices (of-masks (of-entries (of-corners c)))))
 
 -- the tests up to a place, and what is left after it
 abbrev To4 : tie.Start → Bool → Bool
@@ -39,13 +42,16 @@ abbrev To6 : tie.Start → Bool → Bool
 To6 s w = let a = s .args in To5 s (leb (a .count * (a .v * a .k)) (a .choices) && w)
 
 abbrev To7 : tie.Start → Bool → Bool
-To7 s w = let a = s .args in To6 s (leb (a .count * (a .v * a .n)) (a .entries) && w)
+To7 s w = let a = s .args in To6 s (leb (a .count * a .v) (a .masks) && w)
 
 abbrev To8 : tie.Start → Bool → Bool
-To8 s w = let a = s .args in To7 s (leb (a .count * a .n) (a .corners) && w)
+To8 s w = let a = s .args in To7 s (leb (a .count * (a .v * a .n)) (a .entries) && w)
 
 abbrev To9 : tie.Start → Bool → Bool
-To9 s w = let a = s .args in To8 s (leb (a .count * (a .p * a .n)) (a .weights) && w)
+To9 s w = let a = s .args in To8 s (leb (a .count * a .n) (a .corners) && w)
+
+abbrev To10 : tie.Start → Bool → Bool
+To10 s w = let a = s .args in To9 s (leb (a .count * (a .p * a .n)) (a .weights) && w)
 
 -- after tests that were passed, what is left is the whole
 on-4 : (c : tie.Else4) {r w : Bool} → r ≡ w → r ≡ To4 (of-counts c) w
@@ -59,14 +65,17 @@ on-5 c e = on-4 (of-actions c) (holds-on (sym (c .before .enough .ensures) ∙ n
 on-6 : (c : tie.Else6) {r w : Bool} → r ≡ w → r ≡ To6 (of-counts (of-actions (of-choices c))) w
 on-6 c e = on-5 (of-choices c) (holds-on (sym (c .before .enough2 .ensures) ∙ not-false _ (c .if6 .left)) e)
 
-on-7 : (c : tie.Else7) {r w : Bool} → r ≡ w → r ≡ To7 (of-counts (of-actions (of-choices (of-entries c)))) w
-on-7 c e = on-6 (of-entries c) (holds-on (sym (c .before .enough3 .ensures) ∙ not-false _ (c .if7 .left)) e)
+on-7 : (c : tie.Else7) {r w : Bool} → r ≡ w → r ≡ To7 (of-counts (of-actions (of-choices (of-masks c)))) w
+on-7 c e = on-6 (of-masks c) (holds-on (sym (c .before .enough3 .ensures) ∙ not-false _ (c .if7 .left)) e)
 
-on-8 : (c : tie.Else8) {r w : Bool} → r ≡ w → r ≡ To8 (start c) w
-on-8 c e = on-7 (of-corners c) (holds-on (sym (c .before .enough4 .ensures) ∙ not-false _ (c .if8 .left)) e)
+on-8 : (c : tie.Else8) {r w : Bool} → r ≡ w → r ≡ To8 (of-counts (of-actions (of-choices (of-masks (of-entries c))))) w
+on-8 c e = on-7 (of-entries c) (holds-on (sym (c .before .enough4 .ensures) ∙ not-false _ (c .if8 .left)) e)
 
-on-9 : (c : tie.Else9) {r w : Bool} → r ≡ w → r ≡ To9 (start (of-weights c)) w
-on-9 c e = on-8 (of-weights c) (holds-on (sym (c .before .enough5 .ensures) ∙ not-false _ (c .if9 .left)) e)
+on-9 : (c : tie.Else9) {r w : Bool} → r ≡ w → r ≡ To9 (start c) w
+on-9 c e = on-8 (of-corners c) (holds-on (sym (c .before .enough5 .ensures) ∙ not-false _ (c .if9 .left)) e)
+
+on-10 : (c : tie.Else10) {r w : Bool} → r ≡ w → r ≡ To10 (start (of-weights c)) w
+on-10 c e = on-9 (of-weights c) (holds-on (sym (c .before .enough6 .ensures) ∙ not-false _ (c .if10 .left)) e)
 
 -- no width overflows
 choices-few : (c : tie.Else4) → let a = of-counts c .args in a .v * a .k ≤ maxVectors * maxObservations
@@ -108,9 +117,13 @@ returns-8 c = on-7 (c .before .before) (fails _ (sym (c .before .enough4 .ensure
 returns-9 : tie.Need-returns-9
 returns-9 c = on-8 (c .before .before) (fails _ (sym (c .before .enough5 .ensures) ∙ not-true _ (c .if9 .taken)))
 
+returns-10 : tie.Need-returns-10
+returns-10 c = on-9 (c .before .before) (fails _ (sym (c .before .enough6 .ensures) ∙ not-true _ (c .if10 .taken)))
+
 pub blocks-fit-spec : {M : Type 1} → statement M
 blocks-fit-spec =
     tie.close (tie.spec returns returns-2 returns-3 returns-4 (λ c κs. search needs) returns-5 (λ c. omega (arith, choices-few (of-actions c)))
-    (λ c κs. search needs) returns-6 (λ c. omega (arith, entries-few (of-actions (of-choices c)))) (λ c κs. search needs) returns-7 (λ c κs. search needs)
-    returns-8 (λ c. omega (arith, weights-few (of-actions (of-choices (of-entries (of-corners c)))))) (λ c κs. search needs) returns-9
-    (λ c κs. search needs) (λ c. on-9 (c .before) (c .enough6 .ensures)))
+    (λ c κs. search needs) returns-6 (λ c κs. search needs) returns-7 (λ c. omega (arith, entries-few (of-actions (of-choices (of-masks c)))))
+    (λ c κs. search needs) returns-8 (λ c κs. search needs) returns-9
+    (λ c. omega (arith, weights-few (of-actions (of-choices (of-masks (of-entries (of-corners c))))))) (λ c κs. search needs) returns-10
+    (λ c κs. search needs) (λ c. on-10 (c .before) (c .enough7 .ensures)))

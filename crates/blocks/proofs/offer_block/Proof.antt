@@ -12,34 +12,37 @@ use Rattle.blocks.proofs.offer_block.Tie as tie
 
 -- from each place to the one before it
 abbrev start : tie.After-struct-known → tie.Start
-start c = c .before .before .before .before .before .before .before .before .before .before .before .before
+start c = c .before .before .before .before .before .before .before .before .before .before .before .before .before .before
 
-abbrev of-slices : tie.After-offer-arg9 → tie.Start
-of-slices c = start (c .before .before .before .before .before .before .before .before .before)
+abbrev of-slices : tie.After-offer-arg10 → tie.Start
+of-slices c = start (c .before .before .before .before .before .before .before .before .before .before)
 
-abbrev of-counts : tie.After-shared-slice-known9 → tie.Start
+abbrev of-counts : tie.After-shared-slice-known10 → tie.Start
 of-counts c = of-slices (c .before .before)
 
-abbrev of-choices : tie.After-offer-arg10 → tie.Start
+abbrev of-choices : tie.After-offer-arg11 → tie.Start
 of-choices c = of-counts (c .before)
 
-abbrev of-entries : tie.After-offer-arg11 → tie.Start
-of-entries c = of-choices (c .before)
+abbrev of-masks : tie.After-offer-arg12 → tie.Start
+of-masks c = of-choices (c .before)
 
-abbrev of-corners : tie.After-offer-arg12 → tie.Start
+abbrev of-entries : tie.After-offer-arg13 → tie.Start
+of-entries c = of-masks (c .before)
+
+abbrev of-corners : tie.After-offer-arg14 → tie.Start
 of-corners c = of-entries (c .before)
 
-abbrev of-weights : tie.After-offer-arg13 → tie.Start
+abbrev of-weights : tie.After-offer-arg15 → tie.Start
 of-weights c = of-corners (c .before)
 
-abbrev of-values : tie.After-offer-arg14 → tie.Start
+abbrev of-values : tie.After-offer-arg16 → tie.Start
 of-values c = of-weights (c .before)
 
 abbrev of-parts : tie.After-offer → tie.Start
-of-parts c = of-counts (c .before .before .before .before .before .before .before)
+of-parts c = of-counts (c .before .before .before .before .before .before .before .before)
 
 abbrev of-offer : tie.After-qmdp → tie.After-offer
-of-offer c = c .before .before .before .before .before .before .before .before .before .before .before .before .before
+of-offer c = c .before .before .before .before .before .before .before .before .before .before .before .before .before .before .before
 
 -- what is lent, and what an offer leaves of it
 abbrev tables : tie.Start → Tables
@@ -48,20 +51,22 @@ tables s = tablesIn (s .args .c) (s .args .transition .now) (s .args .observatio
 abbrev certifier : tie.Start → Lent
 certifier s =
     let a = s .args in
-    lent (a .state .now) (cells (a .actions .now) (a .choices .now) (a .entries .now) (a .corners .now) (a .weights .now) (a .values .now))
+    lent (a .state .now)
+    (cells (a .actions .now) (a .choices .now) (a .masks .now) (a .entries .now) (a .corners .now) (a .weights .now) (a .values .now))
     (rows (a .informed .now) (a .qmdp .now))
 
 abbrev certified : tie.After-offer → Lent
 certified c =
     let l = c .offer .last .1 .1 .1 .1 in
-    lent (l .0) (cells (l .1 .0) (l .1 .1 .0) (l .1 .1 .1 .0) (l .1 .1 .1 .1 .0) (l .1 .1 .1 .1 .1 .0) (l .1 .1 .1 .1 .1 .1 .0))
-    (rows (l .1 .1 .1 .1 .1 .1 .1 .0) (l .1 .1 .1 .1 .1 .1 .1 .1 .0))
+    lent (l .0)
+    (cells (l .1 .0) (l .1 .1 .0) (l .1 .1 .1 .0) (l .1 .1 .1 .1 .0) (l .1 .1 .1 .1 .1 .0) (l .1 .1 .1 .1 .1 .1 .0) (l .1 .1 .1 .1 .1 .1 .1 .0))
+    (rows (l .1 .1 .1 .1 .1 .1 .1 .1 .0) (l .1 .1 .1 .1 .1 .1 .1 .1 .1 .0))
 
 abbrev offers : tie.Start → Packed
 offers s =
     let a = s .args in
     packed (a .v) (a .p) (a .vectors .now) (a .points .now)
-    (cells (a .newactions .now) (a .newchoices .now) (a .newentries .now) (a .newcorners .now) (a .newweights .now) (a .newvalues .now))
+    (cells (a .newactions .now) (a .newchoices .now) (a .newmasks .now) (a .newentries .now) (a .newcorners .now) (a .newweights .now) (a .newvalues .now))
 
 -- no width overflows
 choices-few : (s : tie.Start) → Fits w64 (s .args .v * s .args .c .observations)
@@ -82,6 +87,9 @@ in-actions s = block-fits (s .args .v) (s .args .i) (s .pre .actions) (omega (ar
 
 in-choices : (s : tie.Start) → Block 2 (s .args .v * s .args .c .observations) (s .args .i) (length (s .args .newchoices .now))
 in-choices s = block-fits (s .args .v * s .args .c .observations) (s .args .i) (s .pre .choices) (omega (arith, s .good)) (omega arith)
+
+in-masks : (s : tie.Start) → Block 8 (s .args .v) (s .args .i) (length (s .args .newmasks .now))
+in-masks s = block-fits (s .args .v) (s .args .i) (s .pre .masks) (omega (arith, s .good)) (omega arith)
 
 in-entries : (s : tie.Start) → Block 8 (s .args .v * s .args .c .states) (s .args .i) (length (s .args .newentries .now))
 in-entries s = block-fits (s .args .v * s .args .c .states) (s .args .i) (s .pre .entries) (omega (arith, s .good)) (omega arith)
@@ -124,14 +132,16 @@ offer-block-spec =
     (λ c. in-actions (of-counts c) .end) (λ c. in-actions (of-counts c) .ordered) (λ c. in-actions (of-counts c) .ordered)
     (λ c. in-actions (of-counts c) .within) (λ c. in-choices (of-choices c) .end) (λ c. in-choices (of-choices c) .byte)
     (λ c. in-choices (of-choices c) .ordered) (λ c. in-choices (of-choices c) .ordered) (λ c. in-choices (of-choices c) .within)
-    (λ c. in-entries (of-entries c) .end) (λ c. in-entries (of-entries c) .byte) (λ c. in-entries (of-entries c) .ordered)
-    (λ c. in-entries (of-entries c) .ordered) (λ c. in-entries (of-entries c) .within) (λ c. in-corners (of-corners c) .end)
-    (λ c. in-corners (of-corners c) .byte) (λ c. in-corners (of-corners c) .ordered) (λ c. in-corners (of-corners c) .ordered)
-    (λ c. in-corners (of-corners c) .within) (λ c. in-weights (of-weights c) .end) (λ c. in-weights (of-weights c) .byte)
-    (λ c. in-weights (of-weights c) .ordered) (λ c. in-weights (of-weights c) .ordered) (λ c. in-weights (of-weights c) .within)
-    (λ c. in-values (of-values c) .end) (λ c. in-values (of-values c) .byte) (λ c. in-values (of-values c) .ordered) (λ c. in-values (of-values c) .ordered)
-    (λ c. in-values (of-values c) .within) (λ c κs. search needs)
-    (λ c. of-offer c .offer .kept .1 .1 .1 .1 .0) (λ c. of-offer c .offer .kept .1 .1 .1 .1 .1 .0) (λ c. of-offer c .offer .kept .1 .1 .1 .1 .1 .1 .0)
+    (λ c. in-masks (of-masks c) .end) (λ c. in-masks (of-masks c) .byte) (λ c. in-masks (of-masks c) .ordered) (λ c. in-masks (of-masks c) .ordered)
+    (λ c. in-masks (of-masks c) .within) (λ c. in-entries (of-entries c) .end) (λ c. in-entries (of-entries c) .byte)
+    (λ c. in-entries (of-entries c) .ordered) (λ c. in-entries (of-entries c) .ordered) (λ c. in-entries (of-entries c) .within)
+    (λ c. in-corners (of-corners c) .end) (λ c. in-corners (of-corners c) .byte) (λ c. in-corners (of-corners c) .ordered)
+    (λ c. in-corners (of-corners c) .ordered) (λ c. in-corners (of-corners c) .within) (λ c. in-weights (of-weights c) .end)
+    (λ c. in-weights (of-weights c) .byte) (λ c. in-weights (of-weights c) .ordered) (λ c. in-weights (of-weights c) .ordered)
+    (λ c. in-weights (of-weights c) .within) (λ c. in-values (of-values c) .end) (λ c. in-values (of-values c) .byte) (λ c. in-values (of-values c) .ordered)
+    (λ c. in-values (of-values c) .ordered) (λ c. in-values (of-values c) .within) (λ c κs. search needs) (λ c. of-offer c .offer .kept .1 .1 .1 .1 .0)
+    (λ c. of-offer c .offer .kept .1 .1 .1 .1 .1 .0) (λ c. of-offer c .offer .kept .1 .1 .1 .1 .1 .1 .0)
     (λ c. of-offer c .offer .kept .1 .1 .1 .1 .1 .1 .1 .0) (λ c. of-offer c .offer .kept .1 .1 .1 .1 .1 .1 .1 .1 .0)
     (λ c. of-offer c .offer .kept .1 .1 .1 .1 .1 .1 .1 .1 .1 .0) (λ c. of-offer c .offer .kept .1 .1 .1 .1 .1 .1 .1 .1 .1 .1 .0)
-    (λ c. of-offer c .offer .kept .1 .1 .1 .1 .1 .1 .1 .1 .1 .1 .1 .0) (λ c. of-offer c .offer .kept .1 .1 .1 .1 .1 .1 .1 .1 .1 .1 .1 .1 .0) returns)
+    (λ c. of-offer c .offer .kept .1 .1 .1 .1 .1 .1 .1 .1 .1 .1 .1 .0) (λ c. of-offer c .offer .kept .1 .1 .1 .1 .1 .1 .1 .1 .1 .1 .1 .1 .0)
+    (λ c. of-offer c .offer .kept .1 .1 .1 .1 .1 .1 .1 .1 .1 .1 .1 .1 .1 .0) returns)

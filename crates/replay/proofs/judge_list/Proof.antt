@@ -11,7 +11,7 @@ use Rattle.replay.proofs.judge_list.Statement.{statement}
 use Rattle.replay.proofs.judge_list.Tie as tie
 
 abbrev start : tie.After-standing-holds → tie.Start
-start c = c .before .before .before .before .before .before .before .before .before .before .before
+start c = c .before .before .before .before .before .before .before .before .before .before .before .before .before
 
 -- what is lent, whatever the choices are
 abbrev tables : tie.Start → Tables
@@ -20,7 +20,7 @@ tables s = tablesIn (s .args .c) (s .args .transition .now) (s .args .observatio
 abbrev certifier : tie.Start → List ℕ → Lent
 certifier s choices =
     let a = s .args in
-    lent (a .state .now) (cells (a .actions .now) choices (a .entries .now) (a .corners .now) (a .weights .now) (a .values .now))
+    lent (a .state .now) (cells (a .actions .now) choices (a .masks .now) (a .entries .now) (a .corners .now) (a .weights .now) (a .values .now))
     (rows (a .informed .now) (a .qmdp .now))
 
 holds-here : (c : tie.Else1) (choices : List ℕ) → let s = start (c .before) in holds (tables s) (certifier s choices) ≡ true

@@ -8,45 +8,49 @@ use Rattle.replay.proofs.offer_all.Statement.{statement}
 use Rattle.replay.proofs.offer_all.Tie as tie
 
 abbrev Inv-loop : tie.InvT-loop
-Inv-loop transition observation reward c state₀ actions₀ choices₀ entries₀ corners₀ weights₀ values₀ informed₀ qmdp₀ count v p vectors points newactions
-    newchoices newentries newcorners newweights newvalues accepted₀ i₀ state actions choices entries corners weights values informed qmdp accepted i =
-    let x₀ = lent state₀ (cells actions₀ choices₀ entries₀ corners₀ weights₀ values₀) (rows informed₀ qmdp₀) in
-    let x = lent state (cells actions choices entries corners weights values) (rows informed qmdp) in
+Inv-loop transition observation reward c state₀ actions₀ choices₀ masks₀ entries₀ corners₀ weights₀ values₀ informed₀ qmdp₀ count v p vectors points newactions
+    newchoices newmasks newentries newcorners newweights newvalues accepted₀ i₀
+    state actions choices masks entries corners weights values informed qmdp accepted i =
+    let x₀ = lent state₀ (cells actions₀ choices₀ masks₀ entries₀ corners₀ weights₀ values₀) (rows informed₀ qmdp₀) in
+    let x = lent state (cells actions choices masks entries corners weights values) (rows informed qmdp) in
     (i ≤ count) × (LentAsLong x₀ x × Running (tablesIn c transition observation reward)
-    (packed v p vectors points (cells newactions newchoices newentries newcorners newweights newvalues)) x₀ i x accepted)
+    (packed v p vectors points (cells newactions newchoices newmasks newentries newcorners newweights newvalues)) x₀ i x accepted)
 
 abbrev μ-loop : tie.MeasureT-loop
-μ-loop transition observation reward c state₀ actions₀ choices₀ entries₀ corners₀ weights₀ values₀ informed₀ qmdp₀ count v p vectors points newactions
-    newchoices newentries newcorners newweights newvalues accepted₀ i₀ state actions choices entries corners weights values informed qmdp accepted i =
+μ-loop transition observation reward c state₀ actions₀ choices₀ masks₀ entries₀ corners₀ weights₀ values₀ informed₀ qmdp₀ count v p vectors points newactions
+    newchoices newmasks newentries newcorners newweights newvalues accepted₀ i₀
+    state actions choices masks entries corners weights values informed qmdp accepted i =
     count - i
 
 -- from each place to the one before it
 abbrev start : tie.At-loop Inv-loop μ-loop → tie.Start Inv-loop μ-loop
-start c = c .before .before .before .before .before .before .before .before .before .before .before .before
+start c = c .before .before .before .before .before .before .before .before .before .before .before .before .before .before
 
 abbrev in-turn : tie.After-offer-block Inv-loop μ-loop → tie.In-loop Inv-loop μ-loop
-in-turn c = c .before .before .before .before .before .before .before .before .before .before
+in-turn c = c .before .before .before .before .before .before .before .before .before .before .before
 
 abbrev of-offer : tie.After-qmdp Inv-loop μ-loop → tie.After-offer-block Inv-loop μ-loop
-of-offer c = c .before .before .before .before .before .before .before .before .before .before .before .before .before
+of-offer c = c .before .before .before .before .before .before .before .before .before .before .before .before .before .before .before
 
 -- the certifier as it came, at the loop, and after a turn
 abbrev came : tie.Start Inv-loop μ-loop → Lent
 came s =
     let a = s .args in
-    lent (a .state .now) (cells (a .actions .now) (a .choices .now) (a .entries .now) (a .corners .now) (a .weights .now) (a .values .now))
+    lent (a .state .now)
+    (cells (a .actions .now) (a .choices .now) (a .masks .now) (a .entries .now) (a .corners .now) (a .weights .now) (a .values .now))
     (rows (a .informed .now) (a .qmdp .now))
 
 abbrev looped : tie.At-loop Inv-loop μ-loop → Lent
 looped c =
     let l = c .loop in
-    lent (l .state) (cells (l .actions) (l .choices) (l .entries) (l .corners) (l .weights) (l .values)) (rows (l .informed) (l .qmdp))
+    lent (l .state) (cells (l .actions) (l .choices) (l .masks) (l .entries) (l .corners) (l .weights) (l .values)) (rows (l .informed) (l .qmdp))
 
 abbrev turned : tie.After-offer-block Inv-loop μ-loop → Lent
 turned c =
     let l = c .offer-block .last .1 .1 .1 .1 in
-    lent (l .0) (cells (l .1 .0) (l .1 .1 .0) (l .1 .1 .1 .0) (l .1 .1 .1 .1 .0) (l .1 .1 .1 .1 .1 .0) (l .1 .1 .1 .1 .1 .1 .0))
-    (rows (l .1 .1 .1 .1 .1 .1 .1 .0) (l .1 .1 .1 .1 .1 .1 .1 .1 .0))
+    lent (l .0)
+    (cells (l .1 .0) (l .1 .1 .0) (l .1 .1 .1 .0) (l .1 .1 .1 .1 .0) (l .1 .1 .1 .1 .1 .0) (l .1 .1 .1 .1 .1 .1 .0) (l .1 .1 .1 .1 .1 .1 .1 .0))
+    (rows (l .1 .1 .1 .1 .1 .1 .1 .1 .0) (l .1 .1 .1 .1 .1 .1 .1 .1 .1 .0))
 
 -- a turn leaves the lengths
 turn-long : (c : tie.After-offer-block Inv-loop μ-loop) → LentAsLong (looped (in-turn c .before)) (turned c)
@@ -57,13 +61,14 @@ turn-long c =
       cells = record {
         actions = k .1 .0;
         choices = k .1 .1 .0;
-        entries = k .1 .1 .1 .0;
-        corners = k .1 .1 .1 .1 .0;
-        weights = k .1 .1 .1 .1 .1 .0;
-        values = k .1 .1 .1 .1 .1 .1 .0;
+        masks = k .1 .1 .1 .0;
+        entries = k .1 .1 .1 .1 .0;
+        corners = k .1 .1 .1 .1 .1 .0;
+        weights = k .1 .1 .1 .1 .1 .1 .0;
+        values = k .1 .1 .1 .1 .1 .1 .1 .0;
       };
-      informed = k .1 .1 .1 .1 .1 .1 .1 .0;
-      qmdp = k .1 .1 .1 .1 .1 .1 .1 .1 .0;
+      informed = k .1 .1 .1 .1 .1 .1 .1 .1 .0;
+      qmdp = k .1 .1 .1 .1 .1 .1 .1 .1 .1 .0;
     }
 
 loop-holds : tie.Need-loop-holds Inv-loop μ-loop
@@ -71,7 +76,7 @@ loop-holds c = (omega arith, (same-lengths _, running-none _ _ _))
 
 offer-block-requires : tie.Need-offer-block-requires Inv-loop μ-loop
 offer-block-requires c κs =
-    let t = c .before .before .before .before .before .before .before .before .before in
+    let t = c .before .before .before .before .before .before .before .before .before .before in
     packs-less (t .loop-test .taken) (start (t .before) .pre)
 
 -- the turn is one of a count that fits
@@ -105,5 +110,6 @@ offer-all-spec =
     tie.close (tie.spec Inv-loop μ-loop loop-holds offer-block-requires (λ c κs. search needs) add-accepted
     (λ c. omega (arith, few-left (in-turn (of-offer (c .before))))) (λ c. omega (arith, few-left (in-turn (of-offer (c .before))))) loop-again
     (λ c. c .before .loop .inv .1 .0 .state) (λ c. c .before .loop .inv .1 .0 .cells .actions) (λ c. c .before .loop .inv .1 .0 .cells .choices)
-    (λ c. c .before .loop .inv .1 .0 .cells .entries) (λ c. c .before .loop .inv .1 .0 .cells .corners) (λ c. c .before .loop .inv .1 .0 .cells .weights)
-    (λ c. c .before .loop .inv .1 .0 .cells .values) (λ c. c .before .loop .inv .1 .0 .informed) (λ c. c .before .loop .inv .1 .0 .qmdp) returns)
+    (λ c. c .before .loop .inv .1 .0 .cells .masks) (λ c. c .before .loop .inv .1 .0 .cells .entries) (λ c. c .before .loop .inv .1 .0 .cells .corners)
+    (λ c. c .before .loop .inv .1 .0 .cells .weights) (λ c. c .before .loop .inv .1 .0 .cells .values)
+    (λ c. c .before .loop .inv .1 .0 .informed) (λ c. c .before .loop .inv .1 .0 .qmdp) returns)

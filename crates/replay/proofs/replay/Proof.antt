@@ -13,16 +13,16 @@ use Rattle.replay.proofs.replay.Tie as tie
 abbrev start : tie.After-judge-list → tie.Start
 start c =
     let d = c .before .before .before .before .before .before .before .before .before .before .before .before in
-    d .before .before .before .before .before .before .before .before
+    d .before .before .before .before .before .before .before .before .before .before .before
 
 abbrev of-verdict : tie.After-enum-told → tie.After-judge-list
 of-verdict c = c .before .before
 
 abbrev of-list : tie.After-offer-all → tie.After-enum-told
-of-list c = c .before .before .before .before .before .before .before .before .before .before
+of-list c = c .before .before .before .before .before .before .before .before .before .before .before
 
 abbrev of-offers : tie.After-qmdp → tie.After-offer-all
-of-offers c = c .before .before .before .before .before .before .before .before .before .before .before .before .before
+of-offers c = c .before .before .before .before .before .before .before .before .before .before .before .before .before .before .before
 
 -- what is lent, and what the offers leave of it
 abbrev tables : tie.Start → Tables
@@ -31,20 +31,22 @@ tables s = tablesIn (s .args .c) (s .args .transition .now) (s .args .observatio
 abbrev certifier : tie.Start → Lent
 certifier s =
     let a = s .args in
-    lent (a .state .now) (cells (a .actions .now) (a .choices .now) (a .entries .now) (a .corners .now) (a .weights .now) (a .values .now))
+    lent (a .state .now)
+    (cells (a .actions .now) (a .choices .now) (a .masks .now) (a .entries .now) (a .corners .now) (a .weights .now) (a .values .now))
     (rows (a .informed .now) (a .qmdp .now))
 
 abbrev left : tie.After-offer-all → Lent
 left c =
     let l = c .offer-all .last .1 .1 .1 .1 in
-    lent (l .0) (cells (l .1 .0) (l .1 .1 .0) (l .1 .1 .1 .0) (l .1 .1 .1 .1 .0) (l .1 .1 .1 .1 .1 .0) (l .1 .1 .1 .1 .1 .1 .0))
-    (rows (l .1 .1 .1 .1 .1 .1 .1 .0) (l .1 .1 .1 .1 .1 .1 .1 .1 .0))
+    lent (l .0)
+    (cells (l .1 .0) (l .1 .1 .0) (l .1 .1 .1 .0) (l .1 .1 .1 .1 .0) (l .1 .1 .1 .1 .1 .0) (l .1 .1 .1 .1 .1 .1 .0) (l .1 .1 .1 .1 .1 .1 .1 .0))
+    (rows (l .1 .1 .1 .1 .1 .1 .1 .1 .0) (l .1 .1 .1 .1 .1 .1 .1 .1 .1 .0))
 
 abbrev offers : tie.Start → Packed
 offers s =
     let a = s .args in
     packed (a .v) (a .p) (a .vectors .now) (a .points .now)
-    (cells (a .newactions .now) (a .newchoices .now) (a .newentries .now) (a .newcorners .now) (a .newweights .now) (a .newvalues .now))
+    (cells (a .newactions .now) (a .newchoices .now) (a .newmasks .now) (a .newentries .now) (a .newcorners .now) (a .newweights .now) (a .newvalues .now))
 
 said : (c : tie.After-judge-list) → let s = start c in
     c .judge-list .result ≡ replayVerdict (tables s) (certifier s) (offers s) (s .args .count)
@@ -61,7 +63,7 @@ returns c =
 
 offer-all-requires : tie.Need-offer-all-requires
 offer-all-requires c κs =
-    let e = c .before .before .before .before .before .before .before .before .before in
+    let e = c .before .before .before .before .before .before .before .before .before .before in
     let s = start (of-verdict e) in
     list-packs (tables s) (certifier s) (offers s) (s .args .count) (fine e)
 
@@ -76,9 +78,10 @@ pub replay-spec : {M : Type 1} → statement M
 replay-spec =
     tie.close (tie.spec
     (λ c κs. search needs) (λ c. search needs) (λ c. search needs)
-    (λ c. refl) (λ c. refl) (λ c. refl) (λ c. refl) (λ c. refl) (λ c. refl) (λ c. refl) (λ c. refl) returns offer-all-requires
+    (λ c. refl) (λ c. refl) (λ c. refl) (λ c. refl) (λ c. refl) (λ c. refl) (λ c. refl) (λ c. refl) (λ c. refl) returns offer-all-requires
     (λ c. of-offers c .offer-all .kept .1 .1 .1 .1 .0) (λ c. of-offers c .offer-all .kept .1 .1 .1 .1 .1 .0)
     (λ c. of-offers c .offer-all .kept .1 .1 .1 .1 .1 .1 .0) (λ c. of-offers c .offer-all .kept .1 .1 .1 .1 .1 .1 .1 .0)
     (λ c. of-offers c .offer-all .kept .1 .1 .1 .1 .1 .1 .1 .1 .0) (λ c. of-offers c .offer-all .kept .1 .1 .1 .1 .1 .1 .1 .1 .1 .0)
     (λ c. of-offers c .offer-all .kept .1 .1 .1 .1 .1 .1 .1 .1 .1 .1 .0) (λ c. of-offers c .offer-all .kept .1 .1 .1 .1 .1 .1 .1 .1 .1 .1 .1 .0)
-    (λ c. of-offers c .offer-all .kept .1 .1 .1 .1 .1 .1 .1 .1 .1 .1 .1 .1 .0) returns-2)
+    (λ c. of-offers c .offer-all .kept .1 .1 .1 .1 .1 .1 .1 .1 .1 .1 .1 .1 .0)
+    (λ c. of-offers c .offer-all .kept .1 .1 .1 .1 .1 .1 .1 .1 .1 .1 .1 .1 .1 .0) returns-2)
