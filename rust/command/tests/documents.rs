@@ -74,7 +74,7 @@ fn the_model_of_the_page_on_model_files() {
 #[test]
 fn the_refusals_of_the_header() {
     let header = text("include/biidhaqun.h");
-    for number in (1..=20).chain([100]) {
+    for number in (1..=22).chain([100]) {
         assert!(header.contains(&format!("\n * {:>4}  ", number)));
         assert!(command::explain::text(number).is_some());
     }
