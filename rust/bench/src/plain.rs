@@ -190,25 +190,25 @@ fn offer(tables: &Tables, certifier: &mut Certifier, level: &Level) -> Answer<()
         Some(offered) if offered.has_room_in(certifier) => offered,
         _ => return refused(9, 0),
     };
-    let vectors = || offered.actions.iter().zip(offered.choices.chunks(k)).zip(offered.masks);
-    let missing = |((&action, choices), _): ((&u8, &[u16]), &u64)| {
-        usize::from(action) >= model.m || choices.iter().any(|&v| usize::from(v) >= standing.actions.len())
+    let vectors = || 0..offered.actions.len();
+    let action = |v: usize| usize::from(offered.actions[v]);
+    let choices = |v: usize| &offered.choices[v * k..(v + 1) * k];
+    let missing = |&v: &usize| {
+        action(v) >= model.m || choices(v).iter().any(|&chosen| usize::from(chosen) >= standing.actions.len())
     };
-    refuse(10, vectors().position(missing))?;
+    refuse(10, vectors().find(missing))?;
     refuse(11, first_outside(&offered, n, number + 1))?;
     refuse(12, first_untotalled(offered.weights, n))?;
-    let loses = |((&action, choices), &mask): ((&u8, &[u16]), &u64)| {
-        model.loses(standing.masks, usize::from(action), mask, choices)
+    let loses = |&v: &usize| model.loses(standing.masks, action(v), offered.masks[v], choices(v));
+    refuse(21, vectors().find(loses))?;
+    let above = |&v: &usize| {
+        let backup = |s| model.vector_backup(standing.entries, s, action(v), choices(v));
+        (0..n).any(|s| covers(offered.masks[v], s) && K * offered.entries[v * n + s] > backup(s))
     };
-    refuse(21, vectors().position(loses))?;
-    let above = |(((&action, choices), &mask), entries): (((&u8, &[u16]), &u64), &[i64])| {
-        let backup = |s| model.vector_backup(standing.entries, s, usize::from(action), choices);
-        (0..n).any(|s| covers(mask, s) && K * entries[s] > backup(s))
-    };
-    refuse(13, vectors().zip(offered.entries.chunks(n)).position(above))?;
-    let covers = |value: i64, p: &[i64]| (0..model.m).all(|a| K * value >= model.ceiling_backup(&standing, p, a));
-    refuse(14, (0..n).find(|&s| !covers(offered.corners[s], &corner(n, s))))?;
-    let below = |(p, &value): (&[u32], &i64)| !covers(value, &whole(p));
+    refuse(13, vectors().find(above))?;
+    let suffices = |value: i64, p: &[i64]| (0..model.m).all(|a| K * value >= model.ceiling_backup(&standing, p, a));
+    refuse(14, (0..n).find(|&s| !suffices(offered.corners[s], &corner(n, s))))?;
+    let below = |(p, &value): (&[u32], &i64)| !suffices(value, &whole(p));
     refuse(15, offered.weights.chunks(n).zip(offered.values).position(below))?;
     let (informed, qmdp) = (model.informed(standing.informed), model.qmdp(standing.qmdp));
     Cut { informed: &informed, qmdp: &qmdp, ..offered }.stand(number + 1, certifier);

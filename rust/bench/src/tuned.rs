@@ -394,14 +394,14 @@ fn offer(tables: &Tables, certifier: &mut Certifier, level: &Level) -> Answer<()
     }
     let mut weights = [0; POINTS * STATES];
     let sawtooth = Sawtooth::of(&standing, &mut weights);
-    let covers = |value: i64, p: &[i64]| (0..model.m).all(|a| K * value >= ceiling_backup(&model, &sawtooth, p, a));
+    let suffices = |value: i64, p: &[i64]| (0..model.m).all(|a| K * value >= ceiling_backup(&model, &sawtooth, p, a));
     for (s, &value) in offered.corners.iter().enumerate() {
-        if !covers(value, &corner(s)[..n]) {
+        if !suffices(value, &corner(s)[..n]) {
             return refused(14, s);
         }
     }
     for (j, (&value, p)) in offered.values.iter().zip(offered.weights.chunks_exact(n)).enumerate() {
-        if !covers(value, whole(p, &mut room)) {
+        if !suffices(value, whole(p, &mut room)) {
             return refused(15, j);
         }
     }

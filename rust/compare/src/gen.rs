@@ -115,8 +115,10 @@ pub fn tables(rng: &mut Rng, shape: Shape) -> Tables {
         tables.sights[row * k..(row + 1) * k].copy_from_slice(&shares(rng, k, THOUSAND));
     }
     let most = rng.pick(&[1, 20, 999, 10_000, REWARD]);
+    // Now and then costs alone: then 0 is more than any plan earns.
+    let highest = if rng.once_in(4) { 0 } else { most };
     for reward in &mut tables.rewards[..m * n] {
-        *reward = if rng.once_in(6) { rng.pick(&[-most, 0, most]) } else { rng.within(-most, most) };
+        *reward = if rng.once_in(6) { rng.pick(&[-most, 0, highest]) } else { rng.within(-most, highest) };
     }
     let (transitions, sights, rewards) = tables.cells_used();
     litter(rng, &mut tables.transitions, transitions, junk);
@@ -399,16 +401,16 @@ fn going_on(rng: &mut Rng, certifier: &Certifier, shape: Shape) -> Vector {
         i64::try_from(&down).unwrap_or(i64::MIN)
     };
     let mut entries: Vec<i64> = (0..n).map(entry).collect();
-    hide(rng, mask, &mut entries, certifier.level + 1);
     match rng.below(8) {
         0 | 1 => mask &= self::mask(rng, n),
-        2 => mask |= 1 << rng.index(n),
-        3 => {
+        2 | 3 => mask |= 1 << rng.index(n),
+        4 => {
             let entry = &mut entries[rng.index(n)];
-            *entry = entry.wrapping_add(1);
+            *entry = entry.saturating_add(1);
         }
         _ => {}
     }
+    hide(rng, mask, &mut entries, certifier.level + 1);
     Vector { action: a as u64, choices, mask: mask | self::mask(rng, n) & !full_mask(n), entries }
 }
 
