@@ -5,7 +5,8 @@
  * offered levels of alpha vectors (a floor) and of corner and point values (a sawtooth ceiling) by anyone, and accepts a
  * level exactly where every backup inequality holds. Beside the level it keeps a ceiling of its own, the fast informed bound,
  * which it steps at each acceptance. From then on its totals at a mixture of the states bracket what the best of all plans
- * earns that have as many steps as levels were accepted.
+ * earns that have as many steps as levels were accepted. A vector may cover part of the states: it then counts at the mixtures
+ * of those alone, and where no vector counts there are no totals.
  *
  *     cc -std=c99 -Iinclude program.c target/staticlib/libbiidhaqun.a -o program
  *
@@ -15,9 +16,9 @@
  * What is proved: whatever it is lent, a call ends without fault, answers, and leaves in every slice what the definitions
  * say (specs/ of crates/runs, mixtures, worths, worth, modelfile, reading, solver, solved, adopting, replay and answers).
  * Where a certifier was opened by biidhaqun_open, its slices were written by biidhaqun_offer and biidhaqun_replay alone,
- * whatever was offered, and each call was lent the same tables, its totals bracket every plan. A level that is built upon
- * it, or adopted, is accepted if the certifier's slices have room for it. The inline functions at the end, and what this
- * file says, are not proved.
+ * whatever was offered, and each call was lent the same tables, its totals bracket every plan wherever they are given. A level
+ * that is built upon it, or adopted, is accepted if the certifier's slices have room for it. The inline functions at the end,
+ * and what this file says, are not proved.
  *
  * SLICES. What a call is lent are slices: a pointer, and a length in elements. They are packed by the model's counts (n
  * states, m actions, k observations), the last index fastest, and may be longer: what lies behind is neither read nor
@@ -34,7 +35,8 @@
  *                qmdp         m x n       by action, state                          ticks, within 100,000 x t of 0
  *   level t      actions      vectors     the action that a plan of the vector opens with
  *                choices      vectors x k the vector of level t - 1 to go on with after an observation
- *                entries      vectors x n ticks, within 100,000 x t of 0
+ *                masks        vectors     the states that the vector covers: bit s (of value 2^s) is 1 where state s is
+ *                entries      vectors x n ticks, within 100,000 x t of 0 where the state is covered
  *                corners      n           ticks, within 100,000 x t of 0
  *                weights      points x n  the weights of a point total 1 to 100
  *                values       points      ticks times the total of the point's weights, within 100,000 x t times that total
@@ -47,6 +49,13 @@
  *
  * A tick is a hundredth of a unit of reward. Totals are in ticks times the mixture's total weight: over 100 times that
  * weight they are units of reward.
+ *
+ * MASKS. A vector is a floor on the states that it covers. It counts at a mixture where all weight lies on these, and lower
+ * total and action are those of the vectors that count. Its inequality and its range are tested on covered states alone, and a
+ * covered state must reach, with T x O above 0, no state that the vector chosen after that observation does not cover. Entries
+ * elsewhere, and bits of a mask past the states, are read by no call, and an acceptance stores them as 0. A mask may be empty:
+ * the vector never counts. The vector of level 0, and all that biidhaqun_build and biidhaqun_adopt make, cover every state;
+ * biidhaqun_build goes on with such vectors alone. Ceilings have nothing to do with masks.
  *
  * CEILINGS. Two bounds say what no plan earns more than at a mixture, and the upper total is the lower of them. The sawtooth
  * is that of the level's corners and points: they are offered, and an offer's corners and points are tested against the
@@ -79,9 +88,10 @@
  *    9  BIIDHAQUN_LEVEL_SIZE          0; a slice is too short for the level offered, to be built or adopted, for a list of
  *                                     offers, for the points, for level 0 and its rows in biidhaqun_open, or for answers
  *   10  BIIDHAQUN_NUMBERS             the vector
- *   11  BIIDHAQUN_RANGE               the first vector; else the first corner; else the first point, those that get 12 aside
+ *   11  BIIDHAQUN_RANGE               the first vector, at a covered state; else the first corner; else the first point, those
+ *                                     that get 12 aside
  *   12  BIIDHAQUN_POINT_TOTAL         the point
- *   13  BIIDHAQUN_VECTOR_BACKUP       the vector
+ *   13  BIIDHAQUN_VECTOR_BACKUP       the vector, at a covered state
  *   14  BIIDHAQUN_CORNER_BACKUP       the corner
  *   15  BIIDHAQUN_POINT_BACKUP        the point
  *   16  BIIDHAQUN_NO_LEVEL            0
@@ -90,6 +100,8 @@
  *   19  BIIDHAQUN_SOLVER_FORM         the bytes before the word of the alpha file or, if all of its words fit, of the policy
  *                                     graph; that file's length where a word is missing
  *   20  BIIDHAQUN_SOLVER_FILES        0
+ *   21  BIIDHAQUN_COVERED             the vector: a state that it covers reaches one that the vector chosen there does not
+ *   22  BIIDHAQUN_COUNTING            0; no vector counts at the mixture, or none covers all states to build upon
  *  100  BIIDHAQUN_ROOM                the length that the first short slice of biidhaqun_read needs
  */
 #ifndef BIIDHAQUN_H
@@ -107,7 +119,7 @@ extern "C" {
  * compiled with another one must be compiled anew. The macro is this file's, the function's answer the archive's: compare
  * the two where header and archive may come from different places, before any other call.
  */
-#define BIIDHAQUN_VERSION 3
+#define BIIDHAQUN_VERSION 4
 
 uint64_t biidhaqun_version(void);
 
@@ -149,6 +161,8 @@ enum {
     BIIDHAQUN_GRAPH = 18,
     BIIDHAQUN_SOLVER_FORM = 19,
     BIIDHAQUN_SOLVER_FILES = 20,
+    BIIDHAQUN_COVERED = 21,
+    BIIDHAQUN_COUNTING = 22,
     BIIDHAQUN_ROOM = 100
 };
 
@@ -169,7 +183,7 @@ static inline const char *biidhaqun_words(uint64_t number)
     case BIIDHAQUN_LEVEL_SIZE: return "a level has no vector, over 1,000 vectors or over 32 points, the builder is given "
                                       "over 16 points, or a slice is too short";
     case BIIDHAQUN_NUMBERS: return "an action or a chosen vector does not exist";
-    case BIIDHAQUN_RANGE: return "an entry, corner or point value is outside its level's range";
+    case BIIDHAQUN_RANGE: return "an entry of a covered state, a corner or a point value is outside its level's range";
     case BIIDHAQUN_POINT_TOTAL: return "a point's weights total less than 1 or more than 100";
     case BIIDHAQUN_VECTOR_BACKUP: return "a vector's entry is above its backup";
     case BIIDHAQUN_CORNER_BACKUP: return "a corner is below its backup";
@@ -180,6 +194,9 @@ static inline const char *biidhaqun_words(uint64_t number)
     case BIIDHAQUN_SOLVER_FORM: return "a word of the solver's files does not fit its form, or is missing, or a node is out "
                                        "of order";
     case BIIDHAQUN_SOLVER_FILES: return "the solver's files differ in the number of vectors, or in an action";
+    case BIIDHAQUN_COVERED: return "a vector covers a state from which one is reached that the vector chosen there does not "
+                                   "cover";
+    case BIIDHAQUN_COUNTING: return "no vector counts at the mixture, or none covers all states to build upon";
     case BIIDHAQUN_ROOM: return "a slice that the file is read into is too short";
     default: return "no such refusal is known";
     }
@@ -205,7 +222,7 @@ struct biidhaqun_reading {
 struct biidhaqun_bounds {
     uint64_t number;
     size_t place;
-    int64_t lower;    /* the largest product of a vector with the mixture */
+    int64_t lower;    /* the largest product of a vector that counts with the mixture */
     int64_t upper;    /* the lower of the two ceilings at the mixture: no plan earns more */
     int64_t gap;      /* upper less lower */
     size_t action;    /* the action of the first such vector: some plan that opens with it earns the lower total */
@@ -252,32 +269,34 @@ struct biidhaqun_reading biidhaqun_read(
     uint16_t *start, size_t start_length);
 
 /*
- * Opens a certifier: level 0 stands, one vector of zeros with action and choices 0, zero corners and no points, and the rows
- * are zeros. Of weights and values only the length is looked at. Tests: 3, 5, 6, 9.
+ * Opens a certifier: level 0 stands, one vector of zeros with action and choices 0 that covers all states, zero corners and no
+ * points, and the rows are zeros. Of weights and values only the length is looked at. Tests: 3, 5, 6, 9.
  */
 struct biidhaqun_refusal biidhaqun_open(
     size_t states, size_t actions, size_t observations, uint64_t discount,
     const uint16_t *transition, size_t transition_length, const uint16_t *observation, size_t observation_length,
     const int64_t *reward, size_t reward_length, size_t *state, size_t state_length,
     uint8_t *standing_actions, size_t standing_actions_length, uint16_t *choices, size_t choices_length,
-    int64_t *entries, size_t entries_length, int64_t *corners, size_t corners_length,
-    const uint32_t *weights, size_t weights_length, const int64_t *values, size_t values_length,
-    int64_t *informed, size_t informed_length, int64_t *qmdp, size_t qmdp_length);
+    uint64_t *masks, size_t masks_length, int64_t *entries, size_t entries_length,
+    int64_t *corners, size_t corners_length, const uint32_t *weights, size_t weights_length,
+    const int64_t *values, size_t values_length, int64_t *informed, size_t informed_length,
+    int64_t *qmdp, size_t qmdp_length);
 
 /*
- * Offers a level: accepted, it is copied into the certifier's slices, the first number of the state is one more, and the rows
- * are stepped. Tests: 7 to 15. A level with slices that are too short therefore gets 8 where 100 levels stand, and 9 before
- * anything in it is looked at.
+ * Offers a level: accepted, it is copied into the certifier's slices, with 0 for what its masks leave out, the first number of
+ * the state is one more, and the rows are stepped. Tests: 7 to 12, 21, 13, 14, 15. A level with slices that are too short
+ * therefore gets 8 where 100 levels stand, and 9 before anything in it is looked at.
  */
 struct biidhaqun_refusal biidhaqun_offer(
     size_t states, size_t actions, size_t observations, uint64_t discount,
     const uint16_t *transition, size_t transition_length, const uint16_t *observation, size_t observation_length,
     const int64_t *reward, size_t reward_length, size_t *state, size_t state_length,
     uint8_t *standing_actions, size_t standing_actions_length, uint16_t *choices, size_t choices_length,
-    int64_t *entries, size_t entries_length, int64_t *corners, size_t corners_length,
-    uint32_t *weights, size_t weights_length, int64_t *values, size_t values_length,
-    int64_t *informed, size_t informed_length, int64_t *qmdp, size_t qmdp_length, size_t vectors, size_t points,
-    const uint8_t *new_actions, size_t new_actions_length, const uint16_t *new_choices, size_t new_choices_length,
+    uint64_t *masks, size_t masks_length, int64_t *entries, size_t entries_length,
+    int64_t *corners, size_t corners_length, uint32_t *weights, size_t weights_length,
+    int64_t *values, size_t values_length, int64_t *informed, size_t informed_length, int64_t *qmdp, size_t qmdp_length,
+    size_t vectors, size_t points, const uint8_t *new_actions, size_t new_actions_length,
+    const uint16_t *new_choices, size_t new_choices_length, const uint64_t *new_masks, size_t new_masks_length,
     const int64_t *new_entries, size_t new_entries_length, const int64_t *new_corners, size_t new_corners_length,
     const uint32_t *new_weights, size_t new_weights_length, const int64_t *new_values, size_t new_values_length);
 
@@ -291,6 +310,7 @@ struct biidhaqun_refusal biidhaqun_offer(
  *
  *     block i of   new_actions   begins at   i x block_vectors
  *                  new_choices               i x block_vectors x k
+ *                  new_masks                 i x block_vectors
  *                  new_entries               i x block_vectors x n
  *                  new_corners               i x n
  *                  new_weights               i x block_points x n
@@ -308,56 +328,61 @@ struct biidhaqun_replayed biidhaqun_replay(
     const uint16_t *transition, size_t transition_length, const uint16_t *observation, size_t observation_length,
     const int64_t *reward, size_t reward_length, size_t *state, size_t state_length,
     uint8_t *standing_actions, size_t standing_actions_length, uint16_t *choices, size_t choices_length,
-    int64_t *entries, size_t entries_length, int64_t *corners, size_t corners_length,
-    uint32_t *weights, size_t weights_length, int64_t *values, size_t values_length,
-    int64_t *informed, size_t informed_length, int64_t *qmdp, size_t qmdp_length,
-    size_t count, size_t block_vectors, size_t block_points,
-    const size_t *vectors, size_t vectors_length, const size_t *points, size_t points_length,
-    const uint8_t *new_actions, size_t new_actions_length, const uint16_t *new_choices, size_t new_choices_length,
+    uint64_t *masks, size_t masks_length, int64_t *entries, size_t entries_length,
+    int64_t *corners, size_t corners_length, uint32_t *weights, size_t weights_length,
+    int64_t *values, size_t values_length, int64_t *informed, size_t informed_length, int64_t *qmdp, size_t qmdp_length,
+    size_t count, size_t block_vectors, size_t block_points, const size_t *vectors, size_t vectors_length,
+    const size_t *points, size_t points_length, const uint8_t *new_actions, size_t new_actions_length,
+    const uint16_t *new_choices, size_t new_choices_length, const uint64_t *new_masks, size_t new_masks_length,
     const int64_t *new_entries, size_t new_entries_length, const int64_t *new_corners, size_t new_corners_length,
     const uint32_t *new_weights, size_t new_weights_length, const int64_t *new_values, size_t new_values_length);
 
-/* The totals at a mixture. Tests: 7, 16, 17: a short mixture gets 16 at level 0. */
+/*
+ * The totals at a mixture. Tests: 7, 16, 17, 22: a short mixture gets 16 at level 0. Where no vector counts, 22 is all that is
+ * answered: no floor, and no ceiling either.
+ */
 struct biidhaqun_bounds biidhaqun_totals(
     size_t states, size_t actions, size_t observations, uint64_t discount,
     const uint16_t *transition, size_t transition_length, const uint16_t *observation, size_t observation_length,
     const int64_t *reward, size_t reward_length, const size_t *state, size_t state_length,
-    const uint8_t *standing_actions, size_t standing_actions_length, const int64_t *entries, size_t entries_length,
-    const int64_t *corners, size_t corners_length, const uint32_t *weights, size_t weights_length,
-    const int64_t *values, size_t values_length, const int64_t *informed, size_t informed_length,
-    const int64_t *qmdp, size_t qmdp_length, const uint32_t *mixture, size_t mixture_length);
+    const uint8_t *standing_actions, size_t standing_actions_length, const uint64_t *masks, size_t masks_length,
+    const int64_t *entries, size_t entries_length, const int64_t *corners, size_t corners_length,
+    const uint32_t *weights, size_t weights_length, const int64_t *values, size_t values_length,
+    const int64_t *informed, size_t informed_length, const int64_t *qmdp, size_t qmdp_length,
+    const uint32_t *mixture, size_t mixture_length);
 
 /*
  * The totals at `count` mixtures, whose weights lie one after the other; the certifier is judged once. Each answer is the one
- * that biidhaqun_totals gives, at its mixture's number: 0 or 17, lower, upper, action (0 where it is refused). Tests for the
- * whole call: 7, 16, 17 where there are fewer than count x n weights, 9 where a slice for answers is shorter than count.
+ * that biidhaqun_totals gives, at its mixture's number: 0, 17 or 22, lower, upper, action (0 where it is refused). Tests for
+ * the whole call: 7, 16, 17 where there are fewer than count x n weights, 9 where a slice for answers is shorter than count.
  */
 struct biidhaqun_refusal biidhaqun_each(
     size_t states, size_t actions, size_t observations, uint64_t discount,
     const uint16_t *transition, size_t transition_length, const uint16_t *observation, size_t observation_length,
     const int64_t *reward, size_t reward_length, const size_t *state, size_t state_length,
-    const uint8_t *standing_actions, size_t standing_actions_length, const int64_t *entries, size_t entries_length,
-    const int64_t *corners, size_t corners_length, const uint32_t *weights, size_t weights_length,
-    const int64_t *values, size_t values_length, const int64_t *informed, size_t informed_length,
-    const int64_t *qmdp, size_t qmdp_length, const uint32_t *mixtures, size_t mixtures_length,
-    size_t count, uint8_t *numbers, size_t numbers_length, int64_t *lower, size_t lower_length,
-    int64_t *upper, size_t upper_length, uint8_t *action, size_t action_length);
+    const uint8_t *standing_actions, size_t standing_actions_length, const uint64_t *masks, size_t masks_length,
+    const int64_t *entries, size_t entries_length, const int64_t *corners, size_t corners_length,
+    const uint32_t *weights, size_t weights_length, const int64_t *values, size_t values_length,
+    const int64_t *informed, size_t informed_length, const int64_t *qmdp, size_t qmdp_length,
+    const uint32_t *mixtures, size_t mixtures_length, size_t count, uint8_t *numbers, size_t numbers_length,
+    int64_t *lower, size_t lower_length, int64_t *upper, size_t upper_length, uint8_t *action, size_t action_length);
 
 /*
  * Builds a level upon the one that stands, with a vector at each corner and then at each of `count` points; it would be
- * accepted. It has n + count vectors and count points, and its weights are the points: they are not written anew. If the t
- * levels so far were all built, each entry is less than t ticks below what the plan earns that its vector names. Tests: 7,
- * 8, 9, 12.
+ * accepted. It has n + count vectors and count points, and its weights are the points: they are not written anew. Its vectors
+ * cover all states, and go on with standing vectors that do. If the t levels so far were all built, each entry is less than t
+ * ticks below what the plan earns that its vector names. Tests: 7, 8, 9, 12, 22.
  */
 struct biidhaqun_refusal biidhaqun_build(
     size_t states, size_t actions, size_t observations, uint64_t discount,
     const uint16_t *transition, size_t transition_length, const uint16_t *observation, size_t observation_length,
     const int64_t *reward, size_t reward_length, const size_t *state, size_t state_length,
-    const uint8_t *standing_actions, size_t standing_actions_length, const int64_t *entries, size_t entries_length,
-    const int64_t *corners, size_t corners_length, const uint32_t *weights, size_t weights_length,
-    const int64_t *values, size_t values_length, const int64_t *informed, size_t informed_length,
-    const int64_t *qmdp, size_t qmdp_length, size_t count, const uint32_t *points, size_t points_length,
-    uint8_t *new_actions, size_t new_actions_length, uint16_t *new_choices, size_t new_choices_length,
+    const uint8_t *standing_actions, size_t standing_actions_length, const uint64_t *masks, size_t masks_length,
+    const int64_t *entries, size_t entries_length, const int64_t *corners, size_t corners_length,
+    const uint32_t *weights, size_t weights_length, const int64_t *values, size_t values_length,
+    const int64_t *informed, size_t informed_length, const int64_t *qmdp, size_t qmdp_length, size_t count,
+    const uint32_t *points, size_t points_length, uint8_t *new_actions, size_t new_actions_length,
+    uint16_t *new_choices, size_t new_choices_length, uint64_t *new_masks, size_t new_masks_length,
     int64_t *new_entries, size_t new_entries_length, int64_t *new_corners, size_t new_corners_length,
     int64_t *new_values, size_t new_values_length);
 
@@ -368,19 +393,21 @@ struct biidhaqun_refusal biidhaqun_build(
  * action, and for each observation a next node or, upon level 0, a hyphen for vector 0. Words part as in a model file; each
  * file has at most 4 MiB. Each entry is the lesser of the decimal rounded down to ticks and of its own backup rounded down;
  * corners and values are those that biidhaqun_build makes at `count` points. The level has as many vectors as are answered
- * and count points, and its weights are the points: they are not written anew. Tests: 1, 7, 19, 20, 8, 9, 10, 11, 12; with 10
+ * and count points, and its weights are the points: they are not written anew. Its vectors cover all states, so that the nodes
+ * may go on only with vectors that cover what is reached there. Tests: 1, 7, 19, 20, 8, 9, 10, 21, 11, 12; with 10 and 21
  * before any backup.
  */
 struct biidhaqun_adopted biidhaqun_adopt(
     size_t states, size_t actions, size_t observations, uint64_t discount,
     const uint16_t *transition, size_t transition_length, const uint16_t *observation, size_t observation_length,
     const int64_t *reward, size_t reward_length, const size_t *state, size_t state_length,
-    const uint8_t *standing_actions, size_t standing_actions_length, const int64_t *entries, size_t entries_length,
-    const int64_t *corners, size_t corners_length, const uint32_t *weights, size_t weights_length,
-    const int64_t *values, size_t values_length, const int64_t *informed, size_t informed_length,
-    const int64_t *qmdp, size_t qmdp_length, const uint8_t *alpha, size_t alpha_length,
-    const uint8_t *graph, size_t graph_length, const uint32_t *points, size_t points_length, size_t count,
-    uint8_t *new_actions, size_t new_actions_length, uint16_t *new_choices, size_t new_choices_length,
+    const uint8_t *standing_actions, size_t standing_actions_length, const uint64_t *masks, size_t masks_length,
+    const int64_t *entries, size_t entries_length, const int64_t *corners, size_t corners_length,
+    const uint32_t *weights, size_t weights_length, const int64_t *values, size_t values_length,
+    const int64_t *informed, size_t informed_length, const int64_t *qmdp, size_t qmdp_length,
+    const uint8_t *alpha, size_t alpha_length, const uint8_t *graph, size_t graph_length,
+    const uint32_t *points, size_t points_length, size_t count, uint8_t *new_actions, size_t new_actions_length,
+    uint16_t *new_choices, size_t new_choices_length, uint64_t *new_masks, size_t new_masks_length,
     int64_t *new_entries, size_t new_entries_length, int64_t *new_corners, size_t new_corners_length,
     int64_t *new_values, size_t new_values_length);
 
@@ -422,6 +449,8 @@ struct biidhaqun_certifier {
     size_t actions_length;
     uint16_t *choices;
     size_t choices_length;
+    uint64_t *masks;
+    size_t masks_length;
     int64_t *entries;
     size_t entries_length;
     int64_t *corners;
@@ -444,6 +473,8 @@ struct biidhaqun_level {
     size_t actions_length;
     uint16_t *choices;
     size_t choices_length;
+    uint64_t *masks;
+    size_t masks_length;
     int64_t *entries;
     size_t entries_length;
     int64_t *corners;
@@ -467,6 +498,8 @@ struct biidhaqun_offers {
     size_t actions_length;
     const uint16_t *choices;
     size_t choices_length;
+    const uint64_t *masks;
+    size_t masks_length;
     const int64_t *entries;
     size_t entries_length;
     const int64_t *corners;
@@ -494,20 +527,21 @@ struct biidhaqun_tables_room {
 };
 
 /*
- * Room for any level, 147 KB: one that stands, one that is offered, or one that is built. It is large for a stack: keep it
+ * Room for any level, 155 KB: one that stands, one that is offered, or one that is built. It is large for a stack: keep it
  * static or allocate it. Where levels are known to be small, lend shorter slices instead: those of n states, k observations, v
- * vectors and p points have v, v x k, v x n, n, p x n and p elements, and a level built at c points has n + c vectors.
+ * vectors and p points have v, v x k, v, v x n, n, p x n and p elements, and a level built at c points has n + c vectors.
  */
 struct biidhaqun_level_room {
     uint8_t actions[BIIDHAQUN_VECTORS];
     uint16_t choices[BIIDHAQUN_VECTORS * BIIDHAQUN_OBSERVATIONS];
+    uint64_t masks[BIIDHAQUN_VECTORS];
     int64_t entries[BIIDHAQUN_VECTORS * BIIDHAQUN_STATES];
     int64_t corners[BIIDHAQUN_STATES];
     uint32_t weights[BIIDHAQUN_POINTS * BIIDHAQUN_STATES];
     int64_t values[BIIDHAQUN_POINTS];
 };
 
-/* Room for any certifier, 149 KB: the level that stands, and the rows. It is large for a stack, too. */
+/* Room for any certifier, 157 KB: the level that stands, and the rows. It is large for a stack, too. */
 struct biidhaqun_certifier_room {
     struct biidhaqun_level_room level;
     int64_t informed[BIIDHAQUN_ACTIONS * BIIDHAQUN_STATES];
@@ -533,6 +567,7 @@ static inline void biidhaqun_certifier_in(struct biidhaqun_certifier *certifier,
     certifier->state[0] = certifier->state[1] = certifier->state[2] = 0;
     BIIDHAQUN_LEND(certifier, &room->level, actions);
     BIIDHAQUN_LEND(certifier, &room->level, choices);
+    BIIDHAQUN_LEND(certifier, &room->level, masks);
     BIIDHAQUN_LEND(certifier, &room->level, entries);
     BIIDHAQUN_LEND(certifier, &room->level, corners);
     BIIDHAQUN_LEND(certifier, &room->level, weights);
@@ -547,6 +582,7 @@ static inline void biidhaqun_level_in(struct biidhaqun_level *level, struct biid
     level->vectors = level->points = 0;
     BIIDHAQUN_LEND(level, room, actions);
     BIIDHAQUN_LEND(level, room, choices);
+    BIIDHAQUN_LEND(level, room, masks);
     BIIDHAQUN_LEND(level, room, entries);
     BIIDHAQUN_LEND(level, room, corners);
     BIIDHAQUN_LEND(level, room, weights);
@@ -554,6 +590,12 @@ static inline void biidhaqun_level_in(struct biidhaqun_level *level, struct biid
 }
 
 #undef BIIDHAQUN_LEND
+
+/* The mask of a vector that covers all of so many states. */
+static inline uint64_t biidhaqun_full_mask(size_t states)
+{
+    return ~(uint64_t)0 >> (64 - states);
+}
 
 /*
  * The entry of an action's informed row at a state, both within their counts, in ticks. With as many steps as levels were
@@ -598,8 +640,9 @@ static inline struct biidhaqun_refusal biidhaqun_open_on(const struct biidhaqun_
     return biidhaqun_open(
         t->states, t->actions, t->observations, t->discount, t->transition, t->transition_length, t->observation,
         t->observation_length, t->reward, t->reward_length, c->state, 3, c->actions, c->actions_length, c->choices,
-        c->choices_length, c->entries, c->entries_length, c->corners, c->corners_length, c->weights, c->weights_length,
-        c->values, c->values_length, c->informed, c->informed_length, c->qmdp, c->qmdp_length);
+        c->choices_length, c->masks, c->masks_length, c->entries, c->entries_length, c->corners, c->corners_length,
+        c->weights, c->weights_length, c->values, c->values_length, c->informed, c->informed_length, c->qmdp,
+        c->qmdp_length);
 }
 
 /* biidhaqun_offer */
@@ -610,10 +653,11 @@ static inline struct biidhaqun_refusal biidhaqun_offer_level(const struct biidha
     return biidhaqun_offer(
         t->states, t->actions, t->observations, t->discount, t->transition, t->transition_length, t->observation,
         t->observation_length, t->reward, t->reward_length, c->state, 3, c->actions, c->actions_length, c->choices,
-        c->choices_length, c->entries, c->entries_length, c->corners, c->corners_length, c->weights, c->weights_length,
-        c->values, c->values_length, c->informed, c->informed_length, c->qmdp, c->qmdp_length, l->vectors, l->points,
-        l->actions, l->actions_length, l->choices, l->choices_length, l->entries, l->entries_length, l->corners,
-        l->corners_length, l->weights, l->weights_length, l->values, l->values_length);
+        c->choices_length, c->masks, c->masks_length, c->entries, c->entries_length, c->corners, c->corners_length,
+        c->weights, c->weights_length, c->values, c->values_length, c->informed, c->informed_length, c->qmdp,
+        c->qmdp_length, l->vectors, l->points, l->actions, l->actions_length, l->choices, l->choices_length, l->masks,
+        l->masks_length, l->entries, l->entries_length, l->corners, l->corners_length, l->weights, l->weights_length,
+        l->values, l->values_length);
 }
 
 /* biidhaqun_replay */
@@ -624,11 +668,12 @@ static inline struct biidhaqun_replayed biidhaqun_replay_offers(const struct bii
     return biidhaqun_replay(
         t->states, t->actions, t->observations, t->discount, t->transition, t->transition_length, t->observation,
         t->observation_length, t->reward, t->reward_length, c->state, 3, c->actions, c->actions_length, c->choices,
-        c->choices_length, c->entries, c->entries_length, c->corners, c->corners_length, c->weights, c->weights_length,
-        c->values, c->values_length, c->informed, c->informed_length, c->qmdp, c->qmdp_length, l->count, l->block_vectors,
-        l->block_points, l->vectors, l->vectors_length, l->points, l->points_length, l->actions, l->actions_length,
-        l->choices, l->choices_length, l->entries, l->entries_length, l->corners, l->corners_length, l->weights,
-        l->weights_length, l->values, l->values_length);
+        c->choices_length, c->masks, c->masks_length, c->entries, c->entries_length, c->corners, c->corners_length,
+        c->weights, c->weights_length, c->values, c->values_length, c->informed, c->informed_length, c->qmdp,
+        c->qmdp_length, l->count, l->block_vectors, l->block_points, l->vectors, l->vectors_length, l->points,
+        l->points_length, l->actions, l->actions_length, l->choices, l->choices_length, l->masks, l->masks_length,
+        l->entries, l->entries_length, l->corners, l->corners_length, l->weights, l->weights_length, l->values,
+        l->values_length);
 }
 
 /* biidhaqun_totals */
@@ -638,9 +683,9 @@ static inline struct biidhaqun_bounds biidhaqun_totals_at(const struct biidhaqun
 {
     return biidhaqun_totals(
         t->states, t->actions, t->observations, t->discount, t->transition, t->transition_length, t->observation,
-        t->observation_length, t->reward, t->reward_length, c->state, 3, c->actions, c->actions_length, c->entries,
-        c->entries_length, c->corners, c->corners_length, c->weights, c->weights_length, c->values, c->values_length,
-        c->informed, c->informed_length, c->qmdp, c->qmdp_length, mixture, mixture_length);
+        t->observation_length, t->reward, t->reward_length, c->state, 3, c->actions, c->actions_length, c->masks,
+        c->masks_length, c->entries, c->entries_length, c->corners, c->corners_length, c->weights, c->weights_length,
+        c->values, c->values_length, c->informed, c->informed_length, c->qmdp, c->qmdp_length, mixture, mixture_length);
 }
 
 /* biidhaqun_each, with answers in slices of `count` */
@@ -652,10 +697,10 @@ static inline struct biidhaqun_refusal biidhaqun_totals_at_each(const struct bii
 {
     return biidhaqun_each(
         t->states, t->actions, t->observations, t->discount, t->transition, t->transition_length, t->observation,
-        t->observation_length, t->reward, t->reward_length, c->state, 3, c->actions, c->actions_length, c->entries,
-        c->entries_length, c->corners, c->corners_length, c->weights, c->weights_length, c->values, c->values_length,
-        c->informed, c->informed_length, c->qmdp, c->qmdp_length, mixtures, mixtures_length, count, numbers, count, lower,
-        count, upper, count, action, count);
+        t->observation_length, t->reward, t->reward_length, c->state, 3, c->actions, c->actions_length, c->masks,
+        c->masks_length, c->entries, c->entries_length, c->corners, c->corners_length, c->weights, c->weights_length,
+        c->values, c->values_length, c->informed, c->informed_length, c->qmdp, c->qmdp_length, mixtures, mixtures_length,
+        count, numbers, count, lower, count, upper, count, action, count);
 }
 
 /*
@@ -669,11 +714,11 @@ static inline struct biidhaqun_refusal biidhaqun_build_level(const struct biidha
 {
     struct biidhaqun_refusal x = biidhaqun_build(
         t->states, t->actions, t->observations, t->discount, t->transition, t->transition_length, t->observation,
-        t->observation_length, t->reward, t->reward_length, c->state, 3, c->actions, c->actions_length, c->entries,
-        c->entries_length, c->corners, c->corners_length, c->weights, c->weights_length, c->values, c->values_length,
-        c->informed, c->informed_length, c->qmdp, c->qmdp_length, count, points, points_length, l->actions,
-        l->actions_length, l->choices, l->choices_length, l->entries, l->entries_length, l->corners, l->corners_length,
-        l->values, l->values_length);
+        t->observation_length, t->reward, t->reward_length, c->state, 3, c->actions, c->actions_length, c->masks,
+        c->masks_length, c->entries, c->entries_length, c->corners, c->corners_length, c->weights, c->weights_length,
+        c->values, c->values_length, c->informed, c->informed_length, c->qmdp, c->qmdp_length, count, points,
+        points_length, l->actions, l->actions_length, l->choices, l->choices_length, l->masks, l->masks_length,
+        l->entries, l->entries_length, l->corners, l->corners_length, l->values, l->values_length);
     if (x.number == BIIDHAQUN_SERVED) {
         l->vectors = t->states + count;
         l->points = count;
@@ -695,11 +740,12 @@ static inline struct biidhaqun_refusal biidhaqun_adopt_level(const struct biidha
 {
     struct biidhaqun_adopted x = biidhaqun_adopt(
         t->states, t->actions, t->observations, t->discount, t->transition, t->transition_length, t->observation,
-        t->observation_length, t->reward, t->reward_length, c->state, 3, c->actions, c->actions_length, c->entries,
-        c->entries_length, c->corners, c->corners_length, c->weights, c->weights_length, c->values, c->values_length,
-        c->informed, c->informed_length, c->qmdp, c->qmdp_length, alpha, alpha_length, graph, graph_length, points,
-        points_length, count, l->actions, l->actions_length, l->choices, l->choices_length, l->entries,
-        l->entries_length, l->corners, l->corners_length, l->values, l->values_length);
+        t->observation_length, t->reward, t->reward_length, c->state, 3, c->actions, c->actions_length, c->masks,
+        c->masks_length, c->entries, c->entries_length, c->corners, c->corners_length, c->weights, c->weights_length,
+        c->values, c->values_length, c->informed, c->informed_length, c->qmdp, c->qmdp_length, alpha, alpha_length,
+        graph, graph_length, points, points_length, count, l->actions, l->actions_length, l->choices, l->choices_length,
+        l->masks, l->masks_length, l->entries, l->entries_length, l->corners, l->corners_length, l->values,
+        l->values_length);
     struct biidhaqun_refusal refusal;
     if (x.number == BIIDHAQUN_SERVED) {
         l->vectors = x.vectors;

@@ -29,6 +29,7 @@ pub fn floating_level(level: &Level, n: usize, k: usize) -> floating::Level {
     let vector = |v: usize| floating::Vector {
         action: level.actions[v].into(),
         choices: level.choices[v * k..(v + 1) * k].iter().map(|&choice| choice.into()).collect(),
+        mask: level.masks[v],
         entries: ticks(&level.entries[v * n..(v + 1) * n]),
     };
     let point = |j: usize| {
@@ -44,8 +45,10 @@ pub fn floating_level(level: &Level, n: usize, k: usize) -> floating::Level {
 
 /// A certifier in floating point.
 pub fn floating_certifier(tables: &Tables, certifier: &Certifier) -> floating::Certifier {
-    let Certifier { state, actions, choices, entries, corners, weights, values, informed, qmdp } = certifier.clone();
-    let level = Level { vectors: state[1], points: state[2], actions, choices, entries, corners, weights, values };
+    let Certifier { state, actions, choices, masks, entries, corners, weights, values, informed, qmdp } =
+        certifier.clone();
+    let (vectors, points) = (state[1], state[2]);
+    let level = Level { vectors, points, actions, choices, masks, entries, corners, weights, values };
     floating::Certifier {
         tables: floating_tables(tables),
         number: state[0],

@@ -1,8 +1,10 @@
 //! The form that floating solvers use: probabilities and beliefs in f64, the same sums, and a tolerance.
 //!
-//! Tables are trusted once they are open, rows total 1 up to a tolerance, and nothing is rounded.
+//! Tables are trusted once they are open, rows total 1 up to a tolerance, nothing is rounded, and what a masked vector reaches
+//! is not looked at.
 
-use biidhaqun::slices::Graph;
+use crate::limits::covers;
+use biidhaqun::slices::{full_mask, Graph};
 
 /// How far a row may be from 1, or an inequality from holding, in units of the numbers compared.
 const TOLERANCE: f64 = 1e-6;
@@ -22,6 +24,8 @@ pub struct Tables {
 pub struct Vector {
     pub action: usize,
     pub choices: Vec<usize>,
+    /// The states that it covers.
+    pub mask: u64,
     pub entries: Vec<f64>,
 }
 
@@ -161,10 +165,11 @@ impl Level {
         least
     }
 
-    /// The first vector with the largest product.
+    /// The first vector with the largest product, of those that cover all weight.
     fn best_vector(&self, b: &[f64]) -> (usize, f64) {
+        let weighty = b.iter().enumerate().fold(0, |mask, (s, &weight)| mask | u64::from(weight > 0.0) << s);
         let mut best = (0, f64::NEG_INFINITY);
-        for (v, vector) in self.vectors.iter().enumerate() {
+        for (v, vector) in self.vectors.iter().enumerate().filter(|(_, vector)| weighty & !vector.mask == 0) {
             let product = dot(&vector.entries, b);
             if product > best.1 {
                 best = (v, product);
@@ -181,7 +186,7 @@ pub fn open(tables: &Tables) -> Option<Certifier> {
     if !tables.transitions.chunks_exact(n).all(total) || !tables.sights.chunks_exact(k).all(total) {
         return None;
     }
-    let vector = Vector { action: 0, choices: vec![0; k], entries: vec![0.0; n] };
+    let vector = Vector { action: 0, choices: vec![0; k], mask: full_mask(n), entries: vec![0.0; n] };
     let level = Level { vectors: vec![vector], corners: vec![0.0; n], points: Vec::new() };
     let rows = vec![0.0; tables.actions * n];
     Some(Certifier { tables: tables.clone(), number: 0, level, informed: rows.clone(), qmdp: rows })
@@ -192,7 +197,8 @@ pub fn offer(certifier: &mut Certifier, offered: &Level) -> bool {
     let (tables, standing) = (&certifier.tables, &certifier.level);
     let floors = offered.vectors.iter().all(|vector| {
         let backups = tables.backups(standing, vector.action, &vector.choices);
-        vector.entries.iter().zip(&backups).all(|(entry, backup)| *entry <= backup + TOLERANCE)
+        let mut pairs = vector.entries.iter().zip(&backups).enumerate();
+        pairs.all(|(s, (entry, backup))| *entry <= backup + TOLERANCE || !covers(vector.mask, s))
     });
     let corner = |s: usize| {
         let mut b = vec![0.0; tables.states];
@@ -246,7 +252,7 @@ pub fn adopt(certifier: &Certifier, alpha: &str, graph: &str, points: &[Vec<f64>
         let (action, choices) = (node[1], node[2..].to_vec());
         let backups = tables.backups(standing, action, &choices);
         let entries = row[1..].iter().zip(backups).map(|(decimal, backup)| backup.min(100.0 * decimal)).collect();
-        Vector { action, choices, entries }
+        Vector { action, choices, mask: full_mask(tables.states), entries }
     };
     let corner = |s: usize| {
         let mut b = vec![0.0; tables.states];
@@ -272,10 +278,10 @@ fn best_vector(tables: &Tables, standing: &Level, b: &[f64]) -> Vector {
         let product = dot(&entries, b);
         if product > most {
             most = product;
-            best = Some(Vector { action: a, choices, entries });
+            best = Some(Vector { action: a, choices, mask: full_mask(tables.states), entries });
         }
     }
-    best.unwrap_or(Vector { action: 0, choices: Vec::new(), entries: Vec::new() })
+    best.unwrap_or(Vector { action: 0, choices: Vec::new(), mask: 0, entries: Vec::new() })
 }
 
 /// The words of a text in turn.
@@ -382,6 +388,7 @@ pub fn worth(tables: &Tables, graph: &Graph, node: usize, state: usize, steps: u
         .map(|(&action, next)| Vector {
             action: action.into(),
             choices: next.iter().map(|&node| node.into()).collect(),
+            mask: full_mask(tables.states),
             entries: vec![0.0; tables.states],
         })
         .collect();

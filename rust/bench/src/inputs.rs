@@ -1,7 +1,7 @@
 //! Models, levels and files that leave a call as much work as there can be: no probability and no weight is 0, every level
 //! is accepted, and every point takes something off the corners.
 
-use crate::limits::{BUILT_POINTS, REWARD, TOTAL};
+use crate::limits::{covers, full_mask, BUILT_POINTS, REWARD, TOTAL};
 use crate::tuned::Tuned;
 use biidhaqun::slices::{Certifier, Graph, Level, Refusal, Tables};
 use compare::lent::Library;
@@ -38,6 +38,18 @@ pub fn tables(rng: &mut Rng, counts: Counts) -> Tables {
         observation: (0..rows).flat_map(|_| shares(rng, observations, 1_000)).collect(),
         reward: (0..rows).map(|_| rng.within(-REWARD, REWARD)).collect(),
     }
+}
+
+/// Tables whose actions lead from no state of one half to one of the other.
+fn parted_tables(rng: &mut Rng, counts: Counts) -> Tables {
+    let mut tables = tables(rng, counts);
+    let (n, half) = (counts.states, counts.states / 2);
+    for (row, cells) in tables.transition.chunks_exact_mut(n).enumerate() {
+        cells.fill(0);
+        let first = if row % n < half { 0 } else { half };
+        cells[first..first + half].copy_from_slice(&shares(rng, half, 1_000));
+    }
+    tables
 }
 
 /// A plan graph with so many nodes.
@@ -106,6 +118,7 @@ impl Standing {
             points: level.values.len(),
             actions: (0..vectors).map(|v| level.actions[v % made]).collect(),
             choices: (0..vectors * k).map(|cell| chosen(cell / k, cell % k)).collect(),
+            masks: vec![full_mask(n); vectors],
             entries: (0..vectors * n).map(|cell| level.entries[cell / n % made * n + cell % n]).collect(),
             ..level
         }
@@ -129,17 +142,45 @@ fn stairs(level: Level) -> Level {
 
 /// A certifier after three levels with so many vectors and points, and a level to offer it that is accepted.
 pub fn offer(rng: &mut Rng, counts: Counts, vectors: usize, count: usize, steep: bool) -> (Standing, Level) {
-    let mut standing = Standing::fresh(tables(rng, counts));
+    let tables = tables(rng, counts);
+    offer_upon(rng, tables, vectors, count, steep)
+}
+
+fn offer_upon(rng: &mut Rng, tables: Tables, vectors: usize, count: usize, steep: bool) -> (Standing, Level) {
+    let states = tables.states;
+    let mut standing = Standing::fresh(tables);
     for step in 1..=3 {
-        let mut next = standing.level(&points(rng, counts.states, count), vectors);
+        let mut next = standing.level(&points(rng, states, count), vectors);
         if steep && step == 3 {
             next = stairs(next);
         }
         let ended = Tuned.offer(&standing.tables, &mut standing.certifier, &next);
         assert_eq!(ended, Refusal::default(), "a built level is accepted");
     }
-    let offered = standing.level(&points(rng, counts.states, count), vectors);
+    let offered = standing.level(&points(rng, states, count), vectors);
     (standing, offered)
+}
+
+/// The same without points, upon a model of two halves: each vector covers one of them, and goes on with those that do.
+pub fn halved(rng: &mut Rng, counts: Counts, vectors: usize) -> (Standing, Level) {
+    let (n, half) = (counts.states, counts.states / 2);
+    let tables = parted_tables(rng, counts);
+    let (mut standing, mut level) = offer_upon(rng, tables, vectors, 0, false);
+    // A vector was made at each corner, and they are repeated: every other time round they cover the other half.
+    let side = |v: usize| v / n % 2;
+    let mask = |v: usize| if side(v) == 0 { full_mask(half) } else { full_mask(n) & !full_mask(half) };
+    level.masks = (0..vectors).map(mask).collect();
+    for (cell, choice) in level.choices.iter_mut().enumerate() {
+        let (v, first) = (cell / counts.observations, usize::from(*choice) % n);
+        let rounds = vectors / (2 * n);
+        *choice = (first + n * (2 * (v % rounds) + side(v))) as u16;
+    }
+    let Certifier { masks, entries, .. } = &mut standing.certifier;
+    for (v, (cell, row)) in masks.iter_mut().zip(entries.chunks_exact_mut(n)).take(vectors).enumerate() {
+        *cell = mask(v);
+        row.iter_mut().enumerate().filter(|(s, _)| !covers(*cell, *s)).for_each(|(_, entry)| *entry = 0);
+    }
+    (standing, level)
 }
 
 /// A model file for tables and a start point, filled up with statements to nearly the longest there may be.
@@ -200,6 +241,20 @@ mod tests {
             let ended = Tuned.offer(&standing.tables, &mut standing.certifier, &offered);
             assert_eq!(ended, Refusal::default());
         }
+    }
+
+    #[test]
+    fn vectors_of_one_half_are_accepted() {
+        let counts = Counts { states: 16, actions: 8, observations: 8 };
+        let (mut standing, offered) = halved(&mut Rng::for_case(1, "bench", 0), counts, VECTORS);
+        assert!(offered.masks.iter().all(|mask| mask.count_ones() == 8));
+        let ended = Tuned.offer(&standing.tables, &mut standing.certifier, &offered);
+        assert_eq!(ended, Refusal::default());
+        let at = |first: u32, last: u32| {
+            let mixture = [[first; 8], [last; 8]].concat();
+            Tuned.totals(&standing.tables, &standing.certifier, &mixture).number
+        };
+        assert_eq!((at(1, 0), at(0, 1), at(1, 1)), (0, 0, 22));
     }
 
     #[test]

@@ -1,9 +1,10 @@
 //! What all forms in whole numbers share: document 01's limits, lent slices cut to their counts, and how a call ends.
 
-use biidhaqun::slices::{Answers, Certifier, Graph, Level, Offers, Reading, Refusal, Replayed, Tables, Totals};
 pub use biidhaqun::slices::{
-    ACTIONS, BUILT_POINTS, FILE_BYTES, LEVELS, NODES, OBSERVATIONS, POINTS, SOLVER_BYTES, STATES, STEPS, VECTORS,
+    full_mask, ACTIONS, BUILT_POINTS, FILE_BYTES, LEVELS, NODES, OBSERVATIONS, POINTS, SOLVER_BYTES, STATES, STEPS,
+    VECTORS,
 };
+use biidhaqun::slices::{Answers, Certifier, Graph, Level, Offers, Reading, Refusal, Replayed, Tables, Totals};
 
 pub const THOUSAND: i64 = 1_000;
 pub const REWARD: i64 = 100_000;
@@ -27,6 +28,11 @@ pub fn refuse(number: u64, offender: Option<usize>) -> Answer<()> {
 
 pub fn ended(answer: Answer<()>) -> Refusal {
     answer.err().unwrap_or_default()
+}
+
+/// Whether a mask covers a state.
+pub fn covers(mask: u64, s: usize) -> bool {
+    mask >> s & 1 == 1
 }
 
 /// Tables cut to their counts.
@@ -58,6 +64,7 @@ impl<'a> Model<'a> {
 pub struct Cut<'a> {
     pub actions: &'a [u8],
     pub choices: &'a [u16],
+    pub masks: &'a [u64],
     pub entries: &'a [i64],
     pub corners: &'a [i64],
     pub weights: &'a [u32],
@@ -81,6 +88,7 @@ impl<'a> Cut<'a> {
         Some(Cut {
             actions: level.actions.get(..vectors)?,
             choices: level.choices.get(..vectors * k)?,
+            masks: level.masks.get(..vectors)?,
             entries: level.entries.get(..vectors * n)?,
             corners: level.corners.get(..n)?,
             weights: level.weights.get(..points * n)?,
@@ -101,6 +109,7 @@ impl<'a> Cut<'a> {
         let level = Cut {
             actions: certifier.actions.get(..vectors)?,
             choices: &[],
+            masks: certifier.masks.get(..vectors)?,
             entries: certifier.entries.get(..vectors * n)?,
             corners: certifier.corners.get(..n)?,
             weights: certifier.weights.get(..points * n)?,
@@ -122,6 +131,7 @@ impl<'a> Cut<'a> {
         certifier.state.len() >= 3
             && certifier.actions.len() >= self.actions.len()
             && certifier.choices.len() >= self.choices.len()
+            && certifier.masks.len() >= self.masks.len()
             && certifier.entries.len() >= self.entries.len()
             && certifier.corners.len() >= self.corners.len()
             && certifier.weights.len() >= self.weights.len()
@@ -130,12 +140,22 @@ impl<'a> Cut<'a> {
             && certifier.qmdp.len() >= self.qmdp.len()
     }
 
-    /// Lays the level over a certifier's slices.
+    /// Lays the level over a certifier's slices, with 0 for entries that are not covered.
     pub fn stand(&self, number: usize, certifier: &mut Certifier) {
+        let n = self.corners.len();
+        let full = full_mask(n);
         certifier.state[..3].copy_from_slice(&[number, self.actions.len(), self.values.len()]);
         certifier.actions[..self.actions.len()].copy_from_slice(self.actions);
         certifier.choices[..self.choices.len()].copy_from_slice(self.choices);
+        for (cell, mask) in certifier.masks.iter_mut().zip(self.masks) {
+            *cell = mask & full;
+        }
         certifier.entries[..self.entries.len()].copy_from_slice(self.entries);
+        for (entries, &mask) in certifier.entries.chunks_exact_mut(n).zip(self.masks) {
+            if mask & full != full {
+                entries.iter_mut().enumerate().filter(|(s, _)| !covers(mask, *s)).for_each(|(_, entry)| *entry = 0);
+            }
+        }
         certifier.corners[..self.corners.len()].copy_from_slice(self.corners);
         certifier.weights[..self.weights.len()].copy_from_slice(self.weights);
         certifier.values[..self.values.len()].copy_from_slice(self.values);
@@ -150,8 +170,17 @@ pub fn open(model: Model, certifier: &mut Certifier) -> Answer<()> {
     let corners = &zeros[..model.n];
     let choices = &[0; OBSERVATIONS][..model.k];
     let rows = &[0; ACTIONS * STATES][..model.m * model.n];
-    let (weights, values) = (&[], &[]);
-    let fresh = Cut { actions: &[0], choices, entries: corners, corners, weights, values, informed: rows, qmdp: rows };
+    let fresh = Cut {
+        actions: &[0],
+        choices,
+        masks: &[full_mask(model.n)],
+        entries: corners,
+        corners,
+        weights: &[],
+        values: &[],
+        informed: rows,
+        qmdp: rows,
+    };
     if !fresh.has_room_in(certifier) {
         return refused(9, 0);
     }
@@ -170,6 +199,7 @@ pub fn block(offers: &Offers, at: usize, n: usize, k: usize) -> Option<Level> {
         points: *offers.points.get(at)?,
         actions: cut(&offers.actions, at, v)?,
         choices: cut(&offers.choices, at, v * k)?,
+        masks: cut(&offers.masks, at, v)?,
         entries: cut(&offers.entries, at, v * n)?,
         corners: cut(&offers.corners, at, n)?,
         weights: cut(&offers.weights, at, p * n)?,
@@ -245,6 +275,7 @@ pub fn has_room(level: &Level, n: usize, k: usize, count: usize) -> bool {
     let vectors = n + count;
     level.actions.len() >= vectors
         && level.choices.len() >= vectors * k
+        && level.masks.len() >= vectors
         && level.entries.len() >= vectors * n
         && level.corners.len() >= n
         && level.values.len() >= count

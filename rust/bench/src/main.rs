@@ -394,6 +394,14 @@ fn asking(Standing { tables, certifier }: Standing) -> Call {
     Call::Totals { tables, certifier, mixture }
 }
 
+/// At a mixture of the first half of the states.
+fn asking_in_half(Standing { tables, certifier }: Standing) -> Call {
+    let half = tables.states / 2;
+    let mut mixture: Vec<u32> = inputs::shares(&mut rng(), half, 1_000);
+    mixture.resize(tables.states, 0);
+    Call::Totals { tables, certifier, mixture }
+}
+
 fn asking_at(Standing { tables, certifier }: Standing, count: usize) -> Call {
     let mut rng = rng();
     let mixtures = (0..count).flat_map(|_| inputs::shares::<u32>(&mut rng, tables.states, 1_000)).collect();
@@ -423,10 +431,11 @@ fn valuing(counts: Counts, nodes: usize, steps: usize) -> Call {
 }
 
 /// Every call at the limits, by name; those on levels with 32 vectors, and with 1,000.
-fn calls() -> [(&'static str, Call); 13] {
+fn calls() -> [(&'static str, Call); 15] {
     let (standing, level) = inputs::offer(&mut rng(), LARGEST, FEW, POINTS, false);
     let (wide, larger) = inputs::offer(&mut rng(), LARGEST, VECTORS, POINTS, false);
     let pointless = inputs::offer(&mut rng(), LARGEST, VECTORS, 0, false);
+    let (halves, masked) = inputs::halved(&mut rng(), LARGEST, VECTORS);
     [
         ("reading", reading(&standing.tables)),
         ("opening", opening(&standing.tables)),
@@ -436,8 +445,10 @@ fn calls() -> [(&'static str, Call); 13] {
         ("building at 16 points", building(standing.clone(), 16)),
         ("a solver's 32 vectors, 16 points", adopting((standing, level), 16)),
         ("an offer, 1,000 vectors, no points", offering(pointless)),
+        ("an offer, 1,000 vectors of half the states", offering((halves.clone(), masked))),
         ("an offer, 1,000 vectors, 32 points", offering((wide.clone(), larger.clone()))),
         ("totals upon 1,000 vectors", asking(wide.clone())),
+        ("totals upon 1,000 of half the states", asking_in_half(halves)),
         ("building at 16 points upon 1,000 vectors", building(wide.clone(), 16)),
         ("a solver's 1,000 vectors, 16 points", adopting((wide, larger), 16)),
         ("a plan's worth, 32 nodes, 4 steps", valuing(LARGEST, NODES, STEPS)),

@@ -44,6 +44,14 @@ impl Model<'_> {
         K * self.r(s, a) + self.g * sum
     }
 
+    /// Whether a covered state reaches, with T × O above 0, a state that the vector chosen does not cover.
+    fn loses(&self, masks: &[u64], a: usize, mask: u64, choices: &[u16]) -> bool {
+        let reached = |s, s2, o| self.t(s, a, s2) * self.o(a, s2, o) > 0;
+        let lost = |s2: usize, o: usize| !covers(masks[usize::from(choices[o])], s2);
+        let from = |s| (0..self.n).any(|s2| (0..self.k).any(|o| reached(s, s2, o) && lost(s2, o)));
+        (0..self.n).any(|s| covers(mask, s) && from(s))
+    }
+
     /// K × p·R + g × the sum over o of the ceiling at q.
     fn ceiling_backup(&self, level: &Cut, p: &[i64], a: usize) -> i64 {
         let earned: i64 = (0..self.n).map(|s| p[s] * self.r(s, a)).sum();
@@ -143,7 +151,8 @@ fn ceiling(level: &Cut, q: &[i64]) -> i64 {
 fn first_outside(level: &Cut, n: usize, t: usize) -> Option<usize> {
     let end = REWARD * t as i64;
     let outside = |value: &i64, end: i64| !(-end..=end).contains(value);
-    let vector = level.entries.chunks(n).position(|row| row.iter().any(|entry| outside(entry, end)));
+    let rows = || level.entries.chunks(n).zip(level.masks);
+    let vector = rows().position(|(row, &mask)| (0..n).any(|s| covers(mask, s) && outside(&row[s], end)));
     let corner = level.corners.iter().position(|corner| outside(corner, end));
     let outlying = |(p, value): (&[u32], &i64)| total(p).map_or(false, |total| outside(value, total * end));
     let point = level.weights.chunks(n).zip(level.values).position(outlying);
@@ -181,21 +190,25 @@ fn offer(tables: &Tables, certifier: &mut Certifier, level: &Level) -> Answer<()
         Some(offered) if offered.has_room_in(certifier) => offered,
         _ => return refused(9, 0),
     };
-    let vectors = || offered.actions.iter().zip(offered.choices.chunks(k)).zip(offered.entries.chunks(n));
-    let missing = |((&action, choices), _): ((&u8, &[u16]), &[i64])| {
-        usize::from(action) >= model.m || choices.iter().any(|&v| usize::from(v) >= standing.actions.len())
+    let vectors = || 0..offered.actions.len();
+    let action = |v: usize| usize::from(offered.actions[v]);
+    let choices = |v: usize| &offered.choices[v * k..(v + 1) * k];
+    let missing = |&v: &usize| {
+        action(v) >= model.m || choices(v).iter().any(|&chosen| usize::from(chosen) >= standing.actions.len())
     };
-    refuse(10, vectors().position(missing))?;
+    refuse(10, vectors().find(missing))?;
     refuse(11, first_outside(&offered, n, number + 1))?;
     refuse(12, first_untotalled(offered.weights, n))?;
-    let above = |((&action, choices), entries): ((&u8, &[u16]), &[i64])| {
-        let backup = |s| model.vector_backup(standing.entries, s, usize::from(action), choices);
-        (0..n).any(|s| K * entries[s] > backup(s))
+    let loses = |&v: &usize| model.loses(standing.masks, action(v), offered.masks[v], choices(v));
+    refuse(21, vectors().find(loses))?;
+    let above = |&v: &usize| {
+        let backup = |s| model.vector_backup(standing.entries, s, action(v), choices(v));
+        (0..n).any(|s| covers(offered.masks[v], s) && K * offered.entries[v * n + s] > backup(s))
     };
-    refuse(13, vectors().position(above))?;
-    let covers = |value: i64, p: &[i64]| (0..model.m).all(|a| K * value >= model.ceiling_backup(&standing, p, a));
-    refuse(14, (0..n).find(|&s| !covers(offered.corners[s], &corner(n, s))))?;
-    let below = |(p, &value): (&[u32], &i64)| !covers(value, &whole(p));
+    refuse(13, vectors().find(above))?;
+    let suffices = |value: i64, p: &[i64]| (0..model.m).all(|a| K * value >= model.ceiling_backup(&standing, p, a));
+    refuse(14, (0..n).find(|&s| !suffices(offered.corners[s], &corner(n, s))))?;
+    let below = |(p, &value): (&[u32], &i64)| !suffices(value, &whole(p));
     refuse(15, offered.weights.chunks(n).zip(offered.values).position(below))?;
     let (informed, qmdp) = (model.informed(standing.informed), model.qmdp(standing.qmdp));
     Cut { informed: &informed, qmdp: &qmdp, ..offered }.stand(number + 1, certifier);
@@ -212,9 +225,14 @@ fn standing<'a>(tables: &'a Tables, certifier: &'a Certifier) -> Answer<(Model<'
 
 fn totals_at(model: &Model, level: &Cut, weights: &[u32]) -> Answer<Totals> {
     let b = whole(mixture(weights, model.n)?);
-    let (first, lower) = first_largest(level.entries.chunks(model.n).map(|entries| dot(entries, &b)));
+    let counts = |&v: &usize| (0..model.n).all(|s| b[s] == 0 || covers(level.masks[v], s));
+    let counting: Vec<usize> = (0..level.masks.len()).filter(counts).collect();
+    if counting.is_empty() {
+        return refused(22, 0);
+    }
+    let (first, lower) = first_largest(counting.iter().map(|&v| dot(&level.entries[v * model.n..], &b)));
     let informed = best_row(level.informed.chunks(model.n).map(|row| dot(row, &b)));
-    Ok(totals_of(lower, level.actions[first], ceiling(level, &b), informed))
+    Ok(totals_of(lower, level.actions[counting[first]], ceiling(level, &b), informed))
 }
 
 fn totals(tables: &Tables, certifier: &Certifier, mixture: &[u32]) -> Answer<Totals> {
@@ -234,11 +252,11 @@ struct Vector {
     entries: Vec<i64>,
 }
 
-/// The vector of an action at weights p.
-fn action_vector(model: &Model, level: &Cut, p: &[i64], a: usize) -> Vector {
+/// The vector of an action at weights p, which goes on with `wide` ones.
+fn action_vector(model: &Model, level: &Cut, wide: &[usize], p: &[i64], a: usize) -> Vector {
     let choice = |o| {
         let q = model.successor(p, a, o);
-        first_largest(level.entries.chunks(model.n).map(|entries| dot(entries, &q))).0 as u16
+        wide[first_largest(wide.iter().map(|&v| dot(&level.entries[v * model.n..], &q))).0] as u16
     };
     let choices: Vec<u16> = (0..model.k).map(choice).collect();
     let entry = |s| model.vector_backup(level.entries, s, a, &choices).div_euclid(K);
@@ -247,8 +265,8 @@ fn action_vector(model: &Model, level: &Cut, p: &[i64], a: usize) -> Vector {
 }
 
 /// The first of the actions' vectors with the largest product with p.
-fn best_vector(model: &Model, level: &Cut, p: &[i64]) -> Vector {
-    let mut vectors: Vec<Vector> = (0..model.m).map(|a| action_vector(model, level, p, a)).collect();
+fn best_vector(model: &Model, level: &Cut, wide: &[usize], p: &[i64]) -> Vector {
+    let mut vectors: Vec<Vector> = (0..model.m).map(|a| action_vector(model, level, wide, p, a)).collect();
     let (first, _) = first_largest(vectors.iter().map(|vector| dot(&vector.entries, p)));
     vectors.swap_remove(first)
 }
@@ -270,11 +288,17 @@ fn build(tables: &Tables, certifier: &Certifier, (count, points): (usize, &[u32]
     }
     let points = &points[..count * n];
     refuse(12, first_untotalled(points, n))?;
+    let wide: Vec<usize> =
+        (0..standing.masks.len()).filter(|&v| (0..n).all(|s| covers(standing.masks[v], s))).collect();
+    if wide.is_empty() {
+        return refused(22, 0);
+    }
     let corners = (0..n).map(|s| corner(n, s));
     for (v, p) in corners.chain(points.chunks(n).map(whole)).enumerate() {
-        let Vector { action, choices, entries } = best_vector(&model, &standing, &p);
+        let Vector { action, choices, entries } = best_vector(&model, &standing, &wide, &p);
         level.actions[v] = action as u8;
         level.choices[v * k..(v + 1) * k].copy_from_slice(&choices);
+        level.masks[v] = full_mask(n);
         level.entries[v * n..(v + 1) * n].copy_from_slice(&entries);
         let value = least_value(&model, &standing, &p);
         if v < n {
@@ -301,8 +325,9 @@ fn adopt(
             *entry = model.vector_backup(standing.entries, s, action, choices).div_euclid(K);
         }
     };
+    let loses = |action: usize, choices: &[u16]| model.loses(standing.masks, action, full_mask(model.n), choices);
     let least = |p: &[u32]| least_value(&model, &standing, &whole(p));
-    solver_file::adopt((&model, number, standing.actions.len()), &files, points, level, backups, least)
+    solver_file::adopt((&model, number, standing.actions.len()), &files, points, level, loses, backups, least)
 }
 
 /// The equation as it stands, for all nodes and states at each step.

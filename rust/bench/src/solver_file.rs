@@ -51,13 +51,14 @@ pub fn read(alpha: &[u8], graph: &[u8], n: usize, k: usize) -> Answer<Files> {
     Ok(files)
 }
 
-/// 8 to 12, and the level: its entries by `backups`, which writes those of an action and choices over K, its corners and
-/// values by `least`.
+/// 8, 9, 10, 21, 11 and 12, and the level: whether a vector `loses` a state, its entries by `backups`, which writes those of an
+/// action and choices over K, its corners and values by `least`.
 pub fn adopt(
     (model, number, below): (&Model, usize, usize),
     files: &Files,
     (points, count): (&[u32], usize),
     level: &mut Level,
+    loses: impl Fn(usize, &[u16]) -> bool,
     backups: impl Fn(usize, &[u16], &mut [i64]),
     least: impl Fn(&[u32]) -> i64,
 ) -> Answer<usize> {
@@ -69,6 +70,7 @@ pub fn adopt(
     let room = |level: &Level| {
         level.actions.len() >= vectors
             && level.choices.len() >= vectors * k
+            && level.masks.len() >= vectors
             && level.entries.len() >= vectors * n
             && level.corners.len() >= n
             && level.values.len() >= count
@@ -87,6 +89,7 @@ pub fn adopt(
     };
     let named: Vec<Option<(usize, Vec<u16>)>> = files.actions.iter().zip(files.next.chunks(k)).map(named).collect();
     refuse(10, named.iter().position(Option::is_none))?;
+    refuse(21, named.iter().flatten().position(|(action, choices)| loses(*action, choices)))?;
     let mut entries = vec![0; vectors * n];
     for ((action, choices), row) in named.iter().flatten().zip(entries.chunks_mut(n)) {
         backups(*action, choices, row);
@@ -102,6 +105,7 @@ pub fn adopt(
         level.actions[v] = *action as u8;
         level.choices[v * k..(v + 1) * k].copy_from_slice(choices);
     }
+    level.masks[..vectors].fill(full_mask(n));
     level.entries[..vectors * n].copy_from_slice(&entries);
     for s in 0..n {
         let mut corner = [0; STATES];

@@ -1,7 +1,8 @@
 //! The same algorithm written as well as we can, in i64, without allocation.
 //!
 //! Sums are regrouped so that each partial sum is worked out once, a drop is found by cross-multiplication with one
-//! division, and a point is left at the first state that shows that it cannot beat the largest drop so far.
+//! division, and a point is left at the first state that shows that it cannot beat the largest drop so far. Whether a vector
+//! counts is one `&` of its mask with the mask of the weights.
 
 use crate::limits::*;
 use crate::solver_file::{self, adopted};
@@ -25,9 +26,10 @@ fn dot(left: &[i64], right: &[i64]) -> i64 {
     left.iter().zip(right).map(|(x, y)| x * y).sum()
 }
 
-/// The product of thousandths with numbers.
+/// The product of thousandths with numbers, of which those that count are within their range.
 fn mean(row: &[u16], numbers: &[i64]) -> i64 {
-    row.iter().zip(numbers).map(|(&cell, number)| i64::from(cell) * number).sum()
+    let product = |(&cell, number): (&u16, &i64)| i64::from(cell).wrapping_mul(*number);
+    row.iter().zip(numbers).map(product).fold(0, i64::wrapping_add)
 }
 
 /// Weights as i64, in room for them.
@@ -78,7 +80,12 @@ fn first_untotalled(weights: &[u32], n: usize) -> Option<usize> {
 fn first_outside(level: &Cut, n: usize, t: usize) -> Option<usize> {
     let end = REWARD * t as i64;
     let outside = |value: &i64, end: i64| !(-end..=end).contains(value);
-    let vector = level.entries.iter().position(|entry| outside(entry, end)).map(|cell| cell / n);
+    let full = full_mask(n);
+    let beyond = |(row, &mask): (&[i64], &u64)| {
+        row.iter().any(|entry| outside(entry, end))
+            && (mask & full == full || row.iter().enumerate().any(|(s, entry)| covers(mask, s) && outside(entry, end)))
+    };
+    let vector = level.entries.chunks_exact(n).zip(level.masks).position(beyond);
     vector.or_else(|| level.corners.iter().position(|corner| outside(corner, end))).or_else(|| {
         let mut points = level.values.iter().zip(level.weights.chunks_exact(n));
         points.position(|(value, p)| total(p).map_or(false, |total| outside(value, total * end)))
@@ -114,16 +121,68 @@ impl<'a> Sawtooth<'a> {
     }
 }
 
-/// The first vector with the largest product with q, and that product.
-fn best_vector(entries: &[i64], q: &[i64]) -> (usize, i64) {
-    let mut best = (0, i64::MIN);
-    for (v, entries) in entries.chunks_exact(q.len()).enumerate() {
-        let product = dot(entries, q);
-        if product > best.1 {
-            best = (v, product);
+/// The first of the vectors that cover the needed states with the largest product with q, and that product.
+fn best_vector(level: &Cut, needed: u64, q: &[i64]) -> Option<(usize, i64)> {
+    let mut best = None;
+    let mut most = i64::MIN;
+    for (v, (entries, mask)) in level.entries.chunks_exact(q.len()).zip(level.masks).enumerate() {
+        if needed & !mask == 0 {
+            let product = dot(entries, q);
+            if product > most {
+                most = product;
+                best = Some((v, product));
+            }
         }
     }
     best
+}
+
+/// The mask of the states with weight.
+fn weighty(weights: &[i64]) -> u64 {
+    bits(weights.iter().map(|&weight| weight > 0))
+}
+
+/// The mask of what holds.
+fn bits(holds: impl Iterator<Item = bool>) -> u64 {
+    holds.enumerate().fold(0, |mask, (s, holds)| mask | u64::from(holds) << s)
+}
+
+/// What each action reaches, in masks: from each state, and with each observation.
+struct Reach {
+    from: [u64; ACTIONS * STATES],
+    with: [u64; ACTIONS * OBSERVATIONS],
+}
+
+impl Reach {
+    fn of(model: &Model) -> Reach {
+        let (n, k) = (model.n, model.k);
+        let mut reach = Reach { from: [0; ACTIONS * STATES], with: [0; ACTIONS * OBSERVATIONS] };
+        for (mask, row) in reach.from.iter_mut().zip(model.t.chunks_exact(n)) {
+            *mask = bits(row.iter().map(|&t| t > 0));
+        }
+        for a in 0..model.m {
+            for o in 0..k {
+                let rows = of_action(model.o, n, k, a).chunks_exact(k);
+                reach.with[a * k + o] = bits(rows.map(|row| row[o] > 0));
+            }
+        }
+        reach
+    }
+
+    /// Whether a covered state reaches one that the vector chosen does not cover.
+    fn loses(&self, model: &Model, masks: &[u64], a: usize, mask: u64, choices: &[u16]) -> bool {
+        let (n, k) = (model.n, model.k);
+        let from = self.from[a * n..(a + 1) * n].iter().enumerate().filter(|(s, _)| covers(mask, *s));
+        let reached = from.fold(0, |all, (_, reached)| all | reached);
+        let lost = |(&choice, with): (&u16, &u64)| reached & with & !masks[usize::from(choice)] != 0;
+        choices.iter().zip(&self.with[a * k..]).any(lost)
+    }
+}
+
+/// What is reached, unless all that stands covers all states.
+fn reach(model: &Model, masks: &[u64]) -> Option<Reach> {
+    let full = full_mask(model.n);
+    masks.iter().any(|mask| full & !mask != 0).then(|| Reach::of(model))
 }
 
 /// The largest drop of a point at q, or 0.
@@ -198,7 +257,8 @@ fn successor<'a>(model: &Model, u: &[i64], a: usize, o: usize, room: &'a mut Sta
     q
 }
 
-/// The sum over o of O × (the entry of the vector chosen for o), at each state reached.
+/// The sum over o of O × (the entry of the vector chosen for o), at each state reached. Entries that are not covered may be
+/// anything, and what is foreseen there is not read.
 fn foreseen<'a>(model: &Model, entries: &[i64], a: usize, choices: &[u16], room: &'a mut States) -> &'a [i64] {
     let (n, k) = (model.n, model.k);
     let f = &mut room[..n];
@@ -207,7 +267,7 @@ fn foreseen<'a>(model: &Model, entries: &[i64], a: usize, choices: &[u16], room:
     for (o, &choice) in choices.iter().enumerate() {
         let entries = of_action(entries, n, 1, usize::from(choice));
         for ((f, entry), row) in f.iter_mut().zip(entries).zip(rows.chunks_exact(k)) {
-            *f += i64::from(row[o]) * entry;
+            *f = f.wrapping_add(i64::from(row[o]).wrapping_mul(*entry));
         }
     }
     f
@@ -217,7 +277,8 @@ fn foreseen<'a>(model: &Model, entries: &[i64], a: usize, choices: &[u16], room:
 fn backups<'a>(model: &Model<'a>, a: usize, f: &'a [i64]) -> impl Iterator<Item = i64> + 'a {
     let (n, g) = (model.n, model.g);
     let rows = of_action(model.t, n, n, a).chunks_exact(n);
-    rows.zip(of_action(model.r, n, 1, a)).map(move |(row, reward)| K * reward + g * mean(row, f))
+    rows.zip(of_action(model.r, n, 1, a))
+        .map(move |(row, reward)| (K * reward).wrapping_add(g.wrapping_mul(mean(row, f))))
 }
 
 /// K × p·R(·, a).
@@ -309,25 +370,38 @@ fn offer(tables: &Tables, certifier: &mut Certifier, level: &Level) -> Answer<()
     refuse(10, offered.actions.iter().zip(offered.choices.chunks_exact(k)).position(|vector| !exists(vector)))?;
     refuse(11, first_outside(&offered, n, number + 1))?;
     refuse(12, first_untotalled(offered.weights, n))?;
+    let vectors = || offered.actions.iter().zip(offered.choices.chunks_exact(k)).zip(offered.masks);
+    if let Some(reach) = reach(&model, standing.masks) {
+        let loses = |((&a, choices), &mask): ((&u8, &[u16]), &u64)| {
+            reach.loses(&model, standing.masks, a.into(), mask, choices)
+        };
+        refuse(21, vectors().position(loses))?;
+    }
 
     let mut room = [0; STATES];
-    let rows = offered.choices.chunks_exact(k).zip(offered.entries.chunks_exact(n));
-    for (v, (&a, (choices, entries))) in offered.actions.iter().zip(rows).enumerate() {
+    let full = full_mask(n);
+    for (v, (((&a, choices), &mask), entries)) in vectors().zip(offered.entries.chunks_exact(n)).enumerate() {
         let f = foreseen(&model, standing.entries, a.into(), choices, &mut room);
-        if entries.iter().zip(backups(&model, a.into(), f)).any(|(entry, backup)| K * entry > backup) {
+        let mut pairs = entries.iter().zip(backups(&model, a.into(), f)).enumerate();
+        let above = if mask & full == full {
+            pairs.any(|(_, (entry, backup))| K * entry > backup)
+        } else {
+            pairs.any(|(s, (entry, backup))| covers(mask, s) && K * entry > backup)
+        };
+        if above {
             return refused(13, v);
         }
     }
     let mut weights = [0; POINTS * STATES];
     let sawtooth = Sawtooth::of(&standing, &mut weights);
-    let covers = |value: i64, p: &[i64]| (0..model.m).all(|a| K * value >= ceiling_backup(&model, &sawtooth, p, a));
+    let suffices = |value: i64, p: &[i64]| (0..model.m).all(|a| K * value >= ceiling_backup(&model, &sawtooth, p, a));
     for (s, &value) in offered.corners.iter().enumerate() {
-        if !covers(value, &corner(s)[..n]) {
+        if !suffices(value, &corner(s)[..n]) {
             return refused(14, s);
         }
     }
     for (j, (&value, p)) in offered.values.iter().zip(offered.weights.chunks_exact(n)).enumerate() {
-        if !covers(value, whole(p, &mut room)) {
+        if !suffices(value, whole(p, &mut room)) {
             return refused(15, j);
         }
     }
@@ -349,8 +423,11 @@ fn standing<'a>(tables: &'a Tables, certifier: &'a Certifier) -> Answer<(Model<'
 fn totals_at(level: &Cut, sawtooth: &Sawtooth, weights: &[u32]) -> Answer<Totals> {
     let mut room = [0; STATES];
     let b = whole(mixture(weights, level.corners.len())?, &mut room);
-    let (first, lower) = best_vector(level.entries, b);
-    let (_, informed) = best_vector(level.informed, b);
+    let (first, lower) = match best_vector(level, weighty(b), b) {
+        Some(best) => best,
+        None => return refused(22, 0),
+    };
+    let informed = level.informed.chunks_exact(b.len()).map(|row| dot(row, b)).max().unwrap_or(0);
     Ok(totals_of(lower, level.actions[first], sawtooth.ceiling(b), informed))
 }
 
@@ -377,8 +454,13 @@ fn build(tables: &Tables, certifier: &Certifier, (count, points): (usize, &[u32]
     }
     let points = &points[..count * n];
     refuse(12, first_untotalled(points, n))?;
+    let full = full_mask(n);
+    if standing.masks.iter().all(|mask| full & !mask != 0) {
+        return refused(22, 0);
+    }
     let mut weights = [0; POINTS * STATES];
     let sawtooth = Sawtooth::of(&standing, &mut weights);
+    level.masks[..n + count].fill(full);
     for s in 0..n {
         level.corners[s] = put_vector(&model, &standing, &sawtooth, &corner(s)[..n], s, level);
     }
@@ -401,7 +483,7 @@ fn put_vector(model: &Model, standing: &Cut, sawtooth: &Sawtooth, p: &[i64], v: 
         let mut ceilings = 0;
         for (o, choice) in choices[..k].iter_mut().enumerate() {
             let q = successor(model, u, a, o, &mut next);
-            *choice = best_vector(standing.entries, q).0 as u16;
+            *choice = best_vector(standing, full_mask(n), q).map_or(0, |(first, _)| first as u16);
             ceilings += sawtooth.ceiling(q);
         }
         let backup = earned(model, p, a) + model.g * ceilings;
@@ -451,7 +533,12 @@ fn adopt(
         };
         (0..model.m).map(least).max().unwrap_or(0)
     };
-    solver_file::adopt((&model, number, standing.actions.len()), &files, points, level, below, least)
+    let reach = reach(&model, standing.masks);
+    let loses = |action: usize, choices: &[u16]| {
+        let all = full_mask(model.n);
+        reach.as_ref().map_or(false, |reach| reach.loses(&model, standing.masks, action, all, choices))
+    };
+    solver_file::adopt((&model, number, standing.actions.len()), &files, points, level, loses, below, least)
 }
 
 fn worth(tables: &Tables, graph: &Graph, asked: Question) -> Answer<i64> {

@@ -14,12 +14,13 @@ use crate::totals::{Bounds, Totals};
 ///
 /// It owns a copy of the model and slices with room for every level, so that it can be kept and sent anywhere and no offer
 /// lacks room; the calls are handed these slices as they lie, and nothing is translated or allocated in an offer or in
-/// totals. That room is 1,000 × (8 n + 2 k + 1) bytes and some for the points and rows, with n states and k observations: 22 KB
-/// for the two states and two observations of the tiger, 149 KB for the largest model. Where many small certifiers are kept,
+/// totals. That room is 1,000 × (8 n + 2 k + 9) bytes and some for the points and rows, with n states and k observations: 30 KB
+/// for the two states and two observations of the tiger, 157 KB for the largest model. Where many small certifiers are kept,
 /// the calls on [`slices`](crate::slices) take shorter ones.
 ///
-/// What is proved of one that was opened on a [`Model`] and offered levels of any content: its totals bracket what every
-/// plan earns that has as many steps as levels were accepted, and a level that it builds is accepted. At every mixture the best
+/// What is proved of one that was opened on a [`Model`] and offered levels of any content: at a mixture where a vector counts,
+/// its totals bracket what every plan earns that has as many steps as levels were accepted; and a level that it builds is
+/// accepted. A vector counts where all weight lies on states that it covers; where none does, no totals are given. At every mixture the best
 /// informed row is no lower than what any such plan earns, and at every action and state no higher than the QMDP row.
 #[derive(Clone, Debug)]
 pub struct Certifier {
@@ -74,6 +75,7 @@ impl Certifier {
             points,
             actions: self.slices.actions[..vectors].to_vec(),
             choices: self.slices.choices[..vectors * observations].to_vec(),
+            masks: self.slices.masks[..vectors].to_vec(),
             entries: self.slices.entries[..vectors * states].to_vec(),
             corners: self.slices.corners[..states].to_vec(),
             weights: self.slices.weights[..points * states].to_vec(),
@@ -155,7 +157,7 @@ impl Certifier {
         Ok(ended.accepted)
     }
 
-    /// The totals at a mixture. Refused with 16 or 17.
+    /// The totals at a mixture. Refused with 16, 17, or 22 where no vector counts.
     pub fn totals(&self, mixture: &Mixture) -> Result<Totals, Error> {
         Length::test("weights of the mixture", None, mixture.weights.len(), self.model.shape().states)?;
         let at = slices::totals(self.model.tables(), &self.slices, &mixture.weights);
@@ -185,8 +187,8 @@ impl Certifier {
     }
 
     /// Builds a level upon the standing one, at every corner and at these points; it will be accepted. If all t levels so
-    /// far were built, each entry is less than t ticks below what the plan earns that its vector names. Refused with 8, 9
-    /// or 12.
+    /// far were built, each entry is less than t ticks below what the plan earns that its vector names. It goes on with
+    /// standing vectors that cover all states, and covers all itself. Refused with 8, 9, 12, or 22 where there is none.
     pub fn build(&self, points: &Points) -> Result<Level, Error> {
         let Shape { states, observations, .. } = self.model.shape();
         let count = points.weights.len();
@@ -203,8 +205,8 @@ impl Certifier {
     /// node its number, the action, and a next node for each observation, or hyphens at the first level.
     ///
     /// Each entry is the lesser of the decimal rounded down to ticks and of its own backup rounded down, so that a decimal
-    /// within its backup loses less than a tick. Corners and points are those that [`Certifier::build`] makes. Refused with
-    /// 1, 19, 20, 8 to 12, in this order.
+    /// within its backup loses less than a tick. All vectors cover all states. Corners and points are those that
+    /// [`Certifier::build`] makes. Refused with 1, 19, 20, 8, 9, 10, 21, 11, 12, in this order.
     ///
     /// ```
     /// use biidhaqun::{Certifier, Model, Points};
@@ -252,6 +254,7 @@ fn grown(mut slices: slices::Certifier, room: &slices::Certifier) -> slices::Cer
     }
     grow(&mut slices.actions, &room.actions);
     grow(&mut slices.choices, &room.choices);
+    grow(&mut slices.masks, &room.masks);
     grow(&mut slices.entries, &room.entries);
     grow(&mut slices.corners, &room.corners);
     grow(&mut slices.weights, &room.weights);

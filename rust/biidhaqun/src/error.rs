@@ -99,7 +99,7 @@ impl Refusal {
             (Rule::TransitionTotal | Rule::ObservationTotal, Handed::Tables(states)) => {
                 Place::Row { number: at, action: at / states.max(1), state: at % states.max(1) }
             }
-            (Rule::Numbers | Rule::VectorBackup, _) => Place::Vector(at),
+            (Rule::Numbers | Rule::VectorBackup | Rule::Covered, _) => Place::Vector(at),
             (Rule::Range, _) => Place::Part(at),
             (Rule::CornerBackup, _) => Place::Corner(at),
             (Rule::PointTotal | Rule::PointBackup, _) => Place::Point(at),
@@ -172,6 +172,17 @@ impl fmt::Display for Refusal {
             (Rule::SolverFiles, _) => {
                 write!(f, "the solver's two files differ in the number of vectors, or in an action")
             }
+            (Rule::Covered, _) => write!(
+                f,
+                "vector {} covers a state from which one is reached that the vector chosen there does not cover; cover less, or \
+                 choose other vectors",
+                at
+            ),
+            (Rule::Counting, _) => write!(
+                f,
+                "no vector counts: at the mixture each leaves out a state that has weight, or, to build upon, none covers all \
+                 states"
+            ),
             (Rule::Room, _) => write!(f, "a slice lent for the answer is too short; it needs {}", at),
         }
     }

@@ -43,6 +43,8 @@ mod library {
             standing_actions_length: usize,
             choices: *mut u16,
             choices_length: usize,
+            masks: *mut u64,
+            masks_length: usize,
             entries: *mut i64,
             entries_length: usize,
             corners: *mut i64,
@@ -74,6 +76,8 @@ mod library {
             standing_actions_length: usize,
             choices: *mut u16,
             choices_length: usize,
+            masks: *mut u64,
+            masks_length: usize,
             entries: *mut i64,
             entries_length: usize,
             corners: *mut i64,
@@ -92,6 +96,8 @@ mod library {
             new_actions_length: usize,
             new_choices: *const u16,
             new_choices_length: usize,
+            new_masks: *const u64,
+            new_masks_length: usize,
             new_entries: *const i64,
             new_entries_length: usize,
             new_corners: *const i64,
@@ -119,6 +125,8 @@ mod library {
             standing_actions_length: usize,
             choices: *mut u16,
             choices_length: usize,
+            masks: *mut u64,
+            masks_length: usize,
             entries: *mut i64,
             entries_length: usize,
             corners: *mut i64,
@@ -142,6 +150,8 @@ mod library {
             new_actions_length: usize,
             new_choices: *const u16,
             new_choices_length: usize,
+            new_masks: *const u64,
+            new_masks_length: usize,
             new_entries: *const i64,
             new_entries_length: usize,
             new_corners: *const i64,
@@ -167,6 +177,8 @@ mod library {
             state_length: usize,
             standing_actions: *const u8,
             standing_actions_length: usize,
+            masks: *const u64,
+            masks_length: usize,
             entries: *const i64,
             entries_length: usize,
             corners: *const i64,
@@ -198,6 +210,8 @@ mod library {
             state_length: usize,
             standing_actions: *const u8,
             standing_actions_length: usize,
+            masks: *const u64,
+            masks_length: usize,
             entries: *const i64,
             entries_length: usize,
             corners: *const i64,
@@ -238,6 +252,8 @@ mod library {
             state_length: usize,
             standing_actions: *const u8,
             standing_actions_length: usize,
+            masks: *const u64,
+            masks_length: usize,
             entries: *const i64,
             entries_length: usize,
             corners: *const i64,
@@ -257,6 +273,8 @@ mod library {
             new_actions_length: usize,
             new_choices: *mut u16,
             new_choices_length: usize,
+            new_masks: *mut u64,
+            new_masks_length: usize,
             new_entries: *mut i64,
             new_entries_length: usize,
             new_corners: *mut i64,
@@ -301,6 +319,8 @@ mod library {
             state_length: usize,
             standing_actions: *const u8,
             standing_actions_length: usize,
+            masks: *const u64,
+            masks_length: usize,
             entries: *const i64,
             entries_length: usize,
             corners: *const i64,
@@ -324,6 +344,8 @@ mod library {
             new_actions_length: usize,
             new_choices: *mut u16,
             new_choices_length: usize,
+            new_masks: *mut u64,
+            new_masks_length: usize,
             new_entries: *mut i64,
             new_entries_length: usize,
             new_corners: *mut i64,
@@ -384,6 +406,8 @@ pub fn open(tables: &Tables, certifier: &mut Certifier) -> Refusal {
             certifier.actions.len(),
             certifier.choices.as_mut_ptr(),
             certifier.choices.len(),
+            certifier.masks.as_mut_ptr(),
+            certifier.masks.len(),
             certifier.entries.as_mut_ptr(),
             certifier.entries.len(),
             certifier.corners.as_mut_ptr(),
@@ -400,7 +424,8 @@ pub fn open(tables: &Tables, certifier: &mut Certifier) -> Refusal {
     }
 }
 
-/// Offers a level: accepted, it stands, the first number of the state is one more, and the rows are stepped; or 7 to 15.
+/// Offers a level: accepted, it stands, the first number of the state is one more, and the rows are stepped; or 7 to 12, 21,
+/// 13, 14, 15.
 pub fn offer(tables: &Tables, certifier: &mut Certifier, level: &Level) -> Refusal {
     unsafe {
         library::biidhaqun_offer(
@@ -420,6 +445,8 @@ pub fn offer(tables: &Tables, certifier: &mut Certifier, level: &Level) -> Refus
             certifier.actions.len(),
             certifier.choices.as_mut_ptr(),
             certifier.choices.len(),
+            certifier.masks.as_mut_ptr(),
+            certifier.masks.len(),
             certifier.entries.as_mut_ptr(),
             certifier.entries.len(),
             certifier.corners.as_mut_ptr(),
@@ -438,6 +465,8 @@ pub fn offer(tables: &Tables, certifier: &mut Certifier, level: &Level) -> Refus
             level.actions.len(),
             level.choices.as_ptr(),
             level.choices.len(),
+            level.masks.as_ptr(),
+            level.masks.len(),
             level.entries.as_ptr(),
             level.entries.len(),
             level.corners.as_ptr(),
@@ -471,6 +500,8 @@ pub fn replay(tables: &Tables, certifier: &mut Certifier, offers: &Offers) -> Re
             certifier.actions.len(),
             certifier.choices.as_mut_ptr(),
             certifier.choices.len(),
+            certifier.masks.as_mut_ptr(),
+            certifier.masks.len(),
             certifier.entries.as_mut_ptr(),
             certifier.entries.len(),
             certifier.corners.as_mut_ptr(),
@@ -494,6 +525,8 @@ pub fn replay(tables: &Tables, certifier: &mut Certifier, offers: &Offers) -> Re
             offers.actions.len(),
             offers.choices.as_ptr(),
             offers.choices.len(),
+            offers.masks.as_ptr(),
+            offers.masks.len(),
             offers.entries.as_ptr(),
             offers.entries.len(),
             offers.corners.as_ptr(),
@@ -506,7 +539,7 @@ pub fn replay(tables: &Tables, certifier: &mut Certifier, offers: &Offers) -> Re
     }
 }
 
-/// The totals at a mixture; or 7, 16, 17.
+/// The totals at a mixture; or 7, 16, 17, 22.
 pub fn totals(tables: &Tables, certifier: &Certifier, mixture: &[u32]) -> Totals {
     unsafe {
         library::biidhaqun_totals(
@@ -524,6 +557,8 @@ pub fn totals(tables: &Tables, certifier: &Certifier, mixture: &[u32]) -> Totals
             certifier.state.len(),
             certifier.actions.as_ptr(),
             certifier.actions.len(),
+            certifier.masks.as_ptr(),
+            certifier.masks.len(),
             certifier.entries.as_ptr(),
             certifier.entries.len(),
             certifier.corners.as_ptr(),
@@ -561,6 +596,8 @@ pub fn each(tables: &Tables, certifier: &Certifier, mixtures: &[u32], count: usi
             certifier.state.len(),
             certifier.actions.as_ptr(),
             certifier.actions.len(),
+            certifier.masks.as_ptr(),
+            certifier.masks.len(),
             certifier.entries.as_ptr(),
             certifier.entries.len(),
             certifier.corners.as_ptr(),
@@ -588,8 +625,8 @@ pub fn each(tables: &Tables, certifier: &Certifier, mixtures: &[u32], count: usi
     }
 }
 
-/// Builds the next level upon the standing one, at so many points: its actions, choices, entries, corners and values are
-/// written; or 7, 8, 9, 12. Its vectors are states + count, its points count, its weights the points: that is left to the
+/// Builds the next level upon the standing one, at so many points: its actions, choices, masks, entries, corners and values
+/// are written; or 7, 8, 9, 12, 22. Its vectors are states + count, its points count, its weights the points: that is left to the
 /// caller to say in the level.
 pub fn build(tables: &Tables, certifier: &Certifier, count: usize, points: &[u32], level: &mut Level) -> Refusal {
     unsafe {
@@ -608,6 +645,8 @@ pub fn build(tables: &Tables, certifier: &Certifier, count: usize, points: &[u32
             certifier.state.len(),
             certifier.actions.as_ptr(),
             certifier.actions.len(),
+            certifier.masks.as_ptr(),
+            certifier.masks.len(),
             certifier.entries.as_ptr(),
             certifier.entries.len(),
             certifier.corners.as_ptr(),
@@ -627,6 +666,8 @@ pub fn build(tables: &Tables, certifier: &Certifier, count: usize, points: &[u32
             level.actions.len(),
             level.choices.as_mut_ptr(),
             level.choices.len(),
+            level.masks.as_mut_ptr(),
+            level.masks.len(),
             level.entries.as_mut_ptr(),
             level.entries.len(),
             level.corners.as_mut_ptr(),
@@ -664,8 +705,8 @@ pub fn worth(tables: &Tables, graph: &Graph, node: usize, state: usize, steps: u
 }
 
 /// Makes the next level of a solver's alpha file and policy graph, with the builder's corners and so many points: its
-/// actions, choices, entries, corners and values are written, and the number of its vectors is answered; or 1, 7, 19, 20, 8
-/// to 12. Its points are count, its weights the points: that is left to the caller to say in the level.
+/// actions, choices, masks, entries, corners and values are written, and the number of its vectors is answered; or 1, 7, 19,
+/// 20, 8, 9, 10, 21, 11, 12. Its points are count, its weights the points: that is left to the caller to say in the level.
 pub fn adopt(
     tables: &Tables,
     certifier: &Certifier,
@@ -691,6 +732,8 @@ pub fn adopt(
             certifier.state.len(),
             certifier.actions.as_ptr(),
             certifier.actions.len(),
+            certifier.masks.as_ptr(),
+            certifier.masks.len(),
             certifier.entries.as_ptr(),
             certifier.entries.len(),
             certifier.corners.as_ptr(),
@@ -714,6 +757,8 @@ pub fn adopt(
             level.actions.len(),
             level.choices.as_mut_ptr(),
             level.choices.len(),
+            level.masks.as_mut_ptr(),
+            level.masks.len(),
             level.entries.as_mut_ptr(),
             level.entries.len(),
             level.corners.as_mut_ptr(),

@@ -1,6 +1,7 @@
 //! Levels.
 
 use crate::error::Length;
+use crate::parts::Mixture;
 use crate::shape::Shape;
 use crate::slices;
 use std::fmt;
@@ -8,8 +9,8 @@ use std::fmt;
 /// A level: floors, and a sawtooth ceiling by corners and points.
 ///
 /// Anyone may make one, of any content; it promises nothing until a [`Certifier`](crate::Certifier) accepts it. What is
-/// proved of an accepted one: each vector is a floor under what some plan earns that opens with its action, and the ceiling
-/// of its corners and points lies above what every plan earns.
+/// proved of an accepted one: each vector is a floor, on the states that it covers, under what some plan earns that opens with
+/// its action, and the ceiling of its corners and points lies above what every plan earns.
 ///
 /// It lies in slices as the library takes them, and is handed over without being copied.
 ///
@@ -21,10 +22,13 @@ use std::fmt;
 /// level.add_vector(1, &[0, 0], &[-1_000, 600])?;
 /// level.set_corners(&[-100, 600])?;
 /// level.add_point(&[1, 1], 500)?;
+/// // A floor for state 1 alone.
+/// level.add_masked_vector(0, &[0, 0], 0b10, &[0, -100])?;
 /// assert_eq!(level.vector(1).map(|vector| vector.entries[1]), Some(600));
 /// assert_eq!(level.to_string(), "\
 /// vector 0: action 0, choices [0, 0], entries [-100, -100]
 /// vector 1: action 1, choices [0, 0], entries [-1000, 600]
+/// vector 2: action 0, choices [0, 0], covers [1], entries [0, -100]
 /// corners [-100, 600]
 /// point 0: weights [1, 1], value 500
 /// ");
@@ -44,8 +48,32 @@ pub struct Vector<'a> {
     pub action: u8,
     /// For each observation, the number of the level below's vector to go on with.
     pub choices: &'a [u16],
-    /// For each state, the floor in ticks (hundredths of a reward unit).
+    /// The states that it covers: bit s is 1 where state s is.
+    pub mask: u64,
+    /// For each state, the floor in ticks (hundredths of a reward unit); read where the state is covered.
     pub entries: &'a [i64],
+}
+
+impl Vector<'_> {
+    /// Whether it covers this state.
+    pub fn covers(&self, state: usize) -> bool {
+        state < self.entries.len() && self.mask >> state & 1 == 1
+    }
+
+    /// Whether it covers every state.
+    pub fn covers_all(&self) -> bool {
+        self.covered().count() == self.entries.len()
+    }
+
+    /// The states that it covers.
+    pub fn covered(&self) -> impl Iterator<Item = usize> + '_ {
+        (0..self.entries.len()).filter(move |&state| self.covers(state))
+    }
+
+    /// Whether it counts at a mixture: all weight lies on states that it covers.
+    pub fn counts_at(&self, mixture: &Mixture) -> bool {
+        mixture.weights.iter().enumerate().all(|(state, &weight)| weight == 0 || self.covers(state))
+    }
 }
 
 /// A point of a level: the ceiling at some weights.
@@ -72,6 +100,7 @@ impl Level {
         }
         cut(&mut slices.actions, slices.vectors);
         cut(&mut slices.choices, slices.vectors * observations);
+        cut(&mut slices.masks, slices.vectors);
         cut(&mut slices.entries, slices.vectors * states);
         cut(&mut slices.corners, states);
         cut(&mut slices.weights, slices.points * states);
@@ -84,14 +113,21 @@ impl Level {
         &self.slices
     }
 
-    /// Adds an alpha vector, if it has a choice for each observation and an entry for each state.
+    /// Adds an alpha vector that covers all states, if it has a choice for each observation and an entry for each state.
     pub fn add_vector(&mut self, action: u8, choices: &[u16], entries: &[i64]) -> Result<(), Length> {
+        self.add_masked_vector(action, choices, slices::full_mask(self.states), entries)
+    }
+
+    /// Adds one that covers the states whose bit in the mask is 1. Its other entries are unread, and stored as 0 where the level
+    /// is accepted.
+    pub fn add_masked_vector(&mut self, action: u8, choices: &[u16], mask: u64, entries: &[i64]) -> Result<(), Length> {
         let number = Some(self.slices.vectors);
         Length::test("choices of vector", number, choices.len(), self.observations)?;
         Length::test("entries of vector", number, entries.len(), self.states)?;
         self.slices.vectors += 1;
         self.slices.actions.push(action);
         self.slices.choices.extend_from_slice(choices);
+        self.slices.masks.push(mask);
         self.slices.entries.extend_from_slice(entries);
         Ok(())
     }
@@ -122,6 +158,7 @@ impl Level {
         Some(Vector {
             action: *self.slices.actions.get(number)?,
             choices: row(&self.slices.choices, number, self.observations)?,
+            mask: *self.slices.masks.get(number)?,
             entries: row(&self.slices.entries, number, self.states)?,
         })
     }
@@ -154,6 +191,11 @@ impl Level {
         &mut self.slices.choices[vector * self.observations..(vector + 1) * self.observations]
     }
 
+    /// The mask of a vector, to be changed.
+    pub fn mask_mut(&mut self, vector: usize) -> &mut u64 {
+        &mut self.slices.masks[vector]
+    }
+
     /// The entries of a vector, to be changed.
     pub fn entries_mut(&mut self, vector: usize) -> &mut [i64] {
         &mut self.slices.entries[vector * self.states..(vector + 1) * self.states]
@@ -180,11 +222,15 @@ fn row<Cell>(cells: &[Cell], number: usize, width: usize) -> Option<&[Cell]> {
     cells.get(number * width..(number + 1) * width)
 }
 
-/// A line for each vector, for the corners, and for each point.
+/// A line for each vector, with the states that it covers where these are not all, for the corners, and for each point.
 impl fmt::Display for Level {
     fn fmt(&self, f: &mut fmt::Formatter) -> fmt::Result {
-        for (number, Vector { action, choices, entries }) in self.vectors().enumerate() {
-            writeln!(f, "vector {}: action {}, choices {:?}, entries {:?}", number, action, choices, entries)?;
+        for (number, vector) in self.vectors().enumerate() {
+            write!(f, "vector {}: action {}, choices {:?}, ", number, vector.action, vector.choices)?;
+            if !vector.covers_all() {
+                write!(f, "covers {:?}, ", vector.covered().collect::<Vec<_>>())?;
+            }
+            writeln!(f, "entries {:?}", vector.entries)?;
         }
         writeln!(f, "corners {:?}", self.corners())?;
         for (number, Point { weights, value }) in self.points().enumerate() {

@@ -4,7 +4,7 @@
 //! and of corner and point values (a sawtooth ceiling) by anyone, and accepts a level exactly where every backup inequality
 //! holds. Beside the level it steps a ceiling of its own, the fast informed bound, at each acceptance. From then on its
 //! [`Totals`] at a [`Mixture`] bracket what the best of all plans earns that have as many steps as levels were accepted; the
-//! upper one is the lower of both ceilings.
+//! upper one is the lower of both ceilings. A vector may cover part of the states: it then counts at mixtures of these alone.
 //!
 //! The calls are those of a static library in which each is proved to meet its contract, never to fault, and to end,
 //! whatever it is handed; a [`Refusal`] says which rule was broken and where. What each type promises, and what of it is

@@ -45,9 +45,9 @@ rules! {
     8 Levels: "at most 100 levels are accepted",
     9 LevelSize: "a level has 1 to 1,000 vectors and at most 32 points, the builder is given at most 16, and slices have room",
     10 Numbers: "actions and chosen vectors exist",
-    11 Range: "entries, corners and point values are within their level's range",
+    11 Range: "entries of covered states, corners and point values are within their level's range",
     12 PointTotal: "a point's weights total 1 to 100",
-    13 VectorBackup: "no entry is above its backup",
+    13 VectorBackup: "no entry of a covered state is above its backup",
     14 CornerBackup: "no corner is below its backup",
     15 PointBackup: "no point is below its backup",
     16 NoLevel: "totals are asked above level 0",
@@ -55,6 +55,8 @@ rules! {
     18 Graph: "a plan graph, and the node, state and steps asked for, are within their limits",
     19 SolverForm: "each word of a solver's files fits its form, none is missing, and nodes are numbered in order",
     20 SolverFiles: "a solver's two files have as many vectors, and the same actions",
+    21 Covered: "what a covered state reaches is covered by the vector that is chosen there",
+    22 Counting: "some vector counts at a mixture, and some covers all states where a level is built",
     100 Room: "the slices that a file is read into have room",
 }
 

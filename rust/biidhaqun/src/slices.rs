@@ -7,6 +7,9 @@
 //! too: [`version`], [`read`], [`open`], [`offer`], [`replay`], [`totals`], [`each`], [`build`], [`adopt`] and [`worth`]. Each is
 //! proved to answer, and to leave in what it is lent, what its definitions say; one that is refused leaves all as it was.
 //!
+//! A vector's mask says which states it covers. Its entries elsewhere are unread, and an acceptance stores them as 0, and the
+//! mask's bits past the states too.
+//!
 //! A slice that is too short is refused: one of the tables by 3 at 0 where they are opened or a worth is asked, else by 7;
 //! one of a certifier by 7 for what stands and for the rows (its choices are read by no call, and not asked for), by 9 for
 //! what is to stand;
@@ -18,7 +21,7 @@
 pub use crate::ffi::{adopt, build, each, offer, open, read, replay, totals, version, worth};
 
 /// The version of this layout, the C header's too. [`version`] is the linked library's.
-pub const VERSION: u64 = 3;
+pub const VERSION: u64 = 4;
 
 /// Most states, actions, observations, vectors and points of a level, points to build at, nodes and steps of a plan graph,
 /// levels, and bytes of a model file and of each of a solver's files.
@@ -33,6 +36,11 @@ pub const STEPS: usize = 4;
 pub const LEVELS: usize = 100;
 pub const FILE_BYTES: usize = 32_768;
 pub const SOLVER_BYTES: usize = 4 << 20;
+
+/// The mask of a vector that covers all of so many states, at most 64: bit s is 1 where state s is covered.
+pub fn full_mask(states: usize) -> u64 {
+    u64::MAX.checked_shr(64 - states as u32).unwrap_or(0)
+}
 
 /// Tables: a model in thousandths and ticks.
 #[derive(Clone, Debug, Default, PartialEq, Eq, Hash)]
@@ -82,7 +90,9 @@ pub struct Certifier {
     pub actions: Vec<u8>,
     /// By vector and observation. They are kept, and read by no call.
     pub choices: Vec<u16>,
-    /// In ticks, by vector and state.
+    /// The states that a vector covers, by vector.
+    pub masks: Vec<u64>,
+    /// In ticks, by vector and state; read where the state is covered.
     pub entries: Vec<i64>,
     /// In ticks, by state.
     pub corners: Vec<i64>,
@@ -104,6 +114,7 @@ impl Certifier {
             state: vec![0; 3],
             actions: level.actions,
             choices: level.choices,
+            masks: level.masks,
             entries: level.entries,
             corners: level.corners,
             weights: level.weights,
@@ -125,7 +136,9 @@ pub struct Level {
     pub actions: Vec<u8>,
     /// Vectors of the level below, by vector and observation.
     pub choices: Vec<u16>,
-    /// In ticks, by vector and state.
+    /// The states that a vector covers, by vector: bit s is 1 where state s is. Bits past the states are not read.
+    pub masks: Vec<u64>,
+    /// In ticks, by vector and state; read where the state is covered.
     pub entries: Vec<i64>,
     /// In ticks, by state.
     pub corners: Vec<i64>,
@@ -148,6 +161,7 @@ impl Level {
             points: 0,
             actions: vec![0; vectors],
             choices: vec![0; vectors * observations],
+            masks: vec![0; vectors],
             entries: vec![0; vectors * states],
             corners: vec![0; states],
             weights: vec![0; points * states],
@@ -175,6 +189,8 @@ pub struct Offers {
     pub actions: Vec<u8>,
     /// By block, vector and observation.
     pub choices: Vec<u16>,
+    /// By block and vector.
+    pub masks: Vec<u64>,
     /// In ticks, by block, vector and state.
     pub entries: Vec<i64>,
     /// In ticks, by block and state.
@@ -219,6 +235,7 @@ impl Offers {
         self.points.push(level.points);
         block(&mut self.actions, &level.actions, vectors);
         block(&mut self.choices, &level.choices, vectors * observations);
+        block(&mut self.masks, &level.masks, vectors);
         block(&mut self.entries, &level.entries, vectors * states);
         block(&mut self.corners, &level.corners, states);
         block(&mut self.weights, &level.weights, points * states);
@@ -296,7 +313,7 @@ pub struct Totals {
 /// The answers at many mixtures, each at its mixture's number: what [`totals`] answers there.
 #[derive(Clone, Debug, Default, PartialEq, Eq, Hash)]
 pub struct Answers {
-    /// 0, or 17 for a mixture that is refused; the others are then 0.
+    /// 0, or 17 or 22 for a mixture that is refused; the others are then 0.
     pub numbers: Vec<u8>,
     pub lower: Vec<i64>,
     pub upper: Vec<i64>,

@@ -169,7 +169,8 @@ fn a_certifier_from_slices() {
         shorter.corners.truncate(1);
         let seven = Err(Refusal { rule: Rule::Certifier, place: Place::Whole });
         assert_eq!(Certifier::from_slices(&model, shorter), seven);
-        let broken: [fn(&mut slices::Certifier); 4] = [
+        let broken: [fn(&mut slices::Certifier); 5] = [
+            |slices| slices.masks.clear(),
             |slices| slices.informed.truncate(3),
             |slices| slices.qmdp.clear(),
             |slices| slices.informed[3] = 100_000 * slices.state[0] as i64 + 1,
@@ -203,6 +204,59 @@ fn what_stands_in_slices_of_any_content_is_shown() {
     assert_eq!(again.totals(&start), certifier.totals(&start));
     let level = again.build(&Points { weights: vec![start.weights.clone(); 16] }).unwrap();
     assert_eq!(again.offer(&level), Ok(()));
+}
+
+/// A level of these vectors, each an action, a mask and entries, that go on with vector `next` and have high corners.
+fn masked(certifier: &Certifier, next: u16, vectors: &[(u8, u64, [i64; 2])]) -> Level {
+    let mut level = Level::new(certifier.model().shape());
+    for (action, mask, entries) in vectors {
+        level.add_masked_vector(*action, &[next, next], *mask, entries).unwrap();
+    }
+    level.corners_mut().fill(100_000 * (certifier.level() as i64 + 1));
+    level
+}
+
+/// Waiting where the dough is ready, and baking anywhere: what is stored, what counts, what may follow.
+#[test]
+fn vectors_that_cover_part_of_the_states() {
+    let (_, start, mut certifier) = standing(0);
+    assert_eq!(certifier.standing().vector(0).map(|vector| vector.mask), Some(3));
+    assert!(certifier.build(&Points::default()).unwrap().vectors().all(|vector| vector.covers_all()));
+    let level = masked(&certifier, 0, &[(0, !1, [i64::MIN, -100]), (1, 3, [-1_000, -500])]);
+    assert_eq!(level.vector(0).map(|vector| (vector.covers_all(), vector.covers(1))), Some((false, true)));
+    certifier.offer(&level).unwrap();
+    let stands = certifier.standing();
+    assert_eq!(stands, masked(&standing(0).2, 0, &[(0, 2, [0, -100]), (1, 3, [-1_000, -500])]));
+    let at = |certifier: &Certifier, weights: &[u32]| certifier.totals(&Mixture::new(weights)).map(|at| at.lower);
+    assert_eq!((at(&certifier, &[0, 2]), at(&certifier, &[1, 1])), (Ok(-200), Ok(-1_500)));
+    for vector in stands.vectors() {
+        assert!(vector.counts_at(&Mixture::new(&[0, 2])));
+        assert_eq!(vector.counts_at(&start), vector.covers_all());
+    }
+    // Ready dough stays ready while waiting, and a baked one is a new dough.
+    let offered = |next: u16, vector: (u8, u64, [i64; 2])| {
+        let level = masked(&certifier, next, &[vector]);
+        certifier.clone().offer(&level).map_err(|error| refusal::<()>(Err(error)))
+    };
+    assert_eq!(offered(0, (0, 2, [0, -190])), Ok(()));
+    assert_eq!(offered(0, (0, 2, [0, -189])), Err((13, 0)));
+    assert_eq!(offered(0, (0, 1, [0, -200])), Err((21, 0)));
+    assert_eq!(offered(0, (1, 2, [0, -2_000])), Err((21, 0)));
+    assert_eq!(offered(1, (1, 2, [0, -2_000])), Ok(()));
+    assert_eq!(offered(0, (1, 0, [i64::MAX, i64::MAX])), Ok(()));
+    assert!(certifier.build(&Points::default()).unwrap().vectors().all(|vector| vector.choices == [1, 1]));
+    let adopted = certifier.adopt(b"1 0 0", b"0 1 1 0", &Points::default());
+    assert_eq!(adopted, Err(Error::Refused(Refusal { rule: Rule::Covered, place: Place::Vector(0) })));
+    // Where no vector counts, there are no totals; where none covers all, nothing is built.
+    let (_, _, mut narrow) = standing(0);
+    narrow.offer(&masked(&narrow, 0, &[(0, 2, [0, -100])])).unwrap();
+    assert_eq!(at(&narrow, &[0, 1]), Ok(-100));
+    assert_eq!(refusal(at(&narrow, &[1, 1])), (22, 0));
+    assert_eq!(refusal(narrow.build(&Points::default())), (22, 0));
+    let mixtures = [[0, 1], [1, 0], [0, 0]].map(|weights| Mixture::new(&weights));
+    let answers = narrow.totals_at(&mixtures).unwrap();
+    let numbers: Vec<_> = answers.iter().map(|answer| answer.as_ref().err().map(Refusal::number)).collect();
+    assert_eq!(numbers, [None, Some(22), Some(17)]);
 }
 
 #[test]
@@ -329,6 +383,7 @@ fn the_room_of_a_certifier() {
         let slices = slices::Certifier::roomy(states, actions, observations);
         bytes(&slices.actions)
             + bytes(&slices.choices)
+            + bytes(&slices.masks)
             + bytes(&slices.entries)
             + bytes(&slices.corners)
             + bytes(&slices.weights)
@@ -336,8 +391,8 @@ fn the_room_of_a_certifier() {
             + bytes(&slices.informed)
             + bytes(&slices.qmdp)
     };
-    assert_eq!(room(2, 3, 2), 21_624);
-    assert_eq!(room(16, 8, 8), 149_480);
+    assert_eq!(room(2, 3, 2), 29_624);
+    assert_eq!(room(16, 8, 8), 157_480);
 }
 
 /// What is asked of the slices of a list.
@@ -365,11 +420,12 @@ fn a_list_in_blocks() {
     assert_eq!(ended(fresh.slices(), &roomy), (0, 0, 2));
     assert_eq!(ended(fresh.slices(), &slices::Offers { count: 1, ..roomy }), (0, 0, 1));
     assert_eq!(ended(fresh.slices(), &larger), (0, 0, 0));
-    let short: [fn(&mut slices::Offers); 12] = [
+    let short: [fn(&mut slices::Offers); 13] = [
         |offers| offers.vectors.truncate(1),
         |offers| offers.points.truncate(1),
         |offers| offers.actions.truncate(5),
         |offers| offers.choices.truncate(11),
+        |offers| offers.masks.truncate(5),
         |offers| offers.entries.truncate(11),
         |offers| offers.corners.truncate(3),
         |offers| offers.weights.truncate(3),
@@ -511,13 +567,13 @@ fn wrong_lengths_are_told() {
 
 #[test]
 fn every_refusal_has_a_rule_and_a_sentence() {
-    for number in (1..=20).chain([100]) {
+    for number in (1..=22).chain([100]) {
         let rule = Rule::of(number).unwrap();
         assert_eq!(rule.number(), number);
         let text = Refusal { rule, place: Place::Byte(3) }.to_string();
         assert!(text.starts_with(&format!("refused {} at 3: ", number)));
     }
-    assert_eq!((Rule::of(0), Rule::of(21), Rule::of(101)), (None, None, None));
+    assert_eq!((Rule::of(0), Rule::of(23), Rule::of(101)), (None, None, None));
 }
 
 /// The C header says the same numbers.

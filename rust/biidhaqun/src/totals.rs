@@ -6,7 +6,8 @@ use std::fmt;
 /// What is certified at a mixture, in ticks times the mixture's total weight; [`Totals::bracket`] has it in units of reward.
 ///
 /// What is proved, where a [`Certifier`](crate::Certifier) gave it: no plan earns more than the upper total that has as many
-/// steps as levels were accepted, and some such plan that opens with the action earns the lower one.
+/// steps as levels were accepted, and some such plan that opens with the action earns the lower one. It is given where some
+/// vector of the standing level counts: all weight lies on states that it covers.
 #[derive(Clone, Copy, Debug, PartialEq, Eq, Hash)]
 pub struct Totals {
     /// Some plan that opens with the action earns at least this.

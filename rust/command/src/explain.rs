@@ -108,8 +108,8 @@ const EXPLANATIONS: &[Explanation] = &[
     },
     Explanation {
         number: 11,
-        means: "An entry, a corner or a point's value is outside its level's range: at level t within 100,000 x t ticks of 0, \
-                for values times the total of the point's weights.",
+        means: "An entry of a covered state, a corner or a point's value is outside its level's range: at level t within \
+                100,000 x t ticks of 0, for values times the total of the point's weights.",
         place: "the number of the vector, corner or point",
         causes: &["Units of reward were taken for ticks, or the other way round: 1 unit is 100 ticks."],
     },
@@ -121,7 +121,7 @@ const EXPLANATIONS: &[Explanation] = &[
     },
     Explanation {
         number: 13,
-        means: "A vector's entry is above its backup: no plan is known to earn that much.",
+        means: "A vector's entry is above its backup, at a state that it covers: no plan is known to earn that much.",
         place: "the vector's number",
         causes: &[
             "Entries that were rounded to the nearest tick: round them down.",
@@ -190,6 +190,29 @@ const EXPLANATIONS: &[Explanation] = &[
         ],
     },
     Explanation {
+        number: 21,
+        means: "A vector covers a state from which its action may lead, with some observation, to a state that the vector \
+                chosen for that observation does not cover: nothing is known of how its plan goes on there.",
+        place: "the vector's number",
+        causes: &[
+            "A mask that was copied from the mixture the vector was made at: what is reached from there counts too.",
+            "A level offered upon another one than it was made for.",
+            "A mask that counts states from 1: bit 0 is state 0.",
+            "A solver's files upon a level with masks: their vectors cover all states, and so must what they go on with.",
+            "`biidhaqun certify` says which state is reached from which. Leave that state out of the mask, or choose another vector.",
+        ],
+    },
+    Explanation {
+        number: 22,
+        means: "No vector counts at the mixture: each of them leaves out a state that has weight there, so that no floor is \
+                known. Or, where a level is built: no vector that stands covers all states.",
+        place: NONE,
+        causes: &[
+            "A weight that is small but not 0 on a state that no vector covers.",
+            "A level of masked vectors alone: one vector that covers all states, however low, counts at every mixture, and can be built upon.",
+        ],
+    },
+    Explanation {
         number: 100,
         means: "A slice that a file is read into is too short. Only programs that call the library meet this.",
         place: "the length that it needs",
@@ -215,7 +238,7 @@ pub fn run(number: u64) -> i32 {
             exit::SERVED
         }
         None => {
-            eprintln!("biidhaqun: there is no refusal {}; they are 1 to 20, and 100", number);
+            eprintln!("biidhaqun: there is no refusal {}; they are 1 to 22, and 100", number);
             exit::USAGE
         }
     }
@@ -227,10 +250,10 @@ mod tests {
 
     #[test]
     fn every_refusal_is_explained() {
-        for number in (1..=20).chain([100]) {
+        for number in (1..=22).chain([100]) {
             assert!(text(number).unwrap().starts_with(&format!("{}. ", number)));
         }
         assert_eq!(text(0), None);
-        assert_eq!(text(21), None);
+        assert_eq!(text(23), None);
     }
 }

@@ -100,7 +100,7 @@ pub enum Request {
     },
     /// Explain a refusal
     Explain {
-        /// The number of the refusal, 1 to 20
+        /// The number of the refusal, 1 to 22
         number: u64,
     },
 }

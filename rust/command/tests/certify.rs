@@ -1,4 +1,4 @@
-//! `certify` with a solver's files, as a user meets it.
+//! `certify` with a solver's files, and with vectors that cover part of the states, as a user meets it.
 
 use assert_cmd::Command;
 use std::path::{Path, PathBuf};
@@ -127,6 +127,52 @@ fn points_that_are_refused() {
     assert!(out == "refused 9 at 0\n" && err.contains("there are 17 points"), "{}", err);
     let (out, _) = refused(&["--json", "--point", "0,0"]);
     assert!(out.contains("\"number\": 12"), "{}", out);
+}
+
+/// The levels of `examples/seeding.json` with one text replaced: what is printed, what is told, and the exit status.
+fn seeding(change: [&str; 2], more: &[&str]) -> (String, String, i32) {
+    let text = fs::read_to_string(root().join("examples/seeding.json")).unwrap();
+    assert!(text.contains(change[0]), "{}", text);
+    let path = temporary(&format!("seeding-{}.json", change[1].len()), &text.replace(change[0], change[1]));
+    run(&[&["certify", "examples/seeding.pomdp", &path], more].concat())
+}
+
+/// No vector covers all three forms: one is for melted chocolate, which the light gate tells for sure, one for the rest.
+#[test]
+fn vectors_that_cover_part_of_the_states() {
+    let ladder = fs::read_to_string(root().join("examples/seeding.expected")).unwrap();
+    assert_eq!(seeding(["mask", "mask"], &[]), (ladder, String::new(), 0));
+    // What is printed as one object has the masks, with 0 where nothing is covered, and is offered again.
+    let (out, _, _) = seeding(["[0, 900, -400]", "[777, 900, -400]"], &["--json"]);
+    assert!(out.contains("\"mask\": 6") && !out.contains("777"), "{}", out);
+    let path = temporary("masked.json", &out);
+    let (again, _, status) = run(&["certify", "examples/seeding.pomdp", &path, "--json"]);
+    assert_eq!((again, status), (out, 0));
+    // Where a mask is missing, all states are covered.
+    let (_, err, status) = seeding(["\"mask\": 1, ", ""], &[]);
+    assert!(status == 1 && err.contains("level 1 is not accepted; vector 0: the entry of state fine is 0"), "{}", err);
+    let (_, err, status) = seeding(["\"mask\": 1", "\"mask\": -1"], &[]);
+    assert!(status == 1 && err.contains("level 1 is not of the form"), "{}", err);
+    let (out, err, status) = seeding(["\"choices\": [0, 1]", "\"choices\": [1, 1]"], &[]);
+    assert_eq!((&out[..], status), ("", 1));
+    let lost =
+        "state melted is covered, from which action stir leads to state melted with observation runs; vector 1, chosen";
+    assert!(err.starts_with("biidhaqun: refused 21 at 0: ") && err.contains(lost), "{}", err);
+}
+
+/// Where no vector counts, what is certified elsewhere is printed all the same.
+#[test]
+fn mixtures_at_which_no_vector_counts() {
+    let (out, err, status) = seeding(["mask", "mask"], &["--at", "1,1,1", "--at", "0,1,1"]);
+    assert_eq!(status, 1);
+    assert_eq!(out.matches("no vector counts here").count(), 3);
+    assert!(out.contains("at 0,1,1 (fine 1, coarse 1)\n") && out.contains(" pour\n"), "{}", out);
+    assert!(err.starts_with("biidhaqun: level 1 is accepted, but certifies nothing at 1,1,1: "), "{}", err);
+    let (out, _, status) = seeding(["mask", "mask"], &["--at", "1,1,1", "--json"]);
+    assert_eq!((out.matches("\"refused\": 22").count(), status), (3, 1));
+    // The lines of `ladder`: at the start the chocolate is melted, and here level 3 says nothing of that.
+    let (out, _, status) = seeding(["\"mask\": 1, \"entries\": [433", "\"mask\": 8, \"entries\": [433"], &[]);
+    assert_eq!((&out[..], status), ("1 -5000 -5000 0 0\n2 32000 32100 100 0\n3 refused 22 at 0\n", 1));
 }
 
 #[test]

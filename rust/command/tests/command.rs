@@ -263,7 +263,7 @@ fn files_that_cannot_be_read() {
 
 #[test]
 fn every_refusal_is_explained() {
-    for number in 1..=20 {
+    for number in 1..=22 {
         let out = served(&["explain", &number.to_string()]);
         assert!(out.starts_with(&format!("{}. ", number)) && out.contains("What usually causes it"), "{}", out);
     }

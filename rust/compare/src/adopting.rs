@@ -382,6 +382,9 @@ fn climbed(rng: &mut Rng, shape: Shape) -> Certifier {
         let level = reference::build(&certifier, &points, &DOCUMENT).expect("points within the limits");
         reference::offer(&mut certifier, &level, &DOCUMENT).expect("a built level is accepted");
     }
+    if rng.once_in(3) {
+        gen::uncover(rng, &mut certifier, shape);
+    }
     certifier
 }
 
@@ -453,7 +456,7 @@ mod tests {
             assert!(!case.show().is_empty());
             seen.insert(case.call(&mut rng).number(&BY_THE_DOCUMENT));
         }
-        assert_eq!(seen, [0, 1, 7, 8, 9, 10, 11, 12, 19, 20].into_iter().collect());
+        assert_eq!(seen, [0, 1, 7, 8, 9, 10, 11, 12, 19, 20, 21].into_iter().collect());
     }
 
     /// Whatever is made of files is accepted.

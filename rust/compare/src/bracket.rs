@@ -4,7 +4,7 @@ use crate::calls::Calls;
 use crate::gen::{self, List, Step, DOCUMENT};
 use crate::rng::Rng;
 use num_bigint::BigInt;
-use reference::{all_plans, best, scale, Certifier, Earned, Level, Model, Points, STATES};
+use reference::{all_plans, best, full_mask, scale, Certifier, Earned, Level, Model, Points, Refusal, STATES};
 
 /// No list is followed further than this many levels.
 const LEVELS: u64 = 3;
@@ -30,12 +30,17 @@ pub struct Seen {
     pub above_corners: u64,
     /// Those at which the informed ceiling was the lower one.
     pub informed: u64,
+    /// Those upon a level with a vector that leaves out a state.
+    pub masked: u64,
+    /// Mixtures at which no vector counted.
+    pub uncounted: u64,
 }
 
 /// Follows a list, and at each step compares what is answered with all plans of as many steps as levels were accepted:
 /// no plan is above the upper total, nor above either ceiling, some plan that opens with the action is at or above the lower
 /// one, no plan is above its own action's informed row, which is nowhere above the QMDP row, a built level is accepted, a
-/// refused one changes nothing.
+/// refused one changes nothing. Totals are given exactly where a vector counts, and a level is built exactly where one covers all
+/// states.
 pub fn check(list: &List, by: &dyn Calls) -> Result<Seen, String> {
     let model = Model::of(&list.tables, &DOCUMENT).map_err(|refusal| refusal.to_string())?;
     let certifier = by.open(&list.tables).map_err(|refusal| format!("opening is {}", refusal))?;
@@ -64,27 +69,36 @@ impl Run<'_> {
     fn step(&mut self, step: &Step) -> Result<(), String> {
         match step {
             Step::Offer(level) => self.offer(level).map(|_| ()),
-            Step::Raise(points) => {
-                let level = self.build(points)?;
-                if self.offer(&level)? {
-                    Ok(())
-                } else {
-                    Err("a built level is refused".to_string())
+            Step::Raise(points) => match self.build(points)? {
+                Some(level) if !self.offer(&level)? => Err("a built level is refused".to_string()),
+                _ => Ok(()),
+            },
+            Step::Build(points) => match self.build(points)? {
+                Some(level) => {
+                    let offered = self.by.offer(&mut self.certifier.clone(), &level);
+                    offered.map_err(|refusal| format!("a built level is {}", refusal))
                 }
-            }
-            Step::Build(points) => {
-                let level = self.build(points)?;
-                let mut copy = self.certifier.clone();
-                self.by.offer(&mut copy, &level).map_err(|refusal| format!("a built level is {}", refusal))
-            }
+                None => Ok(()),
+            },
             Step::Totals(_) if self.seen.accepted == 0 => Ok(()),
             Step::Totals(mixture) => self.compare(mixture),
         }
     }
 
-    /// A built level.
-    fn build(&self, points: &Points) -> Result<Level, String> {
-        self.by.build(&self.certifier, points).map_err(|refusal| format!("building is {}", refusal))
+    /// The masks of the standing vectors, as far as there are states.
+    fn masks(&self) -> impl Iterator<Item = u64> + '_ {
+        self.certifier.standing.masks.iter().map(move |mask| mask & full_mask(self.model.n))
+    }
+
+    /// A built level; none, where no standing vector covers all states.
+    fn build(&self, points: &Points) -> Result<Option<Level>, String> {
+        let wide = self.masks().any(|mask| mask == full_mask(self.model.n));
+        match self.by.build(&self.certifier, points) {
+            Ok(level) if wide => Ok(Some(level)),
+            Ok(_) => Err("a level is built although no vector covers all states".to_string()),
+            Err(Refusal { number: 22, .. }) if !wide => Ok(None),
+            Err(refusal) => Err(format!("building is {}", refusal)),
+        }
     }
 
     /// Offers a level; whether it was accepted. If so, the totals at each corner are compared.
@@ -140,7 +154,17 @@ impl Run<'_> {
 
     /// The totals at one mixture, against all plans.
     fn compare(&mut self, mixture: &[u64]) -> Result<(), String> {
-        let totals = self.by.totals(&self.certifier, mixture).map_err(|refusal| format!("totals are {}", refusal))?;
+        let weighty = (0..self.model.n).filter(|&s| mixture[s] > 0).fold(0, |mask, s| mask | 1 << s);
+        let counts = self.masks().any(|mask| weighty & !mask == 0);
+        let totals = match self.by.totals(&self.certifier, mixture) {
+            Ok(totals) if counts => totals,
+            Ok(totals) => return Err(format!("no vector counts at {:?}, and yet {:?}", mixture, totals)),
+            Err(Refusal { number: 22, .. }) if !counts => {
+                self.seen.uncounted += 1;
+                return Ok(());
+            }
+            Err(refusal) => return Err(format!("totals are {}", refusal)),
+        };
         let mixture = &mixture[..self.model.n];
         let unit = scale(self.seen.accepted as u32);
         let earned = best(&self.plans, mixture, None).ok_or("there is no plan")?;
@@ -164,6 +188,8 @@ impl Run<'_> {
         }
         self.seen.informed += u64::from(totals.informed < totals.sawtooth);
         self.seen.compared += 1;
+        let masked = self.masks().any(|mask| mask != full_mask(self.model.n));
+        self.seen.masked += u64::from(masked);
         self.seen.thirds += u64::from(mixture == [1, 1, 1]);
         Ok(())
     }

@@ -213,7 +213,7 @@ mod tests {
             assert!(!case.show().is_empty());
             seen.extend(numbers(&case));
         }
-        let all: BTreeSet<u8> = [0, 3].into_iter().chain(5..=18).collect();
+        let all: BTreeSet<u8> = [0, 3, 21, 22].into_iter().chain(5..=18).collect();
         assert_eq!(seen, all);
     }
 

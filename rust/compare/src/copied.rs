@@ -66,6 +66,10 @@ slips! {
         CountsKept: "an accepted level's counts are not written",
         OpeningClearsPoints: "opening clears the weights and values",
         OpeningLeavesRows: "opening leaves the rows as they were",
+        OpeningLeavesMask: "opening leaves the mask of level 0's vector as it was",
+        MasksUnasked: "masks may have any length",
+        MasksLeft: "an acceptance leaves the masks as they were",
+        BuiltMasksLeft: "a built level's masks are not written",
         InformedUnasked: "the informed rows may have any length",
         QmdpUnasked: "the QMDP rows may have any length",
         RowsAskedAsRoom: "rows too short for an offer get 9",
@@ -79,6 +83,7 @@ slips! {
         RefusedTotals: "refused totals carry numbers",
         OneRefusesAll: "a refused mixture among many refuses them all",
         LaterAnswersLeft: "what comes after a refused mixture is not answered",
+        NoneRefusesAll: "among many mixtures, one at which no vector counts refuses them all",
         RefusedReading: "a refused reading carries counts",
         RefusedWorth: "a refused worth carries ticks",
         AdoptedRoomFirst: "an adopted level's room is asked for before the files agree",
@@ -164,6 +169,11 @@ impl Copied {
         }
     }
 
+    /// Whether masks are as many as vectors.
+    fn masks_long(&self, masks: &[u64], vectors: usize) -> bool {
+        self.long(masks, vectors) || self.has(Slip::MasksUnasked)
+    }
+
     /// How long the slices of a level are asked to be.
     fn asked(&self, vectors: usize, points: usize, n: usize, k: usize) -> Needed {
         let vectors = if self.has(Slip::LengthsOfFirst) { vectors.min(32) } else { vectors };
@@ -199,6 +209,7 @@ impl Copied {
         let asked = self.asked(lent.vectors, lent.points, n, k);
         let long = self.long(&lent.actions, asked.vectors)
             && self.long(&lent.choices, asked.choices)
+            && self.masks_long(&lent.masks, asked.vectors)
             && self.long(&lent.entries, asked.entries)
             && self.long(&lent.corners, asked.states)
             && self.long(&lent.weights, asked.weights)
@@ -211,6 +222,7 @@ impl Copied {
             vectors: lent.vectors as u64,
             actions: stored(&lent.actions, needed.vectors, needed.vectors),
             choices: stored(&lent.choices, needed.choices, needed.choices),
+            masks: stored(&lent.masks, needed.vectors, needed.vectors),
             entries: stored(&lent.entries, needed.entries, needed.entries),
             corners: stored(&lent.corners, needed.states, needed.states),
             points: lent.points as u64,
@@ -297,6 +309,7 @@ impl Copied {
             points,
             actions: lent.actions.clone(),
             choices: if self.has(Slip::StandingChoicesAsked) { lent.choices.clone() } else { choices },
+            masks: lent.masks.clone(),
             entries: lent.entries.clone(),
             corners: lent.corners.clone(),
             weights: lent.weights.clone(),
@@ -313,6 +326,7 @@ impl Copied {
         self.long(&lent.state, 3)
             && self.long(&lent.actions, needed.vectors)
             && self.long(&lent.choices, needed.choices)
+            && self.masks_long(&lent.masks, needed.vectors)
             && self.long(&lent.entries, needed.entries)
             && self.long(&lent.corners, needed.states)
             && self.long(&lent.weights, needed.weights)
@@ -345,6 +359,10 @@ impl Copied {
         self.lay(&state, &mut lent.state);
         self.lay(&narrowed(&level.actions, needed.vectors), &mut lent.actions);
         self.lay(&narrowed(&level.choices, needed.choices), &mut lent.choices);
+        let left = if standing.level > 0 { Slip::MasksLeft } else { Slip::OpeningLeavesMask };
+        if !self.has(left) {
+            self.lay(front(&level.masks, needed.vectors), &mut lent.masks);
+        }
         self.lay(front(&level.entries, needed.entries), &mut lent.entries);
         self.lay(front(&level.corners, needed.states), &mut lent.corners);
         if standing.level > 0 {
@@ -417,7 +435,7 @@ impl Copied {
         Ok(())
     }
 
-    /// Totals one by one, where 7 and 16 pass: that is asked at a mixture that is not refused.
+    /// Totals one by one, where 7 and 16 pass: that is asked at a mixture within the limits.
     fn each_of(
         &self,
         tables: &Tables,
@@ -430,7 +448,10 @@ impl Copied {
             0 => Ok(at),
             number => Err(reference::Refusal::at(number as u8, at.place as u64)),
         };
-        ended(self.totals(tables, lent, &[1; STATES]))?;
+        ended(self.totals(tables, lent, &[1; STATES])).or_else(|refusal| match refusal.number {
+            7 | 16 => Err(refusal),
+            _ => Ok(Totals::default()),
+        })?;
         let enough = count.checked_mul(n).map_or(false, |needed| self.long(mixtures, needed));
         if !enough {
             return Err(reference::Refusal::at(17, 0));
@@ -445,7 +466,7 @@ impl Copied {
         let mut all = Answers::default();
         for mixture in (0..count).map(|at| mixtures.get(at * n..(at + 1) * n).unwrap_or(&[])) {
             let at = self.totals(tables, lent, mixture);
-            if at.number != 0 && self.has(Slip::OneRefusesAll) {
+            if self.has(Slip::OneRefusesAll) || (at.number == 22 && self.has(Slip::NoneRefusesAll)) {
                 ended(at)?;
             }
             all.numbers.push(at.number as u8);
@@ -476,6 +497,7 @@ impl Copied {
         let needed = Needed::of(n + few, few, n, k);
         let room = self.long(&level.actions, needed.vectors)
             && self.long(&level.choices, needed.choices)
+            && self.masks_long(&level.masks, needed.vectors)
             && self.long(&level.entries, needed.entries)
             && self.long(&level.corners, needed.states)
             && self.long(&level.values, needed.points);
@@ -490,6 +512,9 @@ impl Copied {
         }
         self.lay(&narrowed(&built.actions, needed.vectors), &mut level.actions);
         self.lay(&narrowed(&built.choices, needed.choices), &mut level.choices);
+        if !self.has(Slip::BuiltMasksLeft) {
+            self.lay(&built.masks[..needed.vectors], &mut level.masks);
+        }
         self.lay(&built.entries[..needed.entries], &mut level.entries);
         self.lay(&built.corners[..needed.states], &mut level.corners);
         self.lay(&built.values[..needed.points], &mut level.values);

@@ -4,9 +4,10 @@
 //! some forty vectors: `many` has those of hundreds.
 
 use crate::rng::Rng;
+use num_bigint::BigInt;
 use reference::{
-    build, offer, open, Certifier, Graph, Level, Points, Rules, Tables, ACTIONS, BUILT_POINTS, LEVELS, NODES,
-    OBSERVATIONS, POINTS, POINT_TOTAL, REWARD, ROWS, STATES, STEPS, THOUSAND, WEIGHT,
+    build, full_mask, offer, open, scale, Certifier, Graph, Level, Model, Points, Rules, Tables, ACTIONS, BUILT_POINTS,
+    LEVELS, NODES, OBSERVATIONS, POINTS, POINT_TOTAL, REWARD, ROWS, STATES, STEPS, THOUSAND, WEIGHT,
 };
 
 /// The document.
@@ -114,8 +115,10 @@ pub fn tables(rng: &mut Rng, shape: Shape) -> Tables {
         tables.sights[row * k..(row + 1) * k].copy_from_slice(&shares(rng, k, THOUSAND));
     }
     let most = rng.pick(&[1, 20, 999, 10_000, REWARD]);
+    // Now and then costs alone: then 0 is more than any plan earns.
+    let highest = if rng.once_in(4) { 0 } else { most };
     for reward in &mut tables.rewards[..m * n] {
-        *reward = if rng.once_in(6) { rng.pick(&[-most, 0, most]) } else { rng.within(-most, most) };
+        *reward = if rng.once_in(6) { rng.pick(&[-most, 0, highest]) } else { rng.within(-most, highest) };
     }
     let (transitions, sights, rewards) = tables.cells_used();
     litter(rng, &mut tables.transitions, transitions, junk);
@@ -243,6 +246,7 @@ struct Unpacked {
 struct Vector {
     action: u64,
     choices: Vec<u64>,
+    mask: u64,
     entries: Vec<i64>,
 }
 
@@ -258,6 +262,7 @@ impl Unpacked {
         let vector = |v: usize| Vector {
             action: level.actions[v],
             choices: level.choices[v * k..(v + 1) * k].to_vec(),
+            mask: level.masks[v],
             entries: level.entries[v * n..(v + 1) * n].to_vec(),
         };
         let point = |j: usize| Point { weights: level.weights[j * n..(j + 1) * n].to_vec(), value: level.values[j] };
@@ -274,6 +279,7 @@ impl Unpacked {
             vectors: self.vectors.len() as u64,
             actions: self.vectors.iter().map(|vector| vector.action).collect(),
             choices: self.vectors.iter().flat_map(|vector| vector.choices.clone()).collect(),
+            masks: self.vectors.iter().map(|vector| vector.mask).collect(),
             entries: self.vectors.iter().flat_map(|vector| vector.entries.clone()).collect(),
             corners: self.corners.clone(),
             points: self.points.len() as u64,
@@ -282,6 +288,7 @@ impl Unpacked {
         };
         trail(rng, &mut level.actions, junk);
         trail(rng, &mut level.choices, junk);
+        trail(rng, &mut level.masks, junk);
         trail(rng, &mut level.entries, signed_junk);
         trail(rng, &mut level.corners, signed_junk);
         trail(rng, &mut level.weights, junk);
@@ -301,6 +308,112 @@ fn value_range(weights: &[u64], ticks: i64) -> i64 {
     total.min(POINT_TOTAL + 1) as i64 * ticks
 }
 
+/// The mask of any states: all, none, one, all but one, or any, half of them with bits past the states.
+pub fn mask(rng: &mut Rng, n: usize) -> u64 {
+    let (full, one, any) = (full_mask(n), 1 << rng.index(n), rng.next());
+    let within = rng.pick(&[full, full, 0, one, full & !one, any & full, any & full]);
+    let past = junk(rng) & !full;
+    rng.pick(&[within, within | past])
+}
+
+/// Puts anything into the entries of states that a mask leaves out: in the range of level t or not.
+fn hide(rng: &mut Rng, mask: u64, entries: &mut [i64], t: u64) {
+    let ticks = range(t);
+    for (s, entry) in entries.iter_mut().enumerate() {
+        if mask >> s & 1 == 0 {
+            let anything = signed_junk(rng);
+            *entry = rng.pick(&[0, ticks, -ticks, ticks, ticks + 1, -ticks - 1, anything]);
+        }
+    }
+}
+
+/// Lets the standing vectors cover any states, half of them all.
+pub fn uncover(rng: &mut Rng, certifier: &mut Certifier, shape: Shape) {
+    let standing = &mut certifier.standing;
+    for (mask, entries) in standing.masks.iter_mut().zip(standing.entries.chunks_exact_mut(shape.n)) {
+        if rng.once_in(2) {
+            *mask = self::mask(rng, shape.n);
+            hide(rng, *mask, entries, certifier.level);
+        }
+    }
+}
+
+/// What is built upon the certifier; where no standing vector covers all states, its ceiling over a vector that covers none.
+pub fn above(certifier: &Certifier, points: &Points, shape: Shape) -> Level {
+    let Shape { n, k, .. } = shape;
+    build(certifier, points, &DOCUMENT).unwrap_or_else(|_| {
+        let mut wide = certifier.clone();
+        wide.standing = Level { vectors: 1, ..wide.standing };
+        wide.standing.masks[0] = full_mask(n);
+        wide.standing.entries[..n].fill(0);
+        let ceiling = build(&wide, points, &DOCUMENT).expect("a vector that covers all is built upon");
+        let mut level = Level { vectors: 1, ..ceiling };
+        level.actions.truncate(1);
+        level.choices.truncate(k);
+        level.choices.fill(0);
+        level.masks = vec![0];
+        level.entries.truncate(n);
+        level
+    })
+}
+
+/// The level with some of its vectors cut to part of the states, and with others that go on with any standing vectors; now and
+/// then without those that cover all. It is accepted where the given one is, but for some of the others.
+pub fn masked(rng: &mut Rng, certifier: &Certifier, level: &Level, shape: Shape) -> Level {
+    let mut parts = Unpacked::of(level, shape.n, shape.k);
+    for vector in &mut parts.vectors {
+        if rng.once_in(2) {
+            vector.mask &= mask(rng, shape.n);
+            hide(rng, vector.mask, &mut vector.entries, certifier.level + 1);
+        }
+    }
+    for _ in 0..rng.index(4) {
+        let at = rng.index(parts.vectors.len() + 1);
+        parts.vectors.insert(at, going_on(rng, certifier, shape));
+    }
+    let wide = |vector: &Vector| vector.mask & full_mask(shape.n) == full_mask(shape.n);
+    if rng.once_in(4) && !parts.vectors.iter().all(wide) {
+        parts.vectors.retain(|vector| !wide(vector));
+    }
+    parts.packed(rng)
+}
+
+/// A vector that goes on with any standing ones, covers all states from which it can, and has its backups for entries; now and
+/// then it covers a state less or a state more, or an entry is a tick higher.
+fn going_on(rng: &mut Rng, certifier: &Certifier, shape: Shape) -> Vector {
+    let Shape { n, m, k } = shape;
+    let model = Model::of(&certifier.tables, &DOCUMENT).expect("the tables open");
+    let standing = &certifier.standing;
+    let a = rng.index(m);
+    let choices: Vec<u64> = (0..k).map(|_| rng.below(standing.vectors)).collect();
+    let covered = |o: usize, s2: usize| standing.masks[choices[o] as usize] >> s2 & 1 == 1;
+    let reached = |s: usize, s2: usize, o: usize| model.t(s, a, s2) * model.o(a, s2, o) > BigInt::from(0);
+    let closed = |s: &usize| (0..n).all(|s2| (0..k).all(|o| covered(o, s2) || !reached(*s, s2, o)));
+    let mut mask = (0..n).filter(closed).fold(0, |mask, s| mask | 1 << s);
+    let chosen: Vec<Vec<BigInt>> = choices
+        .iter()
+        .map(|&v| standing.entries[v as usize * n..(v as usize + 1) * n].iter().map(|&entry| entry.into()).collect())
+        .collect();
+    let entry = |s: usize| {
+        let backup = model.backup(s, a, |o, s2| &chosen[o][s2]);
+        let down = &backup / scale(1);
+        let down = if &down * scale(1) > backup { down - 1 } else { down };
+        i64::try_from(&down).unwrap_or(i64::MIN)
+    };
+    let mut entries: Vec<i64> = (0..n).map(entry).collect();
+    match rng.below(8) {
+        0 | 1 => mask &= self::mask(rng, n),
+        2 | 3 => mask |= 1 << rng.index(n),
+        4 => {
+            let entry = &mut entries[rng.index(n)];
+            *entry = entry.saturating_add(1);
+        }
+        _ => {}
+    }
+    hide(rng, mask, &mut entries, certifier.level + 1);
+    Vector { action: a as u64, choices, mask: mask | self::mask(rng, n) & !full_mask(n), entries }
+}
+
 /// A level that the document accepts where it accepts the given one: vectors lowered, left out, doubled or put in another
 /// order, corners and points raised, points left out or doubled. Points may come to lie above the corners.
 pub fn loosened(rng: &mut Rng, level: &Level, shape: Shape, t: u64) -> Level {
@@ -310,7 +423,7 @@ pub fn loosened(rng: &mut Rng, level: &Level, shape: Shape, t: u64) -> Level {
     let most = rng.pick(&[0, 1, 7, 300]);
     for vector in &mut parts.vectors {
         for entry in &mut vector.entries {
-            *entry = (*entry - rng.within(0, most)).max(-ticks);
+            *entry = entry.saturating_sub(rng.within(0, most)).max(-ticks);
         }
     }
     if rng.once_in(3) {
@@ -360,7 +473,10 @@ pub fn nudged(rng: &mut Rng, level: &Level, shape: Shape) -> Level {
     let mut level = level.clone();
     let points = if level.points > 0 { 3 } else { 2 };
     match rng.below(points) {
-        0 => level.entries[rng.index(level.vectors as usize * shape.n)] += 1,
+        0 => {
+            let entry = &mut level.entries[rng.index(level.vectors as usize * shape.n)];
+            *entry = entry.wrapping_add(1);
+        }
         1 => level.corners[rng.index(shape.n)] -= 1,
         _ => level.values[rng.index(level.points as usize)] -= 1,
     }
@@ -372,19 +488,20 @@ pub fn spoil_level(rng: &mut Rng, level: &mut Level, shape: Shape, t: u64, below
     let Shape { n, m, k } = shape;
     let ticks = range(t);
     // Those that are wholly there, whatever the counts say: at least one vector.
-    let vectors = level.actions.len().min(level.choices.len() / k).min(level.entries.len() / n);
+    let vectors = level.actions.len().min(level.choices.len() / k).min(level.masks.len()).min(level.entries.len() / n);
     let points = level.values.len().min(level.weights.len() / n);
     let anything = junk(rng);
     if rng.once_in(12) {
         // Anything everywhere.
         litter(rng, &mut level.actions, 0, junk);
         litter(rng, &mut level.choices, 0, junk);
+        litter(rng, &mut level.masks, 0, junk);
         litter(rng, &mut level.entries, 0, signed_junk);
         litter(rng, &mut level.corners, 0, signed_junk);
         litter(rng, &mut level.weights, 0, junk);
         litter(rng, &mut level.values, 0, signed_junk);
     }
-    match rng.below(if points > 0 { 10 } else { 7 }) {
+    match rng.below(if points > 0 { 11 } else { 8 }) {
         0 => {
             level.vectors = rng.pick(&[0, 1, 32, 33, 33, 999, 1_000, 1_001, u64::MAX, anything]);
             lengthen(rng, level, shape);
@@ -406,7 +523,8 @@ pub fn spoil_level(rng: &mut Rng, level: &mut Level, shape: Shape, t: u64, below
             let corner = rng.pick(&[ticks, -ticks, ticks + 1, -ticks - 1, i64::MIN, i64::MAX, anything as i64]);
             level.corners[rng.index(n)] = corner;
         }
-        7 => {
+        7 => level.masks[rng.index(vectors)] = mask(rng, n),
+        8 => {
             // At the ends of its own range, and of the widest.
             let point = rng.index(points);
             let own = value_range(&level.weights[point * n..(point + 1) * n], ticks);
@@ -434,6 +552,7 @@ fn lengthen(rng: &mut Rng, level: &mut Level, shape: Shape) {
         let vectors = level.vectors as usize;
         fill(&mut level.actions, vectors, &mut cell);
         fill(&mut level.choices, vectors * k, &mut cell);
+        fill(&mut level.masks, vectors, &mut cell);
         fill(&mut level.entries, vectors * n, || cell() as i64);
     }
     if level.points <= FEW as u64 {
@@ -533,6 +652,19 @@ pub enum Step {
     Raise(Points),
 }
 
+impl Step {
+    /// Makes the step by the document; whether a level was accepted.
+    pub fn follow(&self, certifier: &mut Certifier) -> bool {
+        match self {
+            Step::Offer(level) => offer(certifier, level, &DOCUMENT).is_ok(),
+            Step::Raise(points) => {
+                build(certifier, points, &DOCUMENT).and_then(|level| offer(certifier, &level, &DOCUMENT)).is_ok()
+            }
+            Step::Totals(_) | Step::Build(_) => false,
+        }
+    }
+}
+
 /// Tables, and a list of calls on the certifier that opens on them.
 #[derive(Clone, Debug)]
 pub struct List {
@@ -540,7 +672,7 @@ pub struct List {
     pub steps: Vec<Step>,
 }
 
-/// A list of offers until so many levels are accepted: built, loosened, off by one and spoiled ones, with totals and
+/// A list of offers until so many levels are accepted: built, masked, loosened, off by one and spoiled ones, with totals and
 /// buildings in between.
 pub fn list(rng: &mut Rng, shape: Shape, levels: u64) -> List {
     let tables = tables(rng, shape);
@@ -553,26 +685,29 @@ pub fn list(rng: &mut Rng, shape: Shape, levels: u64) -> List {
         }
         let count = rng.index(most_points + 1);
         let upon = points(rng, shape.n, count);
-        let built = build(&certifier, &upon, &DOCUMENT).expect("a standing certifier builds");
+        let mut level = above(&certifier, &upon, shape);
+        if rng.once_in(2) {
+            level = masked(rng, &certifier, &level, shape);
+        }
         let t = certifier.level + 1;
-        let (level, step) = match rng.below(10) {
-            0..=2 => (built, Some(Step::Raise(upon))),
-            3..=5 => (loosened(rng, &built, shape, t), None),
-            6 | 7 => (nudged(rng, &built, shape), None),
-            8 => {
-                let loose = loosened(rng, &built, shape, t);
-                (nudged(rng, &loose, shape), None)
+        let step = match rng.below(11) {
+            0 | 1 => Step::Raise(upon),
+            2 | 3 => Step::Offer(level),
+            4..=6 => Step::Offer(loosened(rng, &level, shape, t)),
+            7 | 8 => Step::Offer(nudged(rng, &level, shape)),
+            9 => {
+                let loose = loosened(rng, &level, shape, t);
+                Step::Offer(nudged(rng, &loose, shape))
             }
             _ => {
-                let mut level = built;
                 for _ in 0..1 + rng.index(3) {
                     spoil_level(rng, &mut level, shape, t, certifier.standing.vectors);
                 }
-                (level, None)
+                Step::Offer(level)
             }
         };
-        let accepted = offer(&mut certifier, &level, &DOCUMENT).is_ok();
-        steps.push(step.unwrap_or(Step::Offer(level)));
+        let accepted = step.follow(&mut certifier);
+        steps.push(step);
         for _ in 0..if accepted { 2 } else { 1 } {
             steps.push(Step::Totals(mixture(rng, shape.n)));
         }
@@ -600,7 +735,7 @@ pub fn at_thirds(tables: Tables, levels: u64) -> List {
 fn built(rng: &mut Rng, certifier: &Certifier, shape: Shape, most_points: usize) -> Level {
     let count = rng.index(most_points + 1);
     let points = points(rng, shape.n, count);
-    build(certifier, &points, &DOCUMENT).expect("a standing certifier builds")
+    above(certifier, &points, shape)
 }
 
 /// A list of built levels only, up to level 100 and past it.
@@ -636,7 +771,13 @@ pub fn handed(rng: &mut Rng, shape: Shape) -> (Certifier, Vec<Step>) {
     if rng.once_in(3) {
         certifier.standing = loosened(rng, &certifier.standing.clone(), shape, certifier.level);
     }
-    let offered = built(rng, &certifier, shape, 2);
+    if rng.once_in(2) {
+        uncover(rng, &mut certifier, shape);
+    }
+    let mut offered = built(rng, &certifier, shape, 2);
+    if rng.once_in(2) {
+        offered = masked(rng, &certifier, &offered, shape);
+    }
     for choice in &mut certifier.standing.choices {
         *choice = junk(rng);
     }
@@ -661,14 +802,15 @@ pub fn handed(rng: &mut Rng, shape: Shape) -> (Certifier, Vec<Step>) {
         spoil_level(rng, &mut level, shape, certifier.level.saturating_add(1), certifier.standing.vectors);
     }
     let mut few = points(rng, shape.n, 2);
-    let mut mixed = mixture(rng, shape.n);
+    let mixed = mixture(rng, shape.n);
+    let mut spoilt = mixed.clone();
+    spoil_mixture(rng, shape.n, &mut spoilt);
     if rng.once_in(2) {
         spoil_points(rng, shape.n, &mut few);
-        spoil_mixture(rng, shape.n, &mut mixed);
     }
     let count = BUILT_POINTS + rng.index(2);
     let many = points(rng, shape.n, count);
-    let mut steps = vec![Step::Totals(mixed), Step::Build(few)];
+    let mut steps = vec![Step::Totals(mixed), Step::Totals(spoilt), Step::Build(few)];
     if shape.n <= 4 {
         steps.push(Step::Build(many));
     }
@@ -706,6 +848,12 @@ fn level_at_ends(rng: &mut Rng, shape: Shape, t: u64) -> Level {
     at_ends(rng, &mut level.entries, ticks);
     at_ends(rng, &mut level.corners, ticks);
     at_ends(rng, &mut level.values, 1);
+    if rng.once_in(4) {
+        for (mask, entries) in level.masks.iter_mut().zip(level.entries.chunks_exact_mut(n)) {
+            *mask = self::mask(rng, n);
+            hide(rng, *mask, entries, t);
+        }
+    }
     for j in 0..points {
         let weights = &mut level.weights[j * n..(j + 1) * n];
         weights.copy_from_slice(&point(rng, n));

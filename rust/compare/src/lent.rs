@@ -60,7 +60,7 @@ macro_rules! cells {
     };
 }
 
-cells!(u8 u16 u32 usize i64);
+cells!(u8 u16 u32 u64 usize i64);
 
 /// Any number: near limits, near the ends of types, and plain random ones.
 fn any<Of: Cell>(rng: &mut Rng) -> Of {
@@ -166,6 +166,7 @@ pub fn level(storage: &reference::Level, n: usize, k: usize) -> Level {
         points: size(storage.points),
         actions: narrowed(&storage.actions, vectors),
         choices: narrowed(&storage.choices, vectors * k),
+        masks: front(&storage.masks, vectors).to_vec(),
         entries: front(&storage.entries, vectors * n).to_vec(),
         corners: front(&storage.corners, n).to_vec(),
         weights: narrowed(&storage.weights, points * n),
@@ -180,6 +181,7 @@ pub fn certifier(storage: &reference::Certifier) -> Certifier {
         state: vec![size(storage.level), level.vectors, level.points],
         actions: level.actions,
         choices: level.choices,
+        masks: level.masks,
         entries: level.entries,
         corners: level.corners,
         weights: level.weights,
@@ -212,6 +214,7 @@ pub fn roomy(rng: &mut Rng, mut certifier: Certifier, vectors: usize) -> Certifi
     certifier.state.sized(certifier.state.len().max(3), rng);
     certifier.actions.sized(vectors + rng.index(3), rng);
     certifier.choices.sized(vectors * OBSERVATIONS + rng.index(3), rng);
+    certifier.masks.sized(vectors + rng.index(3), rng);
     certifier.entries.sized(vectors * STATES + rng.index(3), rng);
     certifier.corners.sized(STATES + rng.index(3), rng);
     certifier.weights.sized(POINTS * STATES + rng.index(3), rng);
@@ -224,8 +227,8 @@ pub fn roomy(rng: &mut Rng, mut certifier: Certifier, vectors: usize) -> Certifi
 /// Slices for a level to be built, with anything in them.
 pub fn roomy_level(rng: &mut Rng) -> Level {
     let room = roomy(rng, Certifier::default(), STATES + BUILT_POINTS);
-    let Certifier { actions, choices, entries, corners, values, .. } = room;
-    Level { actions, choices, entries, corners, values, ..Level::default() }
+    let Certifier { actions, choices, masks, entries, corners, values, .. } = room;
+    Level { actions, choices, masks, entries, corners, values, ..Level::default() }
 }
 
 // ---- one call with all its slices
@@ -370,6 +373,7 @@ impl Call {
             let mut slices: Vec<(&'static str, &mut dyn Slice)> = vec![
                 ("standing state", &mut certifier.state),
                 ("standing actions", &mut certifier.actions),
+                ("standing masks", &mut certifier.masks),
                 ("standing entries", &mut certifier.entries),
                 ("standing corners", &mut certifier.corners),
                 ("standing weights", &mut certifier.weights),
@@ -386,6 +390,7 @@ impl Call {
             let mut slices: Vec<(&'static str, &mut dyn Slice)> = vec![
                 ("level's actions", &mut level.actions),
                 ("level's choices", &mut level.choices),
+                ("level's masks", &mut level.masks),
                 ("level's entries", &mut level.entries),
                 ("level's corners", &mut level.corners),
                 ("level's values", &mut level.values),
@@ -417,6 +422,7 @@ impl Call {
                 slices.push(("offers' points", &mut offers.points));
                 slices.push(("offers' actions", &mut offers.actions));
                 slices.push(("offers' choices", &mut offers.choices));
+                slices.push(("offers' masks", &mut offers.masks));
                 slices.push(("offers' entries", &mut offers.entries));
                 slices.push(("offers' corners", &mut offers.corners));
                 slices.push(("offers' weights", &mut offers.weights));

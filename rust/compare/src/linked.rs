@@ -34,6 +34,7 @@ fn edged_certifier(certifier: &Certifier) -> Certifier {
         state: edged(&certifier.state),
         actions: edged(&certifier.actions),
         choices: edged(&certifier.choices),
+        masks: edged(&certifier.masks),
         entries: edged(&certifier.entries),
         corners: edged(&certifier.corners),
         weights: edged(&certifier.weights),
@@ -47,6 +48,7 @@ fn kept_certifier(certifier: &mut Certifier) -> bool {
     kept(&mut certifier.state)
         && kept(&mut certifier.actions)
         && kept(&mut certifier.choices)
+        && kept(&mut certifier.masks)
         && kept(&mut certifier.entries)
         && kept(&mut certifier.corners)
         && kept(&mut certifier.weights)
@@ -60,6 +62,7 @@ fn edged_level(level: &Level) -> Level {
     Level {
         actions: edged(&level.actions),
         choices: edged(&level.choices),
+        masks: edged(&level.masks),
         entries: edged(&level.entries),
         corners: edged(&level.corners),
         values: edged(&level.values),
@@ -70,6 +73,7 @@ fn edged_level(level: &Level) -> Level {
 fn kept_level(level: &mut Level) -> bool {
     kept(&mut level.actions)
         && kept(&mut level.choices)
+        && kept(&mut level.masks)
         && kept(&mut level.entries)
         && kept(&mut level.corners)
         && kept(&mut level.values)

@@ -161,13 +161,15 @@ impl Comparison<'_> {
         println!("lists of offers against all plans: {}", lists);
         println!(
             "  {} levels accepted ({} with a point above the corners), {} refused, {} totals compared ({} at equal thirds, {} where \
-             the informed ceiling is the lower)",
+             the informed ceiling is the lower, {} where a vector covers part of the states), {} mixtures at which no vector counts",
             self.plans.accepted,
             self.plans.above_corners,
             self.plans.refused,
             self.plans.compared,
             self.plans.thirds,
-            self.plans.informed
+            self.plans.informed,
+            self.plans.masked,
+            self.plans.uncounted
         );
         if !self.climbs()? || !self.solved()? {
             return Ok(false);
@@ -295,6 +297,8 @@ impl Comparison<'_> {
                 self.plans.thirds += seen.thirds;
                 self.plans.above_corners += seen.above_corners;
                 self.plans.informed += seen.informed;
+                self.plans.masked += seen.masked;
+                self.plans.uncounted += seen.uncounted;
                 Ok(true)
             }
             Err(message) => {

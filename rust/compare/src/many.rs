@@ -83,6 +83,7 @@ impl Stage {
             level.vectors += 1;
             level.actions.extend_from_within(..1);
             level.choices.extend_from_within(..self.shape.k);
+            level.masks.extend_from_within(..1);
             level.entries.extend_from_within(..self.shape.n);
         }
         level
@@ -181,6 +182,42 @@ impl Stage {
         cases
     }
 
+    /// 1,000 vectors of which one alone covers both states, or none does.
+    fn masks(&self) -> Vec<Case> {
+        let Shape { n, k, .. } = self.shape;
+        let last = VECTORS - 1;
+        let mut cases = Vec::new();
+        let mut add = |about: String, call: Call, ends: (u64, usize)| cases.push(Case { about, call, ends });
+        for wide in [0, 31, 32, 63, 64, 255, 256, last] {
+            let mut level = self.level(&self.fresh, VECTORS);
+            for (v, mask) in level.masks.iter_mut().enumerate() {
+                // Bits past the states, too.
+                *mask = if v == wide { !0 } else { !2 };
+            }
+            let upon = raised(&self.fresh, &level);
+            add(format!("1,000 masks, {} of all states", wide), self.offer(&self.fresh, &level), SERVED);
+            add(format!("totals where vector {} alone counts", wide), self.totals(&upon), SERVED);
+            let built = single::building(&mut rng(), self.shape, &upon, &points());
+            add(format!("a level built upon vector {} alone", wide), built, SERVED);
+            // Whatever its action, a vector that covers both states reaches both: it may go on with that one alone.
+            let mut lowest = self.level(&self.wide, VECTORS);
+            lowest.entries.fill(-2 * REWARD);
+            lowest.choices.fill(wide as u64);
+            add(format!("1,000 vectors that go on with {}", wide), self.offer(&upon, &lowest), SERVED);
+            lowest.choices[last * k + 1] = (wide as u64 + 1) % VECTORS as u64;
+            add(format!("the last goes on with another than {}", wide), self.offer(&upon, &lowest), (21, last));
+            lowest.masks[last] = 0;
+            lowest.entries[last * n..].fill(i64::MAX);
+            add("the last covers nothing".to_string(), self.offer(&upon, &lowest), SERVED);
+            let mut narrow = upon.clone();
+            narrow.standing.masks[wide] = !2;
+            add("totals where no vector of 1,000 counts".to_string(), self.totals(&narrow), (22, 0));
+            let built = single::building(&mut rng(), self.shape, &narrow, &points());
+            add("a level built upon 1,000 that leave out a state".to_string(), built, (22, 0));
+        }
+        cases
+    }
+
     /// Slices that are one short for 1,000 vectors, and counts past that.
     fn lengths(&self) -> Vec<Case> {
         let mut cases = Vec::new();
@@ -198,12 +235,12 @@ impl Stage {
         };
         let level = self.level(&self.fresh, VECTORS);
         each("1,000 vectors offered", &self.offer(&self.fresh, &level), &|name| match name {
-            "level's actions" | "level's choices" | "level's entries" => Some((9, 0)),
-            "standing actions" | "standing choices" | "standing entries" => Some((9, 0)),
+            "level's actions" | "level's choices" | "level's masks" | "level's entries" => Some((9, 0)),
+            "standing actions" | "standing choices" | "standing masks" | "standing entries" => Some((9, 0)),
             _ => None,
         });
         let standing = |name: &str| match name {
-            "standing actions" | "standing entries" => Some((7, 0)),
+            "standing actions" | "standing masks" | "standing entries" => Some((7, 0)),
             _ => None,
         };
         each("totals upon 1,000 vectors", &self.totals(&self.wide), &standing);
@@ -216,7 +253,7 @@ impl Stage {
         each("a level built upon 1,000 vectors", &built, &standing);
         let files = files(self.shape, VECTORS, Some(VECTORS));
         each("1,000 vectors adopted", &self.adopt(&self.wide, &files, VECTORS), &|name| match name {
-            "level's actions" | "level's choices" | "level's entries" => Some((9, 0)),
+            "level's actions" | "level's choices" | "level's masks" | "level's entries" => Some((9, 0)),
             _ => standing(name),
         });
         for vectors in [VECTORS + 1, usize::MAX] {
@@ -224,6 +261,7 @@ impl Stage {
             if let Call::Totals { certifier, .. } = &mut call {
                 certifier.state[1] = vectors;
                 certifier.actions.extend_from_within(..1);
+                certifier.masks.extend_from_within(..1);
                 certifier.entries.extend_from_within(..self.shape.n);
             }
             cases.push(Case { about: format!("{} vectors stand", vectors), call, ends: (7, 0) });
@@ -254,13 +292,14 @@ impl Stage {
             let about = format!("a list in blocks of {}, with room for {}", block, room);
             cases.push(Case { about, call: list(block, room), ends });
         }
-        for change in 0..4 {
+        for change in 0..5 {
             let mut call = list(VECTORS, VECTORS);
             if let Call::Replay { offers, .. } = &mut call {
                 match change {
                     0 => offers.entries.truncate(4 * VECTORS * n - 1),
                     1 => offers.choices.truncate(4 * VECTORS * k - 1),
                     2 => offers.actions.truncate(4 * VECTORS - 1),
+                    3 => offers.masks.truncate(4 * VECTORS - 1),
                     _ => offers.count = 1 << 61,
                 }
             }
@@ -391,6 +430,7 @@ pub fn fixed() -> Vec<Case> {
     let mut cases = stage.counts();
     cases.extend(stage.numbers());
     cases.extend(stage.readers());
+    cases.extend(stage.masks());
     cases.extend(stage.lengths());
     cases.extend(stage.lists());
     cases.extend(stage.adoptions());

@@ -72,8 +72,10 @@ pub fn served(rng: &mut Rng, shape: Shape, certifier: &Certifier) -> Call {
     for _ in 0..2 {
         let count = 1 + rng.index(3);
         let points = gen::points(rng, shape.n, count);
-        let built = reference::build(&climbed, &points, &DOCUMENT).expect("points within the limits");
+        let mut built = reference::build(&climbed, &points, &DOCUMENT).expect("points within the limits");
         levels.push(gen::nudged(rng, &built, shape));
+        // One that covers all states stays, to be built upon.
+        built.masks.iter_mut().skip(1).for_each(|mask| *mask = gen::mask(rng, shape.n));
         levels.push(built.clone());
         reference::offer(&mut climbed, &built, &DOCUMENT).expect("a built level is accepted");
     }
@@ -117,6 +119,7 @@ pub fn packed(rng: &mut Rng, levels: &[Level], (vectors, points): (usize, usize)
         let mut block = level.clone();
         block.actions.sized(vectors, rng);
         block.choices.sized(vectors * k, rng);
+        block.masks.sized(vectors, rng);
         block.entries.sized(vectors * n, rng);
         block.corners.sized(n, rng);
         block.weights.sized(points * n, rng);
@@ -130,9 +133,11 @@ pub fn packed(rng: &mut Rng, levels: &[Level], (vectors, points): (usize, usize)
 fn split(rng: &mut Rng, level: &Level, shape: Shape) -> Offers {
     let Shape { n, k, .. } = shape;
     let (vectors, points) = ((level.vectors + 1) / 2, (level.points + 1) / 2);
-    let Level { mut actions, mut choices, mut entries, mut corners, mut weights, mut values, .. } = level.clone();
+    let Level { mut actions, mut choices, mut masks, mut entries, mut corners, mut weights, mut values, .. } =
+        level.clone();
     actions.sized(2 * vectors, rng);
     choices.sized(2 * vectors * k, rng);
+    masks.sized(2 * vectors, rng);
     entries.sized(2 * vectors * n, rng);
     corners.sized(2 * n, rng);
     weights.sized(2 * points * n, rng);
@@ -145,6 +150,7 @@ fn split(rng: &mut Rng, level: &Level, shape: Shape) -> Offers {
         points: vec![level.points; 2],
         actions,
         choices,
+        masks,
         entries,
         corners,
         weights,
@@ -215,6 +221,7 @@ mod tests {
                     points: offers.points[at],
                     actions: offers.actions[at * v..(at + 1) * v].to_vec(),
                     choices: offers.choices[at * v * k..(at + 1) * v * k].to_vec(),
+                    masks: offers.masks[at * v..(at + 1) * v].to_vec(),
                     entries: offers.entries[at * v * n..(at + 1) * v * n].to_vec(),
                     corners: offers.corners[at * n..(at + 1) * n].to_vec(),
                     weights: offers.weights[at * p * n..(at + 1) * p * n].to_vec(),

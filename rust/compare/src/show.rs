@@ -31,11 +31,13 @@ pub fn tables(tables: &Tables) -> String {
 
 pub fn level(level: &Level) -> String {
     format!(
-        "level: vectors {} points {}\n  actions {}\n  choices {}\n  entries {}\n  corners {}\n  weights {}\n  values {}\n",
+        "level: vectors {} points {}\n  actions {}\n  choices {}\n  masks {}\n  entries {}\n  corners {}\n  weights {}\n  \
+         values {}\n",
         level.vectors,
         level.points,
         cells(&level.actions),
         cells(&level.choices),
+        cells(&level.masks),
         cells(&level.entries),
         cells(&level.corners),
         cells(&level.weights),

@@ -39,8 +39,8 @@ fn whole(rng: &mut Rng) -> Call {
             let certifier = followed(&gen::list(rng, shape, levels));
             let count = rng.index(5);
             let points = gen::points(rng, shape.n, count);
-            let level = reference::build(&certifier, &points, &gen::DOCUMENT);
-            let level = level.unwrap_or_default();
+            let level = gen::above(&certifier, &points, shape);
+            let level = if rng.once_in(2) { level } else { gen::masked(rng, &certifier, &level, shape) };
             let level = if rng.once_in(2) { level } else { gen::loosened(rng, &level, shape, certifier.level + 1) };
             offering(rng, shape, &certifier, &level)
         }
@@ -81,6 +81,7 @@ pub fn sized(rng: &mut Rng, mut certifier: Certifier, level: &Level) -> Certifie
     grow(rng, &mut certifier.state, 3);
     grow(rng, &mut certifier.actions, level.actions.len());
     grow(rng, &mut certifier.choices, level.choices.len());
+    grow(rng, &mut certifier.masks, level.masks.len());
     grow(rng, &mut certifier.entries, level.entries.len());
     grow(rng, &mut certifier.corners, level.corners.len());
     grow(rng, &mut certifier.weights, level.weights.len());
@@ -116,8 +117,8 @@ pub fn building(rng: &mut Rng, shape: Shape, certifier: &reference::Certifier, p
     let (count, points) = lent::points(points, shape.n);
     let few = count.min(reference::BUILT_POINTS + 1);
     let room = sized(rng, Certifier::default(), &Level::zeros(shape.n, shape.k, shape.n + few, few));
-    let Certifier { actions, choices, entries, corners, values, .. } = room;
-    let level = Level { actions, choices, entries, corners, values, ..Level::default() };
+    let Certifier { actions, choices, masks, entries, corners, values, .. } = room;
+    let level = Level { actions, choices, masks, entries, corners, values, ..Level::default() };
     let tables = lent::tables(&certifier.tables);
     Call::Build { tables, certifier: lent::certifier(certifier), count, points, level }
 }
@@ -134,8 +135,8 @@ pub fn adoption(
     let (count, points) = lent::points(points, n);
     let few = count.min(reference::BUILT_POINTS + 1);
     let room = sized(rng, Certifier::default(), &Level::zeros(n, k, vectors, few));
-    let Certifier { actions, choices, entries, corners, values, .. } = room;
-    let level = Level { actions, choices, entries, corners, values, ..Level::default() };
+    let Certifier { actions, choices, masks, entries, corners, values, .. } = room;
+    let level = Level { actions, choices, masks, entries, corners, values, ..Level::default() };
     let (tables, certifier) = (lent::tables(&certifier.tables), lent::certifier(certifier));
     Call::Adopt { tables, certifier, alpha: alpha.to_vec(), graph: graph.to_vec(), points, count, level }
 }
@@ -168,17 +169,7 @@ pub fn reading(file: &[u8]) -> Call {
 fn followed(list: &gen::List) -> reference::Certifier {
     let mut certifier = reference::open(&list.tables, &gen::DOCUMENT).expect("generated tables open");
     for step in &list.steps {
-        match step {
-            Step::Offer(level) => {
-                let _ = reference::offer(&mut certifier, level, &gen::DOCUMENT);
-            }
-            Step::Raise(points) => {
-                if let Ok(level) = reference::build(&certifier, points, &gen::DOCUMENT) {
-                    let _ = reference::offer(&mut certifier, &level, &gen::DOCUMENT);
-                }
-            }
-            Step::Totals(_) | Step::Build(_) => {}
-        }
+        step.follow(&mut certifier);
     }
     certifier
 }
@@ -231,6 +222,7 @@ fn served(rng: &mut Rng, kind: u64) -> Call {
                 let points = 1 + rng.index(3);
                 let points = gen::points(rng, shape.n, points);
                 let level = reference::build(&certifier, &points, &gen::DOCUMENT).expect("points within the limits");
+                let level = if rng.once_in(2) { level } else { gen::masked(rng, &certifier, &level, shape) };
                 offering(rng, shape, &certifier, &level)
             }
             3 => {
@@ -265,7 +257,7 @@ fn if_short(call: &Call, name: &str, length: usize) -> Option<(u64, usize)> {
         match name {
             "standing state" => 3,
             "standing choices" => 0,
-            "standing actions" => vectors,
+            "standing actions" | "standing masks" => vectors,
             "standing entries" => vectors * tables.states,
             "standing corners" => tables.states,
             "informed rows" | "QMDP rows" => tables.actions * tables.states,

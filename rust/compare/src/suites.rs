@@ -430,7 +430,7 @@ mod tests {
             seen.insert(call.number(&BY_THE_DOCUMENT));
         }
         // 1 and 4 are of files alone, which have tests of their own.
-        let all: BTreeSet<u64> = [0, 2, 3, 100].into_iter().chain(5..=18).collect();
+        let all: BTreeSet<u64> = [0, 2, 3, 21, 22, 100].into_iter().chain(5..=18).collect();
         assert!(seen.is_superset(&all), "{:?}", seen);
     }
 

@@ -121,6 +121,7 @@ fn storage(level: &Level, n: usize, k: usize) -> reference::Level {
         vectors: vectors as u64,
         actions: stored(&level.actions, vectors, vectors),
         choices: stored(&level.choices, vectors * k, vectors * k),
+        masks: stored(&level.masks, vectors, vectors),
         entries: stored(&level.entries, vectors * n, vectors * n),
         corners: stored(&level.corners, n, n),
         points: points as u64,
@@ -133,8 +134,9 @@ fn storage(level: &Level, n: usize, k: usize) -> reference::Level {
 fn standing(lent: Certifier, tables: reference::Tables) -> reference::Certifier {
     let (n, k) = lent::counts(&tables);
     let rows = lent::rows(&tables);
-    let Certifier { state, actions, choices, entries, corners, weights, values, informed, qmdp } = lent;
-    let level = Level { vectors: state[1], points: state[2], actions, choices, entries, corners, weights, values };
+    let Certifier { state, actions, choices, masks, entries, corners, weights, values, informed, qmdp } = lent;
+    let (vectors, points) = (state[1], state[2]);
+    let level = Level { vectors, points, actions, choices, masks, entries, corners, weights, values };
     reference::Certifier {
         tables,
         standing: storage(&level, n, k),

@@ -8,7 +8,8 @@ use crate::build::{least_ceiling, Points, BUILT_POINTS};
 use crate::exact::{k, round_down, zero};
 use crate::file::FILE_BYTES;
 use crate::level::{
-    examine, first_untotalled, full, kept_choice, most_vectors, vector_backup, Certifier, Level, Lists, TICKS, VECTORS,
+    examine, first_untotalled, full, kept_choice, most_vectors, reaches_uncovered, vector_backup, Certifier, Level,
+    Lists, TICKS, VECTORS,
 };
 use crate::model::Model;
 use crate::refusal::Refusal;
@@ -47,9 +48,9 @@ struct Files {
     nodes: Vec<Node>,
 }
 
-/// Makes the level that two files say, or refuses with 1, 7, 19, 20, 8, 9, 10, 11 or 12, in this order.
+/// Makes the level that two files say, or refuses with 1, 7, 19, 20, 8, 9, 10, 21, 11 or 12, in this order.
 ///
-/// Its vectors are the files', in their order, each entry the lesser of the decimal rounded down to ticks and of its own
+/// Its vectors are the files', in their order, and cover all states, each entry the lesser of the decimal rounded down to ticks and of its own
 /// backup over K rounded down; its corners and points are the builder's.
 pub fn adopt(
     certifier: &Certifier,
@@ -83,16 +84,28 @@ pub fn adopt(
     if !rules.has(Trap::TenAfterEleven) {
         dangling?;
     }
+    let all = vec![true; model.n];
+    let uncovered = choices.iter().zip(&files.nodes).position(|(choices, node)| match choices {
+        Some(choices) => reaches_uncovered(&model, &standing, &all, action(&model, &node.action), choices, rules),
+        // Only a trap comes here with a vector that names what does not exist.
+        None => false,
+    });
+    let uncovered = match uncovered {
+        Some(v) if !rules.has(Trap::WithoutTwentyOne) => Err(Refusal::at_index(21, v)),
+        _ => Ok(()),
+    };
+    if !rules.has(Trap::TwentyOneAfterEleven) {
+        uncovered?;
+    }
 
     let mut level = Level::zeros(vectors, points.count as usize, model.n, model.k);
     let lowest = -BigInt::from(TICKS) * (certifier.level + 1);
     for (v, (alpha, choices)) in files.alphas.iter().zip(&choices).enumerate() {
-        // Only a trap comes here with a vector that names what does not exist.
         let choices = match choices {
             Some(choices) => choices,
             None => continue,
         };
-        let action = usize::try_from(&alpha.action).unwrap_or(0).min(model.m - 1);
+        let action = action(&model, &alpha.action);
         level.actions[v] = action as u64;
         for (o, &choice) in choices.iter().enumerate() {
             level.choices[v * model.k + o] = kept_choice(choice as u64, rules);
@@ -118,9 +131,18 @@ pub fn adopt(
         }
     }
     dangling?;
+    uncovered?;
     untotalled()?;
+    if rules.has(Trap::AdoptedMasksEmpty) {
+        level.masks.fill(0);
+    }
     least_ceiling(&model, &standing, points, &mut level, rules);
     Ok(level)
+}
+
+/// The action that a file names; by a trap one that does not exist is the last.
+fn action(model: &Model, named: &BigInt) -> usize {
+    usize::try_from(named).unwrap_or(usize::MAX).min(model.m - 1)
 }
 
 /// How many vectors the two files have, or their refusal by 1, 7, 19 or 20: for whoever has to find room for the level.

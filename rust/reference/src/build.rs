@@ -2,7 +2,7 @@
 
 use crate::exact::{corner, dot, first_largest, k, last_largest, round_down, round_up, stored, weights};
 use crate::level::{
-    ceiling_backup, examine, first_untotalled, full, kept_choice, vector_backup, Certifier, Level, Lists,
+    ceiling_backup, examine, first_untotalled, full, full_mask, kept_choice, vector_backup, Certifier, Level, Lists,
 };
 use crate::model::{Model, STATES};
 use crate::refusal::Refusal;
@@ -35,9 +35,11 @@ struct Made {
     backups: Vec<BigInt>,
 }
 
-/// Builds a level upon the standing one, or refuses with 7, 8, 9 (over 16 points) or 12.
+/// Builds a level upon the standing one, or refuses with 7, 8, 9 (over 16 points), 12 or 22 (no standing vector covers all
+/// states).
 ///
-/// It has a vector made at each corner and then at each point, and keeps the points in their order.
+/// It has a vector made at each corner and then at each point, all of which cover all states, and keeps the points in their
+/// order.
 pub fn build(certifier: &Certifier, points: &Points, rules: &Rules) -> Result<Level, Refusal> {
     let (model, standing) = examine(certifier, rules)?;
     if full(certifier, rules) {
@@ -48,14 +50,29 @@ pub fn build(certifier: &Certifier, points: &Points, rules: &Rules) -> Result<Le
         return Err(Refusal::at(9, 0));
     }
     let (n, count) = (model.n, points.count as usize);
+    let mut wide: Vec<usize> = (0..standing.vectors.len()).filter(|&v| standing.covers_all(v)).collect();
+    match rules.trap {
+        Some(Trap::MaskedChosen) if !wide.is_empty() => wide = (0..standing.vectors.len()).collect(),
+        Some(Trap::FullMaskExact) => {
+            let masks = &certifier.standing.masks;
+            wide.retain(|&v| masks[v] == full_mask(n));
+        }
+        Some(Trap::BuiltUponNone) if wide.is_empty() => wide.push(0),
+        _ => {}
+    }
+    let none = if wide.is_empty() { Err(Refusal::at(22, 0)) } else { Ok(()) };
+    if rules.has(Trap::TwentyTwoBeforeTwelve) {
+        none?;
+    }
     if let Some(point) = first_untotalled(&points.weights, count, n, rules) {
         return Err(Refusal::at_index(12, point));
     }
+    none?;
 
     let mut level = Level::zeros(n + count, count, n, model.k);
     let kept = (0..count).map(|j| weights(&points.weights[j * n..(j + 1) * n]));
     for (v, p) in (0..n).map(|s| corner(n, s)).chain(kept).enumerate() {
-        let made = best_vector(&model, &standing, &p, rules);
+        let made = best_vector(&model, &standing, &wide, &p, rules);
         level.actions[v] = made.action as u64;
         for (o, &choice) in made.choices.iter().enumerate() {
             level.choices[v * model.k + o] = kept_choice(choice as u64, rules);
@@ -81,17 +98,13 @@ pub fn least_ceiling(model: &Model, standing: &Lists, points: &Points, level: &m
     }
 }
 
-/// The vector of one action at weights p: for each observation the first standing vector with the largest product with q,
-/// and for each state the backup over K rounded towards minus infinity.
-fn action_vector(model: &Model, standing: &Lists, p: &[BigInt], a: usize, rules: &Rules) -> Made {
+/// The vector of one action at weights p: for each observation the first of the `wide` standing vectors with the largest
+/// product with q, and for each state the backup over K rounded towards minus infinity.
+fn action_vector(model: &Model, standing: &Lists, wide: &[usize], p: &[BigInt], a: usize, rules: &Rules) -> Made {
     let choice = |o| {
         let q = model.successor(p, a, o);
-        let products: Vec<BigInt> = standing.vectors.iter().map(|vector| dot(vector, &q)).collect();
-        if rules.has(Trap::LastLargestChoice) {
-            last_largest(&products)
-        } else {
-            first_largest(&products)
-        }
+        let products: Vec<BigInt> = wide.iter().map(|&v| dot(&standing.vectors[v], &q)).collect();
+        wide[if rules.has(Trap::LastLargestChoice) { last_largest(&products) } else { first_largest(&products) }]
     };
     let choices: Vec<usize> = (0..model.k).map(choice).collect();
     let backup = |s| vector_backup(model, standing, s, a, &choices, rules);
@@ -102,8 +115,8 @@ fn action_vector(model: &Model, standing: &Lists, p: &[BigInt], a: usize, rules:
 }
 
 /// Of the actions' vectors at weights p, the first with the largest product with p.
-fn best_vector(model: &Model, standing: &Lists, p: &[BigInt], rules: &Rules) -> Made {
-    let vectors = (0..model.m).map(|a| action_vector(model, standing, p, a, rules));
+fn best_vector(model: &Model, standing: &Lists, wide: &[usize], p: &[BigInt], rules: &Rules) -> Made {
+    let vectors = (0..model.m).map(|a| action_vector(model, standing, wide, p, a, rules));
     let mut vectors: Vec<Made> = vectors.collect();
     let product = |made: &Made| {
         let exact = rules.has(Trap::ExactProducts);

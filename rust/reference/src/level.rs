@@ -31,7 +31,9 @@ pub struct Level {
     pub actions: Vec<u64>,
     /// The chosen vectors of the previous level, by vector and observation.
     pub choices: Vec<u64>,
-    /// Entries in ticks, by vector and state.
+    /// Each vector's mask of the states that it covers: bit s is 1 where state s is. Bits past the states are not read.
+    pub masks: Vec<u64>,
+    /// Entries in ticks, by vector and state; those of states that are not covered are not read.
     pub entries: Vec<i64>,
     /// Corner values in ticks, by state.
     pub corners: Vec<i64>,
@@ -58,6 +60,8 @@ pub struct Certifier {
 /// A level as lists: what is read of it once its counts have passed.
 pub struct Lists {
     pub actions: Vec<u64>,
+    /// By vector and state, whether it is covered.
+    pub covered: Vec<Vec<bool>>,
     pub vectors: Vec<Vec<BigInt>>,
     pub corners: Vec<BigInt>,
     pub points: Vec<Point>,
@@ -72,12 +76,14 @@ pub struct Point {
 }
 
 impl Level {
-    /// A level of so many vectors and points over `n` states and `k` observations, of which every number is 0.
+    /// A level of so many vectors and points over `n` states and `k` observations: the vectors cover all states, and every
+    /// other number is 0.
     pub fn zeros(vectors: usize, points: usize, n: usize, k: usize) -> Level {
         Level {
             vectors: vectors as u64,
             actions: vec![0; vectors],
             choices: vec![0; vectors * k],
+            masks: vec![full_mask(n); vectors],
             entries: vec![0; vectors * n],
             corners: vec![0; n],
             points: points as u64,
@@ -86,7 +92,7 @@ impl Level {
         }
     }
 
-    /// Level 0: one zero vector with action and choices 0, zero corners, no points.
+    /// Level 0: one zero vector with action and choices 0 that covers all states, zero corners, no points.
     pub fn fresh(n: usize, k: usize) -> Level {
         Level::zeros(1, 0, n, k)
     }
@@ -100,6 +106,7 @@ impl Level {
         let (vectors, points) = (self.vectors as usize, self.points as usize);
         self.actions.len() >= vectors
             && (self.choices.len() >= vectors * model.k || !offered)
+            && self.masks.len() >= vectors
             && self.entries.len() >= vectors * model.n
             && self.corners.len() >= model.n
             && self.weights.len() >= points * model.n
@@ -113,16 +120,20 @@ impl Level {
         })
     }
 
-    /// 11: the number of the first vector, else corner, else point that is outside the range of level t. The value of a
-    /// point whose total is outside 1 to 100 is passed over.
-    fn first_outside(&self, n: usize, t: u64, rules: &Rules) -> Option<usize> {
+    /// 11: the number of the first vector, else corner, else point that is outside the range of level t. Entries of states
+    /// that are not covered are passed over, unless a trap wants `all`, and so is the value of a point whose total is outside 1
+    /// to 100.
+    fn first_outside(&self, n: usize, t: u64, all: bool, rules: &Rules) -> Option<usize> {
         let outside = |value: i64, times: &BigInt| {
             let end = BigInt::from(TICKS) * t * times + u8::from(rules.has(Trap::RangeOffByOne));
             let value = BigInt::from(value);
             value < -&end || value > end
         };
         let one = BigInt::from(1);
-        let vector = (0..self.vectors as usize).find(|&v| (0..n).any(|s| outside(self.entries[v * n + s], &one)));
+        let vector = (0..self.vectors as usize).find(|&v| {
+            let read = |s: &usize| all || covers(self.masks[v], *s);
+            (0..n).filter(read).any(|s| outside(self.entries[v * n + s], &one))
+        });
         let corner = (0..n).find(|&s| outside(self.corners[s], &one));
         let point = (0..self.points as usize).find(|&j| {
             let total = total(&self.weights[j * n..(j + 1) * n], rules);
@@ -150,6 +161,7 @@ impl Level {
         };
         Lists {
             actions: self.actions[..vectors].to_vec(),
+            covered: self.masks[..vectors].iter().map(|&mask| (0..n).map(|s| covers(mask, s)).collect()).collect(),
             vectors: (0..vectors).map(|v| ticks(&self.entries[v * n..(v + 1) * n])).collect(),
             corners: ticks(&self.corners[..n]),
             points: (0..points).map(point).collect(),
@@ -157,19 +169,51 @@ impl Level {
         }
     }
 
-    /// What is stored of an accepted level: what the rules read.
+    /// What is stored of an accepted level: what the rules read, and 0 for an entry that is not covered.
     fn stored(&self, model: &Model, rules: &Rules) -> Level {
-        let (vectors, points) = (self.vectors as usize, self.points as usize);
+        let (n, vectors, points) = (model.n, self.vectors as usize, self.points as usize);
+        let read = if rules.has(Trap::MasksPastStates) { u64::MAX } else { full_mask(n) };
+        let entry = |(cell, &entry): (usize, &i64)| {
+            let kept = covers(self.masks[cell / n], cell % n) || rules.has(Trap::UncoveredKept);
+            if kept {
+                entry
+            } else {
+                0
+            }
+        };
         Level {
             vectors: self.vectors,
             actions: self.actions[..vectors].to_vec(),
             choices: self.choices[..vectors * model.k].iter().map(|&choice| kept_choice(choice, rules)).collect(),
-            entries: self.entries[..vectors * model.n].to_vec(),
-            corners: self.corners[..model.n].to_vec(),
+            masks: self.masks[..vectors].iter().map(|mask| mask & read).collect(),
+            entries: self.entries[..vectors * n].iter().enumerate().map(entry).collect(),
+            corners: self.corners[..n].to_vec(),
             points: self.points,
-            weights: self.weights[..points * model.n].to_vec(),
+            weights: self.weights[..points * n].to_vec(),
             values: self.values[..points].to_vec(),
         }
+    }
+}
+
+/// The mask that covers all of `n` states, 1 to 64.
+pub fn full_mask(n: usize) -> u64 {
+    u64::MAX >> (64 - n)
+}
+
+/// Whether a mask covers a state.
+fn covers(mask: u64, s: usize) -> bool {
+    mask >> s & 1 == 1
+}
+
+impl Lists {
+    /// Whether a vector counts at weights: all of them lie on states that it covers.
+    pub fn counts(&self, v: usize, weights: &[BigInt]) -> bool {
+        weights.iter().zip(&self.covered[v]).all(|(weight, &covered)| covered || *weight == zero())
+    }
+
+    /// Whether a vector covers all states.
+    pub fn covers_all(&self, v: usize) -> bool {
+        self.covered[v].iter().all(|&covered| covered)
     }
 }
 
@@ -298,15 +342,15 @@ impl Certifier {
 }
 
 /// 7: the certifier handed in is within the limits of 3, 5, 6, 9, 11 and 12, each standing vector has an action, its level is
-/// at most 100, and the entries of its rows keep to a vector entry's range. Its choices are not read, and its inequalities
-/// are not asked. The place is 0 whatever is broken.
+/// at most 100, and the entries of its rows keep to a vector entry's range. Its choices, and entries of states that a vector
+/// does not cover, are not read, and its inequalities are not asked. The place is 0 whatever is broken.
 pub fn examine(certifier: &Certifier, rules: &Rules) -> Result<(Model, Lists), Refusal> {
     let seven = Refusal::at(7, 0);
     let model = Model::of(&certifier.tables, rules).map_err(|_| seven)?;
     let standing = &certifier.standing;
     let fits = certifier.level <= LEVELS
         && standing.counts_fit(&model, false, rules)
-        && standing.first_outside(model.n, certifier.level, rules).is_none()
+        && standing.first_outside(model.n, certifier.level, rules.has(Trap::SevenReadsUncovered), rules).is_none()
         && standing.first_untotalled(model.n, rules).is_none()
         && certifier.rows_fit(&model, rules)
         && standing.actions[..standing.vectors as usize].iter().all(|&a| a < model.m as u64);
@@ -333,8 +377,8 @@ pub fn full(certifier: &Certifier, rules: &Rules) -> bool {
     certifier.level == LEVELS || (certifier.level == LEVELS - 1 && rules.has(Trap::HundredEarly))
 }
 
-/// Offers a level: accepted, it stands, the level number is one more, and the rows are stepped; refused with 7 to 15, the
-/// certifier stays.
+/// Offers a level: accepted, it stands, the level number is one more, and the rows are stepped; refused with 7 to 12, 21, 13,
+/// 14 or 15, the certifier stays.
 pub fn offer(certifier: &mut Certifier, offered: &Level, rules: &Rules) -> Result<(), Refusal> {
     let answer = judge(certifier, offered, rules);
     match &answer {
@@ -383,7 +427,8 @@ fn judge(certifier: &Certifier, offered: &Level, rules: &Rules) -> Result<Level,
     refuse_at(10, dangling)?;
 
     let t = if rules.has(Trap::RangeOfStanding) { certifier.level } else { certifier.level + 1 };
-    let mut shape = [(11, offered.first_outside(model.n, t, rules)), (12, offered.first_untotalled(model.n, rules))];
+    let outside = offered.first_outside(model.n, t, rules.has(Trap::ElevenReadsUncovered), rules);
+    let mut shape = [(11, outside), (12, offered.first_untotalled(model.n, rules))];
     if rules.has(Trap::TotalsBeforeRanges) {
         shape.reverse();
     }
@@ -395,9 +440,21 @@ fn judge(certifier: &Certifier, offered: &Level, rules: &Rules) -> Result<Level,
     if rules.has(Trap::LaterLevelsWaved) && certifier.level >= 1 {
         return Ok(stored);
     }
+    let uncovered = if rules.has(Trap::WithoutTwentyOne) {
+        None
+    } else {
+        (0..lists.actions.len()).find(|&v| {
+            let choices = chosen(&offered.choices, v, model.k);
+            reaches_uncovered(&model, &standing, &lists.covered[v], lists.actions[v] as usize, &choices, rules)
+        })
+    };
+    if !rules.has(Trap::ThirteenFirst) {
+        refuse_at(21, uncovered)?;
+    }
     if !rules.has(Trap::WithoutThirteen) {
         refuse_at(13, first_above(&model, &standing, offered, &lists, rules))?;
     }
+    refuse_at(21, uncovered)?;
     let below = |value: &BigInt, p: &[BigInt]| {
         (0..model.m).any(|a| k() * value < ceiling_backup(&model, &standing, p, a, rules))
     };
@@ -412,13 +469,39 @@ fn judge(certifier: &Certifier, offered: &Level, rules: &Rules) -> Result<Level,
     Ok(stored)
 }
 
-/// 13: the first vector with an entry above its backup. Both are compared exactly, K times the entry with the backup.
+/// The vectors that a vector chooses.
+fn chosen(choices: &[u64], v: usize, k: usize) -> Vec<usize> {
+    choices[v * k..(v + 1) * k].iter().map(|&choice| choice as usize).collect()
+}
+
+/// 21: whether from a covered state, by the vector's action, a state is reached with an observation (T × O above 0) for which
+/// the vector chosen does not cover it.
+pub fn reaches_uncovered(
+    model: &Model,
+    standing: &Lists,
+    covered: &[bool],
+    a: usize,
+    choices: &[usize],
+    rules: &Rules,
+) -> bool {
+    let reached = |s: usize, s2: usize, o: usize| match rules.trap {
+        Some(Trap::ReachedWithoutSight) => *model.t(s, a, s2) > zero(),
+        Some(Trap::ReachedSeenAtStateLeft) => model.t(s, a, s2) * model.o(a, s, o) > zero(),
+        _ => model.t(s, a, s2) * model.o(a, s2, o) > zero(),
+    };
+    let loses = |s: usize, s2: usize, o: usize| reached(s, s2, o) && !standing.covered[choices[o]][s2];
+    let from = |s: usize| (0..model.n).any(|s2| (0..model.k).any(|o| loses(s, s2, o)));
+    (0..model.n).any(|s| covered[s] && from(s))
+}
+
+/// 13: the first vector with an entry of a covered state above its backup. Both are compared exactly, K times the entry with
+/// the backup.
 fn first_above(model: &Model, standing: &Lists, offered: &Level, lists: &Lists, rules: &Rules) -> Option<usize> {
     (0..lists.vectors.len()).find(|&v| {
         let action = lists.actions[v] as usize;
-        let choices = &offered.choices[v * model.k..(v + 1) * model.k];
-        let choices: Vec<usize> = choices.iter().map(|&choice| choice as usize).collect();
-        (0..model.n).any(|s| {
+        let choices = chosen(&offered.choices, v, model.k);
+        let tested = |s: &usize| lists.covered[v][*s] || rules.has(Trap::ThirteenReadsUncovered);
+        (0..model.n).filter(tested).any(|s| {
             let backup = vector_backup(model, standing, s, action, &choices, rules);
             k() * &lists.vectors[v][s] > backup
         })

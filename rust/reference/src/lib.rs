@@ -20,6 +20,8 @@ mod exact;
 mod file;
 mod ladder;
 mod level;
+#[cfg(test)]
+mod masks;
 mod model;
 mod plan;
 #[cfg(test)]
@@ -35,7 +37,7 @@ pub use adopt::{adopt, adopted_vectors, SOLVER_BYTES};
 pub use build::{build, Points, BUILT_POINTS};
 pub use file::{read, Reading, FILE_BYTES};
 pub use ladder::ladder;
-pub use level::{offer, open, Certifier, Level, LEVELS, POINTS, POINT_TOTAL, VECTORS};
+pub use level::{full_mask, offer, open, Certifier, Level, LEVELS, POINTS, POINT_TOTAL, VECTORS};
 pub use model::{Model, Tables, ACTIONS, OBSERVATIONS, REWARD, STATES, THOUSAND};
 pub use plan::{all_plans, at_mixture, best, earned, scale, Earned, Plan};
 pub use refusal::Refusal;

@@ -103,6 +103,7 @@ traps! {
         TwentyFirst: "20 is tested before 19",
         TenAfterEleven: "10 is tested after 11",
         PointsBeforeEntries: "12 is tested before 11",
+        TwentyOneAfterEleven: "21 of a solver's files is tested after 11",
         // Words of the two files.
         NodesUnordered: "a node out of order passes",
         NodeTwoDigits: "nodes have at most two digits",
@@ -128,6 +129,7 @@ traps! {
         DecimalAlone: "an entry is its decimal, whatever its backup",
         BackupAlone: "an entry is its backup, whatever its decimal",
         EntriesRaised: "an entry below its range is raised to it",
+        AdoptedMasksEmpty: "an adopted level's vectors cover no state",
     }
     judging {
         // The five that the document names.
@@ -167,6 +169,24 @@ traps! {
         SumsWrap: "weights are added in 32 bits",
         LargestRatio: "a point's drop is its largest ratio",
         SmallestDrop: "the ceiling takes the smallest drop",
+        // Masks.
+        SevenReadsUncovered: "7 tests entries that are not covered",
+        ElevenReadsUncovered: "11 tests entries that are not covered",
+        ThirteenReadsUncovered: "13 is tested on states that are not covered",
+        WithoutTwentyOne: "21 is not tested",
+        ThirteenFirst: "21 is tested after 13",
+        ReachedWithoutSight: "21 looks at T alone",
+        ReachedSeenAtStateLeft: "21 takes O at the state left",
+        MasksPastStates: "masks are stored past the states",
+        UncoveredKept: "entries that are not covered are stored as they were offered",
+        AllCount: "every vector counts at every mixture",
+        SomeWeightCounts: "a vector counts where it covers some of the weight",
+        FirstForNone: "where no vector counts, the totals are vector 0's",
+        TwentyTwoFirst: "22 is tested before 17",
+        MaskedChosen: "the builder chooses vectors that do not cover all states",
+        FullMaskExact: "a mask with bits past the states does not cover all",
+        BuiltUponNone: "where no vector covers all states, vector 0 is built upon",
+        TwentyTwoBeforeTwelve: "22 of the builder is tested before 12",
         // The informed and the QMDP rows.
         RowsKept: "an acceptance does not step the rows",
         QmdpKept: "an acceptance steps the informed rows alone",

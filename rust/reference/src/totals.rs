@@ -1,6 +1,6 @@
 //! Totals at a mixture.
 
-use crate::exact::{dot, first_largest, last_largest, weights};
+use crate::exact::{dot, first_largest, last_largest, weights, zero};
 use crate::level::{ceiling, examine, Certifier};
 use crate::refusal::Refusal;
 use crate::rows;
@@ -22,10 +22,11 @@ pub struct Totals {
     pub informed: BigInt,
 }
 
-/// The totals at a mixture, or the refusal 7, 16 (at level 0) or 17 (a weight above 1,000,000, or all of them 0).
+/// The totals at a mixture, or the refusal 7, 16 (at level 0), 17 (a weight above 1,000,000, or all of them 0) or 22 (no vector
+/// counts there).
 ///
-/// The lower total is the largest product of a vector with the mixture, and the action is that of the first such vector;
-/// the upper total is the lower of the sawtooth and the best informed row; the gap is upper less lower.
+/// A vector counts where all weight lies on states that it covers. The lower total is the largest product of one that counts
+/// with the mixture, and the action is that of the first such vector; the upper total is the lower of the sawtooth and the best informed row; the gap is upper less lower.
 pub fn totals(certifier: &Certifier, mixture: &[u64], rules: &Rules) -> Result<Totals, Refusal> {
     let (model, standing) = examine(certifier, rules)?;
     let at_zero = certifier.level == 0 || (certifier.level == 1 && rules.has(Trap::LevelZeroEarly));
@@ -34,14 +35,30 @@ pub fn totals(certifier: &Certifier, mixture: &[u64], rules: &Rules) -> Result<T
         sixteen?;
     }
     let mixture = &mixture[..model.n];
+    let b = weights(mixture);
+    let counts = |v: &usize| match rules.trap {
+        Some(Trap::AllCount) => true,
+        Some(Trap::SomeWeightCounts) => {
+            b.iter().zip(&standing.covered[*v]).any(|(weight, &covered)| covered && *weight > zero())
+        }
+        _ => standing.counts(*v, &b),
+    };
+    let mut counting: Vec<usize> = (0..standing.vectors.len()).filter(counts).collect();
+    if counting.is_empty() && rules.has(Trap::FirstForNone) {
+        counting.push(0);
+    }
+    let none = if counting.is_empty() { Err(Refusal::at(22, 0)) } else { Ok(()) };
+    if rules.has(Trap::TwentyTwoFirst) {
+        none?;
+    }
     let most = WEIGHT - u64::from(rules.has(Trap::MillionRefused));
     if mixture.iter().any(|&weight| weight > most) || mixture.iter().all(|&weight| weight == 0) {
         return Err(Refusal::at(17, 0));
     }
     sixteen?;
+    none?;
 
-    let b = weights(mixture);
-    let products: Vec<BigInt> = standing.vectors.iter().map(|vector| dot(vector, &b)).collect();
+    let products: Vec<BigInt> = counting.iter().map(|&v| dot(&standing.vectors[v], &b)).collect();
     let largest = if rules.has(Trap::LastLargestVector) { last_largest(&products) } else { first_largest(&products) };
     let mut lower = products[largest].clone();
     let sawtooth = ceiling(&standing, &b, rules);
@@ -58,5 +75,5 @@ pub fn totals(certifier: &Certifier, mixture: &[u64], rules: &Rules) -> Result<T
         lower = -&upper;
     }
     let gap = if rules.has(Trap::GapOfSawtooth) { &sawtooth - &lower } else { &upper - &lower };
-    Ok(Totals { lower, upper, gap, action: standing.actions[largest], sawtooth, informed })
+    Ok(Totals { lower, upper, gap, action: standing.actions[counting[largest]], sawtooth, informed })
 }

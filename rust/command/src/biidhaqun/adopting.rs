@@ -38,7 +38,8 @@ pub fn run(path: &Path, files: &[PathBuf], points: &[Weights], asked: &[Weights]
         match step(&mut certifier, files, &points, &mixtures) {
             Ok((level, totals)) => {
                 accepted.push(level);
-                lines.push(totals);
+                // An adopted level's vectors count everywhere.
+                lines.push(totals.into_iter().map(Some).collect());
             }
             Err(stop) => {
                 ended = Err(stop);

@@ -4,7 +4,8 @@ use crate::building::{self, joined, progress};
 use crate::levels::{self, Certified};
 use crate::shortfall;
 use crate::stop::{put, Stop};
-use biidhaqun::{Certifier, Error, Length, Level, Mixture, Shape};
+use biidhaqun::slices::full_mask;
+use biidhaqun::{Certifier, Error, Length, Level, Mixture, Refusal, Rule, Shape};
 use command::files;
 use command::options::Weights;
 use num_traits::Bounded;
@@ -21,7 +22,8 @@ pub fn run(path: &Path, offers: &Path, asked: &[Weights], json: bool) -> Result<
         _ => building::fitting("--at", asked, model.shape().states)?,
     };
     let mut certifier = Certifier::open(&model).map_err(|refusal| Stop::Ours(refusal.to_string()))?;
-    let mut lines = Vec::new();
+    let (mut lines, mut accepted) = (Vec::new(), Vec::new());
+    let mut uncounted = None;
     let bar = progress(levels.len() as u64, "levels");
     for (number, level) in levels.iter().enumerate() {
         certifier.offer(level).map_err(|error| match error {
@@ -32,23 +34,38 @@ pub fn run(path: &Path, offers: &Path, asked: &[Weights], json: bool) -> Result<
                 Stop::Refused { refusal, note: format!("level {} is not accepted{}", number + 1, note) }
             }
         })?;
-        let at = |mixture: &Mixture| {
-            certifier.totals(mixture).map_err(|error| match error {
-                Error::Length(length) => Stop::Usage(length.to_string()),
-                Error::Refused(refusal) => {
-                    Stop::Refused { refusal, note: format!("the mixture is {}", joined(&mixture.weights)) }
-                }
-            })
+        let at = |mixture: &Mixture| match certifier.totals(mixture) {
+            Ok(totals) => Ok(Some(totals)),
+            Err(Error::Refused(Refusal { rule: Rule::Counting, .. })) => {
+                uncounted.get_or_insert_with(|| (number + 1, mixture.clone()));
+                Ok(None)
+            }
+            Err(Error::Refused(refusal)) => {
+                Err(Stop::Refused { refusal, note: format!("the mixture is {}", joined(&mixture.weights)) })
+            }
+            Err(Error::Length(length)) => Err(Stop::Usage(length.to_string())),
         };
         lines.push(mixtures.iter().map(at).collect::<Result<Vec<_>, _>>()?);
+        accepted.push(certifier.standing());
         bar.inc(1);
     }
     drop(bar);
-    let certified = Certified { model: &model, named: &named, mixtures: &mixtures, lines: &lines, levels: &levels };
-    put(&levels::text(&certified, json, asked.is_empty()))
+    let certified = Certified { model: &model, named: &named, mixtures: &mixtures, lines: &lines, levels: &accepted };
+    put(&levels::text(&certified, json, asked.is_empty()))?;
+    match uncounted {
+        None => Ok(()),
+        Some((level, mixture)) => Err(Stop::Levels(format!(
+            "level {} is accepted, but certifies nothing at {}: each of its vectors leaves out a state that has weight there; \
+             `biidhaqun explain {}` says more",
+            level,
+            joined(&mixture.weights),
+            Rule::Counting.number()
+        ))),
+    }
 }
 
-/// The levels of a JSON object, as `levels --json` prints them: `levels`, each with `vectors`, `corners` and `points`.
+/// The levels of a JSON object, as `levels --json` prints them: `levels`, each with `vectors`, `corners` and `points`. A vector
+/// without a `mask` covers all states.
 fn parsed(file: &[u8], shape: Shape) -> Result<Vec<Level>, String> {
     let value: Value = serde_json::from_slice(file).map_err(|error| error.to_string())?;
     let list = value.get("levels").and_then(Value::as_array).ok_or("it has no list `levels`")?;
@@ -57,8 +74,8 @@ fn parsed(file: &[u8], shape: Shape) -> Result<Vec<Level>, String> {
         level(value, shape).map_or_else(
             || {
                 Err(format!(
-                    "level {} is not of the form {{\"vectors\": [{{\"action\", \"choices\", \"entries\"}}], \"corners\": \
-                     [], \"points\": [{{\"weights\", \"value\"}}]}} in whole numbers",
+                    "level {} is not of the form {{\"vectors\": [{{\"action\", \"choices\", \"mask\", \"entries\"}}], \
+                     \"corners\": [], \"points\": [{{\"weights\", \"value\"}}]}} in whole numbers",
                     number + 1
                 ))
             },
@@ -68,31 +85,35 @@ fn parsed(file: &[u8], shape: Shape) -> Result<Vec<Level>, String> {
     list.iter().enumerate().map(one).collect()
 }
 
+/// A vector of a level file.
+struct Vector {
+    action: u8,
+    choices: Vec<u16>,
+    mask: u64,
+    entries: Vec<i64>,
+}
+
 /// The level of a value, if it is of the form; whether its lists are as long as the model wants.
 fn level(value: &Value, shape: Shape) -> Option<Result<Level, Length>> {
     let vector = |value: &Value| {
-        Some((
-            natural(value.get("action")?)?,
-            list(value.get("choices")?, natural)?,
-            list(value.get("entries")?, Value::as_i64)?,
-        ))
+        Some(Vector {
+            action: natural(value.get("action")?)?,
+            choices: list(value.get("choices")?, natural)?,
+            mask: value.get("mask").map_or(Some(full_mask(shape.states)), Value::as_u64)?,
+            entries: list(value.get("entries")?, Value::as_i64)?,
+        })
     };
     let point = |value: &Value| Some((list(value.get("weights")?, natural)?, value.get("value")?.as_i64()?));
-    let vectors: Vec<(u8, Vec<u16>, Vec<i64>)> = list(value.get("vectors")?, vector)?;
+    let vectors: Vec<Vector> = list(value.get("vectors")?, vector)?;
     let points: Vec<(Vec<u32>, i64)> = list(value.get("points")?, point)?;
     let corners = list(value.get("corners")?, Value::as_i64)?;
     Some(made(shape, &vectors, &corners, &points))
 }
 
-fn made(
-    shape: Shape,
-    vectors: &[(u8, Vec<u16>, Vec<i64>)],
-    corners: &[i64],
-    points: &[(Vec<u32>, i64)],
-) -> Result<Level, Length> {
+fn made(shape: Shape, vectors: &[Vector], corners: &[i64], points: &[(Vec<u32>, i64)]) -> Result<Level, Length> {
     let mut level = Level::new(shape);
-    for (action, choices, entries) in vectors {
-        level.add_vector(*action, choices, entries)?;
+    for Vector { action, choices, mask, entries } in vectors {
+        level.add_masked_vector(*action, choices, *mask, entries)?;
     }
     level.set_corners(corners)?;
     for (weights, value) in points {

@@ -2,7 +2,7 @@
 
 use crate::building::{joined, Building};
 use crate::stop::{put, Stop};
-use biidhaqun::{Level, Mixture, Model, Refusal, Totals};
+use biidhaqun::{Level, Mixture, Model, Refusal, Rule, Totals};
 use command::names::{Named, Names};
 use command::options::Built;
 use serde_json::{json, Value};
@@ -12,7 +12,8 @@ pub struct Certified<'a> {
     pub model: &'a Model,
     pub named: &'a Named,
     pub mixtures: &'a [Mixture],
-    pub lines: &'a [Vec<Totals>],
+    /// None where no vector counts.
+    pub lines: &'a [Vec<Option<Totals>>],
     /// The levels that were accepted.
     pub levels: &'a [Level],
 }
@@ -21,7 +22,7 @@ pub fn run(built: &Built, json: bool) -> Result<(), Stop> {
     let building = Building::of(built, !json)?;
     let (mut lines, mut levels) = (Vec::new(), Vec::new());
     building.climb(|certifier| {
-        let totals = building.mixtures.iter().map(|mixture| building.totals(certifier, mixture));
+        let totals = building.mixtures.iter().map(|mixture| building.totals(certifier, mixture).map(Some));
         lines.push(totals.collect::<Result<_, _>>()?);
         levels.push(certifier.standing());
         Ok(())
@@ -40,10 +41,13 @@ pub fn text(certified: &Certified, json: bool, plain: bool) -> String {
     }
 }
 
-/// The lines of the program `ladder`.
-fn ladder(lines: &[Vec<Totals>]) -> String {
-    let line = |(level, totals): (usize, &Vec<Totals>)| {
-        let line = |at: &Totals| format!("{} {} {} {} {}\n", level + 1, at.lower, at.upper, at.gap, at.action);
+/// The lines of the program `ladder`; where no vector counts, the refusal.
+fn ladder(lines: &[Vec<Option<Totals>>]) -> String {
+    let line = |(level, totals): (usize, &Vec<Option<Totals>>)| {
+        let line = |at: &Option<Totals>| match at {
+            Some(at) => format!("{} {} {} {} {}\n", level + 1, at.lower, at.upper, at.gap, at.action),
+            None => format!("{} refused {} at 0\n", level + 1, Rule::Counting.number()),
+        };
         totals.iter().map(line).collect::<String>()
     };
     lines.iter().enumerate().map(line).collect()
@@ -71,7 +75,13 @@ fn tables(certified: &Certified) -> String {
             "level", "floor", "ceiling", "gap", "lower", "upper", "by", "action"
         ));
         for (level, totals) in certified.lines.iter().enumerate() {
-            let at = &totals[number];
+            let at = match &totals[number] {
+                Some(at) => at,
+                None => {
+                    text.push_str(&format!("{:>5} no vector counts here\n", level + 1));
+                    continue;
+                }
+            };
             let bracket = at.bracket(mixture);
             let gap = Totals { lower: 0, upper: at.gap, ..*at }.bracket(mixture).ceiling;
             text.push_str(&format!(
@@ -113,7 +123,11 @@ fn object(certified: &Certified) -> String {
         [] => Value::Null,
         all => json!(all),
     };
-    let at = |mixture: &Mixture, totals: &Totals| {
+    let at = |mixture: &Mixture, totals: &Option<Totals>| {
+        let totals = match totals {
+            Some(totals) => totals,
+            None => return json!({ "weights": mixture.weights, "refused": Rule::Counting.number() }),
+        };
         let bracket = totals.bracket(mixture);
         json!({
             "weights": mixture.weights,
@@ -128,12 +142,17 @@ fn object(certified: &Certified) -> String {
             "action_name": named.actions.get(totals.action),
         })
     };
-    let level = |(number, (totals, level)): (usize, (&Vec<Totals>, &Level))| {
+    let level = |(number, (totals, level)): (usize, (&Vec<Option<Totals>>, &Level))| {
         let at: Vec<Value> =
             certified.mixtures.iter().zip(totals).map(|(mixture, totals)| at(mixture, totals)).collect();
-        let vectors = level
-            .vectors()
-            .map(|vector| json!({ "action": vector.action, "choices": vector.choices, "entries": vector.entries }));
+        let vectors = level.vectors().map(|vector| {
+            json!({
+                "action": vector.action,
+                "choices": vector.choices,
+                "mask": vector.mask,
+                "entries": vector.entries,
+            })
+        });
         let points = level.points().map(|point| json!({ "weights": point.weights, "value": point.value }));
         json!({
             "level": number + 1,

@@ -1,6 +1,7 @@
-//! How far a refused level is from its backups: the state or action, and the ticks that are missing.
+//! How far a refused level is from its backups: the state or action, and the ticks that are missing; or which state a vector
+//! loses.
 //!
-//! The library says which vector, corner or point is refused (13, 14, 15); this works out the rest from the model and the
+//! The library says which vector, corner or point is refused (13, 14, 15, 21); this works out the rest from the model and the
 //! level below, by the same inequalities, and decides nothing.
 
 use biidhaqun::{Certifier, Level, Model, Refusal, Rule};
@@ -16,7 +17,7 @@ struct Offer<'a> {
     level: &'a Level,
 }
 
-/// What is missing, in a sentence, where a backup is the reason of the refusal.
+/// What is missing, in a sentence, where a backup or a mask is the reason of the refusal.
 pub fn told(model: &Model, named: &Named, certifier: &Certifier, level: &Level, refusal: &Refusal) -> Option<String> {
     let standing = certifier.standing();
     let offer = Offer { model, standing: &standing, level };
@@ -59,8 +60,29 @@ pub fn told(model: &Model, named: &Named, certifier: &Certifier, level: &Level, 
                 i128::from(point.value) + short
             ))
         }
+        Rule::Covered => {
+            let vector = level.vector(at)?;
+            let Lost { state, reached, observation } = offer.lost(at)?;
+            Some(format!(
+                "vector {}: state {} is covered, from which action {} leads to state {} with observation {}; vector {}, chosen \
+                 there, does not cover it",
+                at,
+                named.states.or_number(state),
+                named.actions.or_number(usize::from(vector.action)),
+                named.states.or_number(reached),
+                named.observations.or_number(observation),
+                vector.choices.get(observation)?
+            ))
+        }
         _ => None,
     }
+}
+
+/// A covered state, and what is reached from there that is not covered.
+struct Lost {
+    state: usize,
+    reached: usize,
+    observation: usize,
 }
 
 fn counted(ticks: i128) -> String {
@@ -68,7 +90,25 @@ fn counted(ticks: i128) -> String {
 }
 
 impl Offer<'_> {
-    /// The state at which a vector's entry is furthest above its backup, and by how many ticks.
+    /// The first covered state of a vector from which a state is reached that the vector chosen there does not cover.
+    fn lost(&self, number: usize) -> Option<Lost> {
+        let vector = self.level.vector(number)?;
+        let shape = self.model.shape();
+        for state in vector.covered() {
+            for reached in 0..shape.states {
+                for observation in 0..shape.observations {
+                    let chosen = self.standing.vector(usize::from(*vector.choices.get(observation)?))?;
+                    let likely = self.successor(usize::from(vector.action), state, reached, observation);
+                    if likely > 0 && !chosen.covers(reached) {
+                        return Some(Lost { state, reached, observation });
+                    }
+                }
+            }
+        }
+        None
+    }
+
+    /// The covered state at which a vector's entry is furthest above its backup, and by how many ticks.
     fn vector(&self, number: usize) -> Option<(usize, i128)> {
         let vector = self.level.vector(number)?;
         let action = usize::from(vector.action);
@@ -86,7 +126,7 @@ impl Offer<'_> {
             let backup = K * reward + i128::from(self.model.discount()) * next;
             Some((state, i128::from(*vector.entries.get(state)?) - backup.div_euclid(K)))
         };
-        let all: Option<Vec<(usize, i128)>> = (0..shape.states).map(above).collect();
+        let all: Option<Vec<(usize, i128)>> = vector.covered().map(above).collect();
         first_largest(all?)
     }
 
@@ -231,5 +271,39 @@ mod tests {
             }
         }
         assert!(tried > 100);
+    }
+
+    /// The library is the judge here, too: a vector without the state that is told passes, or loses another one.
+    #[test]
+    fn what_is_lost_is_what_is_lost() {
+        let mut told = 0;
+        for file in MODELS {
+            let (model, _) = Model::read(file).unwrap();
+            let shape = model.shape();
+            let mut certifier = Certifier::open(&model).unwrap();
+            let mut first = certifier.build(&Points::default()).unwrap();
+            *first.mask_mut(0) = 1;
+            certifier.offer(&first).unwrap();
+            let standing = certifier.standing();
+            for action in 0..shape.actions {
+                for choice in 0..2 {
+                    let mut level = Level::new(shape);
+                    let entries = vec![-200_000; shape.states];
+                    level.add_vector(action as u8, &vec![choice; shape.observations], &entries).unwrap();
+                    level.corners_mut().fill(200_000);
+                    while let Some(refusal) = refused(&certifier, &level) {
+                        assert_eq!((refusal, choice), ((21, 0), 0));
+                        let offer = Offer { model: &model, standing: &standing, level: &level };
+                        let Lost { state, reached, .. } = offer.lost(0).unwrap();
+                        assert!(level.vector(0).unwrap().covers(state) && reached != 0);
+                        *level.mask_mut(0) &= !(1 << state);
+                        told += 1;
+                    }
+                    let offer = Offer { model: &model, standing: &standing, level: &level };
+                    assert!(offer.lost(0).is_none());
+                }
+            }
+        }
+        assert!(told > 5);
     }
 }

@@ -24,6 +24,7 @@ impl Copied {
         let room = |needed: &Needed| {
             self.long(&level.actions, needed.vectors)
                 && self.long(&level.choices, needed.choices)
+                && self.masks_long(&level.masks, needed.vectors)
                 && self.long(&level.entries, needed.entries)
                 && self.long(&level.corners, needed.states)
                 && self.long(&level.values, needed.points)
@@ -49,6 +50,7 @@ impl Copied {
         let needed = needed(made.vectors as usize);
         self.lay(&narrowed(&made.actions, needed.vectors), &mut level.actions);
         self.lay(&narrowed(&made.choices, needed.choices), &mut level.choices);
+        self.lay(&made.masks[..needed.vectors], &mut level.masks);
         self.lay(&made.entries[..needed.entries], &mut level.entries);
         self.lay(&made.corners[..needed.states], &mut level.corners);
         self.lay(&made.values[..needed.points], &mut level.values);

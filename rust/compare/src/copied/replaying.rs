@@ -62,6 +62,7 @@ impl Copied {
                 && self.long(&offers.points, count)
                 && self.long(&offers.actions, blocks(block_vectors, 1))
                 && self.long(&offers.choices, blocks(block_vectors, k))
+                && self.masks_long(&offers.masks, blocks(block_vectors, 1))
                 && self.long(&offers.entries, blocks(block_vectors, n))
                 && self.long(&offers.corners, blocks(1, n))
                 && self.long(&offers.weights, blocks(block_points, n))
@@ -93,6 +94,7 @@ impl Copied {
             points,
             actions: cut(&offers.actions, vectors_before, v),
             choices: cut(&offers.choices, vectors_before * k, v * k),
+            masks: cut(&offers.masks, vectors_before, v),
             entries: cut(&offers.entries, vectors_before * n, v * n),
             corners: cut(&offers.corners, at * n, n),
             weights: cut(&offers.weights, points_before * n, p * n),

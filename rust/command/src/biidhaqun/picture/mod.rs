@@ -1,6 +1,7 @@
 //! `picture`: what is certified, as an SVG image.
 //!
-//! Every bracket that is drawn is the library's answer at one level and one mixture; nothing is drawn between two of them.
+//! Every bracket that is drawn is the library's answer at one level and one mixture; nothing is drawn between two of them. The
+//! levels are built, so that their vectors cover all states and count at every mixture.
 
 mod colours;
 mod levels;
