@@ -10,13 +10,13 @@ use Rattle.solved.proofs.row_at.Tie as tie
 
 said-at-requires : tie.Need-said-at-requires
 said-at-requires c κs =
-    let p = c .before .before .before .before .pre in
+    let p = c .before .before .before .before .before .pre in
     let f = p .0 .files in
     ((f .few-states, f .few-observations), (omega (arith, p .1 .0, f .as-many), p .1 .1))
 
 -- where the call began, from the place after it
 abbrev start : tie.After-said-at → tie.Start
-start c = c .before .before .before .before .before
+start c = c .before .before .before .before .before .before
 
 -- what is chosen for o
 chosen-at : (c : tie.After-said-at) → let a = start c .args in (o : ℕ) → o < a .c .observations
@@ -54,7 +54,7 @@ returns c =
       chosen = says .chosen;
       entries = c .entries-of .ensures
           ∙ padded-cong (pos 0) maxStates (a .c .states) _ _ (λ x l. entry-said (modelIn (a .c) (a .transition .now) (a .observation .now) (a .reward .now))
-          (uponIn (a .c) (a .standing) (a .entries .now)) _ _ x (says .ticks x l) (says .action) (chosen-at s));
+          (uponIn (a .c) (a .standing) (a .masks .now) (a .entries .now)) _ _ x (says .ticks x l) (says .action) (chosen-at s));
       onward = says .onward;
     }
 
