@@ -3,6 +3,7 @@
 --   over-later, over-hyphen, over-first      what a next node stands for
 --   chosen-fit, foreseen-within              what its entries are worked out from is within the limits
 --   backed-is, entry-said                    the entries are the level's
+--   chosen-said, long-said                   what it chooses
 --   numbers-said, chooses-said, reached-said 10 and 21 of one vector
 --   row-fine, row-refused                    11 of one vector
 --   solving-chooses                          what 21 is handed is known once 10 is passed
@@ -108,26 +109,30 @@ entry-said M L {z} {z'} {a} {a'} f g s e h k =
 
 -- ---- 10, 21 and 11 of one vector
 
-pub numbers-said : {n k t v : ℕ} {alphaFile graphFile : List ℕ} {r : Said} (m standing : ℕ) → Says n k t alphaFile graphFile v r
-    → (unless (ltb (r .action) m) 10 v before firstOf k (λ o. unless (ltb (getD (r .chosen) o 0) standing) 10 v))
-    ≡ (unless (ltb (actionAt n alphaFile v) m) 10 v before firstOf k (λ o. unless (ltb (choicesAt k t graphFile v o) standing) 10 v))
-numbers-said {n} {k} {t} {v} {alphaFile} {graphFile} {r} m standing says =
-    ap (λ (a : ℕ). unless (ltb a m) 10 v before firstOf k (λ o. unless (ltb (getD (r .chosen) o 0) standing) 10 v)) (says .action)
-    ∙ ap (λ (w : Verdict). unless (ltb (actionAt n alphaFile v) m) 10 v before w)
-    (first-cong k _ _ (λ o l. ap (λ (x : ℕ). unless (ltb x standing) 10 v)
-    (ap (λ (xs : List ℕ). getD xs o 0) (says .chosen) ∙ padded-at 0 maxObservations k (choicesAt k t graphFile v) o 0 l)))
-
 module _ {n k t v : ℕ} {alphaFile graphFile : List ℕ} {r : Said} (says : Says n k t alphaFile graphFile v r) where
-  -- what is chosen for o, in a table of one row
-  chosen-is : (o : ℕ) → o < k → choiceIn k (r .chosen) 0 o ≡ choicesAt k t graphFile v o
-  chosen-is o l =
-      alone-at k (r .chosen) o ∙ ap (λ (xs : List ℕ). getD xs o 0) (says .chosen) ∙ padded-at 0 maxObservations k (choicesAt k t graphFile v) o 0 l
+  pub chosen-said : (o : ℕ) → o < k → getD (r .chosen) o 0 ≡ choicesAt k t graphFile v o
+  chosen-said o l = ap (λ (xs : List ℕ). getD xs o 0) (says .chosen) ∙ padded-at 0 maxObservations k (choicesAt k t graphFile v) o 0 l
+
+  pub long-said : k ≤ maxObservations → length (r .chosen) ≡ maxObservations
+  long-said few = rw (says .chosen) (padded-length 0 maxObservations k (choicesAt k t graphFile v) few)
+
+  -- as a table of one row
+  row-said : (o : ℕ) → o < k → choiceIn k (r .chosen) 0 o ≡ choicesAt k t graphFile v o
+  row-said o l = alone-at k (r .chosen) o ∙ chosen-said o l
+
+  pub numbers-said : (m standing : ℕ)
+      → (unless (ltb (r .action) m) 10 v before firstOf k (λ o. unless (ltb (getD (r .chosen) o 0) standing) 10 v))
+      ≡ (unless (ltb (actionAt n alphaFile v) m) 10 v before firstOf k (λ o. unless (ltb (choicesAt k t graphFile v o) standing) 10 v))
+  numbers-said m standing =
+      ap (λ (a : ℕ). unless (ltb a m) 10 v before firstOf k (λ o. unless (ltb (getD (r .chosen) o 0) standing) 10 v)) (says .action)
+      ∙ ap (λ (w : Verdict). unless (ltb (actionAt n alphaFile v) m) 10 v before w)
+      (first-cong k _ _ (λ o l. ap (λ (x : ℕ). unless (ltb x standing) 10 v) (chosen-said o l)))
 
   pub chooses-said : {masks : List ℕ} → k ≤ maxObservations → ((o : ℕ) → o < k → choicesAt k t graphFile v o < length masks) → Chooses k masks (r .chosen) 0
   chooses-said few h = record {
     row = omega arith;
-    stored = rw (says .chosen, padded-length 0 maxObservations k (choicesAt k t graphFile v) few) (omega arith);
-    vector = λ o l. rw (chosen-is o l) (h o l);
+    stored = omega (arith, long-said few);
+    vector = λ o l. rw (row-said o l) (h o l);
   }
 
   -- the mask of all states covers each
@@ -135,7 +140,7 @@ module _ {n k t v : ℕ} {alphaFile graphFile : List ℕ} {r : Said} (says : Say
       → reachedIn n k T O masks (covered all) (r .action) (choiceIn k (r .chosen) 0)
       ≡ reachedIn n k T O masks (λ s. true) (actionAt n alphaFile v) (choicesAt k t graphFile v)
   reached-said T O masks e =
-      rw (says .action, e) (every-cong n _ _ (λ s b. rw (mask-covers n (λ s. true) s b) (every-cong k _ _ (λ o l. rw (chosen-is o l)))))
+      rw (says .action, e) (every-cong n _ _ (λ s b. rw (mask-covers n (λ s. true) s b) (every-cong k _ _ (λ o l. rw (row-said o l)))))
 
 -- what 21 is handed is known where 10 is passed
 pub solving-chooses : {c : Counts} {T O : List ℕ} {R : List ℤ} {masks : List ℕ} {entries : List ℤ} {standing t : ℕ} {alphaFile graphFile : List ℕ}

@@ -376,16 +376,7 @@ pub fn judge_level<'a, 'c>(
     let Verdict::Fine = numbers else {
         return numbers;
     };
-    let reached = masks_hold(
-        transition,
-        observation,
-        masks,
-        c,
-        t,
-        alpha,
-        graph,
-        count,
-    );
+    let reached = masks_hold(transition, observation, masks, c, t, alpha, graph, count);
     let Verdict::Fine = reached else {
         return reached;
     };

@@ -1,11 +1,11 @@
 use Rattle.solved.proofs.Prelude.{arith, ℕ, _-_, _≤_, _≡_, sym, _∙_, List, Fine, firstOf, unless}
-use Rattle.solved.proofs.Prelude.{first-none, first-more, first-here, padded-length, maxObservations}
+use Rattle.solved.proofs.Prelude.{first-none, first-more, first-here}
 use Rattle.integers.proofs.Kit.{true, Bool, not-false, not-true}
 use Rattle.levels.proofs.Laws.{passed, failed}
 use Rattle.reaches.specs.Steps.{reachedIn}
 use Rattle.solver.specs.Files.{actionAt}
 use Rattle.solved.specs.Steps.{choicesAt, ReadTo}
-use Rattle.solved.proofs.Vectors.{chooses-said, reached-said}
+use Rattle.solved.proofs.Vectors.{long-said, chooses-said, reached-said}
 use Rattle.solved.proofs.masks_hold.Statement.{statement}
 use Rattle.solved.proofs.masks_hold.Tie as tie
 
@@ -41,7 +41,7 @@ said-at-requires c κs =
 chosen-long : tie.Need-slice-aggregate-reached-covered Inv-loop μ-loop
 chosen-long c =
     let s = c .before .before in
-    sym (rw (s .said-at .ensures .chosen) (padded-length 0 maxObservations _ _ (start s .pre .files .few-observations)))
+    sym (long-said (s .said-at .ensures) (start s .pre .files .few-observations))
 
 reached-covered-requires : tie.Need-reached-covered-requires Inv-loop μ-loop
 reached-covered-requires c κs =

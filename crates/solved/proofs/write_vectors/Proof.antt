@@ -1,4 +1,5 @@
-use Rattle.solved.proofs.Prelude.{arith, _-_, _≤_, _<_, _≡_, sym}
+use Rattle.solved.proofs.Prelude.{arith, _-_, _≤_, _≡_, sym}
+use Rattle.integers.proofs.Kit.{_<_}
 use Rattle.tables.specs.Limits.{maxVectors}
 use Rattle.builder.specs.Steps.{Filled}
 use Rattle.builder.proofs.Levels.{Made, filled-none, VectorsAsLong, filled-long, Room, rows-room, filled-more}
