@@ -1,10 +1,10 @@
 -- The call from its stages. Assumes nothing.
 --
 --   counted-back, answered-back, answered-fine    a verdict with a count
---   startVerdict, endVerdict                      1 to 9, and 10 to 12: adopt-first, adopt-then join them
+--   startVerdict, endVerdict                      1 to 9, and the rest: adopt-first, adopt-then join them
 --   started                                       what 1 to 9 leave known
 --   level-asks, roof-asks, vectors-ask            what the steps ask for is known then
---   level-said                                    10 to 12, as the steps test them
+--   level-said                                    10, 21, 11 and 12, as the steps test them
 --   level-laid                                    the level over the slices, from its parts
 --   adopted-refused, adopted-fine, adopt-demand   what is left, and what is claimed of it
 use Rattle.integers.proofs.Kit.{_≡_, _∙_, refl, ap, sym, subst, _&&_, List, ℕ, _≤_, _<_, _+_, _*_, arith, leb-true, ltb-true, leb, ltb, length, ℤ}
@@ -24,7 +24,7 @@ use Rattle.plans.specs.Build.{leastFor, leastValue}
 use Rattle.plans.proofs.Built.{shaped-mono}
 use Rattle.levels.specs.declared.Standing.{Standing}
 use Rattle.levels.specs.Storage.{Cells, Lent, cells, levelOf, roofIn, pointIn, over, standingAt, numberIn, standingIn}
-use Rattle.levels.specs.Judged.{holds, numbersIn, rowsWithin, valuesWithin, rangesVerdict, weightsVerdict, levelVerdict}
+use Rattle.levels.specs.Judged.{holds, numbersIn, numbersVerdict, masksVerdict, rowsWithin, valuesWithin, rangesVerdict, weightsVerdict}
 use Rattle.levels.proofs.Laws.{numbers-in}
 use Rattle.levels.proofs.Over.{Complete, complete-true}
 use Rattle.runs.proofs.Judged.{Held, standing-true, weights-fine}
@@ -36,8 +36,8 @@ use Rattle.solver.specs.declared.Judged.{Judged}
 use Rattle.solver.specs.Files.{maxFile, vectorsIn, filesVerdict, withCount}
 use Rattle.solver.proofs.Files.{FilesRead, files-read}
 use Rattle.solved.specs.Solved.{solved}
-use Rattle.solved.specs.Steps.{Files, vectorsOver, Solving}
-use Rattle.adopting.specs.Adopt.{solvedFrom, adoptedLevel, adoptFits, adoptVerdict, adopted, adoptAnswer}
+use Rattle.solved.specs.Steps.{Files, vectorsOver, masksOver, Solving}
+use Rattle.adopting.specs.Adopt.{solvedFrom, adoptedLevel, adoptFits, solvedVerdict, adoptVerdict, adopted, adoptAnswer}
 use Rattle.adopting.specs.Claim.{AdoptHolds}
 use Rattle.adopting.proofs.Accepted.{roof-fine, adopt-holds}
 
@@ -87,11 +87,15 @@ module _ (m : Tables) (x : Lent) (alphaFile graphFile : List ℕ) (count : ℕ) 
   -- its vectors, from what the steps read, over what stands
   abbrev floor : Standing → Level
   floor s =
-      vectorsOver (countsOf m) (m .transition) (m .observation) (m .reward) (x .cells .entries) (s .vectors) (s .number) alphaFile graphFile
+      vectorsOver (countsOf m) (m .transition) (m .observation) (m .reward) (x .cells .masks) (x .cells .entries) (s .vectors) (s .number) alphaFile
+      graphFile
 
-  -- 10, 11 of the entries, and 12, as the steps test them
+  -- 10, 21, 11 of the entries, and 12, as the steps test them
   abbrev numbersTested : Standing → ℕ → Verdict
   numbersTested s vectors = numbersIn 10 vectors (m .actions) (m .observations) (s .vectors) (floor s .action) (floor s .choice)
+
+  abbrev masksTested : Standing → ℕ → Verdict
+  masksTested s vectors = masksOver (countsOf m) (m .transition) (m .observation) (x .cells .masks) vectors (floor s .action) (floor s .choice)
 
   abbrev entriesTested : Standing → ℕ → Verdict
   entriesTested s vectors = rowsWithin 11 vectors (m .states) (range (s .number + 1)) (floor s .entry)
@@ -99,7 +103,10 @@ module _ (m : Tables) (x : Lent) (alphaFile graphFile : List ℕ) (count : ℕ) 
   abbrev pointsTested : Verdict
   pointsTested = weightsVerdict (m .states) count (pointIn (m .states) (y .weights))
 
-  -- 1 to 9, and 10 to 12
+  abbrev levelTested : Standing → ℕ → Verdict
+  levelTested s vectors = numbersTested s vectors before masksTested s vectors before entriesTested s vectors before pointsTested
+
+  -- 1 to 9, and the rest
   abbrev pub startVerdict : Verdict
   startVerdict =
       unless (leb (length alphaFile) maxFile && leb (length graphFile) maxFile) 1 0
@@ -109,7 +116,7 @@ module _ (m : Tables) (x : Lent) (alphaFile graphFile : List ℕ) (count : ℕ) 
       before unless (adoptFits m alphaFile count y) 9 0
 
   abbrev pub endVerdict : Verdict
-  endVerdict = levelVerdict (m .states) (m .actions) (m .observations) (numberIn x + 1) (standingIn x .vectors) W
+  endVerdict = solvedVerdict (modelOf m) (numberIn x) (levelOf m (standingIn x)) W
 
   adopt-apart : adoptVerdict m x alphaFile graphFile count y ≡ (startVerdict before endVerdict)
   unfolding adoptVerdict
@@ -153,7 +160,7 @@ module _ (m : Tables) (x : Lent) (alphaFile graphFile : List ℕ) (count : ℕ) 
     low : Shaped (modelOf m) topBuilt (levelOf m (standingIn x))
     low = shaped-mono (modelOf m) (levelOf m (standingIn x)) (numberIn x) topBuilt (omega (arith, known .room)) (known .standing .shaped)
 
-    upon : Upon (countsOf m) (m .transition) (m .observation) (m .reward) (x .cells .entries) (standingIn x .vectors)
+    upon : Upon (countsOf m) (m .transition) (m .observation) (m .reward) (x .cells .masks) (x .cells .entries) (standingIn x .vectors)
     upon = upon-lent {m = m} {l = standingIn x} (known .standing .valid-tables) (known .standing .stored-tables) (known .standing .read) low
 
     files : Files (m .states) (m .observations) alphaFile graphFile (vectorsIn (m .states) alphaFile)
@@ -164,12 +171,12 @@ module _ (m : Tables) (x : Lent) (alphaFile graphFile : List ℕ) (count : ℕ) 
       start = known .read .start;
     }
 
-    -- 11 cannot meet corners and values, so 10 to 12 are what the steps test
-    end-is : let s = standingAt (x .state) in let vectors = vectorsIn (m .states) alphaFile in
-        (numbersTested s vectors before entriesTested s vectors before pointsTested) ≡ endVerdict
-    unfolding levelVerdict rangesVerdict solved follows
+    -- 11 cannot meet corners and values, so the rest is what the steps test
+    end-is : levelTested (standingAt (x .state)) (vectorsIn (m .states) alphaFile) ≡ endVerdict
+    unfolding masksVerdict rangesVerdict solved follows
     end-is =
-        ap (λ (v : Verdict). numbersIn 10 (W .vectors) (m .actions) (m .observations) (standingIn x .vectors) (W .action) (W .choice) before v)
+        ap (λ (v : Verdict). numbersVerdict (m .actions) (m .observations) (standingIn x .vectors) W
+        before masksVerdict (modelOf m) (levelOf m (standingIn x)) W before v)
         (sym (passed-over (rowsWithin 11 (W .vectors) (m .states) (range (numberIn x + 1)) (W .entry))
         (rowsWithin 11 (m .states) 1 (range (numberIn x + 1)) (λ s x. W .corner s)
         before valuesWithin (m .states) (W .points) (range (numberIn x + 1)) (W .weight) (W .value))
@@ -178,12 +185,12 @@ module _ (m : Tables) (x : Lent) (alphaFile graphFile : List ℕ) (count : ℕ) 
 
     -- what stands and the number of vectors, as they were read
     module _ {s : Standing} {vectors : ℕ} (es : s ≡ standingAt (x .state)) (ev : vectors ≡ vectorsIn (m .states) alphaFile) where
-      pub level-asks : (Upon (countsOf m) (m .transition) (m .observation) (m .reward) (x .cells .entries) (s .vectors)
+      pub level-asks : (Upon (countsOf m) (m .transition) (m .observation) (m .reward) (x .cells .masks) (x .cells .entries) (s .vectors)
           × ((s .number < maxLevels) × (vectors ≤ maxVectors)))
           × (Files (m .states) (m .observations) alphaFile graphFile vectors × ((count ≤ maxBuilt) × (count * m .states ≤ length (y .weights))))
       level-asks = rw (es, ev) ((upon, (known .room, known .few-vectors)), (files, (known .few, known .whole .read .weights)))
 
-      pub level-said : {v : Verdict} → v ≡ (numbersTested s vectors before entriesTested s vectors before pointsTested) → v ≡ endVerdict
+      pub level-said : {v : Verdict} → v ≡ levelTested s vectors → v ≡ endVerdict
       level-said e = e ∙ rw (es, ev) end-is
 
       pub roof-asks : Roofed (countsOf m) (m .transition) (m .observation) (m .reward) (x .cells .corners) (s .points) (x .cells .weights) (x .cells .values)
@@ -192,11 +199,13 @@ module _ (m : Tables) (x : Lent) (alphaFile graphFile : List ℕ) (count : ℕ) 
 
       module _ (fine : endVerdict ≡ Fine) where
         tests : let s = standingAt (x .state) in let vectors = vectorsIn (m .states) alphaFile in
-            (numbersTested s vectors ≡ Fine) × ((entriesTested s vectors before pointsTested) ≡ Fine)
+            (numbersTested s vectors ≡ Fine) × (pointsTested ≡ Fine)
         tests =
             let s = standingAt (x .state) in
             let vectors = vectorsIn (m .states) alphaFile in
-            before-fine (numbersTested s vectors) (entriesTested s vectors before pointsTested) (end-is ∙ fine)
+            let numbers = before-fine (numbersTested s vectors) (masksTested s vectors before entriesTested s vectors before pointsTested) (end-is ∙ fine) in
+            let masks = before-fine (masksTested s vectors) (entriesTested s vectors before pointsTested) (numbers .1) in
+            (numbers .0, before-fine (entriesTested s vectors) pointsTested (masks .1) .1)
 
         exist : (v : ℕ) → v < vectorsIn (m .states) alphaFile → let s = standingAt (x .state) in
             (floor s .action v < m .actions) × ((o : ℕ) → o < m .observations → floor s .choice v o < s .vectors)
@@ -204,8 +213,8 @@ module _ (m : Tables) (x : Lent) (alphaFile graphFile : List ℕ) (count : ℕ) 
             let s = standingAt (x .state) in
             numbers-in 10 (vectorsIn (m .states) alphaFile) (m .actions) (m .observations) (s .vectors) (floor s .action) (floor s .choice) (tests .0)
 
-        solving : Solving (countsOf m) (m .transition) (m .observation) (m .reward) (x .cells .entries) (standingIn x .vectors) (numberIn x) alphaFile graphFile
-            (vectorsIn (m .states) alphaFile)
+        solving : Solving (countsOf m) (m .transition) (m .observation) (m .reward) (x .cells .masks) (x .cells .entries) (standingIn x .vectors) (numberIn x)
+            alphaFile graphFile (vectorsIn (m .states) alphaFile)
         unfolding solved
         solving = record {
           upon = upon;
@@ -216,36 +225,36 @@ module _ (m : Tables) (x : Lent) (alphaFile graphFile : List ℕ) (count : ℕ) 
           chooses = λ v l. exist v l .1;
         }
 
-        pub vectors-ask : Solving (countsOf m) (m .transition) (m .observation) (m .reward) (x .cells .entries) (s .vectors) (s .number) alphaFile graphFile
-            vectors × RowsFit (m .states) (m .observations) vectors (y .actions) (y .choices) (y .entries)
+        pub vectors-ask : Solving (countsOf m) (m .transition) (m .observation) (m .reward) (x .cells .masks) (x .cells .entries) (s .vectors) (s .number)
+            alphaFile graphFile vectors × RowsFit (m .states) (m .observations) vectors (y .actions) (y .choices) (y .masks) (y .entries)
         vectors-ask = rw (es, ev) (
           solving,
           record {
             actions-fit = known .whole .read .actions;
             choices-fit = known .whole .choices;
+            masks-fit = known .whole .read .masks;
             entries-fit = known .whole .read .entries;
           },
         )
 
         pub points-are : (i : ℕ) → i < count → IsPoint (m .states) (pointIn (m .states) (y .weights) i)
         points-are =
-            weights-fine (m .states) count (pointIn (m .states) (y .weights))
-            (before-fine (entriesTested (standingAt (x .state)) (vectorsIn (m .states) alphaFile)) pointsTested (tests .1) .1)
+            weights-fine (m .states) count (pointIn (m .states) (y .weights)) (tests .1)
 
         -- The level over the slices, from its parts: the vectors from the files over the standing vectors, least values from the standing corners and
         -- points; the weights of the points lie where they were given. Qed.
-        pub level-laid : {actions choices : List ℕ} {made least worths : List ℤ}
-            → Filled (m .states) (m .observations) (floor s) vectors (y .actions) (y .choices) (y .entries) actions choices made
+        pub level-laid : {actions choices masks : List ℕ} {made least worths : List ℤ}
+            → Filled (m .states) (m .observations) (floor s) vectors (y .actions) (y .choices) (y .masks) (y .entries) actions choices masks made
             → least ≡ laid (m .states) (λ i. leastValue (modelOf m) (roofIn (m .states) (x .cells .corners) (s .points) (x .cells .weights)
             (x .cells .values)) (corner-weight i)) (y .corners)
             → worths ≡ laid count (λ i. leastValue (modelOf m) (roofIn (m .states) (x .cells .corners) (s .points) (x .cells .weights) (x .cells .values))
             (pointIn (m .states) (y .weights) i)) (y .values)
-            → cells actions choices made least (y .weights) worths ≡ over m W y
+            → cells actions choices masks made least (y .weights) worths ≡ over m W y
         unfolding over solved follows leastValue leastFor backupAt ceiling gain
         level-laid f g h =
             let w = laidRows-flat count (m .states) (y .weights) (y .weights) 0
             ∙ laid-self (count * m .states) (y .weights) 0 (known .whole .read .weights) in
-            rw (f .actions-are, f .choices-are, f .entries-are, g, h, w, es, ev)
+            rw (f .actions-are, f .choices-are, f .masks-are, f .entries-are, g, h, w, es, ev)
 
   -- ---- what is left in the slices
   pub adopted-refused : {v : Verdict} {number place : ℕ} → v ≡ adoptVerdict m x alphaFile graphFile count y → v ≡ Refused number place

@@ -127,7 +127,7 @@ fn judge_files<'a, 'b, 'c>(
         before filesVerdict (c .states) (c .observations) (now (alpha .entry)) (now (graph .entry))
         before unless (ltb (standingAt (now (state .entry)) .number) maxLevels) 8 0
         before unless (countWithin maxVectors vectors && (leb count maxBuilt && (leb (vectors * c .observations) newchoices
-        && longEnough (c .states) vectors count newactions newentries newcorners given newvalues))) 9 0) vectors) ⌝ }
+        && longEnough (c .states) vectors count newactions newmasks newentries newcorners given newvalues))) 9 0) vectors) ⌝ }
 {
     if Adopted::FILE < alpha.len() {
         return refused(Verdict::Refused(1, 0));

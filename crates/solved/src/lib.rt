@@ -1,5 +1,5 @@
-// The level that a solver's alpha file and policy graph file say, over the level that stands: its vectors read from both, judged by 10, 21, 11 and 12, and written
-// over lent slices.
+// The level that a solver's alpha file and policy graph file say, over the level that stands: its vectors read from both, judged by 10, 21, 11 and 12, and
+// written over lent slices.
 ghost use mathlib.Core.Path.{_≡_};
 ghost use Prim.Native.Nat.{ℕ, _+_, _*_, _≤_, _<_};
 ghost use lib.Dec.{ltb};
@@ -422,9 +422,9 @@ pub fn write_vectors<'a, 'c>(
     requires { ⌜ Solving c (now transition) (now observation) (now reward) (now masks) (now entries) standing t (now alpha) (now graph) count ⌝ }
     requires { ⌜ RowsFit (c .states) (c .observations) count (now newactions) (now newchoices) (now newmasks) (now newentries) ⌝ }
     ensures { λ _. ⌜ Filled (c .states) (c .observations) (vectorsOver c (now (transition .entry)) (now (observation .entry)) (now (reward .entry))
-        (now (masks .entry)) (now (entries .entry)) standing t (now (alpha .entry)) (now (graph .entry))) count (now (newactions .entry)) (now (newchoices .entry))
-        (now (newmasks .entry))
-        (now (newentries .entry)) (now (newactions .exit)) (now (newchoices .exit)) (now (newmasks .exit)) (now (newentries .exit)) ⌝ }
+        (now (masks .entry)) (now (entries .entry)) standing t (now (alpha .entry)) (now (graph .entry))) count
+        (now (newactions .entry)) (now (newchoices .entry)) (now (newmasks .entry)) (now (newentries .entry))
+        (now (newactions .exit)) (now (newchoices .exit)) (now (newmasks .exit)) (now (newentries .exit)) ⌝ }
 {
     let n = c.states;
     let k = c.observations;

@@ -14,7 +14,7 @@ use Rattle.adopting.proofs.adopt.Tie as tie
 
 -- from each place to one before it
 abbrev start : tie.After-judge-files → tie.Start
-start c = c .before .before .before .before .before .before .before .before .before .before .before
+start c = c .before .before .before .before .before .before .before .before .before .before .before .before .before
 
 abbrev of-files : tie.After-enum-told → tie.After-judge-files
 of-files c = c .before .before
@@ -23,10 +23,10 @@ abbrev of-level : tie.After-enum-told3 → tie.After-judge-level
 of-level c = c .before .before
 
 abbrev of-vectors : tie.After-write-vectors → tie.After-enum-told3
-of-vectors c = c .before .before .before .before
+of-vectors c = c .before .before .before .before .before
 
 abbrev of-corners : tie.After-build-corners-arg → tie.After-write-vectors
-of-corners c = c .before .before .before .before .before .before
+of-corners c = c .before .before .before .before .before .before .before .before
 
 abbrev of-values : tie.After-build-values-arg → tie.After-build-corners
 of-values c = c .before .before
@@ -38,13 +38,13 @@ tables c = tablesIn (c .args .c) (c .args .transition .now) (c .args .observatio
 abbrev certifier : tie.Start → List ℕ → Lent
 certifier c choices =
     let a = c .args in
-    lent (a .state .now) (cells (a .actions .now) choices (a .entries .now) (a .corners .now) (a .weights .now) (a .values .now))
+    lent (a .state .now) (cells (a .actions .now) choices (a .masks .now) (a .entries .now) (a .corners .now) (a .weights .now) (a .values .now))
     (rows (a .informed .now) (a .qmdp .now))
 
 abbrev answer : tie.Start → Cells
 answer c =
     let a = c .args in
-    cells (a .newactions .now) (a .newchoices .now) (a .newentries .now) (a .newcorners .now) (a .given .now) (a .newvalues .now)
+    cells (a .newactions .now) (a .newchoices .now) (a .newmasks .now) (a .newentries .now) (a .newcorners .now) (a .given .now) (a .newvalues .now)
 
 -- ---- 1 to 9
 first-said : (c : tie.After-judge-files) (choices : List ℕ) → let s = start c in let a = s .args in
@@ -68,7 +68,7 @@ vectors-are c = vectors-counted (of-files c .judge-files .ensures []) (first-fin
 stands : (c : tie.After-standing-in) → c .standing-in .result ≡ standingAt (start (of-files (c .before)) .args .state .now)
 stands c = c .standing-in .ensures
 
--- ---- 10 to 12
+-- ---- 10, 21, 11 and 12
 second-said : (c : tie.After-judge-level) (choices : List ℕ) → let s = start (of-files (c .before .before)) in let a = s .args in
     c .judge-level .result ≡ endVerdict (tables s) (certifier s choices) (a .alpha .now) (a .graph .now) (a .count) (answer s)
 second-said c choices =
@@ -134,7 +134,7 @@ returns-2 c =
 
 write-vectors-requires : tie.Need-write-vectors-requires
 write-vectors-requires c κs =
-    let t = c .before .before .before in
+    let t = c .before .before .before .before in
     let n = of-level t .before in
     let e = n .before in
     let s = start (of-files e) in
@@ -196,4 +196,4 @@ pub adopt-spec : {M : Type 1} → statement M
 adopt-spec =
     tie.close (tie.spec (λ c κs. search needs) (λ c. search needs) (λ c. search needs) returns standing-in-requires judge-level-requires
     (λ c. search needs) (λ c. search needs) returns-2 write-vectors-requires build-corners-requires build-values-requires (λ c. search needs)
-    (λ c. search needs) (λ c. search needs) (λ c. search needs) (λ c. search needs) returns-3)
+    (λ c. search needs) (λ c. search needs) (λ c. search needs) (λ c. search needs) (λ c. search needs) returns-3)

@@ -20,7 +20,7 @@ use Rattle.adopting.proofs.judge_files.Tie as tie
 
 -- from each test that was passed to the one before it
 abbrev start : tie.Else2 → tie.Start
-start c = c .before .before .before .before .before .before .before .before .before
+start c = c .before .before .before .before .before .before .before .before .before .before
 
 abbrev of-certifier : tie.Else3 → tie.Else2
 of-certifier c = c .before .before
@@ -34,7 +34,7 @@ tables c = tablesIn (c .args .c) (c .args .transition .now) (c .args .observatio
 abbrev certifier : tie.Start → List ℕ → Lent
 certifier c choices =
     let a = c .args in
-    lent (a .state .now) (cells (a .actions .now) choices (a .entries .now) (a .corners .now) (a .weights .now) (a .values .now))
+    lent (a .state .now) (cells (a .actions .now) choices (a .masks .now) (a .entries .now) (a .corners .now) (a .weights .now) (a .values .now))
     (rows (a .informed .now) (a .qmdp .now))
 
 -- ---- what each test says
@@ -62,7 +62,8 @@ abbrev room : tie.Start → ℕ → ℕ → Verdict
 room s number vectors =
     let a = s .args in
     unless (ltb number maxLevels) 8 0 before unless (countWithin maxVectors vectors && (leb (a .count) maxBuilt && (leb (vectors * a .c .observations)
-    (a .newchoices) && longEnough (a .c .states) vectors (a .count) (a .newactions) (a .newentries) (a .newcorners) (a .given) (a .newvalues)))) 9 0
+    (a .newchoices)
+    && longEnough (a .c .states) vectors (a .count) (a .newactions) (a .newmasks) (a .newentries) (a .newcorners) (a .given) (a .newvalues)))) 9 0
 
 room-said : (c : tie.After-judge-room) → let s = start (of-certifier (of-files (c .before .before) .before)) in
     c .judge-room .result ≡ room s (standingAt (s .args .state .now) .number) (vectorsIn (s .args .c .states) (s .args .alpha .now))
@@ -80,13 +81,13 @@ on-7 c choices e = passes 1 0 (small (of-certifier c)) (passes 7 0 (holds-here c
 
 returns : tie.Need-returns
 returns c choices =
-    let a = c .before .before .before .before .before .before .before .before .before .args in
+    let a = c .before .before .before .before .before .before .before .before .before .before .args in
     counted-back _ (c .refused .ensures) refl
     (breaks _ (ap (λ (b : Bool). b && leb (length (a .graph .now)) maxFile) (lt-leb (length (a .alpha .now)) maxFile (c .before .if1 .taken))))
 
 returns-2 : tie.Need-returns-2
 returns-2 c choices =
-    let a = c .before .before .before .before .before .before .before .before .before .before .args in
+    let a = c .before .before .before .before .before .before .before .before .before .before .before .args in
     counted-back _ (c .refused2 .ensures) refl
     (breaks _ (ap (λ (b : Bool). b && leb (length (a .graph .now)) maxFile) (le-leb (length (a .alpha .now)) maxFile (c .before .before .if1 .left))
     ∙ lt-leb (length (a .graph .now)) maxFile (c .before .if2 .taken)))

@@ -15,22 +15,25 @@ abbrev verdict : ℕ → ℕ → Level → ℕ → Verdict
 verdict n limit W v = firstOf n (λ s. unless (leb (natAbs (W .entry v s)) limit) 11 v)
 
 abbrev Inv-loop : tie.InvT-loop
-Inv-loop T O R entries c standing t alpha graph count limit p₀ q₀ v₀ p q v =
+Inv-loop T O R masks entries c standing t alpha graph count limit p₀ q₀ v₀ p q v =
     (v ≤ count) × (ReadTo (c .states) (c .observations) alpha graph v p q
-    × (firstOf v (verdict (c .states) (range (t + 1)) (vectorsOver c T O R entries standing t alpha graph)) ≡ Fine))
+    × (firstOf v (verdict (c .states) (range (t + 1)) (vectorsOver c T O R masks entries standing t alpha graph)) ≡ Fine))
 
 abbrev μ-loop : tie.MeasureT-loop
-μ-loop T O R entries c standing t alpha graph count limit p₀ q₀ v₀ p q v = count - v
+μ-loop T O R masks entries c standing t alpha graph count limit p₀ q₀ v₀ p q v = count - v
+
+-- where the call began, from the place after the range was made, and from that after the vector was
+abbrev outset : tie.After-range-of Inv-loop μ-loop → tie.Start Inv-loop μ-loop
+outset c = c .before .before .before .before .before .before
+
+abbrev start : tie.After-row-at Inv-loop μ-loop → tie.Start Inv-loop μ-loop
+start c = outset (c .before .before .before)
 
 loop-holds : tie.Need-loop-holds Inv-loop μ-loop
-loop-holds c = (omega arith, (c .before .before .before .before .before .pre .files .start, first-none _))
+loop-holds c = (omega arith, (outset c .pre .files .start, first-none _))
 
 row-at-requires : tie.Need-row-at-requires Inv-loop μ-loop
-row-at-requires c κs = (c .before .before .before .before .before .before .before .pre, (c .loop-test .taken, c .before .loop .inv .1 .0))
-
--- where the call began, from the place after the vector was made
-abbrev start : tie.After-row-at Inv-loop μ-loop → tie.Start Inv-loop μ-loop
-start c = c .before .before .before .before .before .before .before .before
+row-at-requires c κs = (outset (c .before .before) .pre, (c .loop-test .taken, c .before .loop .inv .1 .0))
 
 row-long : tie.Need-slice-aggregate-rows-within Inv-loop μ-loop
 row-long c =
@@ -87,13 +90,12 @@ loop-again c =
 returns-2 : tie.Need-returns-2 Inv-loop μ-loop
 unfolding rowsWithin
 returns-2 c =
-    let e : c .before .loop .v ≡ c .before .before .before .before .before .before .before .args .count =
-    omega (arith, c .loop-test .left, c .before .loop .inv .0) in
+    let e : c .before .loop .v ≡ outset (c .before .before) .args .count = omega (arith, c .loop-test .left, c .before .loop .inv .0) in
     sym (rw e at (c .before .loop .inv .1 .1))
 
 pub entries-hold-spec : {M : Type 1} → statement M
 entries-hold-spec =
-    tie.close (tie.spec Inv-loop μ-loop (λ c. omega (arith, c .before .before .before .before .pre .below))
-    (λ c κs. omega (arith, c .before .before .before .before .pre .below)) loop-holds row-at-requires row-long rows-within-requires (λ c. search needs)
+    tie.close (tie.spec Inv-loop μ-loop (λ c. omega (arith, c .before .before .before .before .before .pre .below))
+    (λ c κs. omega (arith, c .before .before .before .before .before .pre .below)) loop-holds row-at-requires row-long rows-within-requires (λ c. search needs)
     (λ c. search needs) returns (λ c. omega (arith, c .before .before .before .before .before .before .loop-test .taken))
     (λ c. omega (arith, c .before .before .before .before .before .before .loop-test .taken)) loop-again returns-2)

@@ -6,10 +6,14 @@ use Rattle.solved.proofs.Vectors.{chosen-fit, foreseen-within, backed-i
 use Rattle.solved.proofs.entries_of.Statement.{statement}
 use Rattle.solved.proofs.entries_of.Tie as tie
 
+-- where the call began, from the place after the entries were foreseen
+abbrev start : tie.After-foreseen → tie.Start
+start c = c .before .before .before .before .before
+
 foreseen-requires : tie.Need-foreseen-requires
 foreseen-requires c κs =
-    let a = c .before .before .before .args in
-    let p = c .before .before .before .pre in
+    let a = c .before .before .before .before .args in
+    let p = c .before .before .before .before .pre in
     let v = p .0 .valid in (
       (v .few-states, (v .few-observations, omega (arith, v .few-actions, p .1 .0 .0))),
       (
@@ -20,12 +24,12 @@ foreseen-requires c κs =
 
 foreseen-long : tie.Need-slice-aggregate-rounded
 foreseen-long c =
-    sym (rw (c .before .foreseen .ensures) (padded-length (pos 0) maxStates _ _ (c .before .before .before .before .before .pre .0 .valid .few-states)))
+    sym (rw (c .before .foreseen .ensures) (padded-length (pos 0) maxStates _ _ (start (c .before) .pre .0 .valid .few-states)))
 
 rounded-requires : tie.Need-rounded-requires
 rounded-requires c κs =
-    let a = c .before .before .before .before .before .args in
-    let p = c .before .before .before .before .before .pre in
+    let a = start (c .before) .args in
+    let p = start (c .before) .pre in
     let v = p .0 .valid in (
       (v .few-states, (omega (arith, v .few-actions, p .1 .0 .0), v .discount-limit)),
       (
@@ -38,14 +42,14 @@ rounded-requires c κs =
     )
 
 lesser-each-requires : tie.Need-lesser-each-requires
-lesser-each-requires c κs = c .before .before .before .before .before .before .pre .0 .valid .few-states
+lesser-each-requires c κs = start (c .before .before) .pre .0 .valid .few-states
 
 returns : tie.Need-returns
 returns c =
-    let a = c .before .before .before .before .before .before .before .args in
+    let a = start (c .before .before .before) .args in
     c .lesser-each .ensures
     ∙ padded-cong (pos 0) maxStates (a .c .states) _ _ (λ s l. ap (λ (z : ℤ). lesser (getD (a .ticks) s (pos 0)) z)
-    (backed-is (a .c) (a .transition .now) (a .observation .now) (a .reward .now) (a .entries .now) (a .standing) (a .chosen .now) (a .a .0)
+    (backed-is (a .c) (a .transition .now) (a .observation .now) (a .reward .now) (a .masks .now) (a .entries .now) (a .standing) (a .chosen .now) (a .a .0)
     (c .before .before .before .foreseen .ensures) (c .before .rounded .ensures) s l))
 
 pub entries-of-spec : {M : Type 1} → statement M

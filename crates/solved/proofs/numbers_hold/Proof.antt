@@ -1,11 +1,11 @@
 use Rattle.solved.proofs.Prelude.{needs, arith, ℕ, _-_, _≤_, _≡_, sym, _∙_, List, ltb, Verdict, Fine, firstOf, unless}
-use Rattle.solved.proofs.Prelude.{first-none, first-more, first-here, padded-length, maxObservations}
+use Rattle.solved.proofs.Prelude.{first-none, first-more, first-here}
 use Rattle.tables.specs.declared.Counts.{Counts}
 use Rattle.tables.specs.Verdicts.{_before_}
 use Rattle.levels.specs.Judged.{numbersIn}
 use Rattle.solver.specs.Files.{actionAt}
 use Rattle.solved.specs.Steps.{choicesAt, ReadTo}
-use Rattle.solved.proofs.Vectors.{numbers-said}
+use Rattle.solved.proofs.Vectors.{long-said, numbers-said}
 use Rattle.solved.proofs.numbers_hold.Statement.{statement}
 use Rattle.solved.proofs.numbers_hold.Tie as tie
 
@@ -37,7 +37,7 @@ start c = c .before .before .before .before .before
 chosen-long : tie.Need-slice-aggregate-vector-exists Inv-loop μ-loop
 chosen-long c =
     let s = c .before .before in
-    sym (rw (s .said-at .ensures .chosen) (padded-length 0 maxObservations _ _ (start s .pre .few-observations)))
+    sym (long-said (s .said-at .ensures) (start s .pre .few-observations))
 
 vector-exists-requires : tie.Need-vector-exists-requires Inv-loop μ-loop
 vector-exists-requires c κs = let few = start (c .before .before) .pre .few-observations in omega (arith, chosen-long c, few)
@@ -47,7 +47,7 @@ said : (c : tie.After-vector-exists Inv-loop μ-loop) → let s = c .before .bef
     c .vector-exists .result ≡ verdict (a .alpha .now) (a .graph .now) (a .c) (a .standing) (a .t) (s .before .before .loop .v)
 said c =
     let s = c .before .before .before in
-    c .vector-exists .ensures ∙ numbers-said (start s .args .c .actions) (start s .args .standing) (s .said-at .ensures)
+    c .vector-exists .ensures ∙ numbers-said (s .said-at .ensures) (start s .args .c .actions) (start s .args .standing)
 
 returns : tie.Need-returns Inv-loop μ-loop
 unfolding numbersIn

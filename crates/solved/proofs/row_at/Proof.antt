@@ -1,33 +1,25 @@
-use Rattle.solved.proofs.Prelude.{arith, _<_, _≡_, sym, ap, _∙_, ℕ, List, getD, pos, padded-cong, padded-length, maxObservations, maxStates}
-use Rattle.integers.proofs.Lists.{padded-at}
+use Rattle.solved.proofs.Prelude.{arith, _≡_, sym, _∙_, pos, padded-cong, maxObservations, maxStates}
+use Rattle.integers.proofs.Kit.{length}
 use Rattle.tables.specs.Storage.{modelIn}
 use Rattle.candidates.specs.Steps.{uponIn}
 use Rattle.solved.specs.Solved.{solved}
-use Rattle.solved.specs.Steps.{choicesAt}
-use Rattle.solved.proofs.Vectors.{entry-said}
+use Rattle.solved.proofs.Vectors.{entry-said, chosen-said, long-said}
 use Rattle.solved.proofs.row_at.Statement.{statement}
 use Rattle.solved.proofs.row_at.Tie as tie
 
 said-at-requires : tie.Need-said-at-requires
 said-at-requires c κs =
-    let p = c .before .before .before .before .pre in
+    let p = c .before .before .before .before .before .pre in
     let f = p .0 .files in
     ((f .few-states, f .few-observations), (omega (arith, p .1 .0, f .as-many), p .1 .1))
 
 -- where the call began, from the place after it
 abbrev start : tie.After-said-at → tie.Start
-start c = c .before .before .before .before .before
+start c = c .before .before .before .before .before .before
 
--- what is chosen for o
-chosen-at : (c : tie.After-said-at) → let a = start c .args in (o : ℕ) → o < a .c .observations
-    → getD (c .said-at .result .chosen) o 0 ≡ choicesAt (a .c .observations) (a .t) (a .graph .now) (a .v) o
-chosen-at c o l =
-    ap (λ (xs : List ℕ). getD xs o 0) (c .said-at .ensures .chosen) ∙ padded-at 0 maxObservations (start c .args .c .observations) _ o 0 l
-
-chosen-long : tie.Need-slice-aggregate-entries-of
-chosen-long c =
-    let s = c .before .before .before in
-    sym (rw (s .said-at .ensures .chosen) (padded-length 0 maxObservations _ _ (start s .pre .0 .files .few-observations)))
+-- there are as many choices as there can be observations
+long : (c : tie.After-said-at) → length (c .said-at .result .chosen) ≡ maxObservations
+long c = long-said (c .said-at .ensures) (start c .pre .0 .files .few-observations)
 
 entries-of-requires : tie.Need-entries-of-requires
 entries-of-requires c κs =
@@ -37,9 +29,9 @@ entries-of-requires c κs =
       (
         (
           rw (s .said-at .ensures .action) (p .0 .acts (start s .args .v) (p .1 .0)),
-          rw (s .said-at .ensures .chosen) (padded-length 0 maxObservations _ _ (p .0 .files .few-observations)),
+          long s,
         ),
-        λ o l. rw (chosen-at s o l) (p .0 .chooses (start s .args .v) (p .1 .0) o l),
+        λ o l. rw (chosen-said (s .said-at .ensures) o l) (p .0 .chooses (start s .args .v) (p .1 .0) o l),
       ),
     )
 
@@ -54,9 +46,9 @@ returns c =
       chosen = says .chosen;
       entries = c .entries-of .ensures
           ∙ padded-cong (pos 0) maxStates (a .c .states) _ _ (λ x l. entry-said (modelIn (a .c) (a .transition .now) (a .observation .now) (a .reward .now))
-          (uponIn (a .c) (a .standing) (a .entries .now)) _ _ x (says .ticks x l) (says .action) (chosen-at s));
+          (uponIn (a .c) (a .standing) (a .masks .now) (a .entries .now)) _ _ x (says .ticks x l) (says .action) (chosen-said says));
       onward = says .onward;
     }
 
 pub row-at-spec : {M : Type 1} → statement M
-row-at-spec = tie.close (tie.spec said-at-requires chosen-long entries-of-requires returns)
+row-at-spec = tie.close (tie.spec said-at-requires (λ c. sym (long (c .before .before .before))) entries-of-requires returns)
