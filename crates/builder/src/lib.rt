@@ -73,8 +73,8 @@ fn build_vectors<'a>(
     requires { ⌜ ((i : ℕ) → i < points → IsPoint (c .states) (pointIn (c .states) (now weights) i)) ⌝ }
     requires { ⌜ RowsFit (c .states) (c .observations) (c .states + points) (now actions) (now choices) (now masks) (now entries) ⌝ }
     ensures { λ _. ⌜ Filled (c .states) (c .observations) (built (modelIn c (now (transition .entry)) (now (observation .entry))
-        (now (reward .entry))) (uponIn c vectors (now (covered .entry)) (now (standing .entry))) points (pointIn (c .states) (now (weights .entry)))) (c .states + points)
-        (now (actions .entry)) (now (choices .entry)) (now (masks .entry)) (now (entries .entry)) (now (actions .exit)) (now (choices .exit))
+        (now (reward .entry))) (uponIn c vectors (now (covered .entry)) (now (standing .entry))) points (pointIn (c .states) (now (weights .entry))))
+        (c .states + points) (now (actions .entry)) (now (choices .entry)) (now (masks .entry)) (now (entries .entry)) (now (actions .exit)) (now (choices .exit))
         (now (masks .exit)) (now (entries .exit)) ⌝ }
 {
     let n = c.states;
@@ -182,8 +182,8 @@ pub fn build_values<'a, 'b>(
     }
 }
 
-// The built level, written over lent slices: its actions, choices, masks (`covers`), entries (`made`), corners (`least`) and values (`worths`). The weights of its points are
-// those that were given.
+// The built level, written over lent slices: its actions, choices, masks (`covers`), entries (`made`), corners (`least`) and values (`worths`). The weights
+// of its points are those that were given.
 pub fn build_level<'a, 'b>(
     transition: &'a [u16],
     observation: &'a [u16],

@@ -1,6 +1,6 @@
 -- One action's vector at some weights, over storage and through the model; the best of the actions' vectors; and what they are built upon.
 use Prim.Native.Nat.{ℕ, _*_, _-_, _≤_}
-use mathlib.Core.Bool.{true}
+use mathlib.Core.Bool.{Bool, true}
 use mathlib.Core.List.{List, []}
 use lib.ListN.{length, getD}
 use lib.IntN.{ℤ, pos}
@@ -26,10 +26,14 @@ use Rattle.candidates.specs.declared.Best.{Best}
 abbrev pub topBuilt : ℕ
 topBuilt = maxLevels - 1
 
+-- a vector covers all n states
+abbrev pub wholeIn : ℕ → List ℕ → ℕ → Bool
+wholeIn n masks v = includes (getD masks v 0) (maskOf n (λ s. true))
+
 -- the first previous vector with the largest product with the successor weights, of those that cover all states
 unfoldable pub choiceFor : ℕ → ℕ → List ℕ → List ℕ → List ℕ → List ℤ → ℕ → List ℕ → ℕ → ℕ → ℕ
 choiceFor n k transition observation masks entries vectors p a o =
-    firstLargestOf vectors (λ v. includes (getD masks v 0) (maskOf n (λ s. true)))
+    firstLargestOf vectors (wholeIn n masks)
     (λ v. product n (weightIn (successorsIn n k transition observation p a o)) (maskedIn n masks entries v))
 
 -- an action's vector at weights p: each entry is the backup over K rounded towards minus infinity; its choices are a table of one row

@@ -1,20 +1,18 @@
 // The best action's vector at some weights, from a standing level's vectors.
 ghost use mathlib.Core.Path.{_≡_};
-ghost use mathlib.Core.Bool.{true};
 ghost use Prim.Native.Nat.{ℕ, _≤_, _<_};
-ghost use lib.ListN.{getD};
 ghost use Rattle.integers.specs.Whole.{Below};
 ghost use Rattle.integers.specs.Search.{firstLargestOf};
 ghost use Rattle.integers.specs.Cells.{padded};
 ghost use Rattle.tables.specs.Limits.{maxStates, maxActions, maxObservations, one};
 ghost use Rattle.tables.specs.Storage.{weightIn, modelIn};
-ghost use Rattle.masks.specs.Masks.{maskOf, maskedIn};
-ghost use Rattle.masks.specs.Steps.{includes, MaskedFit};
+ghost use Rattle.masks.specs.Masks.{maskedIn};
+ghost use Rattle.masks.specs.Steps.{MaskedFit};
 ghost use Rattle.sums.specs.Steps.{movedIn, seenIn, TransitionsFit, ObservationsFit, RewardsFit, movedLimit};
 ghost use Rattle.plans.specs.Limits.{maxTotal, maxReached};
 ghost use Rattle.plans.specs.Level.{product};
 ghost use Rattle.backups.specs.Steps.{Light};
-ghost use Rattle.candidates.specs.Steps.{candidateIn, bestOf, uponIn, Upon};
+ghost use Rattle.candidates.specs.Steps.{wholeIn, candidateIn, bestOf, uponIn, Upon};
 use tables::Action;
 use tables::Counts;
 use tables::Foreseen;
@@ -54,8 +52,7 @@ fn choose(
     requires { ⌜ ObservationsFit n k (now observation) (a .0) ⌝ }
     requires { ⌜ ((o : ℕ) → o < k → (s : ℕ) → s < n → seenIn n k (now observation) (now u) (a .0) o s ≤ maxReached) ⌝ }
     requires { ⌜ MaskedFit n count (now masks) (now entries) ⌝ }
-    ensures { λ r. ⌜ r ≡ padded 0 maxObservations k (λ o. firstLargestOf count
-        (λ v. includes (getD (now (masks .entry)) v 0) (maskOf n (λ s. true)))
+    ensures { λ r. ⌜ r ≡ padded 0 maxObservations k (λ o. firstLargestOf count (wholeIn n (now (masks .entry)))
         (λ v. product n (weightIn (padded 0 maxStates n (seenIn n k (now (observation .entry)) (now (u .entry)) (a .0) o)))
         (maskedIn n (now (masks .entry)) (now (entries .entry)) v))) ⌝ }
 {

@@ -8,18 +8,18 @@ use Rattle.builder.proofs.build_level.Statement.{statement}
 use Rattle.builder.proofs.build_level.Tie as tie
 
 -- places of the code, each from one after it
-abbrev begun : tie.After-build-vectors-arg3 → tie.Start
-begun c = c .before .before .before .before .before .before .before .before .before
+abbrev begun : tie.After-build-vectors-arg4 → tie.Start
+begun c = c .before .before .before .before .before .before .before .before .before .before .before .before
 
 abbrev vectors-made : tie.After-build-corners-arg → tie.After-build-vectors
-vectors-made c = c .before .before .before .before .before .before
+vectors-made c = c .before .before .before .before .before .before .before .before
 
 abbrev corners-made : tie.After-build-values-arg → tie.After-build-corners
 corners-made c = c .before .before
 
 -- the slices that are lent for the level, and the tables
 abbrev lent : tie.Start → Cells
-lent c = let a = c .args in cells (a .actions .now) (a .choices .now) (a .made .now) (a .least .now) (a .given .now) (a .worths .now)
+lent c = let a = c .args in cells (a .actions .now) (a .choices .now) (a .covers .now) (a .made .now) (a .least .now) (a .given .now) (a .worths .now)
 
 abbrev tables : tie.Start → Tables
 tables c = let a = c .args in tablesIn (a .c) (a .transition .now) (a .observation .now) (a .reward .now)
@@ -33,7 +33,10 @@ build-vectors-requires c κs =
     let s = begun c in
     let f = fit s in
     let p = s .pre .1 .1 .0 in
-    (s .pre .0, ((p .0, f .read .weights), (p .1, record { actions-fit = f .read .actions; choices-fit = f .choices; entries-fit = f .read .entries })))
+    let r = f .read in (
+      s .pre .0,
+      ((p .0, r .weights), (p .1, record { actions-fit = r .actions; choices-fit = f .choices; masks-fit = r .masks; entries-fit = r .entries })),
+    )
 
 build-corners-requires : tie.Need-build-corners-requires
 build-corners-requires c κs = let s = begun (vectors-made c .before) in (s .pre .1 .0, fit s .read .corners)
@@ -51,10 +54,10 @@ returns c =
     let v = vectors-made (r .before) in
     let s = begun (v .before) in
     let a = s .args in
-    level-made (tables s) (a .vectors) (a .entries .now) (a .corners .now) (a .points) (a .weights .now) (a .values .now) (a .count) (lent s)
-    (fit s .read .weights) (v .build-vectors .ensures) (r .build-corners .ensures) (c .before .build-values .ensures)
+    level-made (tables s) (a .vectors) (a .masks .now) (a .entries .now) (a .corners .now) (a .points) (a .weights .now) (a .values .now) (a .count)
+    (lent s) (fit s .read .weights) (v .build-vectors .ensures) (r .build-corners .ensures) (c .before .build-values .ensures)
 
 pub build-level-spec : {M : Type 1} → statement M
 build-level-spec =
     tie.close (tie.spec build-vectors-requires build-corners-requires build-values-requires (λ c. search needs) (λ c. search needs) (λ c. search needs)
-    (λ c. search needs) (λ c. search needs) returns)
+    (λ c. search needs) (λ c. search needs) (λ c. search needs) returns)

@@ -13,46 +13,25 @@ use Rattle.builder.proofs.build_vectors.Statement.{statement}
 use Rattle.builder.proofs.build_vectors.Tie as tie
 
 -- the built level
-abbrev W : Counts → List ℕ → List ℕ → List ℤ → List ℤ → List ℕ → ℕ → ℕ → Level
-W c T O R standing weights vectors points = built (modelIn c T O R) (uponIn c vectors standing) points (pointIn (c .states) weights)
+abbrev W : Counts → List ℕ → List ℕ → List ℤ → List ℕ → List ℤ → List ℕ → ℕ → ℕ → Level
+W c T O R covered standing weights vectors points = built (modelIn c T O R) (uponIn c vectors covered standing) points (pointIn (c .states) weights)
 
 abbrev Inv-loop : tie.InvT-loop
-Inv-loop T O R standing weights c vectors points actions₀ choices₀ entries₀ n k count v₀ actions choices entries v =
+Inv-loop T O R covered standing weights c vectors points actions₀ choices₀ masks₀ entries₀ n k count all v₀ actions choices masks entries v =
     (v ≤ c .states + points)
-    × Filled (c .states) (c .observations) (W c T O R standing weights vectors points) v actions₀ choices₀ entries₀ actions choices entries
+    × Filled (c .states) (c .observations) (W c T O R covered standing weights vectors points) v actions₀ choices₀ masks₀ entries₀ actions choices masks entries
 
 abbrev μ-loop : tie.MeasureT-loop
-μ-loop T O R standing weights c vectors points actions₀ choices₀ entries₀ n k count v₀ actions choices entries v = c .states + points - v
+μ-loop T O R covered standing weights c vectors points actions₀ choices₀ masks₀ entries₀ n k count all v₀ actions choices masks entries v =
+    c .states + points - v
 
-add-count : tie.Need-add-count Inv-loop μ-loop
-add-count c = let p = c .before .before .before .before .before .pre in omega (arith, p .0 .valid .few-states, p .1 .0 .0)
+-- from each place to the one before it
+abbrev start : tie.At-loop Inv-loop μ-loop → tie.Start Inv-loop μ-loop
+start c = c .before .before .before .before .before .before .before .before .before
 
-below : (c : tie.In-loop Inv-loop μ-loop) → c .before .loop .v < maxVectors
-below c = let p = c .before .before .before .before .before .before .before .pre in omega (arith, c .loop-test .taken, p .0 .valid .few-states, p .1 .0 .0)
+abbrev of-best : tie.After-best-candidate Inv-loop μ-loop → tie.In-loop Inv-loop μ-loop
+of-best c = c .before .before .before
 
-seed-weights-requires : tie.Need-seed-weights-requires Inv-loop μ-loop
-seed-weights-requires c κs =
-    let s = c .before .before .before .before .before .before .before in
-    let a = s .args in (
-      (s .pre .0 .valid .few-states, omega (arith, c .loop-test .taken, s .pre .1 .0 .0)),
-      λ h. rows-stored (a .c .states) (c .before .loop .v - a .c .states) (a .points) (omega (arith, c .loop-test .taken)) (s .pre .1 .0 .1),
-    )
-
-best-candidate-requires : tie.Need-best-candidate-requires Inv-loop μ-loop
-best-candidate-requires c κs =
-    let s = c .before .before .before .before .before .before .before .before .before in
-    let a = s .args in
-    let made = c .before .seed-weights .ensures in (
-      s .pre .0,
-      record {
-        long = omega (arith, made .1, s .pre .0 .valid .few-states);
-        light = rw (total-cong (a .c .states) _ _ (made .0))
-            (seed-light (a .c .states) (a .points) (pointIn (a .c .states) (a .weights .now)) (s .pre .1 .1 .0) (c .before .before .before .loop .v)
-            (c .before .before .loop-test .taken));
-      },
-    )
-
--- where the best candidate was found, from each place after it
 abbrev of-row : tie.After-row Inv-loop μ-loop → tie.After-best-candidate Inv-loop μ-loop
 of-row c = c .before .before .before
 
@@ -62,63 +41,90 @@ of-choices c = of-row (c .before .before)
 abbrev of-entries : tie.After-paste-i64-arg Inv-loop μ-loop → tie.After-best-candidate Inv-loop μ-loop
 of-entries c = of-choices (c .before .before .before .before .before .before)
 
--- it is the turn's vector of the built level
+add-count : tie.Need-add-count Inv-loop μ-loop
+add-count c = let p = c .before .before .before .before .before .before .before .pre in omega (arith, p .0 .valid .few-states, p .1 .0 .0)
+
+all-requires : tie.Need-all-requires Inv-loop μ-loop
+all-requires c κs = let v = c .before .before .before .before .before .before .before .pre .0 .valid in (v .some-states, v .few-states)
+
+below : (c : tie.In-loop Inv-loop μ-loop) → c .before .loop .v < maxVectors
+below c = let p = start (c .before) .pre in omega (arith, c .loop-test .taken, p .0 .valid .few-states, p .1 .0 .0)
+
+seed-weights-requires : tie.Need-seed-weights-requires Inv-loop μ-loop
+seed-weights-requires c κs =
+    let s = start (c .before) in
+    let a = s .args in (
+      (s .pre .0 .valid .few-states, omega (arith, c .loop-test .taken, s .pre .1 .0 .0)),
+      λ h. rows-stored (a .c .states) (c .before .loop .v - a .c .states) (a .points) (omega (arith, c .loop-test .taken)) (s .pre .1 .0 .1),
+    )
+
+best-candidate-requires : tie.Need-best-candidate-requires Inv-loop μ-loop
+best-candidate-requires c κs =
+    let i = c .before .before in
+    let s = start (i .before) in
+    let a = s .args in
+    let made = c .before .seed-weights .ensures in (
+      s .pre .0,
+      record {
+        long = omega (arith, made .1, s .pre .0 .valid .few-states);
+        light = rw (total-cong (a .c .states) _ _ (made .0))
+            (seed-light (a .c .states) (a .points) (pointIn (a .c .states) (a .weights .now)) (s .pre .1 .1 .0) (i .before .loop .v) (i .loop-test .taken));
+      },
+    )
+
+-- the best candidate is the turn's vector of the built level
 made : (c : tie.After-best-candidate Inv-loop μ-loop)
-    → let a = c .before .before .before .before .before .before .before .before .before .before .args in
-    Made (a .c .states) (a .c .observations)
-    (W (a .c) (a .transition .now) (a .observation .now) (a .reward .now) (a .standing .now) (a .weights .now) (a .vectors) (a .points))
-    (c .before .before .before .before .loop .v)
-    (c .best-candidate .result)
+    → let l = of-best c .before in
+    let a = start l .args in
+    Made (a .c .states) (a .c .observations) (W (a .c) (a .transition .now) (a .observation .now) (a .reward .now) (a .covered .now) (a .standing .now)
+    (a .weights .now) (a .vectors) (a .points)) (l .loop .v) (c .best-candidate .result)
 made c =
-    let s = c .before .before .before .before .before .before .before .before .before .before in
-    vector-made (s .args .points) (pointIn (s .args .c .states) (s .args .weights .now)) (c .before .before .before .before .loop .v)
-    (c .before .before .seed-weights .result) (s .pre .0)
-    (c .before .before .seed-weights .ensures .0) (c .best-candidate .ensures)
+    let l = of-best c .before in
+    let s = start l in
+    let seeds = c .before .before .seed-weights in
+    vector-made (s .args .points) (pointIn (s .args .c .states) (s .args .weights .now)) (l .loop .v) (seeds .result) (s .pre .0) (seeds .ensures .0)
+    (c .best-candidate .ensures)
 
 -- there is room for its rows
 room : (c : tie.After-best-candidate Inv-loop μ-loop)
-    → let l = c .before .before .before .before in
-    let m = c .before .before .before .before .before .before .before .before .before .before .args .c in
-    Room (m .states) (m .observations) (l .loop .v) (l .loop .actions) (l .loop .choices) (l .loop .entries)
+    → let l = of-best c .before in
+    let m = start l .args .c in
+    Room (m .states) (m .observations) (l .loop .v) (l .loop .actions) (l .loop .choices) (l .loop .masks) (l .loop .entries)
 room c =
-    let l = c .before .before .before .before in
-    rows-room _ _ _ (c .before .before .before .before .before .before .before .before .before .before .pre .1 .1 .1) (l .loop .inv .1)
-    (c .before .before .before .loop-test .taken)
+    let i = of-best c in
+    rows-room _ _ _ (start (i .before) .pre .1 .1 .1) (i .before .loop .inv .1) (i .loop-test .taken)
 
 start-requires : tie.Need-start-requires Inv-loop μ-loop
-start-requires c κs = let b = of-choices c in (
-  omega (arith, below (b .before .before .before)),
-  omega (arith, b .before .before .before .before .before .before .before .before .before .before .pre .0 .valid .few-observations),
-)
+start-requires c κs =
+    let i = of-best (of-choices c) in
+    (omega (arith, below i), omega (arith, start (i .before) .pre .0 .valid .few-observations))
 
 paste-u16-requires : tie.Need-paste-u16-requires Inv-loop μ-loop
 paste-u16-requires c κs =
     let b = of-choices (c .before .before) in (
       rw (c .before .start .ensures) (room b .choices-fit),
-      omega (arith, made b .chosen-long, b .before .before .before .before .before .before .before .before .before .before .pre .0 .valid .few-observations),
+      omega (arith, made b .chosen-long, start (of-best b .before) .pre .0 .valid .few-observations),
     )
 
 start-requires-2 : tie.Need-start-requires-2 Inv-loop μ-loop
-start-requires-2 c κs = let b = of-entries c in (
-  omega (arith, below (b .before .before .before)),
-  b .before .before .before .before .before .before .before .before .before .before .pre .0 .valid .few-states,
-)
+start-requires-2 c κs = let i = of-best (of-entries c) in (omega (arith, below i), start (i .before) .pre .0 .valid .few-states)
 
 paste-i64-requires : tie.Need-paste-i64-requires Inv-loop μ-loop
 paste-i64-requires c κs =
     let b = of-entries (c .before .before) in (
       rw (c .before .start2 .ensures) (room b .entries-fit),
-      omega (arith, made b .entries-long, b .before .before .before .before .before .before .before .before .before .before .pre .0 .valid .few-states),
+      omega (arith, made b .entries-long, start (of-best b .before) .pre .0 .valid .few-states),
     )
 
 loop-again : tie.Need-loop-again Inv-loop μ-loop
 loop-again c =
     let b = of-entries (c .before .before .before .before) in
-    let l = b .before .before .before .before in
-    let s = b .before .before .before .before .before .before .before .before .before .before in (
-      omega (arith, b .before .before .before .loop-test .taken),
-      filled-more _ _ _ (s .pre .1 .1 .1) (l .loop .inv .1) (b .before .before .before .loop-test .taken) (made b) (s .pre .0 .valid .few-observations)
-          (s .pre .0 .valid .few-states) (c .before .before .before .before .before .before .before .before .before .before .before .number .ensures)
+    let i = of-best b in
+    let l = i .before in
+    let p = start l .pre in (
+      omega (arith, i .loop-test .taken),
+      filled-more _ _ _ (p .1 .1 .1) (l .loop .inv .1) (i .loop-test .taken) (made b) (p .0 .valid .few-observations) (p .0 .valid .few-states)
+          (c .before .before .before .before .before .before .before .before .before .before .before .number .ensures) (l .before .all .ensures)
           (rw (c .before .before .before .before .before .before .before .before .before .start .ensures) at
           (c .before .before .before .before .before .before .before .paste-u16 .ensures))
           (rw (c .before .before .before .start2 .ensures) at (c .before .paste-i64 .ensures)),
@@ -126,24 +132,25 @@ loop-again c =
 
 -- the slices are as long as they were
 long : (c : tie.After-loop Inv-loop μ-loop)
-    → let a = c .before .before .before .before .before .before .before .args in
+    → let a = start (c .before) .args in
     let l = c .before .loop in
-    VectorsAsLong (a .actions .now) (a .choices .now) (a .entries .now) (l .actions) (l .choices) (l .entries)
-long c = filled-long _ _ _ (c .before .before .before .before .before .before .before .pre .1 .1 .1) (c .before .loop .inv .1) (c .before .loop .inv .0)
+    VectorsAsLong (a .actions .now) (a .choices .now) (a .masks .now) (a .entries .now) (l .actions) (l .choices) (l .masks) (l .entries)
+long c = filled-long _ _ _ (start (c .before) .pre .1 .1 .1) (c .before .loop .inv .1) (c .before .loop .inv .0)
 
 returns : tie.Need-returns Inv-loop μ-loop
 returns c =
     let l = c .before in
-    let a = c .before .before .before .before .before .before .before .args in
+    let a = start l .args in
     let e : l .loop .v ≡ a .c .states + a .points = omega (arith, c .loop-test .left, l .loop .inv .0) in
     rw e at (l .loop .inv .1)
 
 pub build-vectors-spec : {M : Type 1} → statement M
 build-vectors-spec =
-    tie.close (tie.spec Inv-loop μ-loop add-count (λ c. (omega arith, filled-none _ _ _)) seed-weights-requires
+    tie.close (tie.spec Inv-loop μ-loop add-count all-requires (λ c. (omega arith, filled-none _ _ _)) seed-weights-requires
     (λ c. sym (c .before .seed-weights .ensures .1)) best-candidate-requires (λ c κs. made (of-row c) .action-in)
-    (λ c. room (of-row (c .before)) .actions-fit) start-requires (λ c. sym (made (of-choices (c .before .before)) .chosen-long)) paste-u16-requires
+    (λ c. room (of-row (c .before)) .actions-fit) (λ c. omega (arith, below (of-best (of-row (c .before))))) (λ c. room (of-row (c .before)) .masks-fit)
+    start-requires (λ c. sym (made (of-choices (c .before .before)) .chosen-long)) paste-u16-requires
     start-requires-2 (λ c. sym (made (of-entries (c .before .before)) .entries-long)) paste-i64-requires
-    (λ c. omega (arith, below (of-entries (c .before .before .before .before) .before .before .before)))
-    (λ c. omega (arith, of-entries (c .before .before .before .before) .before .before .before .loop-test .taken)) loop-again
-    (λ c. long c .actions-long) (λ c. long c .choices-long) (λ c. long c .entries-long) returns)
+    (λ c. omega (arith, below (of-best (of-entries (c .before .before .before .before)))))
+    (λ c. omega (arith, of-best (of-entries (c .before .before .before .before)) .loop-test .taken)) loop-again
+    (λ c. long c .actions-long) (λ c. long c .choices-long) (λ c. long c .masks-long) (λ c. long c .entries-long) returns)

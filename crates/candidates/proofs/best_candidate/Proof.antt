@@ -5,64 +5,76 @@ use Rattle.candidates.proofs.best_candidate.Statement.{statement}
 use Rattle.candidates.proofs.best_candidate.Tie as tie
 
 abbrev Inv-loop : tie.InvT-loop
-Inv-loop T O R entries p c count n actions action₀ best₀ most₀ a₀ action best most a =
-    ((1 ≤ a) × (a ≤ actions)) × Best-of c T O R entries count p a action best (toZ w64 most)
+Inv-loop T O R masks entries p c count n actions action₀ best₀ most₀ a₀ action best most a =
+    ((1 ≤ a) × (a ≤ actions)) × Best-of c T O R masks entries count p a action best (toZ w64 most)
 
 abbrev μ-loop : tie.MeasureT-loop
-μ-loop T O R entries p c count n actions action₀ best₀ most₀ a₀ action best most a = actions - a
+μ-loop T O R masks entries p c count n actions action₀ best₀ most₀ a₀ action best most a = actions - a
 
-asked : (c : tie.Start Inv-loop μ-loop)
-    → let a = c .args in Asked (a .c) (a .transition .now) (a .observation .now) (a .reward .now) (a .entries .now) (a .count) (a .p .now)
+-- from each place to the one before it
+abbrev start : tie.After-vector-for Inv-loop μ-loop → tie.Start Inv-loop μ-loop
+start c = c .before .before .before .before .before
+
+abbrev of-product : tie.After-product Inv-loop μ-loop → tie.After-vector-for Inv-loop μ-loop
+of-product c = c .before .before .before
+
+abbrev of-loop : tie.At-loop Inv-loop μ-loop → tie.Start Inv-loop μ-loop
+of-loop c = start (of-product (c .before))
+
+abbrev of-next : tie.After-vector-for2 Inv-loop μ-loop → tie.At-loop Inv-loop μ-loop
+of-next c = c .before .before
+
+abbrev of-product-2 : tie.After-product2 Inv-loop μ-loop → tie.After-vector-for2 Inv-loop μ-loop
+of-product-2 c = c .before .before .before
+
+asked : (c : tie.Start Inv-loop μ-loop) → let a = c .args in
+    Asked (a .c) (a .transition .now) (a .observation .now) (a .reward .now) (a .masks .now) (a .entries .now) (a .count) (a .p .now)
 asked c = record { upon = c .pre .0; light = c .pre .1 }
 
 vector-for-requires : tie.Need-vector-for-requires Inv-loop μ-loop
-vector-for-requires c κs = vector-fits (asked (c .before .before .before)) 0 (c .before .before .before .pre .0 .valid .some-actions)
+vector-for-requires c κs = let s = c .before .before .before .before in vector-fits (asked s) 0 (s .pre .0 .valid .some-actions)
 
 first-long : tie.Need-slice-aggregate-product Inv-loop μ-loop
-first-long c = sym (vector-long (asked (c .before .before .before .before .before .before)) 0 (c .before .before .vector-for .ensures))
+first-long c = let v = c .before .before in sym (vector-long (asked (start v)) 0 (v .vector-for .ensures))
 
 product-requires : tie.Need-product-requires Inv-loop μ-loop
-product-requires c κs = vector-product (asked (c .before .before .before .before .before .before)) 0 (c .before .before .vector-for .ensures)
-    (c .before .before .before .before .before .before .pre .0 .valid .some-actions)
+product-requires c κs =
+    let v = c .before .before in
+    vector-product (asked (start v)) 0 (v .vector-for .ensures) (start v .pre .0 .valid .some-actions)
 
 loop-holds : tie.Need-loop-holds Inv-loop μ-loop
-loop-holds c = (
-  (omega arith, c .before .before .before .before .before .before .before .pre .0 .valid .some-actions),
-  best-first (asked (c .before .before .before .before .before .before .before)) (c .before .before .before .vector-for .ensures)
-      (answer (c .product .ok) (c .product .ensures)),
-)
+loop-holds c =
+    let v = of-product c in (
+      (omega arith, start v .pre .0 .valid .some-actions),
+      best-first (asked (start v)) (v .vector-for .ensures) (answer (c .product .ok) (c .product .ensures)),
+    )
 
 vector-for-requires-2 : tie.Need-vector-for-requires-2 Inv-loop μ-loop
-vector-for-requires-2 c κs = vector-fits (asked (c .before .before .before .before .before .before .before .before .before)) (c .before .loop .a)
-    (c .loop-test .taken)
+vector-for-requires-2 c κs = vector-fits (asked (of-loop (c .before))) (c .before .loop .a) (c .loop-test .taken)
 
 next-long : tie.Need-slice-aggregate-product-2 Inv-loop μ-loop
-next-long c = sym (vector-long (asked (c .before .before .before .before .before .before .before .before .before .before .before .before))
-    (c .before .before .before .before .loop .a) (c .before .before .vector-for2 .ensures))
+next-long c = let v = c .before .before in sym (vector-long (asked (of-loop (of-next v))) (of-next v .loop .a) (v .vector-for2 .ensures))
 
 product-requires-2 : tie.Need-product-requires-2 Inv-loop μ-loop
-product-requires-2 c κs = vector-product (asked (c .before .before .before .before .before .before .before .before .before .before .before .before))
-    (c .before .before .before .before .loop .a) (c .before .before .vector-for2 .ensures) (c .before .before .before .loop-test .taken)
+product-requires-2 c κs =
+    let v = c .before .before in
+    vector-product (asked (of-loop (of-next v))) (of-next v .loop .a) (v .vector-for2 .ensures) (v .before .loop-test .taken)
 
 loop-again : tie.Need-loop-again Inv-loop μ-loop
 loop-again c =
-    let l = c .before .before .before .before .before .before in
-    let found = c .before .before .before .before .vector-for2 .ensures in
+    let v = of-product-2 (c .before) in
+    let so-far = of-next v .loop .inv .1 in
+    let found = v .vector-for2 .ensures in
     let here = answer (c .before .product2 .ok) (c .before .product2 .ensures) in (
-      (omega arith, omega (arith, c .before .before .before .before .before .loop-test .taken)),
+      (omega arith, omega (arith, v .before .loop-test .taken)),
       ⊎-elim
-          (λ w. best-larger (l .loop .inv .1) found here (w .0 .taken) (w .1) (w .2) (ap (toZ w64) (w .3)))
-          (λ w. best-not-larger (l .loop .inv .1) found here (w .0 .left) (w .1) (w .2) (ap (toZ w64) (w .3)))
+          (λ w. best-larger so-far found here (w .0 .taken) (w .1) (w .2) (ap (toZ w64) (w .3)))
+          (λ w. best-not-larger so-far found here (w .0 .left) (w .1) (w .2) (ap (toZ w64) (w .3)))
           (c .if1 .came),
     )
 
 pub best-candidate-spec : {M : Type 1} → statement M
 best-candidate-spec =
     tie.close (tie.spec Inv-loop μ-loop vector-for-requires first-long product-requires loop-holds vector-for-requires-2 next-long product-requires-2
-    (λ c. omega (
-      arith,
-      c .before .before .before .before .before .loop-test .taken,
-      c .before .before .before .before .before .before .before .before .before .before .before .before .before .before .pre .0 .valid .few-actions,
-    ))
-    (λ c. omega (arith, c .before .before .before .before .before .loop-test .taken)) loop-again
-    (λ c. best-found (c .before .loop .inv .1) (omega arith)))
+    (λ c. let v = of-product-2 (c .before) in omega (arith, v .before .loop-test .taken, of-loop (of-next v) .pre .0 .valid .few-actions))
+    (λ c. omega (arith, of-product-2 (c .before) .before .loop-test .taken)) loop-again (λ c. best-found (c .before .loop .inv .1) (omega arith)))

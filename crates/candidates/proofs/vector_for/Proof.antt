@@ -8,15 +8,25 @@ use Rattle.candidates.proofs.Candidates.{chosen-fit, candidate-made}
 use Rattle.candidates.proofs.vector_for.Statement.{statement}
 use Rattle.candidates.proofs.vector_for.Tie as tie
 
+-- from each place to the one before it
+abbrev start : tie.After-moved → tie.Start
+start c = c .before .before .before .before .before
+
+abbrev of-chosen : tie.After-choose → tie.After-moved
+of-chosen c = c .before .before
+
+abbrev of-foreseen : tie.After-foreseen → tie.After-choose
+of-foreseen c = c .before .before
+
 moved-requires : tie.Need-moved-requires
-moved-requires c κs = let p = c .before .before .before .pre in ((p .0 .0, p .0 .1 .1 .0), (weights-below (p .1 .1 .0), p .1 .1 .1 .0 .0))
+moved-requires c κs = let p = c .before .before .before .before .pre in ((p .0 .0, p .0 .1 .1 .0), (weights-below (p .1 .1 .0), p .1 .1 .1 .0 .0))
 
 moved-long : tie.Need-slice-aggregate-choose
-moved-long c = sym (rw (c .before .moved .ensures) (padded-length 0 maxStates _ _ (c .before .before .before .before .before .pre .0 .0)))
+moved-long c = sym (rw (c .before .moved .ensures) (padded-length 0 maxStates _ _ (start (c .before) .pre .0 .0)))
 
 choose-requires : tie.Need-choose-requires
 choose-requires c κs =
-    let p = c .before .before .before .before .before .pre in
+    let p = start (c .before) .pre in
     let fits = p .1 .1 .1 .0 in
     let moved = c .before .moved .ensures in (
       (p .0 .0, (p .0 .1 .0, (p .0 .1 .1 .0, p .1 .0))),
@@ -24,50 +34,50 @@ choose-requires c κs =
     )
 
 chosen-long : tie.Need-slice-aggregate-foreseen
-chosen-long c = sym (rw (c .before .choose .ensures) (padded-length 0 maxObservations _ _
-    (c .before .before .before .before .before .before .before .pre .0 .1 .0)))
+chosen-long c = sym (rw (c .before .choose .ensures) (padded-length 0 maxObservations _ _ (start (of-chosen (c .before)) .pre .0 .1 .0)))
 
 -- the vectors chosen are within the limits
-chosen-within : (c : tie.After-choose) → let a = c .before .before .before .before .before .before .args in ChosenFit (a .c .states) (a .c .observations)
-    (a .entries .now) (c .choose .result) 0
+chosen-within : (c : tie.After-choose) → let a = start (of-chosen c) .args in
+    ChosenFit (a .c .states) (a .c .observations) (a .masks .now) (a .entries .now) (c .choose .result) 0
 chosen-within c =
-    let a = c .before .before .before .before .before .before .args in
-    let p = c .before .before .before .before .before .before .pre in
-    chosen-fit (a .c .states) (a .c .observations) (a .observation .now) (c .before .before .moved .result) (a .entries .now) (a .count) (a .a .0)
-    (c .choose .ensures) (p .0 .1 .0) (p .1 .0) (p .1 .1 .1 .1 .1)
+    let a = start (of-chosen c) .args in
+    let p = start (of-chosen c) .pre in
+    chosen-fit (a .c .states) (a .c .observations) (a .observation .now) (of-chosen c .moved .result) (a .masks .now) (a .entries .now) (a .count) (a .a .0)
+    (c .choose .ensures) (p .0 .1 .0) (p .1 .0 .1) (p .1 .1 .1 .1 .1)
 
 foreseen-requires : tie.Need-foreseen-requires
 foreseen-requires c κs =
-    let p = c .before .before .before .before .before .before .before .pre in
+    let p = start (of-chosen (c .before)) .pre in
     ((p .0 .0, (p .0 .1 .0, p .0 .1 .1 .0)), (p .1 .1 .1 .0 .1 .0, chosen-within (c .before)))
 
 foreseen-long : tie.Need-slice-aggregate-rounded
-foreseen-long c = sym (rw (c .before .foreseen .ensures) (padded-length _ maxStates _ _
-    (c .before .before .before .before .before .before .before .before .before .pre .0 .0)))
+foreseen-long c = sym (rw (c .before .foreseen .ensures) (padded-length _ maxStates _ _ (start (of-chosen (of-foreseen (c .before))) .pre .0 .0)))
 
 rounded-requires : tie.Need-rounded-requires
 rounded-requires c κs =
-    let a = c .before .before .before .before .before .before .before .before .before .args in
-    let p = c .before .before .before .before .before .before .before .before .before .pre in
+    let chose = of-foreseen (c .before) in
+    let a = start (of-chosen chose) .args in
+    let p = start (of-chosen chose) .pre in
     let fits = p .1 .1 .1 .0 in (
       (p .0 .0, p .0 .1 .1),
       (
         fits .0,
         (
           fits .1 .1,
-          filled-within maxStates (foreseenIn (a .c .states) (a .c .observations) (a .observation .now) (a .entries .now)
-              (c .before .before .before .choose .result) 0 (a .a .0))
-              (c .before .foreseen .ensures) (p .0 .0) (λ s l. foreseen-limit (fits .1 .0) (chosen-within (c .before .before .before)) (p .0 .1 .0) l),
+          filled-within maxStates (foreseenIn (a .c .states) (a .c .observations) (a .observation .now) (a .masks .now) (a .entries .now)
+              (chose .choose .result) 0 (a .a .0))
+              (c .before .foreseen .ensures) (p .0 .0) (λ s l. foreseen-limit (fits .1 .0) (chosen-within chose) (p .0 .1 .0) l),
         ),
       ),
     )
 
 returns : tie.Need-returns
 returns c =
-    let a = c .before .before .before .before .before .before .before .before .before .before .args in
-    candidate-made (a .c) (a .a .0) (a .transition .now) (a .observation .now) (a .p .now) (a .reward .now) (a .entries .now) (a .count)
-    (c .before .before .before .before .before .before .moved .ensures) (c .before .before .before .before .choose .ensures)
-    (c .before .before .foreseen .ensures) (c .rounded .ensures)
+    let foresaw = c .before .before in
+    let chose = of-foreseen foresaw in
+    let a = start (of-chosen chose) .args in
+    candidate-made (a .c) (a .a .0) (a .transition .now) (a .observation .now) (a .p .now) (a .reward .now) (a .masks .now) (a .entries .now) (a .count)
+    (of-chosen chose .moved .ensures) (chose .choose .ensures) (foresaw .foreseen .ensures) (c .rounded .ensures)
 
 pub vector-for-spec : {M : Type 1} → statement M
 vector-for-spec = tie.close (tie.spec moved-requires moved-long choose-requires chosen-long foreseen-requires foreseen-long rounded-requires returns)
