@@ -74,8 +74,8 @@ fn build_vectors<'a>(
     requires { ⌜ RowsFit (c .states) (c .observations) (c .states + points) (now actions) (now choices) (now masks) (now entries) ⌝ }
     ensures { λ _. ⌜ Filled (c .states) (c .observations) (built (modelIn c (now (transition .entry)) (now (observation .entry))
         (now (reward .entry))) (uponIn c vectors (now (covered .entry)) (now (standing .entry))) points (pointIn (c .states) (now (weights .entry))))
-        (c .states + points) (now (actions .entry)) (now (choices .entry)) (now (masks .entry)) (now (entries .entry)) (now (actions .exit)) (now (choices .exit))
-        (now (masks .exit)) (now (entries .exit)) ⌝ }
+        (c .states + points) (now (actions .entry)) (now (choices .entry)) (now (masks .entry)) (now (entries .entry)) (now (actions .exit))
+        (now (choices .exit)) (now (masks .exit)) (now (entries .exit)) ⌝ }
 {
     let n = c.states;
     let k = c.observations;

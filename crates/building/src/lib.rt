@@ -8,11 +8,9 @@ ghost use lib.ListN.{length};
 ghost use Rattle.tables.specs.Limits.{maxLevels};
 ghost use Rattle.tables.specs.Storage.{tablesIn, modelOf};
 ghost use Rattle.tables.specs.Verdicts.{_before_, unless};
-ghost use Rattle.masks.specs.Masks.{maskOf};
-ghost use Rattle.masks.specs.Steps.{someIncludes};
 ghost use Rattle.plans.specs.Limits.{maxBuilt};
 ghost use Rattle.plans.specs.Build.{someCoversAll};
-ghost use Rattle.levels.specs.Storage.{LentLevel, Lent, cells, rows, lent, standingAt, pointIn, longEnough};
+ghost use Rattle.levels.specs.Storage.{LentLevel, Lent, cells, rows, lent, levelOf, standingAt, standingIn, pointIn, longEnough};
 ghost use Rattle.levels.specs.Judged.{holds, weightsVerdict};
 ghost use Rattle.runs.specs.State.{buildVerdict, builtOf};
 ghost use Rattle.runs.specs.Demand3.{ModelAccepted, after, steps, last, PointsHold, BuildHolds};
@@ -54,7 +52,7 @@ fn judge_build<'a, 'b>(
         before unless (leb count maxBuilt && (leb ((c .states + count) * c .observations) newchoices
         && longEnough (c .states) (c .states + count) count newactions newmasks newentries newcorners (length (now (given .entry))) newvalues)) 9 0
         before weightsVerdict (c .states) count (pointIn (c .states) (now (given .entry)))
-        before unless (someIncludes (now (masks .entry)) (standingAt (now (state .entry)) .vectors) (maskOf (c .states) (λ s. true))) 22 0)) ⌝ }
+        before unless (someCoversAll (modelOf m) (levelOf m (standingIn standing))) 22 0)) ⌝ }
 {
     if !standing::standing_holds(
         transition,

@@ -45,7 +45,9 @@ add-count : tie.Need-add-count Inv-loop μ-loop
 add-count c = let p = c .before .before .before .before .before .before .before .pre in omega (arith, p .0 .valid .few-states, p .1 .0 .0)
 
 all-requires : tie.Need-all-requires Inv-loop μ-loop
-all-requires c κs = let v = c .before .before .before .before .before .before .before .pre .0 .valid in (v .some-states, v .few-states)
+all-requires c κs =
+    let v = c .before .before .before .before .before .before .before .pre .0 .valid in
+    (omega (arith, v .some-states), omega (arith, v .few-states))
 
 below : (c : tie.In-loop Inv-loop μ-loop) → c .before .loop .v < maxVectors
 below c = let p = start (c .before) .pre in omega (arith, c .loop-test .taken, p .0 .valid .few-states, p .1 .0 .0)

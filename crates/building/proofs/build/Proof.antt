@@ -17,16 +17,16 @@ use Rattle.building.proofs.build.Tie as tie
 
 -- from each place to the one before it
 abbrev start : tie.After-judge-build → tie.Start
-start c = c .before .before .before .before .before .before .before .before .before
+start c = c .before .before .before .before .before .before .before .before .before .before .before
 
 abbrev of-verdict : tie.After-enum-told → tie.After-judge-build
 of-verdict c = c .before .before
 
 abbrev of-standing : tie.After-build-level → tie.After-standing-in
-of-standing c = c .before .before .before .before .before .before
+of-standing c = c .before .before .before .before .before .before .before
 
 abbrev of-level : tie.After-newvalues → tie.After-build-level
-of-level c = c .before .before .before .before .before .before .before
+of-level c = c .before .before .before .before .before .before .before .before .before
 
 -- what is lent
 abbrev tables : tie.Start → Tables
@@ -35,13 +35,13 @@ tables c = tablesIn (c .args .c) (c .args .transition .now) (c .args .observatio
 abbrev certifier : tie.Start → List ℕ → Lent
 certifier c choices =
     let a = c .args in
-    lent (a .state .now) (cells (a .actions .now) choices (a .entries .now) (a .corners .now) (a .weights .now) (a .values .now))
+    lent (a .state .now) (cells (a .actions .now) choices (a .masks .now) (a .entries .now) (a .corners .now) (a .weights .now) (a .values .now))
     (rows (a .informed .now) (a .qmdp .now))
 
 abbrev answer : tie.Start → Cells
 answer c =
     let a = c .args in
-    cells (a .newactions .now) (a .newchoices .now) (a .newentries .now) (a .newcorners .now) (a .given .now) (a .newvalues .now)
+    cells (a .newactions .now) (a .newchoices .now) (a .newmasks .now) (a .newentries .now) (a .newcorners .now) (a .given .now) (a .newvalues .now)
 
 said : (c : tie.After-judge-build) (choices : List ℕ)
     → let s = start c in c .judge-build .result ≡ buildVerdict (tables s) (certifier s choices) (s .args .count) (answer s)
@@ -64,8 +64,8 @@ level s choices = levelOf (tables s) (standingIn (certifier s choices))
 -- what is left in the slices
 abbrev left : (s : tie.Start) → tie.After-build-level → Cells
 left s c =
-    let l = c .build-level .last .1 .1 .1 .1 .1 .1 .1 .1 .1 .1 .1 .1 in
-    cells (l .0) (l .1 .0) (l .1 .1 .0) (l .1 .1 .1 .0) (s .args .given .now) (l .1 .1 .1 .1 .0)
+    let l = c .build-level .last .1 .1 .1 .1 .1 .1 .1 .1 .1 .1 .1 .1 .1 in
+    cells (l .0) (l .1 .0) (l .1 .1 .0) (l .1 .1 .1 .0) (l .1 .1 .1 .1 .0) (s .args .given .now) (l .1 .1 .1 .1 .1 .0)
 
 laid : (c : tie.After-build-level) (choices : List ℕ) → let s = start (of-verdict (of-standing c .before)) in
     left s c ≡ over (tables s) (builtFrom (tables s) (level s choices) (s .args .count) (answer s)) (answer s)
@@ -74,8 +74,8 @@ laid c choices =
     let a = s .args in
     let m = tables s in
     c .build-level .ensures
-    ∙ ap (λ (t : Standing). over m (built (modelOf m) (levelIn (a .c .states) (a .c .observations) (t .vectors) [] [] (a .entries .now) (a .corners .now)
-    (t .points) (a .weights .now) (a .values .now)) (a .count) (pointIn (a .c .states) (a .given .now))) (answer s)) (stands (of-standing c))
+    ∙ ap (λ (t : Standing). over m (built (modelOf m) (levelIn (a .c .states) (a .c .observations) (t .vectors) [] [] (a .masks .now) (a .entries .now)
+    (a .corners .now) (t .points) (a .weights .now) (a .values .now)) (a .count) (pointIn (a .c .states) (a .given .now))) (answer s)) (stands (of-standing c))
     ∙ ap (λ (W : Level). over m W (answer s))
     (built-read m (standingIn (certifier s choices)) (a .count) (pointIn (a .c .states) (a .given .now)))
 
@@ -94,7 +94,7 @@ standing-in-requires c κs = known c .standing .state-long
 
 build-level-requires : tie.Need-build-level-requires
 build-level-requires c κs =
-    let n = c .before .before .before .before .before in
+    let n = c .before .before .before .before .before .before in
     let b = known (n .before) in
     let s = start (of-verdict (n .before)) in
     let shaped = shaped-mono (modelOf (tables s)) (level s []) (numberIn (certifier s [])) topBuilt (omega (arith, b .room)) (b .standing .shaped) in
@@ -123,7 +123,9 @@ returns-2 c =
 pub build-spec : {M : Type 1} → statement M
 build-spec =
     tie.close (tie.spec (λ c κs. search needs) (λ c. search needs) (λ c. search needs) returns standing-in-requires build-level-requires
-    (λ c. of-level c .build-level .kept .1 .1 .1 .1 .1 .1 .1 .1 .1 .1 .1 .1 .0) (λ c. of-level c .build-level .kept .1 .1 .1 .1 .1 .1 .1 .1 .1 .1 .1 .1 .1 .0)
+    (λ c. of-level c .build-level .kept .1 .1 .1 .1 .1 .1 .1 .1 .1 .1 .1 .1 .1 .0)
     (λ c. of-level c .build-level .kept .1 .1 .1 .1 .1 .1 .1 .1 .1 .1 .1 .1 .1 .1 .0)
     (λ c. of-level c .build-level .kept .1 .1 .1 .1 .1 .1 .1 .1 .1 .1 .1 .1 .1 .1 .1 .0)
-    (λ c. of-level c .build-level .kept .1 .1 .1 .1 .1 .1 .1 .1 .1 .1 .1 .1 .1 .1 .1 .1 .0) returns-2)
+    (λ c. of-level c .build-level .kept .1 .1 .1 .1 .1 .1 .1 .1 .1 .1 .1 .1 .1 .1 .1 .1 .0)
+    (λ c. of-level c .build-level .kept .1 .1 .1 .1 .1 .1 .1 .1 .1 .1 .1 .1 .1 .1 .1 .1 .1 .0)
+    (λ c. of-level c .build-level .kept .1 .1 .1 .1 .1 .1 .1 .1 .1 .1 .1 .1 .1 .1 .1 .1 .1 .1 .0) returns-2)

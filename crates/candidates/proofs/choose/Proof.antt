@@ -21,7 +21,7 @@ abbrev start : tie.At-loop Inv-loop μ-loop → tie.Start Inv-loop μ-loop
 start c = c .before .before .before .before .before
 
 all-requires : tie.Need-all-requires Inv-loop μ-loop
-all-requires c κs = let p = c .before .before .before .pre in (p .0 .1 .1 .1 .0, p .0 .0)
+all-requires c κs = let p = c .before .before .before .pre .0 in (omega (arith, p .1 .1 .1 .0), omega (arith, p .0))
 
 weights-long : tie.Need-slice-aggregate-best-vector Inv-loop μ-loop
 weights-long c = sym (rw (c .before .successors .ensures) (padded-length 0 maxStates _ _ (start (c .before .before .before) .pre .0 .0)))
