@@ -29,6 +29,7 @@ use Rattle.ladder.specs.Start.{Alike}
 pub record Sized (x : Cells) : Type 0 where
   pub actions : maxStates + 1 ≡ length (x .actions)
   pub choices : (maxStates + 1) * maxObservations ≡ length (x .choices)
+  pub masks : maxStates + 1 ≡ length (x .masks)
   pub entries : (maxStates + 1) * maxStates ≡ length (x .entries)
   pub corners : maxStates ≡ length (x .corners)
   pub weights : maxStates ≡ length (x .weights)
@@ -46,6 +47,7 @@ pub sized-on : {x y : Cells} → Sized x → AsLong x y → Sized y
 sized-on h k = record {
   actions = h .actions ∙ sym (k .actions);
   choices = h .choices ∙ sym (k .choices);
+  masks = h .masks ∙ sym (k .masks);
   entries = h .entries ∙ sym (k .entries);
   corners = h .corners ∙ sym (k .corners);
   weights = h .weights ∙ sym (k .weights);
@@ -60,11 +62,11 @@ lent-on h s k f q =
 -- slices with that room, nothing but the weights written yet
 abbrev pub noneYet : List ℕ → Cells
 noneYet weights =
-    cells (replicate (maxStates + 1) 0) (replicate ((maxStates + 1) * maxObservations) 0) (replicate ((maxStates + 1) * maxStates) (pos 0))
-    (replicate maxStates (pos 0)) weights (replicate 1 (pos 0))
+    cells (replicate (maxStates + 1) 0) (replicate ((maxStates + 1) * maxObservations) 0) (replicate (maxStates + 1) 0)
+    (replicate ((maxStates + 1) * maxStates) (pos 0)) (replicate maxStates (pos 0)) weights (replicate 1 (pos 0))
 
 pub none-sized : (weights : List ℕ) → maxStates ≡ length weights → Sized (noneYet weights)
-none-sized weights long = record { actions = refl; choices = refl; entries = refl; corners = refl; weights = long; values = refl }
+none-sized weights long = record { actions = refl; choices = refl; masks = refl; entries = refl; corners = refl; weights = long; values = refl }
 
 -- a certifier's slices, nothing written yet
 abbrev pub fresh : Lent
@@ -86,6 +88,7 @@ module _ (m : Tables) (v : Valid (modelOf m)) where
         choices = omega (arith, choices, r .choices);
         read = record {
           actions = omega (arith, lv, r .actions);
+          masks = omega (arith, lv, r .masks);
           entries = omega (arith, entries, r .entries);
           corners = omega (arith, v .few-states, r .corners);
           weights = omega (arith, weights, r .weights);

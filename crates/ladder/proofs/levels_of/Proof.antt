@@ -16,48 +16,51 @@ abbrev levels : ℕ
 levels = 3
 
 abbrev Inv-loop : tie.InvT-loop
-Inv-loop tables given state₀ actions₀ choices₀ entries₀ corners₀ weights₀ values₀ informed₀ qmdp₀ newactions₀ newchoices₀ newentries₀ newcorners₀ newvalues₀
-    c t₀ state actions choices entries corners weights values informed qmdp newactions newchoices newentries newcorners newvalues t =
-    let z = lent state (cells actions choices entries corners weights values) (rows informed qmdp) in
-    let y = cells newactions newchoices newentries newcorners given newvalues in
+Inv-loop tables given state₀ actions₀ choices₀ masks₀ entries₀ corners₀ weights₀ values₀ informed₀ qmdp₀ newactions₀ newchoices₀ newmasks₀ newentries₀
+    newcorners₀ newvalues₀ c t₀ state actions choices masks entries corners weights values informed qmdp newactions newchoices newmasks newentries newcorners
+    newvalues t =
+    let z = lent state (cells actions choices masks entries corners weights values) (rows informed qmdp) in
+    let y = cells newactions newchoices newmasks newentries newcorners given newvalues in
     (t ≤ levels) × (Climbed t tables z y × (LentSized z × Sized y))
 
 abbrev μ-loop : tie.MeasureT-loop
-μ-loop tables given state₀ actions₀ choices₀ entries₀ corners₀ weights₀ values₀ informed₀ qmdp₀ newactions₀ newchoices₀ newentries₀ newcorners₀ newvalues₀
-    c t₀ state actions choices entries corners weights values informed qmdp newactions newchoices newentries newcorners newvalues t =
+μ-loop tables given state₀ actions₀ choices₀ masks₀ entries₀ corners₀ weights₀ values₀ informed₀ qmdp₀ newactions₀ newchoices₀ newmasks₀ newentries₀
+    newcorners₀ newvalues₀ c t₀ state actions choices masks entries corners weights values informed qmdp newactions newchoices newmasks newentries newcorners
+    newvalues t =
     levels - t
 
 -- from each place to the one before it
 abbrev start : tie.After-open Inv-loop μ-loop → tie.Start Inv-loop μ-loop
 start c =
     let d = c .before .before .before .before .before .before .before .before .before .before in
-    d .before .before .before .before .before .before .before
+    d .before .before .before .before .before .before .before .before
+
+abbrev of-open : tie.After-qmdp2 Inv-loop μ-loop → tie.After-open Inv-loop μ-loop
+of-open c = c .before .before .before .before .before .before .before .before
 
 abbrev of-opening : tie.After-served Inv-loop μ-loop → tie.After-open Inv-loop μ-loop
-of-opening c = c .before .before .before .before .before .before .before .before
+of-opening c = of-open (c .before)
 
-abbrev of-state : tie.After-state3 Inv-loop μ-loop → tie.At-loop Inv-loop μ-loop
-of-state c = c .before .before .before .before .before .before .before .before .before
+abbrev in-state : tie.After-state3 Inv-loop μ-loop → tie.In-loop Inv-loop μ-loop
+in-state c = c .before .before .before .before .before .before .before .before
 
-abbrev of-corners : tie.After-corners3 Inv-loop μ-loop → tie.At-loop Inv-loop μ-loop
-of-corners c = of-state (c .before .before .before .before)
+abbrev in-entries : tie.After-entries3 Inv-loop μ-loop → tie.In-loop Inv-loop μ-loop
+in-entries c = in-state (c .before .before .before .before)
 
-abbrev of-qmdp : tie.After-qmdp3 Inv-loop μ-loop → tie.At-loop Inv-loop μ-loop
-of-qmdp c = of-corners (c .before .before .before .before)
+abbrev in-informed : tie.After-informed3 Inv-loop μ-loop → tie.In-loop Inv-loop μ-loop
+in-informed c = in-entries (c .before .before .before .before)
 
-abbrev of-entries : tie.After-newentries Inv-loop μ-loop → tie.At-loop Inv-loop μ-loop
-of-entries c = of-qmdp (c .before .before .before .before)
+abbrev in-choices : tie.After-newchoices Inv-loop μ-loop → tie.In-loop Inv-loop μ-loop
+in-choices c = in-informed (c .before .before .before .before)
 
 abbrev in-loop : tie.After-newvalues Inv-loop μ-loop → tie.In-loop Inv-loop μ-loop
-in-loop c =
-    let d = c .before .before .before .before .before .before .before .before .before .before .before in
-    d .before .before .before .before .before .before .before .before .before .before .before
+in-loop c = in-choices (c .before .before .before .before)
 
 abbrev in-turn : tie.After-rung Inv-loop μ-loop → tie.In-loop Inv-loop μ-loop
 in-turn c = in-loop (c .before)
 
 abbrev of-rung : tie.After-newvalues2 Inv-loop μ-loop → tie.After-rung Inv-loop μ-loop
-of-rung c = c .before .before .before .before .before .before .before .before .before .before .before .before .before .before
+of-rung c = c .before .before .before .before .before .before .before .before .before .before .before .before .before .before .before .before
 
 -- the tables open in the program's own slices, and each level has room
 long : (s : tie.Start Inv-loop μ-loop) → Long (s .args .t1)
@@ -78,48 +81,58 @@ abbrev opened : tie.After-open Inv-loop μ-loop → Lent
 opened c =
     let l = c .«open» .last .1 .1 .1 .1 in
     let f = fresh .cells in
-    lent (l .0) (cells (l .1 .0) (l .1 .1 .0) (l .1 .1 .1 .0) (l .1 .1 .1 .1 .0) (f .weights) (f .values))
-    (rows (l .1 .1 .1 .1 .1 .1 .1 .0) (l .1 .1 .1 .1 .1 .1 .1 .1 .0))
+    let r = l .1 .1 .1 .1 in
+    lent (l .0) (cells (l .1 .0) (l .1 .1 .0) (l .1 .1 .1 .0) (r .0) (r .1 .0) (f .weights) (f .values)) (rows (r .1 .1 .1 .1 .0) (r .1 .1 .1 .1 .1 .0))
 
 opened-sized : (c : tie.After-open Inv-loop μ-loop) → LentSized (opened c)
 opened-sized c =
     let k = c .«open» .kept .1 .1 .1 .1 in
+    let r = k .1 .1 .1 .1 in
     let x : AsLong (fresh .cells) (opened c .cells) =
-    record { actions = k .1 .0; choices = k .1 .1 .0; entries = k .1 .1 .1 .0; corners = k .1 .1 .1 .1 .0; weights = refl; values = refl } in
-    lent-on fresh-sized (k .0) x (k .1 .1 .1 .1 .1 .1 .1 .0) (k .1 .1 .1 .1 .1 .1 .1 .1 .0)
+    record { actions = k .1 .0; choices = k .1 .1 .0; masks = k .1 .1 .1 .0; entries = r .0; corners = r .1 .0; weights = refl; values = refl } in
+    lent-on fresh-sized (k .0) x (r .1 .1 .1 .1 .0) (r .1 .1 .1 .1 .1 .0)
 
 abbrev climbed : tie.After-rung Inv-loop μ-loop → Lent
 climbed c =
     let l = c .rung .last .1 .1 .1 .1 .1 in
-    lent (l .0) (cells (l .1 .0) (l .1 .1 .0) (l .1 .1 .1 .0) (l .1 .1 .1 .1 .0) (l .1 .1 .1 .1 .1 .0) (l .1 .1 .1 .1 .1 .1 .0))
-    (rows (l .1 .1 .1 .1 .1 .1 .1 .0) (l .1 .1 .1 .1 .1 .1 .1 .1 .0))
+    let r = l .1 .1 .1 .1 in
+    lent (l .0) (cells (l .1 .0) (l .1 .1 .0) (l .1 .1 .1 .0) (r .0) (r .1 .0) (r .1 .1 .0) (r .1 .1 .1 .0)) (rows (r .1 .1 .1 .1 .0) (r .1 .1 .1 .1 .1 .0))
 
 abbrev built : tie.After-rung Inv-loop μ-loop → Cells
 built c =
-    let l = c .rung .last .1 .1 .1 .1 .1 .1 .1 .1 .1 .1 .1 .1 .1 .1 .1 in
-    cells (l .0) (l .1 .0) (l .1 .1 .0) (l .1 .1 .1 .0) (start (of-opening (in-turn c .before .before)) .args .t2) (l .1 .1 .1 .1 .0)
+    let l = c .rung .last .1 .1 .1 .1 .1 .1 .1 .1 .1 .1 .1 .1 .1 .1 .1 .1 in
+    cells (l .0) (l .1 .0) (l .1 .1 .0) (l .1 .1 .1 .0) (l .1 .1 .1 .1 .0) (start (of-opening (in-turn c .before .before)) .args .t2) (l .1 .1 .1 .1 .1 .0)
 
 climbed-sized : (c : tie.After-rung Inv-loop μ-loop) → LentSized (climbed c)
 climbed-sized c =
     let h = in-turn c .before .loop .inv .1 .1 .0 in
     let k = c .rung .kept .1 .1 .1 .1 .1 in
+    let r = k .1 .1 .1 .1 in
     lent-on h (k .0) record {
       actions = k .1 .0;
       choices = k .1 .1 .0;
-      entries = k .1 .1 .1 .0;
-      corners = k .1 .1 .1 .1 .0;
-      weights = k .1 .1 .1 .1 .1 .0;
-      values = k .1 .1 .1 .1 .1 .1 .0;
-    } (k .1 .1 .1 .1 .1 .1 .1 .0) (k .1 .1 .1 .1 .1 .1 .1 .1 .0)
+      masks = k .1 .1 .1 .0;
+      entries = r .0;
+      corners = r .1 .0;
+      weights = r .1 .1 .0;
+      values = r .1 .1 .1 .0;
+    } (r .1 .1 .1 .1 .0) (r .1 .1 .1 .1 .1 .0)
 
 built-sized : (c : tie.After-rung Inv-loop μ-loop) → Sized (built c)
 built-sized c =
-    let k = c .rung .kept .1 .1 .1 .1 .1 .1 .1 .1 .1 .1 .1 .1 .1 .1 .1 in
-    sized-on (in-turn c .before .loop .inv .1 .1 .1)
-    record { actions = k .0; choices = k .1 .0; entries = k .1 .1 .0; corners = k .1 .1 .1 .0; weights = refl; values = k .1 .1 .1 .1 .0 }
+    let k = c .rung .kept .1 .1 .1 .1 .1 .1 .1 .1 .1 .1 .1 .1 .1 .1 .1 .1 in
+    sized-on (in-turn c .before .loop .inv .1 .1 .1) record {
+      actions = k .0;
+      choices = k .1 .0;
+      masks = k .1 .1 .0;
+      entries = k .1 .1 .1 .0;
+      corners = k .1 .1 .1 .1 .0;
+      weights = refl;
+      values = k .1 .1 .1 .1 .1 .0;
+    }
 
 served-requires : tie.Need-served-requires Inv-loop μ-loop
-served-requires c κs = let o = c .before .before .before .before .before .before .before in o .«open» .ensures .0 ∙ opens (start o)
+served-requires c κs = let o = of-open c in o .«open» .ensures .0 ∙ opens (start o)
 
 loop-holds : tie.Need-loop-holds Inv-loop μ-loop
 loop-holds c =
@@ -145,14 +158,17 @@ loop-again c =
 pub levels-of-spec : {M : Type 1} → statement M
 levels-of-spec =
     tie.close (tie.spec Inv-loop μ-loop
-    (λ c. refl) (λ c. refl) (λ c. refl) (λ c. refl) (λ c. refl) (λ c. refl) (λ c. refl) (λ c. refl) (λ c. refl) (λ c κs. search needs)
-    served-requires loop-holds (λ c. of-state c .loop .inv .1 .1 .0 .state) (λ c. of-state (c .before) .loop .inv .1 .1 .0 .cells .actions)
-    (λ c. of-state (c .before .before) .loop .inv .1 .1 .0 .cells .choices) (λ c. of-state (c .before .before .before) .loop .inv .1 .1 .0 .cells .entries)
-    (λ c. of-corners c .loop .inv .1 .1 .0 .cells .corners) (λ c. of-corners (c .before) .loop .inv .1 .1 .0 .cells .weights)
-    (λ c. of-corners (c .before .before) .loop .inv .1 .1 .0 .cells .values) (λ c. of-corners (c .before .before .before) .loop .inv .1 .1 .0 .informed)
-    (λ c. of-qmdp c .loop .inv .1 .1 .0 .qmdp) (λ c. of-qmdp (c .before) .loop .inv .1 .1 .1 .weights)
-    (λ c. of-qmdp (c .before .before) .loop .inv .1 .1 .1 .actions) (λ c. of-qmdp (c .before .before .before) .loop .inv .1 .1 .1 .choices)
-    (λ c. of-entries c .loop .inv .1 .1 .1 .entries) (λ c. of-entries (c .before) .loop .inv .1 .1 .1 .corners)
-    (λ c. of-entries (c .before .before) .loop .inv .1 .1 .1 .values) rung-requires (λ c. omega (arith, in-turn (of-rung c) .loop-test .taken))
-    print-totals-requires (λ c. search needs) (λ c. omega (arith, in-turn (of-rung (c .before .before)) .loop-test .taken))
+    (λ c. refl) (λ c. refl) (λ c. refl) (λ c. refl) (λ c. refl) (λ c. refl) (λ c. refl) (λ c. refl) (λ c. refl) (λ c. refl) (λ c κs. search needs)
+    served-requires loop-holds (λ c. in-state c .before .loop .inv .1 .1 .0 .state) (λ c. in-state (c .before) .before .loop .inv .1 .1 .0 .cells .actions)
+    (λ c. in-state (c .before .before) .before .loop .inv .1 .1 .0 .cells .choices)
+    (λ c. in-state (c .before .before .before) .before .loop .inv .1 .1 .0 .cells .masks) (λ c. in-entries c .before .loop .inv .1 .1 .0 .cells .entries)
+    (λ c. in-entries (c .before) .before .loop .inv .1 .1 .0 .cells .corners)
+    (λ c. in-entries (c .before .before) .before .loop .inv .1 .1 .0 .cells .weights)
+    (λ c. in-entries (c .before .before .before) .before .loop .inv .1 .1 .0 .cells .values) (λ c. in-informed c .before .loop .inv .1 .1 .0 .informed)
+    (λ c. in-informed (c .before) .before .loop .inv .1 .1 .0 .qmdp) (λ c. in-informed (c .before .before) .before .loop .inv .1 .1 .1 .weights)
+    (λ c. in-informed (c .before .before .before) .before .loop .inv .1 .1 .1 .actions) (λ c. in-choices c .before .loop .inv .1 .1 .1 .choices)
+    (λ c. in-choices (c .before) .before .loop .inv .1 .1 .1 .masks) (λ c. in-choices (c .before .before) .before .loop .inv .1 .1 .1 .entries)
+    (λ c. in-choices (c .before .before .before) .before .loop .inv .1 .1 .1 .corners) (λ c. in-loop c .before .loop .inv .1 .1 .1 .values) rung-requires
+    (λ c. omega (arith, in-turn (of-rung c) .loop-test .taken)) print-totals-requires (λ c. search needs)
+    (λ c. omega (arith, in-turn (of-rung (c .before .before)) .loop-test .taken))
     (λ c. omega (arith, in-turn (of-rung (c .before .before)) .loop-test .taken)) loop-again (λ c. search needs))
