@@ -7,7 +7,7 @@ use Rattle.exports_lists.proofs.biidhaqun_replay.Tie as tie
 
 -- where the call answered
 abbrev called : tie.After-refusal-of → tie.After-replay
-called c = c .before .before .before .before .before .before .before .before .before .before .before .before .before .before
+called c = c .before .before .before .before .before .before .before .before .before .before .before .before .before .before .before .before
 
 returns : tie.Need-returns
 unfolding replayAnswer
@@ -23,4 +23,5 @@ biidhaqun-replay-spec =
     (λ c. called c .replay .kept .1 .1 .1 .1 .0) (λ c. called c .replay .kept .1 .1 .1 .1 .1 .0) (λ c. called c .replay .kept .1 .1 .1 .1 .1 .1 .0)
     (λ c. called c .replay .kept .1 .1 .1 .1 .1 .1 .1 .0) (λ c. called c .replay .kept .1 .1 .1 .1 .1 .1 .1 .1 .0)
     (λ c. called c .replay .kept .1 .1 .1 .1 .1 .1 .1 .1 .1 .0) (λ c. called c .replay .kept .1 .1 .1 .1 .1 .1 .1 .1 .1 .1 .0)
-    (λ c. called c .replay .kept .1 .1 .1 .1 .1 .1 .1 .1 .1 .1 .1 .0) (λ c. called c .replay .kept .1 .1 .1 .1 .1 .1 .1 .1 .1 .1 .1 .1 .0) returns)
+    (λ c. called c .replay .kept .1 .1 .1 .1 .1 .1 .1 .1 .1 .1 .1 .0) (λ c. called c .replay .kept .1 .1 .1 .1 .1 .1 .1 .1 .1 .1 .1 .1 .0)
+    (λ c. called c .replay .kept .1 .1 .1 .1 .1 .1 .1 .1 .1 .1 .1 .1 .1 .0) returns)
