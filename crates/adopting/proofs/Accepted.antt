@@ -5,11 +5,11 @@
 --   size-first, ..  the order of 1, 7, and 19 with 20
 --   adopt-holds     the certifier accepts it, and decimals within their backups are kept
 use Rattle.integers.proofs.Kit.{_≡_, _∙_, ap, _&&_, List, ℕ, _≤_, _<_, _+_, _*_, arith, add-one, le-leb, leb-true, lt-ltb, ltb-true, leb, length, ℤ}
-use Rattle.integers.proofs.Kit.{refl, Bool, true, false, ne-eqb, natAbs}
+use Rattle.integers.proofs.Kit.{refl, Bool, true, false, natAbs}
 use Rattle.integers.specs.Whole.{totalTo}
 use Rattle.integers.proofs.Order.{≤-trans, ·-mono, lesser-right, lesser-is}
 use Rattle.integers.proofs.Rounding.{floor-≤}
-use Rattle.integers.proofs.Searches.{and-true, and-is, every-at, at-every}
+use Rattle.integers.proofs.Searches.{and-true, and-is, at-every}
 use Rattle.tables.specs.declared.Tables.{Tables}
 use Rattle.tables.specs.declared.Verdict.the-variants.{Fine, Refused}
 use Rattle.tables.specs.Limits.{K, maxVectors, maxLevels}
@@ -17,7 +17,7 @@ use Rattle.tables.specs.Model.{Model, Valid, backedUp}
 use Rattle.tables.specs.Storage.{modelOf}
 use Rattle.tables.specs.Verdicts.{_before_, unless}
 use Rattle.tables.specs.Judged.{countWithin}
-use Rattle.tables.proofs.Refusals.{before-fine, unless-fine, fine-at}
+use Rattle.tables.proofs.Refusals.{before-fine, unless-fine}
 use Rattle.plans.specs.Limits.{maxPoints, maxBuilt, range}
 use Rattle.plans.specs.Level.{Level, corner-weight, Meets, Shaped}
 use Rattle.plans.specs.Build.{leastValue}
@@ -26,10 +26,10 @@ use Rattle.plans.proofs.Built.{K-positive, value-meets, value-range}
 use Rattle.plans.proofs.Agreement.{shaped-agree, meets-agree}
 use Rattle.levels.specs.Storage.{Cells, Lent, levelOf, over, numberIn, standingIn}
 use Rattle.levels.specs.Judged.{holds, masksVerdict, rowsWithin, valuesWithin}
-use Rattle.levels.proofs.Laws.{fine-before, numbers-in}
+use Rattle.levels.proofs.Laws.{fine-before, numbers-in, masks-in}
 use Rattle.levels.proofs.Over.{Complete, complete-true, complete-long, covers-elsewhere, over-agree, over-long}
 use Rattle.runs.proofs.Judged.{Held, rows-is, values-is, tests-shaped, standing-true, accepts}
-use Rattle.solver.specs.Files.{maxFile, vectorsIn, actionAt, filesVerdict}
+use Rattle.solver.specs.Files.{maxFile, vectorsIn, filesVerdict}
 use Rattle.solved.specs.Solved.{solved}
 use Rattle.adopting.specs.Adopt.{solvedFrom, adoptedLevel, adoptFits, adoptVerdict, adopted}
 use Rattle.adopting.specs.Claim.{AdoptHolds}
@@ -65,16 +65,12 @@ pub solved-meets : (M : Model) (t : ℕ) (L : Level) (alphaFile graphFile : List
     → let W = solved M t L alphaFile graphFile points weight in
     ((v : ℕ) → v < W .vectors → (W .action v < M .actions) × ((o : ℕ) → o < M .observations → W .choice v o < L .vectors))
     → masksVerdict M L W ≡ Fine → Meets M L W
-unfolding solved backedUp masksVerdict
+unfolding solved backedUp
 solved-meets M t L alphaFile graphFile points weight exist reached = record {
   vector = λ v l. record {
     action-exists = exist v l .0;
     choice-exists = exist v l .1;
-    reached-covered = λ s b c o k s' b' above.
-        let from = every-at (M .states) _ (unless-fine _ 21 v (fine-at _ (vectorsIn (M .states) alphaFile) reached v l)) s b in
-        let to = every-at (M .states) _ (every-at (M .observations) _ from o k) s' b' in
-        let a = actionAt (M .states) alphaFile v in
-        rw (ne-eqb (M .transition s a s' * M .observation a s' o) 0 (λ e. omega (arith, above))) at to;
+    reached-covered = masks-in M L (solved M t L alphaFile graphFile points weight) reached v l;
     entry-holds = λ s b c. ≤-trans (·-mono K (lesser-right _ _)) (floor-≤ K K-positive _);
   };
   corner = λ s l a la. value-meets M L (corner-weight s) a la;

@@ -1,10 +1,8 @@
 -- The calls of a certifier that climbs refuse nothing: demand 3 over the list of levels that it was offered. Assumes nothing.
-use Rattle.integers.proofs.Kit.{_≡_, _∙_, refl, ap, sym, subst, true, Bool, List, [], _∷_, ℕ, _≤_, _<_, _+_, _*_, suc, zero, arith, add-zero}
+use Rattle.integers.proofs.Kit.{_≡_, _∙_, refl, ap, sym, subst, true, List, [], _∷_, ℕ, _≤_, _<_, _+_, _*_, arith, add-zero}
 use Rattle.integers.proofs.Kit.{le-leb, lt-ltb, length}
 use mathlib.Core.List.{_++_}
 use Rattle.integers.specs.Whole.{totalTo}
-use Rattle.integers.specs.Search.{some}
-use Rattle.integers.proofs.Parts.{is-T}
 use Rattle.integers.proofs.Searches.{and-is, at-every, some-at}
 use Rattle.integers.proofs.Sums.{total-part}
 use Rattle.tables.specs.declared.Tables.{Tables}
@@ -46,11 +44,6 @@ last-more m L x (k ∷ ls) l = last-more m (newer (offerVerdict m x k) (levelOf 
 covers-some : (M : Model) (W : Level) → 0 < W .vectors → ((v s : ℕ) → W .covers v s ≡ true) → someCoversAll M W ≡ true
 unfolding coversAll
 covers-some M W one all = some-at (W .vectors) _ 0 one (at-every (M .states) (W .covers 0) (λ s l. all 0 s))
-
-some-index : (n : ℕ) (p : ℕ → Bool) → some n p ≡ true → 0 < n
-unfolding some
-some-index zero p h = absurd (is-T h)
-some-index (suc n) p h = omega arith
 
 -- ---- a mixture that is a point
 mixture-holds : (n : ℕ) (b : List ℕ) → n ≤ length b → IsPoint n (weightIn b) → mixtureHolds n b ≡ true
@@ -140,5 +133,5 @@ module _ {t : ℕ} {m : Tables} {z : Lent} {y : Cells} (k : Climbed t m z y) whe
       let point = point-weights (m .states) (λ s l. sym (first-point (m .states) (y .weights) 0 s (let h : 0 < 1 = omega arith in h)))
       (k .points .total 0 (let h : 0 < 1 = omega arith in h)) in
       let mixture = mixture-holds (m .states) (y .weights) (omega (arith, room .read .weights)) point in
-      let counts = some-covers-counts (modelOf m) (last m (k .first) (k .offers)) (some-index _ _ (k .covers)) (k .covers) (weightIn (y .weights)) in
+      let counts = some-covers-counts (modelOf m) (last m (k .first) (k .offers)) (k .covers) (weightIn (y .weights)) in
       rw (k .left) (demand3 m (k .first) (k .opens) (k .offers) .totals (rw (k .accepted) some) (y .weights) (mixture, counts) .given)

@@ -73,6 +73,11 @@ some-at (suc n) p i l e = by (decLt i n) (λ h. some-at n p i h e)
     by (yes h) r = rw (r h) refl
     by (no h) r = let same : n ≡ i = omega arith in rw (same, e) (or-true (some i p))
 
+pub some-index : (n : ℕ) (p : ℕ → Bool) → some n p ≡ true → 0 < n
+unfolding some
+some-index zero p h = absurd (is-T h)
+some-index (suc n) p h = omega arith
+
 pub some-none : (n : ℕ) (p : ℕ → Bool) → ((i : ℕ) → i < n → p i ≡ false) → some n p ≡ false
 unfolding some
 some-none zero p h = refl

@@ -1,10 +1,10 @@
 -- Only the parts below the counts are read: levels that agree there meet the same inequalities, have the same limits, ceilings and totals, and weights
 -- that agree there have the same ceilings and backups. Assumes nothing.
-use Rattle.integers.proofs.Kit.{_≡_, _∙_, refl, ap, true, Bool, _||_, ℕ, _<_, _*_, suc, zero, arith, eqb, ne-eqb, ℤ, pos, _+ℤ_, negsuc, _-ℤ_}
+use Rattle.integers.proofs.Kit.{_≡_, _∙_, refl, ap, true, Bool, _||_, ℕ, _<_, suc, zero, arith, eqb, ne-eqb, ℤ, pos, _+ℤ_, negsuc, _-ℤ_}
 use Rattle.integers.specs.Whole.{_·_, sumTo, totalTo, largestTo}
 use Rattle.integers.specs.Search.{some, firstLargestOf}
 use Rattle.integers.proofs.Sums.{sum-cong, total-cong, largestTo-cong}
-use Rattle.integers.proofs.Searches.{or-true, every-at, at-every, every-cong, some-at, some-cong, of-in, of-some, of-cong}
+use Rattle.integers.proofs.Searches.{or-true, every-at, at-every, every-cong, some-at, some-index, some-cong, of-in, of-some, of-cong}
 use Rattle.tables.specs.Limits.{K}
 use Rattle.tables.specs.Model.{Model, successor, expectedReward, backup}
 use Rattle.plans.specs.Level.{Level, coversAll, counts, product, smallest, orNone, drop, gain, ceiling, backupAt, corner-weight, follows}
@@ -33,10 +33,10 @@ pub all-counts : (n : ℕ) (L : Level) (b : ℕ → ℕ) (v : ℕ) → coversAll
 unfolding coversAll counts
 all-counts n L b v h = at-every n _ (λ s l. rw (every-at n (L .covers v) h s l) (or-true (eqb (b s) 0)))
 
-pub some-covers-counts : (M : Model) (L : Level) → 0 < L .vectors → someCoversAll M L ≡ true → (b : ℕ → ℕ) → someCounts M L b ≡ true
-some-covers-counts M L one h b =
+pub some-covers-counts : (M : Model) (L : Level) → someCoversAll M L ≡ true → (b : ℕ → ℕ) → someCounts M L b ≡ true
+some-covers-counts M L h b =
     let v = firstLargestOf (L .vectors) (coversAll (M .states) L) (λ v. pos 0) in
-    some-at (L .vectors) _ v (of-in _ _ _ one) (all-counts (M .states) L b v (of-some _ _ _ h))
+    some-at (L .vectors) _ v (of-in _ _ _ (some-index _ _ h)) (all-counts (M .states) L b v (of-some _ _ _ h))
 
 -- ---- products, drops and ceilings
 pub product-cong : (n : ℕ) (q q' : ℕ → ℕ) (e e' : ℕ → ℤ) → ((s : ℕ) → s < n → q s ≡ q' s) → ((s : ℕ) → s < n → e s ≡ e' s)

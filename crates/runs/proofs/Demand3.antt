@@ -16,10 +16,10 @@ use Rattle.tables.specs.Limits.{maxVectors, maxLevels}
 use Rattle.plans.specs.Level.{Level, level0, Agree, ceiling}
 use Rattle.plans.specs.Build.{someCoversAll, built}
 use Rattle.plans.specs.Rows.{bestRow, informed, qmdp, informedNext, qmdpNext}
-use Rattle.plans.specs.Totals.{someCounts, best, lower, upper, advice}
+use Rattle.plans.specs.Totals.{someCounts, lower, upper, advice}
 use Rattle.plans.proofs.Certified.{Certified}
 use Rattle.plans.proofs.Bracket.{certified-0, certified-next, bracket}
-use Rattle.plans.proofs.Agreement.{shaped-agree, meets-agree, meets-below, some-counts-agree, some-covers-all-agree, lower-agree, ceiling-agree, advice-agree}
+use Rattle.plans.proofs.Agreement.{shaped-agree, meets-below, some-counts-agree, some-covers-all-agree, lower-agree, ceiling-agree, advice-agree}
 use Rattle.plans.proofs.Built.{built-shaped, built-meets, level0-shaped}
 use Rattle.plans.proofs.Rebuilt.{built-same}
 use Rattle.plans.proofs.Rows.{rows-certified, rows-roof, informed-range, qmdp-range, bestRow-cong, informed-cong, qmdp-cong}
@@ -27,7 +27,7 @@ use Rattle.levels.specs.Storage.{Cells, LentLevel, Lent, rows, stateSize, level
 use Rattle.levels.specs.Storage.{informedIn, qmdpIn}
 use Rattle.levels.specs.Judged.{holds}
 use Rattle.levels.proofs.Laws.{passed, fine-before}
-use Rattle.levels.proofs.Over.{read-elsewhere, covers-elsewhere, Complete, AsLong, as-long, long-long, complete-true, complete-is, complete-long}
+use Rattle.levels.proofs.Over.{read-elsewhere, covers-elsewhere, Complete, AsLong, long-long, complete-true, complete-is, complete-long}
 use Rattle.levels.proofs.Over.{over-agree, over-long, over-same}
 use Rattle.levels.proofs.Over.{informed-over, qmdp-over, informed-long, qmdp-long}
 use Rattle.runs.specs.declared.Bounds.{Bounds}

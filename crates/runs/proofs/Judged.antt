@@ -21,8 +21,8 @@ use Rattle.plans.specs.Level.{Level, backupAt, corner-weight, follows, Meets, S
 use Rattle.levels.specs.Judged.{countsHold, rowsWithin, totalHolds, valuesWithin, rangesVerdict, weightsVerdict, actionsExist, isFine}
 use Rattle.levels.specs.Judged.{numbersIn, numbersVerdict, masksVerdict, floorsVerdict, coversBackups, cornersVerdict, pointsVerdict, levelVerdict}
 use Rattle.levels.specs.Judged.{rowsHold, holdsUpTo, fits, shapeUpTo, backupsVerdict, offerUpTo}
-use Rattle.levels.specs.Storage.{LentLevel, Lent, stateSize, levelOf, readable, complete, numberIn, standingIn, lentFor}
-use Rattle.levels.proofs.Laws.{passed, fine-before, numbers-in}
+use Rattle.levels.specs.Storage.{LentLevel, Lent, stateSize, levelOf, numberIn, standingIn, lentFor}
+use Rattle.levels.proofs.Laws.{passed, fine-before, only-if, numbers-in, masks-in}
 use Rattle.levels.proofs.Over.{Readable, Complete, readable-true, readable-is, complete-true, complete-is}
 
 -- ---- one test
@@ -52,9 +52,6 @@ zero-or zero b h = refl
 zero-or (suc n) b h = rw (ne-eqb (suc n) 0 (λ e. omega arith)) (h (omega arith))
 
 -- a number that is not passed over
-only-if : (a b : Bool) → (not a || b) ≡ true → a ≡ true → b ≡ true
-only-if a b e h = rw h at e
-
 if-so : (a b : Bool) → b ≡ true → (not a || b) ≡ true
 if-so a b e = if-covered a b (λ h. e)
 
@@ -229,15 +226,6 @@ module _ (most : ℕ) (m : Tables) (x : Lent) where
         → (v : ℕ) → v < W .vectors → (W .action v < M .actions) × ((o : ℕ) → o < M .observations → W .choice v o < L .vectors)
     numbers-fine e = numbers-in 10 (W .vectors) (M .actions) (M .observations) (L .vectors) (W .action) (W .choice) e
 
-    masks-fine : masksVerdict M L W ≡ Fine → (v : ℕ) → v < W .vectors → (s : ℕ) → s < M .states → W .covers v s ≡ true
-        → (o : ℕ) → o < M .observations → (s' : ℕ) → s' < M .states → 0 < M .transition s (W .action v) s' * M .observation (W .action v) s' o
-        → L .covers (W .choice v o) s' ≡ true
-    unfolding masksVerdict
-    masks-fine e v l s b c o k s' b' above =
-        let from = only-if (W .covers v s) _ (every-at (M .states) _ (unless-fine _ 21 v (fine-at _ (W .vectors) e v l)) s b) c in
-        let to = every-at (M .states) _ (every-at (M .observations) _ from o k) s' b' in
-        rw (ne-eqb (M .transition s (W .action v) s' * M .observation (W .action v) s' o) 0 (λ z. omega arith)) at to
-
     floors-fine : floorsVerdict M L W ≡ Fine → (v : ℕ) → v < W .vectors → (s : ℕ) → s < M .states → W .covers v s ≡ true
         → K · W .entry v s ≤ℤ backup M (W .action v) (follows L (W .choice v)) s
     unfolding floorsVerdict
@@ -300,7 +288,7 @@ module _ (most : ℕ) (m : Tables) (x : Lent) where
             vector = λ v b. record {
               action-exists = f .shaped .action-in v b;
               choice-exists = f .chosen v b;
-              reached-covered = masks-fine (e13 .0) v b;
+              reached-covered = masks-in M L W (e13 .0) v b;
               entry-holds = floors-fine (e14 .0) v b;
             };
             corner = corners-fine (e15 .0);

@@ -1,6 +1,6 @@
 -- Vectors that cover part of the states, by example, in the dough model: what 21 and 22 say, in their order, and what is stored. The prover computes the
 -- definitions that the contracts name. Assumes nothing.
-use Rattle.integers.proofs.Kit.{_≡_, refl, List, [], _∷_, ℕ, replicate, ℤ, pos, negsuc}
+use Rattle.integers.proofs.Kit.{_≡_, refl, [], _∷_, ℕ, replicate, ℤ, pos, negsuc}
 use Rattle.integers.specs.Whole.{_·_, sumTo, totalTo, largestTo, lesser, ceilDiv, floorDiv}
 use Rattle.integers.specs.Search.{every, some, firstLargestOf}
 use Rattle.integers.specs.Cells.{listed, laid, laidRows}
@@ -14,7 +14,7 @@ use Rattle.plans.specs.Limits.{range}
 use Rattle.plans.specs.Level.{coversAll, counts, product, joined, smallest, orNone, drop, gain, ceiling, backupAt, corner-weight, follows}
 use Rattle.plans.specs.Rows.{highest, bestRow, informedBackup, informedNext, qmdpBackup, qmdpNext}
 use Rattle.plans.specs.Totals.{best, lower, upper, advice}
-use Rattle.levels.specs.Storage.{Cells, LentLevel, Lent, lentFor, over}
+use Rattle.levels.specs.Storage.{LentLevel, Lent, lentFor, over}
 use Rattle.levels.specs.Judged.{rowsWithin, valuesWithin, rangesVerdict, weightsVerdict, holdsUpTo, numbersIn, floorsVerdict, cornersVerdict, pointsVerdict}
 use Rattle.levels.specs.Judged.{masksVerdict, levelVerdict, shapeUpTo, backupsVerdict, offerUpTo, offerVerdict}
 use Rattle.runs.specs.State.{offered, totalsVerdict, totalsOf, buildVerdict}

@@ -16,10 +16,10 @@ use Rattle.plans.specs.Named.{named}
 use Rattle.plans.proofs.Agreement.{backup-cong}
 use Rattle.plans.proofs.Built.{action-exists, chosen-exists}
 use Rattle.plans.proofs.Ticks.{BackedUp, low-next, high-next}
-use Rattle.levels.specs.Storage.{Cells, LentLevel, Lent, levelOf, pointIn, over, numberIn, standingIn}
+use Rattle.levels.specs.Storage.{Cells, LentLevel, Lent, levelOf, pointIn, over}
 use Rattle.levels.proofs.Over.{covers-elsewhere, over-agree}
 use Rattle.tables.specs.Verdicts.{left}
-use Rattle.runs.specs.State.{raised, opened, verdictOn, offered, answerFor, buildVerdict, builtFrom, builtOf}
+use Rattle.runs.specs.State.{raised, opened, verdictOn, offered, buildVerdict, builtFrom, builtOf}
 use Rattle.runs.specs.Demand3.{ModelAccepted, run, newer, lastOf, after, steps, last}
 use Rattle.runs.specs.Ticks.{Points, builtLevel, unlessRefused, offers, stacked, levelsOf, levels, made, Ticks}
 use Rattle.runs.proofs.Judged.{accepted}

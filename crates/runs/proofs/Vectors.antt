@@ -1,5 +1,5 @@
 -- Acceptance of built levels, over the most vectors that a level may have; 32 and 1,000 are two uses. Assumes nothing.
-use Rattle.integers.proofs.Kit.{_≡_, refl, ℕ, _≤_, _+_, suc, arith, add-one}
+use Rattle.integers.proofs.Kit.{refl, ℕ, _≤_, _+_, suc, arith, add-one}
 use Rattle.tables.specs.Limits.{maxStates, maxVectors}
 use Rattle.tables.specs.Model.{Model}
 use Rattle.tables.specs.Storage.{modelOf}

@@ -1,4 +1,4 @@
-use Rattle.integers.proofs.Kit.{_∙_, ap, needs}
+use Rattle.integers.proofs.Kit.{ap, needs}
 use Rattle.adopting.specs.declared.Adopted.{Adopted}
 use Rattle.answers.specs.Calls.{adoptionBy}
 use Rattle.exports_files.proofs.biidhaqun_adopt.Statement.{statement}

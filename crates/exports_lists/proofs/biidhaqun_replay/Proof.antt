@@ -1,4 +1,4 @@
-use Rattle.integers.proofs.Kit.{_∙_, ap, needs}
+use Rattle.integers.proofs.Kit.{ap, needs}
 use Rattle.replay.specs.declared.Replayed.{Replayed}
 use Rattle.replay.specs.Replay.{replayAnswer}
 use Rattle.answers.specs.Calls.{replayBy}

@@ -1,16 +1,13 @@
-use Rattle.integers.proofs.Kit.{_≡_, _∙_, refl, ap, sym, _*_, arith, needs, length, pos}
+use Rattle.integers.proofs.Kit.{_≡_, _∙_, ap, sym, _*_, arith, needs, length, pos}
 use Rattle.integers.proofs.Lists.{paste-laid}
 use Rattle.tables.specs.declared.Verdict.{Verdict}
-use Rattle.tables.specs.declared.Verdict.the-variants.{Fine}
 use Rattle.tables.specs.Limits.{maxStates}
 use Rattle.tables.specs.Storage.{modelOf}
 use Rattle.tables.specs.Model.{Valid}
 use Rattle.tables.proofs.Fitting.{Long, Sizes, sizes}
-use Rattle.modelfile.specs.declared.ModelFile.{ModelFile}
-use Rattle.modelfile.specs.ModelFile.{modelFile}
 use Rattle.modelfile.proofs.Opens.{read-valid}
 use Rattle.reading.specs.declared.TablesRead.{TablesRead}
-use Rattle.reading.specs.Reading.{readVerdict, noCounts, laidTransitions, laidObservations, laidRewards, laidStart}
+use Rattle.reading.specs.Reading.{noCounts}
 use Rattle.reading.proofs.Room.{TablesRoom, room-fine, refused-file, after-file}
 use Rattle.reading.proofs.read.Statement.{statement}
 use Rattle.reading.proofs.read.Tie as tie

@@ -1,4 +1,4 @@
-use Rattle.levels.proofs.Prelude.{_≡_, arith}
+use Rattle.levels.proofs.Prelude.{arith}
 use Rattle.integers.proofs.Kit.{mul-le-mul, le-leb, lt-leb}
 use Rattle.levels.proofs.shape.readable.Statement.{statement}
 use Rattle.levels.proofs.shape.readable.Tie as tie
