@@ -91,8 +91,8 @@ pub fn adopt(
         None => false,
     });
     let uncovered = match uncovered {
-        Some(v) if !rules.has(Trap::WithoutTwentyOne) => Err(Refusal::at_index(21, v)),
-        _ => Ok(()),
+        Some(v) => Err(Refusal::at_index(21, v)),
+        None => Ok(()),
     };
     if !rules.has(Trap::TwentyOneAfterEleven) {
         uncovered?;
