@@ -20,8 +20,9 @@ use crate::totals::{Bounds, Totals};
 ///
 /// What is proved of one that was opened on a [`Model`] and offered levels of any content: at a mixture where a vector counts,
 /// its totals bracket what every plan earns that has as many steps as levels were accepted; and a level that it builds is
-/// accepted. A vector counts where all weight lies on states that it covers; where none does, no totals are given. At every mixture the best
-/// informed row is no lower than what any such plan earns, and at every action and state no higher than the QMDP row.
+/// accepted. A vector counts where all weight lies on states that it covers; where none does, no totals are given. At every
+/// mixture the best informed row is no lower than what any such plan earns, and at every action and state no higher than the
+/// QMDP row.
 #[derive(Clone, Debug)]
 pub struct Certifier {
     model: Model,

@@ -11,8 +11,8 @@ const RANDOM: u64 = 10_000;
 const SEED: u64 = 7;
 
 /// What is refused for a word, or for the number of vectors, is so by both, by the same number at the same place; the shell
-/// says nothing of certifiers and points. The levels that it makes files' levels upon are such themselves and cover all states, so
-/// that it never meets 21.
+/// says nothing of certifiers and points. It reads files upon levels that it made of files, which cover all states, and so
+/// never meets 21.
 fn agree(case: &Case) {
     let Case { about, certifier, alpha, graph, points } = case;
     let answer = reference::adopt(certifier, alpha, graph, points, &DOCUMENT);

@@ -327,14 +327,18 @@ fn hide(rng: &mut Rng, mask: u64, entries: &mut [i64], t: u64) {
     }
 }
 
-/// Lets the standing vectors cover any states, half of them all.
+/// Lets the standing vectors cover any states, half of them all; now and then each leaves out a state.
 pub fn uncover(rng: &mut Rng, certifier: &mut Certifier, shape: Shape) {
+    let narrow = rng.once_in(4);
     let standing = &mut certifier.standing;
     for (mask, entries) in standing.masks.iter_mut().zip(standing.entries.chunks_exact_mut(shape.n)) {
         if rng.once_in(2) {
             *mask = self::mask(rng, shape.n);
-            hide(rng, *mask, entries, certifier.level);
         }
+        if narrow {
+            *mask &= !(1 << rng.index(shape.n));
+        }
+        hide(rng, *mask, entries, certifier.level);
     }
 }
 
@@ -379,7 +383,7 @@ pub fn masked(rng: &mut Rng, certifier: &Certifier, level: &Level, shape: Shape)
 }
 
 /// A vector that goes on with any standing ones, covers all states from which it can, and has its backups for entries; now and
-/// then it covers a state less or a state more, or an entry is a tick higher.
+/// then it covers fewer states or one more, which may be out of range, or an entry is a tick higher.
 fn going_on(rng: &mut Rng, certifier: &Certifier, shape: Shape) -> Vector {
     let Shape { n, m, k } = shape;
     let model = Model::of(&certifier.tables, &DOCUMENT).expect("the tables open");
@@ -407,6 +411,11 @@ fn going_on(rng: &mut Rng, certifier: &Certifier, shape: Shape) -> Vector {
         4 => {
             let entry = &mut entries[rng.index(n)];
             *entry = entry.saturating_add(1);
+        }
+        5 => {
+            let s = rng.index(n);
+            mask |= 1 << s;
+            entries[s] = range(certifier.level + 1) + 1;
         }
         _ => {}
     }

@@ -6,7 +6,8 @@
 //!   past the longest),
 //! - `random`: random models in random dress, half of them damaged,
 //! - `plans`: lists of offers upon small models, the totals held against the best of all plans; a quarter of them are of three
-//!   states thought equally likely, at the point (1, 1, 1); the rows against the plans that open with their action,
+//!   states thought equally likely, at the point (1, 1, 1); the rows against the plans that open with their action; where vectors
+//!   cover part of the states, there are totals exactly where one counts,
 //! - `ticks`: levels built and offered in turn, each entry held against what the plan named by its vector earns,
 //! - `calls`: storage of any content, lists of offers up to level 100 and past it, used with `--library` and `--traps`,
 //! - `ends`: storage with every number at an end of its range, for the largest sums, used with `--library`,

@@ -13,7 +13,7 @@ use reference::{Points, STATES};
 /// only written.
 fn whole(rng: &mut Rng) -> Call {
     let shape = gen::shape(rng);
-    match rng.below(8) {
+    match rng.below(9) {
         0 => reading_exactly(rng),
         1 => {
             let mut tables = gen::tables(rng, shape);
@@ -43,6 +43,12 @@ fn whole(rng: &mut Rng) -> Call {
             let level = if rng.once_in(2) { level } else { gen::masked(rng, &certifier, &level, shape) };
             let level = if rng.once_in(2) { level } else { gen::loosened(rng, &level, shape, certifier.level + 1) };
             offering(rng, shape, &certifier, &level)
+        }
+        5 => {
+            let levels = 1 + rng.below(2);
+            let certifier = followed(&gen::list(rng, shape, levels));
+            let count = rng.index(5);
+            asking(rng, shape, &certifier, count)
         }
         _ => {
             let (certifier, steps) = gen::handed(rng, shape);

@@ -50,8 +50,8 @@ struct Files {
 
 /// Makes the level that two files say, or refuses with 1, 7, 19, 20, 8, 9, 10, 21, 11 or 12, in this order.
 ///
-/// Its vectors are the files', in their order, and cover all states, each entry the lesser of the decimal rounded down to ticks and of its own
-/// backup over K rounded down; its corners and points are the builder's.
+/// Its vectors are the files', in their order, and cover all states, each entry the lesser of the decimal rounded down to
+/// ticks and of its own backup over K rounded down; its corners and points are the builder's.
 pub fn adopt(
     certifier: &Certifier,
     alpha: &[u8],
@@ -91,8 +91,8 @@ pub fn adopt(
         None => false,
     });
     let uncovered = match uncovered {
-        Some(v) if !rules.has(Trap::WithoutTwentyOne) => Err(Refusal::at_index(21, v)),
-        _ => Ok(()),
+        Some(v) => Err(Refusal::at_index(21, v)),
+        None => Ok(()),
     };
     if !rules.has(Trap::TwentyOneAfterEleven) {
         uncovered?;

@@ -426,6 +426,14 @@ fn judge(certifier: &Certifier, offered: &Level, rules: &Rules) -> Result<Level,
     }
     refuse_at(10, dangling)?;
 
+    let lists = offered.lists(model.n);
+    let uncovered = (0..lists.actions.len()).find(|&v| {
+        let choices = chosen(&offered.choices, v, model.k);
+        reaches_uncovered(&model, &standing, &lists.covered[v], lists.actions[v] as usize, &choices, rules)
+    });
+    if rules.has(Trap::TwentyOneFirst) {
+        refuse_at(21, uncovered)?;
+    }
     let t = if rules.has(Trap::RangeOfStanding) { certifier.level } else { certifier.level + 1 };
     let outside = offered.first_outside(model.n, t, rules.has(Trap::ElevenReadsUncovered), rules);
     let mut shape = [(11, outside), (12, offered.first_untotalled(model.n, rules))];
@@ -436,18 +444,9 @@ fn judge(certifier: &Certifier, offered: &Level, rules: &Rules) -> Result<Level,
         refuse_at(number, offender)?;
     }
 
-    let lists = offered.lists(model.n);
     if rules.has(Trap::LaterLevelsWaved) && certifier.level >= 1 {
         return Ok(stored);
     }
-    let uncovered = if rules.has(Trap::WithoutTwentyOne) {
-        None
-    } else {
-        (0..lists.actions.len()).find(|&v| {
-            let choices = chosen(&offered.choices, v, model.k);
-            reaches_uncovered(&model, &standing, &lists.covered[v], lists.actions[v] as usize, &choices, rules)
-        })
-    };
     if !rules.has(Trap::ThirteenFirst) {
         refuse_at(21, uncovered)?;
     }
@@ -491,7 +490,11 @@ pub fn reaches_uncovered(
     };
     let loses = |s: usize, s2: usize, o: usize| reached(s, s2, o) && !standing.covered[choices[o]][s2];
     let from = |s: usize| (0..model.n).any(|s2| (0..model.k).any(|o| loses(s, s2, o)));
-    (0..model.n).any(|s| covered[s] && from(s))
+    match rules.trap {
+        Some(Trap::WithoutTwentyOne) => false,
+        Some(Trap::EmptyMaskRefused) if !covered.contains(&true) => true,
+        _ => (0..model.n).any(|s| covered[s] && from(s)),
+    }
 }
 
 /// 13: the first vector with an entry of a covered state above its backup. Both are compared exactly, K times the entry with

@@ -175,6 +175,8 @@ traps! {
         ThirteenReadsUncovered: "13 is tested on states that are not covered",
         WithoutTwentyOne: "21 is not tested",
         ThirteenFirst: "21 is tested after 13",
+        TwentyOneFirst: "21 is tested before 11",
+        EmptyMaskRefused: "a vector that covers no state gets 21",
         ReachedWithoutSight: "21 looks at T alone",
         ReachedSeenAtStateLeft: "21 takes O at the state left",
         MasksPastStates: "masks are stored past the states",

@@ -26,7 +26,8 @@ pub struct Totals {
 /// counts there).
 ///
 /// A vector counts where all weight lies on states that it covers. The lower total is the largest product of one that counts
-/// with the mixture, and the action is that of the first such vector; the upper total is the lower of the sawtooth and the best informed row; the gap is upper less lower.
+/// with the mixture, and the action is that of the first such vector; the upper total is the lower of the sawtooth and the best
+/// informed row; the gap is upper less lower.
 pub fn totals(certifier: &Certifier, mixture: &[u64], rules: &Rules) -> Result<Totals, Refusal> {
     let (model, standing) = examine(certifier, rules)?;
     let at_zero = certifier.level == 0 || (certifier.level == 1 && rules.has(Trap::LevelZeroEarly));
