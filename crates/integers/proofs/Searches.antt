@@ -1,6 +1,6 @@
 -- Laws of the searches: as a loop makes them, and what their answers say. Assumes nothing.
 use Rattle.integers.proofs.Kit.{_≡_, _∙_, refl, sym, true, false, Bool, cond, _&&_, ℕ, _<_, _+_, suc, zero, arith, add-one, decLt, T, ℤ, _≤ℤ_}
-use Rattle.integers.proofs.Kit.{_||_, ap, ltZ, _<ℤ_}
+use Rattle.integers.proofs.Kit.{_||_, ap, _≤_, _*_, mul-le-mul, eqb, eq-eqb, ne-eqb, ltZ, _<ℤ_}
 use mathlib.Core.Bool.{not}
 use lib.Signed.{ltZ-yes, ltZ-no}
 use Rattle.integers.specs.Search.{every, some, firstLargestOf, firstLargest}
@@ -14,6 +14,20 @@ below-suc {P} n f p i l = by (decLt i n)
     by : Dec (i < n) → P i
     by (yes h) = f i h
     by (no h) = let e : i ≡ n = omega arith in rw e p
+
+-- ---- one test
+-- a product with a number above 0 is 0 where the other is
+pub times-none : (t w : ℕ) → 0 < t → eqb (t * w) 0 ≡ eqb w 0
+times-none t zero h = eq-eqb (t * 0) 0 (omega arith)
+times-none t (suc w) h =
+    let least : 1 ≤ suc w = omega arith in
+    let above : 1 * 1 ≤ t * suc w = mul-le-mul h least in
+    ne-eqb (t * suc w) 0 (λ e. absurd (omega arith)) ∙ sym (ne-eqb (suc w) 0 (λ e. absurd (omega arith)))
+
+-- what is asked only of a number above 0
+pub zero-or : (n : ℕ) (b : Bool) → (0 < n → b ≡ true) → (eqb n 0 || b) ≡ true
+zero-or zero b h = refl
+zero-or (suc n) b h = rw (ne-eqb (suc n) 0 (λ e. omega arith)) (h (omega arith))
 
 -- ---- every
 pub and-true : (a b : Bool) → (a && b) ≡ true → (a ≡ true) × (b ≡ true)

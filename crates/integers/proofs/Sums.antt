@@ -146,6 +146,15 @@ unfolding largestTo
 largest-ind P zero f p h = p
 largest-ind P (suc n) f p h = max-ind P _ _ (largest-ind P n f p (λ i l. h i (omega arith))) (h n (omega arith))
 
+pub largest-part : (n : ℕ) (f : ℕ → ℕ) (i : ℕ) → i < n → f i ≤ largestTo n f
+unfolding largestTo
+largest-part zero f i l = absurd (omega arith)
+largest-part (suc n) f i l = by (decLt i n) (λ h. largest-part n f i h)
+  where
+    by : Dec (i < n) → (i < n → f i ≤ largestTo n f) → f i ≤ max (largestTo n f) (f n)
+    by (yes h) r = NatL.le-trans (r h) (NatL.le-max-left (largestTo n f) (f n))
+    by (no h) r = let e : i ≡ n = omega arith in rw e (NatL.le-max-right (largestTo n f) (f n))
+
 pub largest-none : (f : ℕ → ℕ) → largestTo 0 f ≡ 0
 unfolding largestTo
 largest-none f = refl

@@ -9,4 +9,5 @@ pub mod Built
 pub mod Rebuilt
 pub mod Drops
 pub mod Ticks
+pub mod Multiples
 pub mod Rows

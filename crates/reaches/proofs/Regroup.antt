@@ -2,26 +2,18 @@
 --
 --   reached-regrouped   every state that a covered one reaches is covered by the vector chosen for each observation that is seen there
 --   reached-all         so it is where the chosen vectors cover all states
-use Rattle.integers.proofs.Kit.{_≡_, _∙_, refl, sym, true, false, Bool, _&&_, _||_, ℕ, _≤_, _<_, _*_, suc, zero, arith, mul-le-mul, eqb, ltb, eq-eqb, ne-eqb}
+use Rattle.integers.proofs.Kit.{_≡_, _∙_, refl, sym, true, false, Bool, _&&_, _||_, ℕ, _<_, _*_, suc, zero, arith, eqb, ltb, eq-eqb}
 use Rattle.integers.proofs.Kit.{lt-ltb, ltb-true}
 use mathlib.Core.Bool.{not}
 use Rattle.integers.specs.Search.{every, some}
 use Rattle.integers.proofs.Parts.{is-T}
-use Rattle.integers.proofs.Searches.{every-at, at-every, some-at, some-none, and-is, or-true}
+use Rattle.integers.proofs.Searches.{times-none, every-at, at-every, some-at, some-none, and-is, or-true}
 
 -- what is true together is the same
 both-ways : (a b : Bool) → (a ≡ true → b ≡ true) → (b ≡ true → a ≡ true) → a ≡ b
 both-ways true b f g = sym (f refl)
 both-ways false true f g = g refl
 both-ways false false f g = refl
-
--- a product with a number above 0 is 0 where the other is
-product-none : (t w : ℕ) → 0 < t → eqb (t * w) 0 ≡ eqb w 0
-product-none t zero h = eq-eqb (t * 0) 0 (omega arith)
-product-none t (suc w) h =
-    let least : 1 ≤ suc w = omega arith in
-    let above : 1 * 1 ≤ t * suc w = mul-le-mul h least in
-    ne-eqb (t * suc w) 0 (λ e. absurd (omega arith)) ∙ sym (ne-eqb (suc w) 0 (λ e. absurd (omega arith)))
 
 module _ (n k : ℕ) (T O : ℕ → ℕ → ℕ) (C : ℕ → ℕ → Bool) (covers : ℕ → Bool) where
   -- the chosen vector covers what is reached from s with o
@@ -43,7 +35,7 @@ module _ (n k : ℕ) (T O : ℕ → ℕ → ℕ) (C : ℕ → ℕ → Bool) (cov
 
   -- of a covered state that reaches it, both say the same
   seen-kept : (s s' o : ℕ) → 0 < T s s' → kept s o s' ≡ seen s' o
-  seen-kept s s' o h = rw (product-none (T s s') (O s' o) h)
+  seen-kept s s' o h = rw (times-none (T s s') (O s' o) h)
 
   there : every n keeps ≡ true → (s' : ℕ) → s' < n → asked s' ≡ true
   there h s' l = by (every k (seen s')) refl

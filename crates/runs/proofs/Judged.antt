@@ -1,11 +1,11 @@
 -- From verdicts to facts, and back: what a standing level that holds, and an offer that is fine, are known to have, where a level has at most `most`
 -- vectors. Assumes nothing.
 use Rattle.integers.proofs.Kit.{_≡_, refl, true, false, Bool, _||_, List, ℕ, _≤_, _<_, _+_, _*_, arith, le-leb, leb-true, lt-ltb, ltb-true, leb}
-use Rattle.integers.proofs.Kit.{suc, zero, eqb, ne-eqb, length, ℤ, natAbs, _≤ℤ_}
+use Rattle.integers.proofs.Kit.{length, ℤ, natAbs, _≤ℤ_}
 use mathlib.Core.Bool.{not}
 use Rattle.integers.specs.Whole.{_·_, totalTo}
 use Rattle.integers.proofs.Parts.{is-T, leZ-is, le-true}
-use Rattle.integers.proofs.Searches.{and-true, and-is, every-at, at-every}
+use Rattle.integers.proofs.Searches.{and-true, and-is, every-at, at-every, zero-or}
 use Rattle.tables.specs.declared.Tables.{Tables}
 use Rattle.tables.specs.declared.Verdict.{Verdict}
 use Rattle.tables.specs.declared.Verdict.the-variants.{Fine, Refused}
@@ -46,10 +46,6 @@ rows-is number rows w limit cell h = at-fine _ rows (λ r l. at-fine _ w (λ x b
 if-covered : (a b : Bool) → (a ≡ true → b ≡ true) → (not a || b) ≡ true
 if-covered true b e = e refl
 if-covered false b e = refl
-
-zero-or : (n : ℕ) (b : Bool) → (0 < n → b ≡ true) → (eqb n 0 || b) ≡ true
-zero-or zero b h = refl
-zero-or (suc n) b h = rw (ne-eqb (suc n) 0 (λ e. omega arith)) (h (omega arith))
 
 -- a number that is not passed over
 if-so : (a b : Bool) → b ≡ true → (not a || b) ≡ true

@@ -3,5 +3,6 @@ pub mod Judged
 pub mod Dough
 pub mod Masked
 pub mod Vectors
+pub mod Multiples
 pub mod Demand3
 pub mod Ticks

@@ -3,3 +3,4 @@ pub mod State
 pub mod Demand3
 pub mod Ticks
 pub mod Vectors
+pub mod Multiples

@@ -4,10 +4,15 @@ use crate::calls::Calls;
 use crate::gen::{self, List, Step, DOCUMENT};
 use crate::rng::Rng;
 use num_bigint::BigInt;
-use reference::{all_plans, best, full_mask, scale, Certifier, Earned, Level, Model, Points, Refusal, STATES};
+use reference::{
+    all_plans, best, full_mask, scale, Certifier, Earned, Level, Model, Points, Refusal, Totals, STATES, WEIGHT,
+};
 
 /// No list is followed further than this many levels.
 const LEVELS: u64 = 3;
+
+/// How many times a mixture its multiples are.
+const MULTIPLES: [u64; 3] = [2, 3, 7];
 
 /// A list of offers upon a small model; one in four is of three states thought equally likely.
 pub fn random(rng: &mut Rng) -> List {
@@ -40,7 +45,7 @@ pub struct Seen {
 /// no plan is above the upper total, nor above either ceiling, some plan that opens with the action is at or above the lower
 /// one, no plan is above its own action's informed row, which is nowhere above the QMDP row, a built level is accepted, a
 /// refused one changes nothing. Totals are given exactly where a vector counts, and a level is built exactly where one covers all
-/// states.
+/// states. The totals at multiples of a mixture and at its sum with another are held against those at the mixture.
 pub fn check(list: &List, by: &dyn Calls) -> Result<Seen, String> {
     let model = Model::of(&list.tables, &DOCUMENT).map_err(|refusal| refusal.to_string())?;
     let certifier = by.open(&list.tables).map_err(|refusal| format!("opening is {}", refusal))?;
@@ -186,12 +191,44 @@ impl Run<'_> {
         if totals.gap != &totals.upper - &totals.lower {
             return Err(format!("the gap of {:?} is wrong", totals));
         }
+        self.multiples(mixture, &totals)?;
         self.seen.informed += u64::from(totals.informed < totals.sawtooth);
         self.seen.compared += 1;
         let masked = self.masks().any(|mask| mask != full_mask(self.model.n));
         self.seen.masked += u64::from(masked);
         self.seen.thirds += u64::from(mixture == [1, 1, 1]);
         Ok(())
+    }
+}
+
+impl Run<'_> {
+    /// The totals at so many times a mixture: the lower one is so many times as large, the upper one at most. And at its sum
+    /// with the mixture (1, 1, ..): the lower one is at most the sum of the two lower ones.
+    fn multiples(&self, mixture: &[u64], totals: &Totals) -> Result<(), String> {
+        for times in MULTIPLES {
+            let multiple: Vec<u64> = mixture.iter().map(|weight| weight * times).collect();
+            if multiple.iter().any(|&weight| weight > WEIGHT) {
+                continue;
+            }
+            let at = self.asked(&multiple).map_err(|refusal| format!("at {:?}: {}", multiple, refusal))?;
+            if at.lower != &totals.lower * times || at.upper > &totals.upper * times {
+                return Err(format!("at {} times {:?} there is {:?}, at the mixture {:?}", times, mixture, at, totals));
+            }
+        }
+        let sum: Vec<u64> = mixture.iter().map(|weight| weight + 1).collect();
+        match (self.asked(&vec![1; mixture.len()]), self.asked(&sum)) {
+            (Ok(other), Ok(at)) if at.lower > &totals.lower + &other.lower => {
+                Err(format!("at {:?} the lower total is above those at {:?} and at 1s: {:?}", sum, mixture, at))
+            }
+            _ => Ok(()),
+        }
+    }
+
+    /// The totals at weights of the model's states.
+    fn asked(&self, weights: &[u64]) -> Result<Totals, Refusal> {
+        let mut mixture = weights.to_vec();
+        mixture.resize(STATES, 0);
+        self.by.totals(&self.certifier, &mixture)
     }
 }
 
@@ -243,6 +280,19 @@ mod tests {
             figures,
             [(-100, -100_000, (-100, -100), 2), (78, 78_000, (586, 482), 0), (417, 419_088, (1_279, 1_003), 0)]
         );
+    }
+
+    /// A drop that is rounded up, and weights that are reduced, break what holds of multiples.
+    #[test]
+    fn multiples_are_noticed() {
+        for trap in [reference::Trap::DropRoundedUp, reference::Trap::LowestTerms] {
+            let by = reference::Rules::broken(trap);
+            let found = (0..200).find_map(|number| {
+                let list = random(&mut Rng::for_case(1, "plans", number));
+                check(&list, &by).err().filter(|message| message.contains(" times "))
+            });
+            assert!(found.is_some(), "{:?}", trap);
+        }
     }
 
     /// Whatever a model, up to level 100 no informed entry is above the QMDP one.

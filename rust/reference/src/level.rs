@@ -1,6 +1,6 @@
 //! Levels, the certifier, and offers.
 
-use crate::exact::{corner, dot, k, round_down, ticks, weights, zero};
+use crate::exact::{corner, dot, k, round_down, round_up, ticks, weights, zero};
 use crate::model::{Model, Tables};
 use crate::refusal::Refusal;
 use crate::rows;
@@ -274,7 +274,10 @@ pub fn ceiling(lists: &Lists, q: &[BigInt], rules: &Rules) -> BigInt {
         }
         let weighted = p.iter().zip(q).filter(|(p, _)| **p > zero());
         let over = |p: &BigInt| if rules.has(Trap::DropOverHundred) { BigInt::from(POINT_TOTAL) } else { p.clone() };
-        let ratio = |(p, q): (&BigInt, &BigInt)| round_down(&(q * &gain), &over(p), &Rules::default());
+        let ratio = |(p, q): (&BigInt, &BigInt)| match rules.trap {
+            Some(Trap::DropRoundedUp) => round_up(&(q * &gain), &over(p)),
+            _ => round_down(&(q * &gain), &over(p), &Rules::default()),
+        };
         let mut ratios: Vec<BigInt> = weighted.map(ratio).collect();
         if rules.has(Trap::RatioOverZeroWeights) && ratios.len() < p.len() {
             ratios.push(zero());

@@ -169,6 +169,9 @@ traps! {
         SumsWrap: "weights are added in 32 bits",
         LargestRatio: "a point's drop is its largest ratio",
         SmallestDrop: "the ceiling takes the smallest drop",
+        // Multiples of mixtures.
+        DropRoundedUp: "a drop is rounded up",
+        LowestTerms: "totals are those of the weights over their largest common divisor",
         // Masks.
         SevenReadsUncovered: "7 tests entries that are not covered",
         ElevenReadsUncovered: "11 tests entries that are not covered",

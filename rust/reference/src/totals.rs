@@ -36,7 +36,10 @@ pub fn totals(certifier: &Certifier, mixture: &[u64], rules: &Rules) -> Result<T
         sixteen?;
     }
     let mixture = &mixture[..model.n];
-    let b = weights(mixture);
+    let mut b = weights(mixture);
+    if rules.has(Trap::LowestTerms) {
+        b = in_lowest_terms(&b);
+    }
     let counts = |v: &usize| match rules.trap {
         Some(Trap::AllCount) => true,
         Some(Trap::SomeWeightCounts) => {
@@ -77,4 +80,20 @@ pub fn totals(certifier: &Certifier, mixture: &[u64], rules: &Rules) -> Result<T
     }
     let gap = if rules.has(Trap::GapOfSawtooth) { &sawtooth - &lower } else { &upper - &lower };
     Ok(Totals { lower, upper, gap, action: standing.actions[counting[largest]], sawtooth, informed })
+}
+
+/// Weights over their largest common divisor.
+fn in_lowest_terms(b: &[BigInt]) -> Vec<BigInt> {
+    let common = |x: BigInt, y: &BigInt| {
+        let (mut x, mut y) = (x, y.clone());
+        while y > zero() {
+            let rest = &x % &y;
+            x = std::mem::replace(&mut y, rest);
+        }
+        x
+    };
+    match b.iter().fold(zero(), common) {
+        divisor if divisor > zero() => b.iter().map(|weight| weight / &divisor).collect(),
+        _ => b.to_vec(),
+    }
 }
