@@ -52,10 +52,10 @@
  *
  * MASKS. A vector is a floor on the states that it covers. It counts at a mixture where all weight lies on these, and lower
  * total and action are those of the vectors that count. Its inequality and its range are tested on covered states alone, and a
- * covered state must reach, with T x O above 0, no state that the vector chosen after that observation does not cover. Entries
- * elsewhere, and bits of a mask past the states, are read by no call, and an acceptance stores them as 0. A mask may be empty:
- * the vector never counts. The vector of level 0, and all that biidhaqun_build and biidhaqun_adopt make, cover every state;
- * biidhaqun_build goes on with such vectors alone. Ceilings have nothing to do with masks.
+ * covered state must reach, with T x O above 0, no state that the vector chosen after that observation does not cover. On
+ * entries elsewhere, and on bits of a mask past the states, no answer depends, and an acceptance stores them as 0. A mask may
+ * be empty: the vector never counts. The vector of level 0, and all that biidhaqun_build and biidhaqun_adopt make, cover every
+ * state; biidhaqun_build goes on with such vectors alone. Ceilings have nothing to do with masks.
  *
  * CEILINGS. Two bounds say what no plan earns more than at a mixture, and the upper total is the lower of them. The sawtooth
  * is that of the level's corners and points: they are offered, and an offer's corners and points are tested against the
@@ -591,10 +591,10 @@ static inline void biidhaqun_level_in(struct biidhaqun_level *level, struct biid
 
 #undef BIIDHAQUN_LEND
 
-/* The mask of a vector that covers all of so many states. */
+/* The mask of a vector that covers all of so many states, at most 64. */
 static inline uint64_t biidhaqun_full_mask(size_t states)
 {
-    return ~(uint64_t)0 >> (64 - states);
+    return states == 0 ? 0 : ~(uint64_t)0 >> (64 - states);
 }
 
 /*
