@@ -14,11 +14,11 @@
  * may be called from any thread, as long as no two calls at once are lent the same memory and one of them writes it.
  *
  * What is proved: whatever it is lent, a call ends without fault, answers, and leaves in every slice what the definitions
- * say (specs/ of crates/runs, mixtures, worths, worth, modelfile, reading, solver, solved, adopting, replay and answers).
- * Where a certifier was opened by biidhaqun_open, its slices were written by biidhaqun_offer and biidhaqun_replay alone,
- * whatever was offered, and each call was lent the same tables, its totals bracket every plan wherever they are given. A level
- * that is built upon it, or adopted, is accepted if the certifier's slices have room for it. The inline functions at the end,
- * and what this file says, are not proved.
+ * say (specs/ of crates/runs, mixtures, intervals, worths, worth, modelfile, reading, solver, solved, adopting, replay and
+ * answers). Where a certifier was opened by biidhaqun_open, its slices were written by biidhaqun_offer and biidhaqun_replay
+ * alone, whatever was offered, and each call was lent the same tables, its totals bracket every plan wherever they are given. A
+ * level that is built upon it, or adopted, is accepted if the certifier's slices have room for it. The inline functions at the
+ * end, and what this file says, are not proved.
  *
  * SLICES. What a call is lent are slices: a pointer, and a length in elements. They are packed by the model's counts (n
  * states, m actions, k observations), the last index fastest, and may be longer: what lies behind is neither read nor
@@ -44,6 +44,8 @@
  *                points       count
  *                the slices of a level, each in count blocks of one size (biidhaqun_replay)
  *   mixture      weights      n           0 to 1,000,000 each, not all 0
+ *   ranges       lows         n           no low above its high
+ *                highs        n           0 to 1,000,000 each, not all 0
  *   plan graph   actions      nodes       next         nodes x k   the node to go on with after an observation
  *   start        numbers      n           hundredths; they total 100
  *
@@ -95,13 +97,16 @@
  *   14  BIIDHAQUN_CORNER_BACKUP       the corner
  *   15  BIIDHAQUN_POINT_BACKUP        the point
  *   16  BIIDHAQUN_NO_LEVEL            0
- *   17  BIIDHAQUN_MIXTURE             0; the mixture has fewer weights than there are states, or several have too few
+ *   17  BIIDHAQUN_MIXTURE             0; the mixture has fewer weights than there are states, or several have too few, or
+ *                                     there are fewer lows or highs; of ranges the highs are tested
  *   18  BIIDHAQUN_GRAPH               the node; 0 for the node count, a short slice, or the node, state or steps asked for
  *   19  BIIDHAQUN_SOLVER_FORM         the bytes before the word of the alpha file or, if all of its words fit, of the policy
  *                                     graph; that file's length where a word is missing
  *   20  BIIDHAQUN_SOLVER_FILES        0
  *   21  BIIDHAQUN_COVERED             the vector: a state that it covers reaches one that the vector chosen there does not
- *   22  BIIDHAQUN_COUNTING            0; no vector counts at the mixture, or none covers all states to build upon
+ *   22  BIIDHAQUN_COUNTING            0; no vector counts at the mixture or at the highs, or none covers all states to build
+ *                                     upon
+ *   24  BIIDHAQUN_LOW_HIGH            0; a low or a high that is missing counts as 0 here
  *  100  BIIDHAQUN_ROOM                the length that the first short slice of biidhaqun_read needs
  */
 #ifndef BIIDHAQUN_H
@@ -163,6 +168,7 @@ enum {
     BIIDHAQUN_SOLVER_FILES = 20,
     BIIDHAQUN_COVERED = 21,
     BIIDHAQUN_COUNTING = 22,
+    BIIDHAQUN_LOW_HIGH = 24,
     BIIDHAQUN_ROOM = 100
 };
 
@@ -189,14 +195,17 @@ static inline const char *biidhaqun_words(uint64_t number)
     case BIIDHAQUN_CORNER_BACKUP: return "a corner is below its backup";
     case BIIDHAQUN_POINT_BACKUP: return "a point is below its backup";
     case BIIDHAQUN_NO_LEVEL: return "there are no totals at level 0";
-    case BIIDHAQUN_MIXTURE: return "a mixture's weight is missing or above 1,000,000, or all are 0";
+    case BIIDHAQUN_MIXTURE: return "a mixture's weight, or a high, is missing or above 1,000,000, or all are 0, or a low is "
+                                   "missing";
     case BIIDHAQUN_GRAPH: return "a plan graph, or the node, state or steps asked for, are outside their limits";
     case BIIDHAQUN_SOLVER_FORM: return "a word of the solver's files does not fit its form, or is missing, or a node is out "
                                        "of order";
     case BIIDHAQUN_SOLVER_FILES: return "the solver's files differ in the number of vectors, or in an action";
     case BIIDHAQUN_COVERED: return "a vector covers a state from which one is reached that the vector chosen there does not "
                                    "cover";
-    case BIIDHAQUN_COUNTING: return "no vector counts at the mixture, or none covers all states to build upon";
+    case BIIDHAQUN_COUNTING: return "no vector counts at the mixture or at the highs, or none covers all states to build "
+                                    "upon";
+    case BIIDHAQUN_LOW_HIGH: return "a low is above its high";
     case BIIDHAQUN_ROOM: return "a slice that the file is read into is too short";
     default: return "no such refusal is known";
     }
@@ -235,6 +244,17 @@ static inline int biidhaqun_informed_speaks(struct biidhaqun_bounds at)
 {
     return at.informed < at.sawtooth;
 }
+
+/*
+ * What is certified of every mixture inside ranges of weights, in ticks times its total weight: the best plan there earns at
+ * least the lower total, and at most the upper.
+ */
+struct biidhaqun_between {
+    uint64_t number;
+    size_t place;
+    int64_t lower; /* the largest, over vectors that count at the highs, of the least product with a mixture inside */
+    int64_t upper; /* the most product of the corners with a mixture inside */
+};
 
 /* How the adoption of a solver's files ended, and how many vectors the level has that was made of them. */
 struct biidhaqun_adopted {
@@ -366,6 +386,24 @@ struct biidhaqun_refusal biidhaqun_each(
     const int64_t *informed, size_t informed_length, const int64_t *qmdp, size_t qmdp_length,
     const uint32_t *mixtures, size_t mixtures_length, size_t count, uint8_t *numbers, size_t numbers_length,
     int64_t *lower, size_t lower_length, int64_t *upper, size_t upper_length, uint8_t *action, size_t action_length);
+
+/*
+ * The totals over all mixtures of which each weight is known within a range, its low and its high. The lower total is the
+ * largest, over the vectors that cover every state with a high above 0, of the sum of low x entry for entries of 0 or more and
+ * of high x entry for those below; the upper total is the sum of high x corner for corners of 0 or more and of low x corner
+ * for those below. So at every mixture inside some plan earns the lower total, and none more than the upper; neither points
+ * nor informed rows lower it. Of one mixture, low and high the same, the upper total is therefore that of the corners alone.
+ * Tests: 7, 16, 24, 17, 22; a low or a high that is missing counts as 0 for 24, and gets 17.
+ */
+struct biidhaqun_between biidhaqun_within(
+    size_t states, size_t actions, size_t observations, uint64_t discount,
+    const uint16_t *transition, size_t transition_length, const uint16_t *observation, size_t observation_length,
+    const int64_t *reward, size_t reward_length, const size_t *state, size_t state_length,
+    const uint8_t *standing_actions, size_t standing_actions_length, const uint64_t *masks, size_t masks_length,
+    const int64_t *entries, size_t entries_length, const int64_t *corners, size_t corners_length,
+    const uint32_t *weights, size_t weights_length, const int64_t *values, size_t values_length,
+    const int64_t *informed, size_t informed_length, const int64_t *qmdp, size_t qmdp_length,
+    const uint32_t *lows, size_t lows_length, const uint32_t *highs, size_t highs_length);
 
 /*
  * Builds a level upon the one that stands, with a vector at each corner and then at each of `count` points; it would be
@@ -701,6 +739,20 @@ static inline struct biidhaqun_refusal biidhaqun_totals_at_each(const struct bii
         c->masks_length, c->entries, c->entries_length, c->corners, c->corners_length, c->weights, c->weights_length,
         c->values, c->values_length, c->informed, c->informed_length, c->qmdp, c->qmdp_length, mixtures, mixtures_length,
         count, numbers, count, lower, count, upper, count, action, count);
+}
+
+/* biidhaqun_within */
+static inline struct biidhaqun_between biidhaqun_totals_within(const struct biidhaqun_tables *t,
+                                                               const struct biidhaqun_certifier *c, const uint32_t *lows,
+                                                               size_t lows_length, const uint32_t *highs,
+                                                               size_t highs_length)
+{
+    return biidhaqun_within(
+        t->states, t->actions, t->observations, t->discount, t->transition, t->transition_length, t->observation,
+        t->observation_length, t->reward, t->reward_length, c->state, 3, c->actions, c->actions_length, c->masks,
+        c->masks_length, c->entries, c->entries_length, c->corners, c->corners_length, c->weights, c->weights_length,
+        c->values, c->values_length, c->informed, c->informed_length, c->qmdp, c->qmdp_length, lows, lows_length, highs,
+        highs_length);
 }
 
 /*

@@ -9,6 +9,8 @@ use Rattle.tables.specs.declared.Verdict.the-variants.{Fine, Refused}
 use Rattle.levels.specs.Storage.{Cells, LentLevel, Lent}
 use Rattle.runs.specs.declared.Bounds.{Bounds}
 use Rattle.runs.specs.Demand3.{TotalsHold, BuildHolds}
+use Rattle.intervals.specs.declared.Within.{Within}
+use Rattle.intervals.specs.Claim.{WithinHolds}
 use Rattle.reading.specs.declared.TablesRead.{TablesRead}
 use Rattle.worth.specs.declared.Valued.{Valued}
 use Rattle.adopting.specs.declared.Adopted.{Adopted}
@@ -16,6 +18,7 @@ use Rattle.replay.specs.declared.Replayed.{Replayed}
 use Rattle.answers.specs.declared.Refusal.{Refusal}
 use Rattle.answers.specs.declared.Reading.{Reading}
 use Rattle.answers.specs.declared.Totals.{Totals}
+use Rattle.answers.specs.declared.TotalsWithin.{TotalsWithin}
 use Rattle.answers.specs.declared.Worth.{Worth}
 use Rattle.answers.specs.declared.Adoption.{Adoption}
 use Rattle.answers.specs.declared.Replay.{Replay}
@@ -63,6 +66,14 @@ totalsBy b = record {
   informed = b .informed;
 }
 
+abbrev pub totalsWithinBy : Within → TotalsWithin
+totalsWithinBy w = record {
+  number = refusalOf (w .verdict) .number;
+  place = refusalOf (w .verdict) .place;
+  lower = w .lower;
+  upper = w .upper;
+}
+
 abbrev pub adoptionBy : Adopted → Adoption
 adoptionBy r = record { number = refusalOf (r .verdict) .number; place = refusalOf (r .verdict) .place; vectors = r .vectors }
 
@@ -79,6 +90,12 @@ pub record Brackets (m : Tables) (x : Lent) (ls : List LentLevel) (b : List ℕ)
   pub bounds : Bounds
   pub answer : r ≡ totalsBy bounds
   pub holds : TotalsHold m x ls b bounds
+
+-- totals r within ranges after a list of offers
+pub record Encloses (m : Tables) (x : Lent) (ls : List LentLevel) (lows highs : List ℕ) (r : TotalsWithin) : Type 0 where
+  pub within : Within
+  pub answer : r ≡ totalsWithinBy within
+  pub holds : WithinHolds m x ls lows highs within
 
 -- a built level in slices y' of those that were lent, y, with the answer r
 pub record Builds (m : Tables) (x : Lent) (ls : List LentLevel) (count : ℕ) (y : Cells) (r : Refusal) (y' : Cells) : Type 0 where

@@ -34,6 +34,14 @@ pub struct Totals {
 }
 
 #[repr(C)]
+pub struct TotalsWithin {
+    pub number: u64,
+    pub place: usize,
+    pub lower: i64,
+    pub upper: i64,
+}
+
+#[repr(C)]
 pub struct Adoption {
     pub number: u64,
     pub place: usize,

@@ -80,11 +80,11 @@ module _ (M : Model) (L : Level) (b b' : ℕ → ℕ) (same : (s : ℕ) → s < 
   unfolding upper
   upper-weights some F = rw (ceiling-weights (M .states) L b b' same, row-weights some F)
 
-  counts-weights : (v : ℕ) → counts (M .states) L b v ≡ counts (M .states) L b' v
+  pub counts-weights : (v : ℕ) → counts (M .states) L b v ≡ counts (M .states) L b' v
   unfolding counts
   counts-weights v = every-cong (M .states) _ _ (λ s l. ap (λ (x : ℕ). eqb x 0 || L .covers v s) (same s l))
 
-  some-counts-weights : someCounts M L b ≡ someCounts M L b'
+  pub some-counts-weights : someCounts M L b ≡ someCounts M L b'
   some-counts-weights = some-cong (L .vectors) _ _ (λ v l. counts-weights v)
 
   module _ (some : 0 < L .vectors) where
@@ -108,7 +108,7 @@ above-0 : (x : ℕ) → not (ltb 0 x) ≡ eqb x 0
 above-0 zero = refl
 above-0 (suc x) = rw (lt-ltb 0 (suc x) (omega arith), ne-eqb (suc x) 0 (λ e. omega arith))
 
-widened-at : {n : ℕ} (b : List ℕ) (s : ℕ) → s < n → weightIn (widened n b) s ≡ weightIn b s
+pub widened-at : {n : ℕ} (b : List ℕ) (s : ℕ) → s < n → weightIn (widened n b) s ≡ weightIn b s
 widened-at {n} b s l = padded-at 0 maxStates n (pointIn n b 0) s 0 l ∙ ap (λ (i : ℕ). getD b i 0) (row-alone n s)
 
 -- what 17 tests
@@ -224,13 +224,13 @@ module _ (m : Tables) (x : Lent) (h : holds m x ≡ true) where
         )
 
   -- a mask has the states with a weight above 0, exactly where its vector counts
-  counts-is : (q : List ℕ) (v : ℕ) → includes (getD (x .cells .masks) v 0) (supportIn (m .states) q) ≡ counts (m .states) L (weightIn q) v
+  pub counts-is : (q : List ℕ) (v : ℕ) → includes (getD (x .cells .masks) v 0) (supportIn (m .states) q) ≡ counts (m .states) L (weightIn q) v
   unfolding counts
   counts-is q v =
       includes-every (m .states) (getD (x .cells .masks) v 0) (λ s. ltb 0 (weightIn q s))
       ∙ every-cong (m .states) _ _ (λ s l. ap (λ (b : Bool). b || coveredIn (x .cells .masks) v s) (above-0 (weightIn q s)))
 
-  some-is : (q : List ℕ) → someIncludes (x .cells .masks) (standingIn x .vectors) (supportIn (m .states) q) ≡ someCounts M L (weightIn q)
+  pub some-is : (q : List ℕ) → someIncludes (x .cells .masks) (standingIn x .vectors) (supportIn (m .states) q) ≡ someCounts M L (weightIn q)
   some-is q = some-cong (L .vectors) _ _ (λ v l. counts-is q v)
 
   best-is : (q : List ℕ) → bestIn (m .states) (standingIn x .vectors) (x .cells .masks) (x .cells .entries) q ≡ best M L (weightIn q)

@@ -20,7 +20,7 @@ use tables::Verdict;
 use tables::read;
 
 // 17: whether there is a weight for each state, none exceeds 1,000,000 and some is above 0.
-fn mixture_holds(mixture: &[u32], n: usize) -> bool
+pub fn mixture_holds(mixture: &[u32], n: usize) -> bool
     requires { ⌜ n ≤ maxStates ⌝ }
     ensures { λ r. ⌜ r ≡ mixtureHolds n (now (mixture .entry)) ⌝ }
 {

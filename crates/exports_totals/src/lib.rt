@@ -1,4 +1,4 @@
-// The interface for C and Rust: totals at one mixture and at many, and the worth of a plan graph. Nothing is kept.
+// The interface for C and Rust: totals at one mixture, at many and within ranges of weights, and the worth of a plan graph. Nothing is kept.
 ghost use mathlib.Core.Path.{_≡_};
 ghost use mathlib.Core.Bool.{true};
 ghost use mathlib.Core.List.{List};
@@ -8,11 +8,14 @@ ghost use Rattle.tables.specs.Verdicts.{left};
 ghost use Rattle.runs.specs.State.{totalsOf};
 ghost use Rattle.mixtures.specs.Each.{answers, eachVerdict, eachOf};
 ghost use Rattle.runs.specs.Demand3.{ModelAccepted, after, steps, MixtureHolds};
+ghost use Rattle.intervals.specs.Intervals.{withinOf};
+ghost use Rattle.intervals.specs.Claim.{RangesHold};
 ghost use Rattle.worths.specs.Storage.{lentGraph};
 ghost use Rattle.worth.specs.Judged.{worthAnswer};
-ghost use Rattle.answers.specs.Calls.{model, refusalOf, totalsBy, worthBy, Brackets};
+ghost use Rattle.answers.specs.Calls.{model, refusalOf, totalsBy, totalsWithinBy, worthBy, Brackets, Encloses};
 use answers::Refusal;
 use answers::Totals;
+use answers::TotalsWithin;
 use answers::Worth;
 use tables::Counts;
 use tables::State;
@@ -156,6 +159,74 @@ pub extern "C" fn biidhaqun_each<'a, 'b>(
         advice,
     );
     answers::refusal_of(verdict)
+}
+
+// The totals of a certifier over all mixtures whose weights lie within ranges. The choices of what stands are not read.
+#[no_mangle]
+pub extern "C" fn biidhaqun_within<'a, 'b, 'c>(
+    n: usize,
+    m: usize,
+    k: usize,
+    g: u64,
+    transition: &'a [u16],
+    observation: &'a [u16],
+    reward: &'a [i64],
+    state: &'b [usize],
+    actions: &'b [u8],
+    masks: &'b [u64],
+    entries: &'b [i64],
+    corners: &'b [i64],
+    weights: &'b [u32],
+    values: &'b [i64],
+    informed: &'b [i64],
+    qmdp: &'b [i64],
+    lows: &'c [u32],
+    highs: &'c [u32],
+) -> TotalsWithin
+    ensures { λ r. ⌜ ((choices : List ℕ) →
+        let tables = model n m k g (now (transition .entry)) (now (observation .entry)) (now (reward .entry)) in
+        let standing = lent (now (state .entry)) (cells (now (actions .entry)) choices (now (masks .entry)) (now (entries .entry)) (now (corners .entry))
+        (now (weights .entry)) (now (values .entry))) (rows (now (informed .entry)) (now (qmdp .entry))) in
+        r ≡ totalsWithinBy (withinOf tables standing (now (lows .entry)) (now (highs .entry)))) ⌝ }
+    ensures { λ r. ⌜ ((choices : List ℕ) (x : Lent) (ls : List LentLevel) →
+        let tables = model n m k g (now (transition .entry)) (now (observation .entry)) (now (reward .entry)) in
+        let standing = lent (now (state .entry)) (cells (now (actions .entry)) choices (now (masks .entry)) (now (entries .entry)) (now (corners .entry))
+        (now (weights .entry)) (now (values .entry))) (rows (now (informed .entry)) (now (qmdp .entry))) in
+        ModelAccepted tables x → standing ≡ after tables x ls → 0 < steps tables x ls →
+        RangesHold tables x ls (now (lows .entry)) (now (highs .entry)) →
+        Encloses tables x ls (now (lows .entry)) (now (highs .entry)) r) ⌝ }
+{
+    let c = Counts {
+        states: n,
+        actions: m,
+        observations: k,
+        discount: g,
+    };
+    let within = intervals::totals_within(
+        transition,
+        observation,
+        reward,
+        c,
+        state,
+        actions,
+        masks,
+        entries,
+        corners,
+        weights,
+        values,
+        informed,
+        qmdp,
+        lows,
+        highs,
+    );
+    let verdict = within.verdict;
+    let refusal = answers::refusal_of(verdict);
+    TotalsWithin {
+        number: refusal.number,
+        place: refusal.place,
+        lower: within.lower,
+        upper: within.upper,
+    }
 }
 
 // The worth of a plan graph's node at a state with some steps left.

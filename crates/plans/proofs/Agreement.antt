@@ -135,7 +135,7 @@ module _ (M : Model) (W W' : Level) (e : Agree M W W') where
   unfolding coversAll
   covers-all-agree v l = every-cong (M .states) _ _ (e .covers-same v l)
 
-  counts-agree : (b : ℕ → ℕ) (v : ℕ) → v < W .vectors → counts (M .states) W' b v ≡ counts (M .states) W b v
+  pub counts-agree : (b : ℕ → ℕ) (v : ℕ) → v < W .vectors → counts (M .states) W' b v ≡ counts (M .states) W b v
   unfolding counts
   counts-agree b v l = every-cong (M .states) _ _ (λ s k. ap (λ (x : Bool). eqb (b s) 0 || x) (e .covers-same v l s k))
 

@@ -10,4 +10,5 @@ pub mod Rebuilt
 pub mod Drops
 pub mod Ticks
 pub mod Multiples
+pub mod Intervals
 pub mod Rows

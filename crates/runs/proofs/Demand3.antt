@@ -241,7 +241,7 @@ reached-run m x₀ (l ∷ ls) t L x r =
     (reached-run m x₀ ls _ _ (offered m x l) (reached-step r l))
 
 module _ (m : Tables) (x : Lent) (o : ModelAccepted m x) (ls : List LentLevel) where
-  reached : Reached m (x .cells) (steps m x ls) (last m x ls) (after m x ls)
+  pub reached : Reached m (x .cells) (steps m x ls) (last m x ls) (after m x ls)
   reached = rw (zero-add (steps m x ls)) at (reached-run m (x .cells) ls 0 level0 (opened m x) (reached-open m x o))
 
   state-holds : StateHolds m x ls

@@ -224,6 +224,19 @@ pub fn totals(certifier: &Certifier, b: &[f64]) -> Totals {
     Totals { lower, upper: level.ceiling(b).min(informed), action: level.vectors[first].action }
 }
 
+/// Lower and upper value of all weights within ranges.
+pub fn within(certifier: &Certifier, low: &[f64], high: &[f64]) -> (f64, f64) {
+    let sure = |over: &[f64], under: &[f64], entries: &[f64]| -> f64 {
+        let weights = over.iter().zip(under);
+        entries.iter().zip(weights).map(|(&entry, (over, under))| if entry < 0.0 { under } else { over } * entry).sum()
+    };
+    let weighty = high.iter().enumerate().fold(0, |mask, (s, &weight)| mask | u64::from(weight > 0.0) << s);
+    let level = &certifier.level;
+    let counting = level.vectors.iter().filter(|vector| weighty & !vector.mask == 0);
+    let lower = counting.map(|vector| sure(low, high, &vector.entries)).fold(f64::NEG_INFINITY, f64::max);
+    (lower, sure(high, low, &level.corners))
+}
+
 /// A point-based backup at every corner and some points.
 pub fn build(certifier: &Certifier, points: &[Vec<f64>]) -> Level {
     let (tables, standing) = (&certifier.tables, &certifier.level);

@@ -245,6 +245,18 @@ pub fn mixture(weights: &[u32], n: usize) -> Answer<&[u32]> {
     }
 }
 
+/// Lows and highs, if no low is above its high and there are enough of both; or 24, 17. What is missing is 0 for 24.
+pub fn ranges<'a>(lows: &'a [u32], highs: &'a [u32], n: usize) -> Answer<(&'a [u32], &'a [u32])> {
+    let weight = |list: &[u32], s: usize| list.get(s).copied().unwrap_or(0);
+    if (0..n).any(|s| weight(lows, s) > weight(highs, s)) {
+        return refused(24, 0);
+    }
+    match lows.get(..n) {
+        Some(lows) => Ok((lows, mixture(highs, n)?)),
+        None => refused(17, 0),
+    }
+}
+
 /// The answers at many mixtures.
 pub fn answer(
     n: usize,

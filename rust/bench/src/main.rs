@@ -12,7 +12,8 @@ use bench::plain::Plain;
 use bench::tuned::Tuned;
 use bench::{convert, floating};
 use biidhaqun::slices::{
-    self, Adopted, Answers, Certifier, Graph, Level, Offers, Reading, Refusal, Replayed, Tables, Totals, Worth,
+    self, Adopted, Answers, Certifier, Graph, Level, Offers, Reading, Refusal, Replayed, Tables, Totals, TotalsWithin,
+    Worth,
 };
 use compare::gen::Question;
 use compare::lent::{Call, Library};
@@ -53,6 +54,10 @@ impl Library for Linked {
 
     fn totals(&self, tables: &Tables, certifier: &Certifier, mixture: &[u32]) -> Totals {
         slices::totals(tables, certifier, mixture)
+    }
+
+    fn within(&self, tables: &Tables, certifier: &Certifier, lows: &[u32], highs: &[u32]) -> TotalsWithin {
+        slices::within(tables, certifier, lows, highs)
     }
 
     fn each(
@@ -137,6 +142,7 @@ impl Form for Lent {
             Call::Each { tables, certifier, mixtures, count, answers } => {
                 self.by.each(tables, certifier, mixtures, *count, answers).number as i64
             }
+            Call::Within { tables, certifier, lows, highs } => self.by.within(tables, certifier, lows, highs).lower,
             Call::Build { tables, certifier, count, points, level } => {
                 self.by.build(tables, certifier, *count, points, level).number as i64
             }
@@ -311,6 +317,15 @@ fn floating_form(call: &Call) -> Result<Box<dyn Form + '_>, String> {
             };
             Ok(form(standing, false, call))
         }
+        Call::Within { tables, certifier, lows, highs } => {
+            let standing = convert::floating_certifier(tables, certifier);
+            let floats = |weights: &[u32]| weights.iter().map(|&weight| f64::from(weight)).collect::<Vec<_>>();
+            let (low, high) = (floats(lows), floats(highs));
+            let (lower, upper) = floating::within(&standing, &low, &high);
+            close(answer[2] as f64, lower)?;
+            close(answer[3] as f64, upper)?;
+            Ok(form(standing, false, move |certifier| floating::within(certifier, &low, &high).0 as i64))
+        }
         Call::Build { tables, certifier, points, .. } => {
             let standing = convert::floating_certifier(tables, certifier);
             let beliefs: Vec<Vec<f64>> = points.chunks(tables.states).map(convert::belief).collect();
@@ -402,6 +417,14 @@ fn asking_in_half(Standing { tables, certifier }: Standing) -> Call {
     Call::Totals { tables, certifier, mixture }
 }
 
+/// Within a tenth of each weight of a mixture.
+fn asking_within(Standing { tables, certifier }: Standing) -> Call {
+    let mixture: Vec<u32> = inputs::shares(&mut rng(), tables.states, 10_000);
+    let lows = mixture.iter().map(|weight| weight - weight / 10).collect();
+    let highs = mixture.iter().map(|weight| weight + weight / 10).collect();
+    Call::Within { tables, certifier, lows, highs }
+}
+
 fn asking_at(Standing { tables, certifier }: Standing, count: usize) -> Call {
     let mut rng = rng();
     let mixtures = (0..count).flat_map(|_| inputs::shares::<u32>(&mut rng, tables.states, 1_000)).collect();
@@ -431,7 +454,7 @@ fn valuing(counts: Counts, nodes: usize, steps: usize) -> Call {
 }
 
 /// Every call at the limits, by name; those on levels with 32 vectors, and with 1,000.
-fn calls() -> [(&'static str, Call); 15] {
+fn calls() -> [(&'static str, Call); 17] {
     let (standing, level) = inputs::offer(&mut rng(), LARGEST, FEW, POINTS, false);
     let (wide, larger) = inputs::offer(&mut rng(), LARGEST, VECTORS, POINTS, false);
     let pointless = inputs::offer(&mut rng(), LARGEST, VECTORS, 0, false);
@@ -442,6 +465,7 @@ fn calls() -> [(&'static str, Call); 15] {
         ("an offer, 32 vectors, 32 points", offering((standing.clone(), level.clone()))),
         ("totals", asking(standing.clone())),
         ("totals at 1,000 mixtures", asking_at(standing.clone(), 1_000)),
+        ("totals within ranges", asking_within(standing.clone())),
         ("building at 16 points", building(standing.clone(), 16)),
         ("a solver's 32 vectors, 16 points", adopting((standing, level), 16)),
         ("an offer, 1,000 vectors, no points", offering(pointless)),
@@ -449,6 +473,7 @@ fn calls() -> [(&'static str, Call); 15] {
         ("an offer, 1,000 vectors, 32 points", offering((wide.clone(), larger.clone()))),
         ("totals upon 1,000 vectors", asking(wide.clone())),
         ("totals upon 1,000 of half the states", asking_in_half(halves)),
+        ("totals within ranges upon 1,000 vectors", asking_within(wide.clone())),
         ("building at 16 points upon 1,000 vectors", building(wide.clone(), 16)),
         ("a solver's 1,000 vectors, 16 points", adopting((wide, larger), 16)),
         ("a plan's worth, 32 nodes, 4 steps", valuing(LARGEST, NODES, STEPS)),

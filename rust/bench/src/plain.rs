@@ -7,7 +7,7 @@ use crate::limits::*;
 use crate::plain_file;
 use crate::solver_file::{self, adopted};
 use biidhaqun::slices::{
-    Adopted, Answers, Certifier, Graph, Level, Offers, Reading, Refusal, Replayed, Tables, Totals, Worth,
+    Adopted, Answers, Certifier, Graph, Level, Offers, Reading, Refusal, Replayed, Tables, Totals, TotalsWithin, Worth,
 };
 use compare::gen::Question;
 use compare::lent::Library;
@@ -245,6 +245,23 @@ fn each(tables: &Tables, certifier: &Certifier, mixtures: (usize, &[u32]), answe
     answer(model.n, mixtures, answers, |mixture| totals_at(&model, &level, mixture))
 }
 
+/// The sum of weight × entry, with one weight for entries of 0 or more and another for the others.
+fn sure(over: &[i64], under: &[i64], entries: &[i64]) -> i64 {
+    (0..over.len()).map(|s| if entries[s] < 0 { under[s] } else { over[s] } * entries[s]).sum()
+}
+
+fn within(tables: &Tables, certifier: &Certifier, lows: &[u32], highs: &[u32]) -> Answer<TotalsWithin> {
+    let (model, level) = standing(tables, certifier)?;
+    let (lows, highs) = ranges(lows, highs, model.n)?;
+    let (low, high) = (whole(lows), whole(highs));
+    let counts = |&v: &usize| (0..model.n).all(|s| high[s] == 0 || covers(level.masks[v], s));
+    let counting = (0..level.masks.len()).filter(counts);
+    match counting.map(|v| sure(&low, &high, &level.entries[v * model.n..])).max() {
+        Some(lower) => Ok(TotalsWithin { lower, upper: sure(&high, &low, level.corners), ..TotalsWithin::default() }),
+        None => refused(22, 0),
+    }
+}
+
 /// An alpha vector on its own.
 struct Vector {
     action: usize,
@@ -373,6 +390,14 @@ impl Library for Plain {
             number,
             place,
             ..Totals::default()
+        })
+    }
+
+    fn within(&self, tables: &Tables, certifier: &Certifier, lows: &[u32], highs: &[u32]) -> TotalsWithin {
+        within(tables, certifier, lows, highs).unwrap_or_else(|Refusal { number, place }| TotalsWithin {
+            number,
+            place,
+            ..TotalsWithin::default()
         })
     }
 

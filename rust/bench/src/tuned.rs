@@ -8,7 +8,7 @@ use crate::limits::*;
 use crate::solver_file::{self, adopted};
 use crate::tuned_file;
 use biidhaqun::slices::{
-    Adopted, Answers, Certifier, Graph, Level, Offers, Reading, Refusal, Replayed, Tables, Totals, Worth,
+    Adopted, Answers, Certifier, Graph, Level, Offers, Reading, Refusal, Replayed, Tables, Totals, TotalsWithin, Worth,
 };
 use compare::gen::Question;
 use compare::lent::Library;
@@ -436,6 +436,26 @@ fn totals(tables: &Tables, certifier: &Certifier, mixture: &[u32]) -> Answer<Tot
     totals_at(&level, &Sawtooth::of(&level, &mut [0; POINTS * STATES]), mixture)
 }
 
+/// The sum of weight × entry, with one weight for entries of 0 or more and another for the others.
+fn sure(over: &[i64], under: &[i64], entries: &[i64]) -> i64 {
+    let weights = over.iter().zip(under);
+    entries.iter().zip(weights).map(|(&entry, (over, under))| over * entry.max(0) + under * entry.min(0)).sum()
+}
+
+fn within(tables: &Tables, certifier: &Certifier, lows: &[u32], highs: &[u32]) -> Answer<TotalsWithin> {
+    let (model, level) = standing(tables, certifier)?;
+    let (lows, highs) = ranges(lows, highs, model.n)?;
+    let (mut room, mut more) = ([0; STATES], [0; STATES]);
+    let (low, high) = (whole(lows, &mut room), whole(highs, &mut more));
+    let needed = weighty(high);
+    let vectors = level.entries.chunks_exact(model.n).zip(level.masks);
+    let counting = vectors.filter(|(_, mask)| needed & !*mask == 0);
+    match counting.map(|(entries, _)| sure(low, high, entries)).max() {
+        Some(lower) => Ok(TotalsWithin { lower, upper: sure(high, low, level.corners), ..TotalsWithin::default() }),
+        None => refused(22, 0),
+    }
+}
+
 fn each(tables: &Tables, certifier: &Certifier, mixtures: (usize, &[u32]), answers: &mut Answers) -> Answer<()> {
     let (model, level) = standing(tables, certifier)?;
     let mut weights = [0; POINTS * STATES];
@@ -585,6 +605,14 @@ impl Library for Tuned {
             number,
             place,
             ..Totals::default()
+        })
+    }
+
+    fn within(&self, tables: &Tables, certifier: &Certifier, lows: &[u32], highs: &[u32]) -> TotalsWithin {
+        within(tables, certifier, lows, highs).unwrap_or_else(|Refusal { number, place }| TotalsWithin {
+            number,
+            place,
+            ..TotalsWithin::default()
         })
     }
 

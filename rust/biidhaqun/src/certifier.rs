@@ -7,7 +7,7 @@ use crate::parts::{Mixture, Points};
 use crate::rule::Rule;
 use crate::shape::Shape;
 use crate::slices;
-use crate::totals::{Bounds, Totals};
+use crate::totals::{Bounds, Totals, TotalsWithin};
 
 /// A certifier: a model, the number of levels that were accepted, the last of them, and the rows of the fast informed bound,
 /// which it steps itself at each acceptance.
@@ -185,6 +185,43 @@ impl Certifier {
             Ok(Bounds { lower, upper, gap: upper - lower, action: answers.actions[at].into() })
         };
         Ok((0..mixtures.len()).map(one).collect())
+    }
+
+    /// The totals over all mixtures whose weights are known within ranges, a low and a high for each state: at each of
+    /// them some plan earns the lower total, and none earns more than the upper. The lower total is the largest, over the vectors
+    /// that cover every state with a high above 0, of the sum of low × entry for entries of 0 or more and of high × entry for
+    /// those below; the upper total is the sum of high × corner for corners of 0 or more and of low × corner for those below.
+    /// Refused with 16, 24 where a low is above its high, 17, or 22 where no vector covers those states.
+    ///
+    /// ```
+    /// use biidhaqun::{Certifier, Mixture, Model, Points};
+    ///
+    /// # fn main() -> Result<(), Box<dyn std::error::Error>> {
+    /// let (model, start) = Model::read(&std::fs::read("../../examples/dough.pomdp")?)?;
+    /// let mut certifier = Certifier::open(&model)?;
+    /// for _ in 0..2 {
+    ///     let level = certifier.build(&Points::one(&start.weights))?;
+    ///     certifier.offer(&level)?;
+    /// }
+    ///
+    /// // The dough is ready with 40 to 60 in 100, and not with as much.
+    /// let (lows, highs) = (Mixture::new(&[40, 40]), Mixture::new(&[60, 60]));
+    /// let within = certifier.totals_within(&lows, &highs)?;
+    /// assert_eq!((within.lower, within.upper), (6_980, 29_320));
+    /// for weights in [[40, 60], [50, 50], [60, 40]] {
+    ///     let at = certifier.totals(&Mixture::new(&weights))?;
+    ///     assert!(within.lower <= at.lower && at.upper <= within.upper);
+    /// }
+    /// # Ok(())
+    /// # }
+    /// ```
+    pub fn totals_within(&self, lows: &Mixture, highs: &Mixture) -> Result<TotalsWithin, Error> {
+        let states = self.model.shape().states;
+        Length::test("lows", None, lows.weights.len(), states)?;
+        Length::test("highs", None, highs.weights.len(), states)?;
+        let at = slices::within(self.model.tables(), &self.slices, &lows.weights, &highs.weights);
+        Refusal::unless(slices::Refusal { number: at.number, place: at.place }, Handed::Other)?;
+        Ok(TotalsWithin { lower: at.lower, upper: at.upper })
     }
 
     /// Builds a level upon the standing one, at every corner and at these points; it will be accepted. If all t levels so

@@ -156,7 +156,7 @@ impl fmt::Display for Refusal {
             (Rule::CornerBackup, _) => write!(f, "corner {} is below its backup; raise it", at),
             (Rule::PointBackup, _) => write!(f, "point {} is below its backup; raise its value", at),
             (Rule::NoLevel, _) => write!(f, "no level was accepted yet, so there are no totals; offer one first"),
-            (Rule::Mixture, _) => write!(f, "a mixture's weights are 0 to 1,000,000 each, and not all 0"),
+            (Rule::Mixture, _) => write!(f, "a mixture's weights, and the highs of ranges, are 0 to 1,000,000 each, and not all 0"),
             (Rule::Graph, _) => write!(
                 f,
                 "the plan graph has no node or over 32, or node {} names an action or next node that does not exist, or \
@@ -180,9 +180,10 @@ impl fmt::Display for Refusal {
             ),
             (Rule::Counting, _) => write!(
                 f,
-                "no vector counts: at the mixture each leaves out a state that has weight, or, to build upon, none covers all \
-                 states"
+                "no vector counts: at the mixture each leaves out a state that has weight, or that may have some within the \
+                 ranges, or, to build upon, none covers all states"
             ),
+            (Rule::LowHigh, _) => write!(f, "a low is above its high; within a range of weights the low comes first"),
             (Rule::Room, _) => write!(f, "a slice lent for the answer is too short; it needs {}", at),
         }
     }

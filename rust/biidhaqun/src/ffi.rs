@@ -4,11 +4,11 @@
 //! that is lent to be read, keeps no pointer, and answers whatever the content.
 
 use crate::slices::{
-    Adopted, Answers, Certifier, Graph, Level, Offers, Reading, Refusal, Replayed, Tables, Totals, Worth,
+    Adopted, Answers, Certifier, Graph, Level, Offers, Reading, Refusal, Replayed, Tables, Totals, TotalsWithin, Worth,
 };
 
 mod library {
-    use super::{Adopted, Reading, Refusal, Replayed, Totals, Worth};
+    use super::{Adopted, Reading, Refusal, Replayed, Totals, TotalsWithin, Worth};
 
     extern "C" {
         pub fn biidhaqun_version() -> u64;
@@ -236,6 +236,41 @@ mod library {
             action: *mut u8,
             action_length: usize,
         ) -> Refusal;
+
+        pub fn biidhaqun_within(
+            states: usize,
+            actions: usize,
+            observations: usize,
+            discount: u64,
+            transition: *const u16,
+            transition_length: usize,
+            observation: *const u16,
+            observation_length: usize,
+            reward: *const i64,
+            reward_length: usize,
+            state: *const usize,
+            state_length: usize,
+            standing_actions: *const u8,
+            standing_actions_length: usize,
+            masks: *const u64,
+            masks_length: usize,
+            entries: *const i64,
+            entries_length: usize,
+            corners: *const i64,
+            corners_length: usize,
+            weights: *const u32,
+            weights_length: usize,
+            values: *const i64,
+            values_length: usize,
+            informed: *const i64,
+            informed_length: usize,
+            qmdp: *const i64,
+            qmdp_length: usize,
+            lows: *const u32,
+            lows_length: usize,
+            highs: *const u32,
+            highs_length: usize,
+        ) -> TotalsWithin;
 
         pub fn biidhaqun_build(
             states: usize,
@@ -621,6 +656,46 @@ pub fn each(tables: &Tables, certifier: &Certifier, mixtures: &[u32], count: usi
             answers.upper.len(),
             answers.actions.as_mut_ptr(),
             answers.actions.len(),
+        )
+    }
+}
+
+/// The totals over all mixtures whose weights lie within ranges; or 7, 16, 24, 17, 22.
+pub fn within(tables: &Tables, certifier: &Certifier, lows: &[u32], highs: &[u32]) -> TotalsWithin {
+    unsafe {
+        library::biidhaqun_within(
+            tables.states,
+            tables.actions,
+            tables.observations,
+            tables.discount,
+            tables.transition.as_ptr(),
+            tables.transition.len(),
+            tables.observation.as_ptr(),
+            tables.observation.len(),
+            tables.reward.as_ptr(),
+            tables.reward.len(),
+            certifier.state.as_ptr(),
+            certifier.state.len(),
+            certifier.actions.as_ptr(),
+            certifier.actions.len(),
+            certifier.masks.as_ptr(),
+            certifier.masks.len(),
+            certifier.entries.as_ptr(),
+            certifier.entries.len(),
+            certifier.corners.as_ptr(),
+            certifier.corners.len(),
+            certifier.weights.as_ptr(),
+            certifier.weights.len(),
+            certifier.values.as_ptr(),
+            certifier.values.len(),
+            certifier.informed.as_ptr(),
+            certifier.informed.len(),
+            certifier.qmdp.as_ptr(),
+            certifier.qmdp.len(),
+            lows.as_ptr(),
+            lows.len(),
+            highs.as_ptr(),
+            highs.len(),
         )
     }
 }

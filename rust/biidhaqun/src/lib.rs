@@ -72,7 +72,7 @@ pub use parts::{Graph, Mixture, Points};
 pub use rule::Rule;
 pub use shape::Shape;
 pub use slices::VERSION;
-pub use totals::{Bounds, Bracket, Ceiling, Totals, Units};
+pub use totals::{Bounds, Bracket, Ceiling, Totals, TotalsWithin, Units};
 
 #[cfg(all(test, feature = "linked"))]
 mod tests;

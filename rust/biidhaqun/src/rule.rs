@@ -51,12 +51,13 @@ rules! {
     14 CornerBackup: "no corner is below its backup",
     15 PointBackup: "no point is below its backup",
     16 NoLevel: "totals are asked above level 0",
-    17 Mixture: "a mixture has a weight for each state, each is at most 1,000,000, and not all are 0",
+    17 Mixture: "each state has a weight, or a low and a high; weights and highs are at most 1,000,000, and not all are 0",
     18 Graph: "a plan graph, and the node, state and steps asked for, are within their limits",
     19 SolverForm: "each word of a solver's files fits its form, none is missing, and nodes are numbered in order",
     20 SolverFiles: "a solver's two files have as many vectors, and the same actions",
     21 Covered: "what a covered state reaches is covered by the vector that is chosen there",
-    22 Counting: "some vector counts at a mixture, and some covers all states where a level is built",
+    22 Counting: "some vector counts at a mixture or at the highs, and some covers all states where a level is built",
+    24 LowHigh: "no low of a range of weights is above its high",
     100 Room: "the slices that a file is read into have room",
 }
 

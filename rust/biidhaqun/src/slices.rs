@@ -4,8 +4,9 @@
 //! nor written. n stands for the model's states, m for its actions, k for its observations.
 //!
 //! What is handed in may hold anything and have any length. With the feature `linked`, this module has the calls themselves
-//! too: [`version`], [`read`], [`open`], [`offer`], [`replay`], [`totals`], [`each`], [`build`], [`adopt`] and [`worth`]. Each is
-//! proved to answer, and to leave in what it is lent, what its definitions say; one that is refused leaves all as it was.
+//! too: [`version`], [`read`], [`open`], [`offer`], [`replay`], [`totals`], [`each`], [`within`], [`build`], [`adopt`] and
+//! [`worth`]. Each is proved to answer, and to leave in what it is lent, what its definitions say; one that is refused leaves all
+//! as it was.
 //!
 //! A vector's mask says which states it covers. Its entries elsewhere are unread, and an acceptance stores them as 0, and the
 //! mask's bits past the states too.
@@ -14,11 +15,11 @@
 //! one of a certifier by 7 for what stands and for the rows (its choices are read by no call, and not asked for), by 9 for
 //! what is to stand;
 //! one of an offered level, of a list of offers, of points, of a level to be built or adopted, or of answers by 9; a mixture, or
-//! several, by 17; one of a plan graph by 18; one that a file is read into by 100, and the place is then the length that it
+//! several, and lows and highs by 17; one of a plan graph by 18; one that a file is read into by 100, and the place is then the length that it
 //! needs.
 
 #[cfg(feature = "linked")]
-pub use crate::ffi::{adopt, build, each, offer, open, read, replay, totals, version, worth};
+pub use crate::ffi::{adopt, build, each, offer, open, read, replay, totals, version, within, worth};
 
 /// The version of this layout, the C header's too. [`version`] is the linked library's.
 pub const VERSION: u64 = 4;
@@ -308,6 +309,18 @@ pub struct Totals {
     pub sawtooth: i64,
     /// The ceiling of the informed rows.
     pub informed: i64,
+}
+
+/// How totals within ranges ended, and what they are, in ticks times a mixture's total weight; 0 where they are refused.
+#[repr(C)]
+#[derive(Clone, Copy, Debug, Default, PartialEq, Eq, Hash)]
+pub struct TotalsWithin {
+    pub number: u64,
+    pub place: usize,
+    /// The largest least product of a vector that counts at the highs.
+    pub lower: i64,
+    /// The most product of the corners.
+    pub upper: i64,
 }
 
 /// The answers at many mixtures, each at its mixture's number: what [`totals`] answers there.

@@ -51,6 +51,29 @@ fn many_mixtures_at_once() {
     assert_eq!(refusal(fresh.totals_at(&mixtures)), (16, 0));
 }
 
+#[test]
+fn weights_within_ranges() {
+    let (_, _, two) = standing(2);
+    let within = |lows: &[u32], highs: &[u32]| two.totals_within(&Mixture::new(lows), &Mixture::new(highs));
+    assert_eq!(within(&[40, 40], &[60, 60]), Ok(TotalsWithin { lower: 6_980, upper: 29_320 }));
+    // At one mixture: the totals there, but for the points and the rows.
+    let at = two.totals(&Mixture::new(&[50, 50])).unwrap();
+    assert_eq!(within(&[50, 50], &[50, 50]), Ok(TotalsWithin { lower: at.lower, upper: 23_900 }));
+    assert_eq!(refusal(within(&[2, 0], &[1, 1_000_001])), (24, 0));
+    assert_eq!(refusal(within(&[0, 0], &[1, 1_000_001])), (17, 0));
+    assert_eq!(refusal(within(&[0, 0], &[0, 0])), (17, 0));
+    assert!(matches!(within(&[1], &[1, 1]), Err(Error::Length(_))));
+    assert!(matches!(within(&[1, 1], &[1]), Err(Error::Length(_))));
+    let (_, _, fresh) = standing(0);
+    assert_eq!(refusal(fresh.totals_within(&Mixture::new(&[2, 0]), &Mixture::new(&[1, 0]))), (16, 0));
+    // A state that may have weight is to be covered.
+    let (_, _, mut narrow) = standing(0);
+    narrow.offer(&masked(&narrow, 0, &[(0, 2, [0, -100])])).unwrap();
+    let within = |lows: &[u32], highs: &[u32]| narrow.totals_within(&Mixture::new(lows), &Mixture::new(highs));
+    assert_eq!(within(&[0, 1], &[0, 2]).map(|within| within.lower), Ok(-200));
+    assert_eq!(refusal(within(&[0, 1], &[1, 2])), (22, 0));
+}
+
 /// Each of the two ceilings is the lower one somewhere.
 #[test]
 fn the_ceilings_apart() {
@@ -567,7 +590,7 @@ fn wrong_lengths_are_told() {
 
 #[test]
 fn every_refusal_has_a_rule_and_a_sentence() {
-    for number in (1..=22).chain([100]) {
+    for number in (1..=22).chain([24, 100]) {
         let rule = Rule::of(number).unwrap();
         assert_eq!(rule.number(), number);
         let text = Refusal { rule, place: Place::Byte(3) }.to_string();

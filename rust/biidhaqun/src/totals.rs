@@ -37,6 +37,19 @@ pub struct Bounds {
     pub action: usize,
 }
 
+/// What is certified of every mixture inside ranges of weights, in ticks times the mixture's total weight.
+///
+/// What is proved, where a [`Certifier`](crate::Certifier) gave it: at each mixture of which every weight is at least its low
+/// and at most its high, some plan earns the lower total that has as many steps as levels were accepted, and none earns more
+/// than the upper.
+#[derive(Clone, Copy, Debug, PartialEq, Eq, Hash)]
+pub struct TotalsWithin {
+    /// At every mixture inside some plan earns at least this.
+    pub lower: i64,
+    /// At no mixture inside does a plan earn more than this.
+    pub upper: i64,
+}
+
 /// A ceiling: what no plan earns more than.
 #[derive(Clone, Copy, Debug, PartialEq, Eq, Hash)]
 pub enum Ceiling {

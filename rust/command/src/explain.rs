@@ -157,9 +157,12 @@ const EXPLANATIONS: &[Explanation] = &[
     },
     Explanation {
         number: 17,
-        means: "A weight of the mixture is above 1,000,000, or all are 0.",
+        means: "A weight of the mixture is above 1,000,000, or all are 0; of ranges of weights, a high.",
         place: NONE,
-        causes: &["Only the proportions of the weights matter: divide them all by one number."],
+        causes: &[
+            "Only the proportions of the weights matter: divide them all by one number.",
+            "A program handed in fewer weights, lows or highs than there are states.",
+        ],
     },
     Explanation {
         number: 18,
@@ -205,11 +208,21 @@ const EXPLANATIONS: &[Explanation] = &[
     Explanation {
         number: 22,
         means: "No vector counts at the mixture: each of them leaves out a state that has weight there, so that no floor is \
-                known. Or, where a level is built: no vector that stands covers all states.",
+                known. Within ranges of weights the highs count: a state whose high is above 0 may have weight. Or, where a level \
+                is built: no vector that stands covers all states.",
         place: NONE,
         causes: &[
             "A weight that is small but not 0 on a state that no vector covers.",
             "A level of masked vectors alone: one vector that covers all states, however low, counts at every mixture, and can be built upon.",
+        ],
+    },
+    Explanation {
+        number: 24,
+        means: "A low is above its high: there is no weight in that range.",
+        place: NONE,
+        causes: &[
+            "Low and high were exchanged: `--within 40..60` says 40 to 60.",
+            "A program handed in fewer highs than there are states: one that is missing counts as 0 here.",
         ],
     },
     Explanation {
@@ -238,7 +251,7 @@ pub fn run(number: u64) -> i32 {
             exit::SERVED
         }
         None => {
-            eprintln!("biidhaqun: there is no refusal {}; they are 1 to 22, and 100", number);
+            eprintln!("biidhaqun: there is no refusal {}; they are 1 to 22, 24 and 100", number);
             exit::USAGE
         }
     }
@@ -250,7 +263,7 @@ mod tests {
 
     #[test]
     fn every_refusal_is_explained() {
-        for number in (1..=22).chain([100]) {
+        for number in (1..=22).chain([24, 100]) {
             assert!(text(number).unwrap().starts_with(&format!("{}. ", number)));
         }
         assert_eq!(text(0), None);

@@ -38,6 +38,9 @@ pub enum Request {
     Levels {
         #[command(flatten)]
         built: Built,
+        /// Ranges of weights to ask within: a low and a high for each state, of all mixtures inside
+        #[arg(long = "within", value_name = "L..H,L..H,..", value_parser = ranges)]
+        within: Vec<Ranges>,
         /// Print one JSON object
         #[arg(long)]
         json: bool,
@@ -63,6 +66,9 @@ pub enum Request {
         /// A mixture to ask at: a weight for each state, up to 1000000 [default: the start mixture]
         #[arg(long = "at", value_name = "W,W,..", value_parser = weights)]
         at: Vec<Weights>,
+        /// Ranges of weights to ask within: a low and a high for each state, of all mixtures inside
+        #[arg(long = "within", value_name = "L..H,L..H,..", value_parser = ranges)]
+        within: Vec<Ranges>,
         /// Print one JSON object
         #[arg(long)]
         json: bool,
@@ -100,7 +106,7 @@ pub enum Request {
     },
     /// Explain a refusal
     Explain {
-        /// The number of the refusal, 1 to 22
+        /// The number of the refusal, 1 to 22, or 24
         number: u64,
     },
 }
@@ -129,8 +135,23 @@ pub const LEVELS: u64 = 3;
 pub struct Weights(pub Vec<u32>);
 
 fn weights(text: &str) -> Result<Weights, String> {
-    let weight = |word: &str| word.trim().parse().map_err(|_| format!("`{}` is no whole number below 2^32", word));
     text.split(',').map(weight).collect::<Result<_, _>>().map(Weights)
+}
+
+fn weight(word: &str) -> Result<u32, String> {
+    word.trim().parse().map_err(|_| format!("`{}` is no whole number below 2^32", word))
+}
+
+/// A low and a high for each state.
+#[derive(Clone, Debug, PartialEq, Eq)]
+pub struct Ranges(pub Vec<(u32, u32)>);
+
+fn ranges(text: &str) -> Result<Ranges, String> {
+    let range = |word: &str| match word.split_once("..") {
+        Some((low, high)) => Ok((weight(low)?, weight(high)?)),
+        None => Err(format!("`{}` is no range; one is written as 40..60", word)),
+    };
+    text.split(',').map(range).collect::<Result<_, _>>().map(Ranges)
 }
 
 impl Request {

@@ -61,6 +61,8 @@ fn points_and_mixtures() {
     };
     let more = ["--point", "50,50", "--point", "85,15", "--point", "15,85", "--point", "97,3", "--point", "3,97"];
     assert!(gap(&more) < gap(&[]));
+    let (out, _, status) = run(&[&words(&two)[..], &["--within", "40..60,40..60"]].concat());
+    assert!(status == 0 && out.contains("\nwithin 40..60,40..60\n"), "{}", out);
     let (out, _, _) = run(&[&words(&two)[..], &["--at", "1,0", "--at", "0,1"]].concat());
     let asked: Vec<&str> = out.lines().filter(|line| line.starts_with("at ")).collect();
     assert_eq!(asked, ["at 1,0 (tiger-left 1)", "at 0,1 (tiger-right 1)"]);
@@ -169,6 +171,12 @@ fn mixtures_at_which_no_vector_counts() {
     assert!(out.contains("at 0,1,1 (fine 1, coarse 1)\n") && out.contains(" pour\n"), "{}", out);
     assert!(err.starts_with("biidhaqun: level 1 is accepted, but certifies nothing at 1,1,1: "), "{}", err);
     let (out, _, status) = seeding(["mask", "mask"], &["--at", "1,1,1", "--json"]);
+    assert_eq!((out.matches("\"refused\": 22").count(), status), (3, 1));
+    // Melted chocolate may have weight within these ranges, and no vector covers it with the others.
+    let (out, err, status) = seeding(["mask", "mask"], &["--within", "0..1,1..1,1..1", "--within", "0..0,1..2,1..2"]);
+    assert_eq!((out.matches("no vector counts here").count(), status), (3, 1));
+    assert!(err.contains("level 1 is accepted, but certifies nothing within 0..1,1..1,1..1: "), "{}", err);
+    let (out, _, status) = seeding(["mask", "mask"], &["--within", "0..1,1..1,1..1", "--json"]);
     assert_eq!((out.matches("\"refused\": 22").count(), status), (3, 1));
     // The lines of `ladder`: at the start the chocolate is melted, and here level 3 says nothing of that.
     let (out, _, status) = seeding(["\"mask\": 1, \"entries\": [433", "\"mask\": 8, \"entries\": [433"], &[]);

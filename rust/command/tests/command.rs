@@ -263,7 +263,7 @@ fn files_that_cannot_be_read() {
 
 #[test]
 fn every_refusal_is_explained() {
-    for number in 1..=22 {
+    for number in (1..=22).chain([24]) {
         let out = served(&["explain", &number.to_string()]);
         assert!(out.starts_with(&format!("{}. ", number)) && out.contains("What usually causes it"), "{}", out);
     }
@@ -274,6 +274,27 @@ fn help_and_version() {
     assert!(served(&["--help"]).contains("Exit status: 0 served, 1 refused"));
     assert!(served(&["levels", "--help"]).contains("--point"));
     assert!(served(&["--version"]).starts_with("biidhaqun "));
+}
+
+/// Weights that are known within ranges: at (40, 60), (50, 50) and (60, 40) the totals lie inside.
+#[test]
+fn levels_within_ranges() {
+    let dough = ["levels", "examples/dough.pomdp", "--levels", "2"];
+    let out = served(&[&dough[..], &["--within", "40..60,40..60", "--within", "0..0,7..9"]].concat());
+    let shown = "\nwithin 40..60,40..60\nlevel          lower          upper\n    1         -12000          32000\n    2           6980          29320\n\nwithin 0..0,7..9\n";
+    assert!(out.starts_with("at 50,50") && out.contains(shown), "{}", out);
+    assert!(out.ends_with("the best plan at each mixture inside earns between the two\n"), "{}", out);
+    let out = served(&[&dough[..], &["--within", "40..60,40..60", "--json"]].concat());
+    assert_eq!(out.matches("\"within\": [").count(), 2);
+    assert!(out.contains("\"lower\": 6980") && out.contains("\"upper\": 29320"), "{}", out);
+    assert!(!served(&[&dough[..], &["--json"]].concat()).contains("within"));
+    for (ranges, number) in [("1..0,0..1", 24), ("1..0,0..1000001", 24), ("0..1000001,0..0", 17), ("0..0,0..0", 17)] {
+        let err = stopped(&[&dough[..], &["--within", ranges]].concat(), 1);
+        assert!(err.contains(&format!("refused {} at 0", number)) && err.contains(ranges), "{}", err);
+    }
+    for ranges in ["40..60", "40,60", "40..60,x..1", "40..60,1"] {
+        stopped(&[&dough[..], &["--within", ranges]].concat(), 2);
+    }
 }
 
 /// What a picture shows is in its words.

@@ -47,7 +47,7 @@ fn the_runs_of_the_front_page() {
             runs += 1;
         }
     }
-    assert_eq!(runs, 5);
+    assert_eq!(runs, 6);
 }
 
 /// The image in the front page is what the command beside it draws.
@@ -75,7 +75,7 @@ fn the_model_of_the_page_on_model_files() {
 #[test]
 fn the_refusals_of_the_header() {
     let header = text("include/biidhaqun.h");
-    for number in (1..=22).chain([100]) {
+    for number in (1..=22).chain([24, 100]) {
         assert!(header.contains(&format!("\n * {:>4}  ", number)));
         assert!(command::explain::text(number).is_some());
     }

@@ -37,15 +37,18 @@ pub struct Seen {
     pub informed: u64,
     /// Those upon a level with a vector that leaves out a state.
     pub masked: u64,
-    /// Mixtures at which no vector counted.
+    /// Mixtures, and highs, at which no vector counted.
     pub uncounted: u64,
+    /// Ranges of which mixtures inside were compared.
+    pub ranges: u64,
 }
 
 /// Follows a list, and at each step compares what is answered with all plans of as many steps as levels were accepted:
 /// no plan is above the upper total, nor above either ceiling, some plan that opens with the action is at or above the lower
 /// one, no plan is above its own action's informed row, which is nowhere above the QMDP row, a built level is accepted, a
 /// refused one changes nothing. Totals are given exactly where a vector counts, and a level is built exactly where one covers all
-/// states. The totals at multiples of a mixture and at its sum with another are held against those at the mixture.
+/// states. The totals at multiples of a mixture and at its sum with another are held against those at the mixture, and those
+/// within ranges against all plans at mixtures inside.
 pub fn check(list: &List, by: &dyn Calls) -> Result<Seen, String> {
     let model = Model::of(&list.tables, &DOCUMENT).map_err(|refusal| refusal.to_string())?;
     let certifier = by.open(&list.tables).map_err(|refusal| format!("opening is {}", refusal))?;
@@ -85,8 +88,9 @@ impl Run<'_> {
                 }
                 None => Ok(()),
             },
-            Step::Totals(_) if self.seen.accepted == 0 => Ok(()),
+            Step::Totals(_) | Step::Within(..) if self.seen.accepted == 0 => Ok(()),
             Step::Totals(mixture) => self.compare(mixture),
+            Step::Within(lows, highs) => self.inside(lows, highs),
         }
     }
 
@@ -157,10 +161,47 @@ impl Run<'_> {
         Ok(())
     }
 
+    /// Whether a standing vector counts at weights.
+    fn counts(&self, weights: &[u64]) -> bool {
+        let weighty = (0..self.model.n).filter(|&s| weights[s] > 0).fold(0, |mask, s| mask | 1 << s);
+        self.masks().any(|mask| weighty & !mask == 0)
+    }
+
+    /// The totals within ranges, against all plans at mixtures inside: each weight at its low or its high, or all between.
+    fn inside(&mut self, lows: &[u64], highs: &[u64]) -> Result<(), String> {
+        let counts = self.counts(highs);
+        let within = match self.by.within(&self.certifier, lows, highs) {
+            Ok(within) if counts => within,
+            Ok(within) => return Err(format!("no vector counts at {:?}, and yet {:?}", highs, within)),
+            Err(Refusal { number: 22, .. }) if !counts => {
+                self.seen.uncounted += 1;
+                return Ok(());
+            }
+            Err(refusal) => return Err(format!("totals within ranges are {}", refusal)),
+        };
+        let n = self.model.n;
+        let unit = scale(self.seen.accepted as u32);
+        let (lower, upper) = (&within.lower * &unit, &within.upper * &unit);
+        let ends =
+            (0..1 << n).map(|ends: u64| (0..n).map(|s| if ends >> s & 1 == 0 { lows[s] } else { highs[s] }).collect());
+        let middle = (0..n).map(|s| (lows[s] + highs[s]) / 2).collect();
+        for mixture in ends.chain([middle]) {
+            let mixture: Vec<u64> = mixture;
+            let earned = best(&self.plans, &mixture, None).ok_or("there is no plan")?;
+            if earned < lower || earned > upper {
+                return Err(format!(
+                    "at {:?} inside {:?} and {:?} the best plan earns {} / {}, not within {:?}",
+                    mixture, lows, highs, earned, unit, within
+                ));
+            }
+        }
+        self.seen.ranges += 1;
+        Ok(())
+    }
+
     /// The totals at one mixture, against all plans.
     fn compare(&mut self, mixture: &[u64]) -> Result<(), String> {
-        let weighty = (0..self.model.n).filter(|&s| mixture[s] > 0).fold(0, |mask, s| mask | 1 << s);
-        let counts = self.masks().any(|mask| weighty & !mask == 0);
+        let counts = self.counts(mixture);
         let totals = match self.by.totals(&self.certifier, mixture) {
             Ok(totals) if counts => totals,
             Ok(totals) => return Err(format!("no vector counts at {:?}, and yet {:?}", mixture, totals)),

@@ -1,16 +1,17 @@
-//! Calls on storage of any content: opening, offers, totals, building, the worth of plan graphs.
+//! Calls on storage of any content: opening, offers, totals, totals within ranges, building, the worth of plan graphs.
 
 use crate::gen::{self, List, Question, Shape, Step, DOCUMENT};
 use crate::rng::Rng;
 use crate::show;
 use num_bigint::BigInt;
-use reference::{Certifier, Graph, Level, Points, Refusal, Rules, Tables, Totals, NODES, REWARD, STEPS};
+use reference::{Certifier, Graph, Level, Points, Refusal, Rules, Tables, Totals, Within, NODES, REWARD, STEPS};
 
 /// What can be called. A library is compared with the reference by having these functions.
 pub trait Calls {
     fn open(&self, tables: &Tables) -> Result<Certifier, Refusal>;
     fn offer(&self, certifier: &mut Certifier, level: &Level) -> Result<(), Refusal>;
     fn totals(&self, certifier: &Certifier, mixture: &[u64]) -> Result<Totals, Refusal>;
+    fn within(&self, certifier: &Certifier, lows: &[u64], highs: &[u64]) -> Result<Within, Refusal>;
     fn build(&self, certifier: &Certifier, points: &Points) -> Result<Level, Refusal>;
     fn adopt(&self, certifier: &Certifier, alpha: &[u8], graph: &[u8], points: &Points) -> Result<Level, Refusal>;
     fn worth(&self, tables: &Tables, graph: &Graph, asked: Question) -> Result<BigInt, Refusal>;
@@ -28,6 +29,10 @@ impl Calls for Rules {
 
     fn totals(&self, certifier: &Certifier, mixture: &[u64]) -> Result<Totals, Refusal> {
         reference::totals(certifier, mixture, self)
+    }
+
+    fn within(&self, certifier: &Certifier, lows: &[u64], highs: &[u64]) -> Result<Within, Refusal> {
+        reference::within(certifier, lows, highs, self)
     }
 
     fn build(&self, certifier: &Certifier, points: &Points) -> Result<Level, Refusal> {
@@ -149,6 +154,9 @@ fn steps_differ(ours: &Certifier, theirs: &Certifier, steps: &[Step], other: &dy
             Step::Totals(mixture) => {
                 differ("totals", &DOCUMENT.totals(&ours, mixture), &other.totals(&theirs, mixture))
             }
+            Step::Within(lows, highs) => {
+                differ("within", &DOCUMENT.within(&ours, lows, highs), &other.within(&theirs, lows, highs))
+            }
             Step::Build(points) => differ("build", &DOCUMENT.build(&ours, points), &other.build(&theirs, points)),
             Step::Raise(points) => {
                 differ("build and offer", &raise(&DOCUMENT, &mut ours, points), &raise(other, &mut theirs, points))
@@ -192,6 +200,7 @@ mod tests {
             let step = |step: &Step| match step {
                 Step::Offer(level) => number(DOCUMENT.offer(&mut certifier, level)),
                 Step::Totals(mixture) => number(DOCUMENT.totals(&certifier, mixture)),
+                Step::Within(lows, highs) => number(DOCUMENT.within(&certifier, lows, highs)),
                 Step::Build(points) => number(DOCUMENT.build(&certifier, points)),
                 Step::Raise(points) => number(raise(&DOCUMENT, &mut certifier, points)),
             };
@@ -213,7 +222,7 @@ mod tests {
             assert!(!case.show().is_empty());
             seen.extend(numbers(&case));
         }
-        let all: BTreeSet<u8> = [0, 3, 21, 22].into_iter().chain(5..=18).collect();
+        let all: BTreeSet<u8> = [0, 3, 21, 22, 24].into_iter().chain(5..=18).collect();
         assert_eq!(seen, all);
     }
 

@@ -2,7 +2,7 @@
 //!
 //! A slice that is too short counts as one whose object breaks its first limit: tables without counts (3, or 7), a level
 //! without vectors (7 where it stands or its rows are too short, 9 where it is offered or has no room), too many points (9), no
-//! weights (17), no nodes (18). What is written is written at the front of the slices; the rest stays.
+//! weights (17), no nodes (18); lows and highs are handed on as they lie. What is written is written at the front of the slices; the rest stays.
 
 mod adopting;
 mod replaying;
@@ -10,7 +10,7 @@ mod replaying;
 use crate::gen::{Question, DOCUMENT};
 use crate::lent::{front, narrowed, stored, Cell, Library};
 use biidhaqun::slices::{
-    Adopted, Answers, Certifier, Graph, Level, Offers, Reading, Refusal, Replayed, Tables, Totals, Worth,
+    Adopted, Answers, Certifier, Graph, Level, Offers, Reading, Refusal, Replayed, Tables, Totals, TotalsWithin, Worth,
 };
 use reference::{Rules, ACTIONS, BUILT_POINTS, NODES, OBSERVATIONS, POINTS, ROWS, STATES, VECTORS};
 
@@ -84,6 +84,10 @@ slips! {
         OneRefusesAll: "a refused mixture among many refuses them all",
         LaterAnswersLeft: "what comes after a refused mixture is not answered",
         NoneRefusesAll: "among many mixtures, one at which no vector counts refuses them all",
+        LowsUnasked: "lows may be fewer than the states, as if zeros followed",
+        HighsUnasked: "highs may be fewer than the states, as if zeros followed",
+        RangesExchanged: "the lows lie where the highs should, and the other way round",
+        RefusedWithin: "refused totals within ranges carry numbers",
         RefusedReading: "a refused reading carries counts",
         RefusedWorth: "a refused worth carries ticks",
         AdoptedRoomFirst: "an adopted level's room is asked for before the files agree",
@@ -484,6 +488,15 @@ impl Copied {
         Ok(())
     }
 
+    /// Lows or highs: one for each state, or fewer where the slice is too short.
+    fn bounds(&self, slice: &[u32], n: usize, unasked: Slip) -> Vec<u64> {
+        if self.long(slice, n) || self.has(unasked) {
+            stored(slice, n, n)
+        } else {
+            front(slice, n.saturating_sub(1)).iter().map(|&weight| weight.into()).collect()
+        }
+    }
+
     fn built(
         &self,
         tables: &Tables,
@@ -625,6 +638,25 @@ impl Library for Copied {
         answers: &mut Answers,
     ) -> Refusal {
         self.each_of(tables, certifier, (count, mixtures), answers).err().map_or(Refusal::default(), refused)
+    }
+
+    fn within(&self, tables: &Tables, certifier: &Certifier, lows: &[u32], highs: &[u32]) -> TotalsWithin {
+        let standing = self.standing(tables, certifier);
+        let n = standing.tables.states as usize;
+        let lows = self.bounds(lows, n, Slip::LowsUnasked);
+        let highs = self.bounds(highs, n, Slip::HighsUnasked);
+        let (lows, highs) = if self.has(Slip::RangesExchanged) { (highs, lows) } else { (lows, highs) };
+        let ticks = |total: &num_bigint::BigInt| i64::try_from(total).unwrap_or(i64::MAX);
+        match reference::within(&standing, &lows, &highs, &self.rules) {
+            Ok(within) => {
+                TotalsWithin { lower: ticks(&within.lower), upper: ticks(&within.upper), ..TotalsWithin::default() }
+            }
+            Err(refusal) => {
+                let Refusal { number, place } = refused(refusal);
+                let left = i64::from(self.has(Slip::RefusedWithin));
+                TotalsWithin { number, place, lower: left, upper: left }
+            }
+        }
     }
 
     fn build(

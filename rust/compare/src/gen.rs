@@ -234,6 +234,40 @@ pub fn spoil_mixture(rng: &mut Rng, n: usize, mixture: &mut [u64]) {
     }
 }
 
+/// Lows and highs within the limits: the same, from 0 on, or anything between.
+pub fn ranges(rng: &mut Rng, n: usize) -> (Vec<u64>, Vec<u64>) {
+    let mut highs = mixture(rng, n)[..n].to_vec();
+    let style = rng.below(4);
+    let low = |rng: &mut Rng, &high: &u64| match style {
+        0 => high,
+        1 => 0,
+        _ => rng.below(high + 1),
+    };
+    let mut lows: Vec<u64> = highs.iter().map(|high| low(rng, high)).collect();
+    let weight = |rng: &mut Rng| rng.below(2 * WEIGHT);
+    trail(rng, &mut lows, weight);
+    trail(rng, &mut highs, weight);
+    (lows, highs)
+}
+
+/// Puts one low or one high at a limit or past it or past the other, or all highs at 0, or leaves some out.
+pub fn spoil_ranges(rng: &mut Rng, n: usize, (lows, highs): (&mut Vec<u64>, &mut Vec<u64>)) {
+    let at = rng.index(n);
+    let weight = rng.pick(&[0, 1, WEIGHT, WEIGHT + 1, u64::from(u32::MAX)]);
+    match rng.below(7) {
+        0 => lows[at] = highs[at] + 1,
+        1 => lows[at] = weight,
+        2 => highs[at] = weight,
+        3 => highs[..n].fill(0),
+        4 => {
+            lows[..n].fill(0);
+            highs[..n].fill(0);
+        }
+        5 => lows.truncate(at),
+        _ => highs.truncate(at),
+    }
+}
+
 /// A level by its vectors, corners and points.
 #[derive(Clone, Debug)]
 struct Unpacked {
@@ -656,6 +690,8 @@ pub fn question(rng: &mut Rng, graph: &Graph, shape: Shape) -> Question {
 pub enum Step {
     Offer(Level),
     Totals(Vec<u64>),
+    /// Totals within ranges: lows and highs.
+    Within(Vec<u64>, Vec<u64>),
     Build(Points),
     /// Build, and offer what was built.
     Raise(Points),
@@ -669,7 +705,7 @@ impl Step {
             Step::Raise(points) => {
                 build(certifier, points, &DOCUMENT).and_then(|level| offer(certifier, &level, &DOCUMENT)).is_ok()
             }
-            Step::Totals(_) | Step::Build(_) => false,
+            Step::Totals(_) | Step::Within(..) | Step::Build(_) => false,
         }
     }
 }
@@ -720,6 +756,8 @@ pub fn list(rng: &mut Rng, shape: Shape, levels: u64) -> List {
         for _ in 0..if accepted { 2 } else { 1 } {
             steps.push(Step::Totals(mixture(rng, shape.n)));
         }
+        let (lows, highs) = ranges(rng, shape.n);
+        steps.push(Step::Within(lows, highs));
     }
     List { tables, steps }
 }
@@ -820,6 +858,10 @@ pub fn handed(rng: &mut Rng, shape: Shape) -> (Certifier, Vec<Step>) {
     let count = BUILT_POINTS + rng.index(2);
     let many = points(rng, shape.n, count);
     let mut steps = vec![Step::Totals(mixed), Step::Totals(spoilt), Step::Build(few)];
+    let (mut lows, mut highs) = ranges(rng, shape.n);
+    steps.push(Step::Within(lows.clone(), highs.clone()));
+    spoil_ranges(rng, shape.n, (&mut lows, &mut highs));
+    steps.push(Step::Within(lows, highs));
     if shape.n <= 4 {
         steps.push(Step::Build(many));
     }
@@ -906,7 +948,9 @@ pub fn ends(rng: &mut Rng, shape: Shape) -> (Certifier, Vec<Step>) {
     }
     let steps = vec![
         Step::Totals(vec![WEIGHT; STATES]),
-        Step::Totals(most),
+        Step::Totals(most.clone()),
+        Step::Within(vec![0; STATES], vec![WEIGHT; STATES]),
+        Step::Within(most, vec![WEIGHT; STATES]),
         Step::Build(self::points(rng, n, count)),
         Step::Offer(any),
         if rng.once_in(2) { Step::Offer(lowest) } else { Step::Raise(self::points(rng, n, count)) },

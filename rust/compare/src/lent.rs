@@ -4,12 +4,12 @@ use crate::files;
 use crate::gen::Question;
 use crate::rng::Rng;
 use biidhaqun::slices::{
-    Adopted, Answers, Certifier, Graph, Level, Offers, Reading, Refusal, Replayed, Tables, Totals, Worth,
+    Adopted, Answers, Certifier, Graph, Level, Offers, Reading, Refusal, Replayed, Tables, Totals, TotalsWithin, Worth,
 };
 use reference::{ACTIONS, BUILT_POINTS, NODES, OBSERVATIONS, POINTS, STATES, VECTORS};
 use std::fmt;
 
-/// The library's nine calls.
+/// The library's ten calls.
 pub trait Library {
     fn read(&self, file: &[u8], tables: &mut Tables, start: &mut [u16]) -> Reading;
     fn open(&self, tables: &Tables, certifier: &mut Certifier) -> Refusal;
@@ -24,6 +24,7 @@ pub trait Library {
         count: usize,
         answers: &mut Answers,
     ) -> Refusal;
+    fn within(&self, tables: &Tables, certifier: &Certifier, lows: &[u32], highs: &[u32]) -> TotalsWithin;
     fn build(&self, tables: &Tables, certifier: &Certifier, count: usize, points: &[u32], level: &mut Level)
         -> Refusal;
     /// The alpha file and the graph; the points' weights and their count.
@@ -199,6 +200,11 @@ pub fn mixture(storage: &[u64], n: usize) -> Vec<u32> {
     narrowed(storage, n)
 }
 
+/// All of a list of weights.
+pub fn weights(storage: &[u64]) -> Vec<u32> {
+    narrowed(storage, storage.len())
+}
+
 pub fn graph(storage: &reference::Graph, k: usize) -> Graph {
     let nodes = count(storage.nodes, NODES);
     Graph {
@@ -268,6 +274,12 @@ pub enum Call {
         count: usize,
         answers: Answers,
     },
+    Within {
+        tables: Tables,
+        certifier: Certifier,
+        lows: Vec<u32>,
+        highs: Vec<u32>,
+    },
     /// The counts and weights of the level are not lent.
     Build {
         tables: Tables,
@@ -325,6 +337,10 @@ impl Call {
             }
             Call::Each { tables, certifier, mixtures, count, answers } => {
                 ended(by.each(tables, certifier, mixtures, *count, answers))
+            }
+            Call::Within { tables, certifier, lows, highs } => {
+                let TotalsWithin { number, place, lower, upper } = by.within(tables, certifier, lows, highs);
+                vec![number.into(), place as i128, lower.into(), upper.into()]
             }
             Call::Build { tables, certifier, count, points, level } => {
                 ended(by.build(tables, certifier, *count, points, level))
@@ -442,6 +458,12 @@ impl Call {
                 slices.push(("answered upper", &mut answers.upper));
                 slices.push(("answered actions", &mut answers.actions));
             }
+            Call::Within { tables, certifier, lows, highs } => {
+                slices.extend(of_tables(tables));
+                slices.extend(standing(certifier, false));
+                slices.push(("lows", lows));
+                slices.push(("highs", highs));
+            }
             Call::Build { tables, certifier, points, level, .. }
             | Call::Adopt { tables, certifier, points, level, .. } => {
                 slices.extend(of_tables(tables));
@@ -483,6 +505,9 @@ impl fmt::Display for Call {
                     "  each: {:?}\n  {:?}\n  {} mixtures {:?}\n  {:?}",
                     tables, certifier, count, mixtures, answers
                 )
+            }
+            Call::Within { tables, certifier, lows, highs } => {
+                writeln!(f, "  within: {:?}\n  {:?}\n  lows {:?}\n  highs {:?}", tables, certifier, lows, highs)
             }
             Call::Build { tables, certifier, count, points, level } => {
                 writeln!(f, "  build: {:?}\n  {:?}\n  {} points {:?}\n  {:?}", tables, certifier, count, points, level)

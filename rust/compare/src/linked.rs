@@ -3,7 +3,8 @@
 use crate::gen::Question;
 use crate::lent::{Cell, Library};
 use biidhaqun::slices::{
-    self, Adopted, Answers, Certifier, Graph, Level, Offers, Reading, Refusal, Replayed, Tables, Totals, Worth,
+    self, Adopted, Answers, Certifier, Graph, Level, Offers, Reading, Refusal, Replayed, Tables, Totals, TotalsWithin,
+    Worth,
 };
 
 /// The number of a call that wrote past the end of a slice: none ends with it.
@@ -141,6 +142,10 @@ impl Library for Linked {
         let all = kept(&mut copy.numbers) && kept(&mut copy.lower) && kept(&mut copy.upper) && kept(&mut copy.actions);
         *answers = copy;
         Refusal { number: if all { ended.number } else { OUTSIDE }, ..ended }
+    }
+
+    fn within(&self, tables: &Tables, certifier: &Certifier, lows: &[u32], highs: &[u32]) -> TotalsWithin {
+        slices::within(tables, certifier, lows, highs)
     }
 
     fn build(

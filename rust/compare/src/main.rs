@@ -162,7 +162,8 @@ impl Comparison<'_> {
         println!("lists of offers against all plans: {}", lists);
         println!(
             "  {} levels accepted ({} with a point above the corners), {} refused, {} totals compared ({} at equal thirds, {} where \
-             the informed ceiling is the lower, {} where a vector covers part of the states), {} mixtures at which no vector counts",
+             the informed ceiling is the lower, {} where a vector covers part of the states), {} ranges of \
+             which mixtures inside are compared, {} mixtures and highs at which no vector counts",
             self.plans.accepted,
             self.plans.above_corners,
             self.plans.refused,
@@ -170,6 +171,7 @@ impl Comparison<'_> {
             self.plans.thirds,
             self.plans.informed,
             self.plans.masked,
+            self.plans.ranges,
             self.plans.uncounted
         );
         if !self.climbs()? || !self.solved()? {
@@ -299,6 +301,7 @@ impl Comparison<'_> {
                 self.plans.above_corners += seen.above_corners;
                 self.plans.informed += seen.informed;
                 self.plans.masked += seen.masked;
+                self.plans.ranges += seen.ranges;
                 self.plans.uncounted += seen.uncounted;
                 Ok(true)
             }

@@ -112,6 +112,10 @@ impl Stage {
         Call::Totals { tables, certifier, mixture: vec![1; self.shape.n] }
     }
 
+    fn within(&self, upon: &Certifier) -> Call {
+        single::within(self.shape, upon, &vec![1; self.shape.n], &vec![2; self.shape.n])
+    }
+
     fn adopt(&self, upon: &Certifier, (alpha, graph): &Files, room: usize) -> Call {
         single::adoption(&mut rng(), upon, (alpha, graph), &points(), room)
     }
@@ -176,6 +180,7 @@ impl Stage {
                 cases.push(Case { about: format!("{}, vector {} largest", about, peak), call, ends: SERVED });
             };
             add("totals", self.totals(&upon));
+            add("totals within ranges", self.within(&upon));
             add("totals at many", single::asking(&mut rng(), self.shape, &upon, 3));
             add("a built level", single::building(&mut rng(), self.shape, &upon, &points()));
         }
@@ -197,6 +202,7 @@ impl Stage {
             let upon = raised(&self.fresh, &level);
             add(format!("1,000 masks, {} of all states", wide), self.offer(&self.fresh, &level), SERVED);
             add(format!("totals where vector {} alone counts", wide), self.totals(&upon), SERVED);
+            add(format!("totals within ranges where vector {} alone counts", wide), self.within(&upon), SERVED);
             let built = single::building(&mut rng(), self.shape, &upon, &points());
             add(format!("a level built upon vector {} alone", wide), built, SERVED);
             // Whatever its action, a vector that covers both states reaches both: it may go on with that one alone.
@@ -212,6 +218,7 @@ impl Stage {
             let mut narrow = upon.clone();
             narrow.standing.masks[wide] = !2;
             add("totals where no vector of 1,000 counts".to_string(), self.totals(&narrow), (22, 0));
+            add("totals within ranges where no vector of 1,000 counts".to_string(), self.within(&narrow), (22, 0));
             let built = single::building(&mut rng(), self.shape, &narrow, &points());
             add("a level built upon 1,000 that leave out a state".to_string(), built, (22, 0));
         }
@@ -244,6 +251,7 @@ impl Stage {
             _ => None,
         };
         each("totals upon 1,000 vectors", &self.totals(&self.wide), &standing);
+        each("totals within ranges upon 1,000 vectors", &self.within(&self.wide), &standing);
         let few = self.level(&self.wide, 2);
         each("2 vectors upon 1,000", &self.offer(&self.wide, &few), &|name| match name {
             "standing choices" => Some(SERVED),

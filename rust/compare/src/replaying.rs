@@ -93,7 +93,7 @@ fn offered(certifier: &mut Certifier, steps: &[Step]) -> Vec<reference::Level> {
         let level = match step {
             Step::Offer(level) => Ok(level.clone()),
             Step::Raise(points) => reference::build(certifier, points, &DOCUMENT),
-            Step::Totals(_) | Step::Build(_) => continue,
+            Step::Totals(_) | Step::Within(..) | Step::Build(_) => continue,
         };
         if let Ok(level) = level {
             let _ = reference::offer(certifier, &level, &DOCUMENT);

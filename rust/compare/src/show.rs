@@ -68,6 +68,7 @@ pub fn steps(steps: &[Step]) -> String {
     let step = |(at, step): (usize, &Step)| match step {
         Step::Offer(offered) => format!("step {}: offer {}", at, level(offered)),
         Step::Totals(mixture) => format!("step {}: totals at {}\n", at, cells(mixture)),
+        Step::Within(lows, highs) => format!("step {}: totals within {} and {}\n", at, cells(lows), cells(highs)),
         Step::Build(upon) => format!("step {}: build upon {}", at, points(upon)),
         Step::Raise(upon) => format!("step {}: build and offer upon {}", at, points(upon)),
     };

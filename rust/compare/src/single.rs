@@ -13,7 +13,7 @@ use reference::{Points, STATES};
 /// only written.
 fn whole(rng: &mut Rng) -> Call {
     let shape = gen::shape(rng);
-    match rng.below(9) {
+    match rng.below(10) {
         0 => reading_exactly(rng),
         1 => {
             let mut tables = gen::tables(rng, shape);
@@ -50,6 +50,15 @@ fn whole(rng: &mut Rng) -> Call {
             let count = rng.index(5);
             asking(rng, shape, &certifier, count)
         }
+        6 => {
+            let levels = 1 + rng.below(2);
+            let certifier = followed(&gen::list(rng, shape, levels));
+            let (mut lows, mut highs) = gen::ranges(rng, shape.n);
+            if rng.once_in(3) {
+                gen::spoil_ranges(rng, shape.n, (&mut lows, &mut highs));
+            }
+            within(shape, &certifier, &lows, &highs)
+        }
         _ => {
             let (certifier, steps) = gen::handed(rng, shape);
             match rng.pick(&steps) {
@@ -63,6 +72,7 @@ fn whole(rng: &mut Rng) -> Call {
                     let tables = lent::tables(&certifier.tables);
                     Call::Totals { tables, certifier: lent::certifier(&certifier), mixture }
                 }
+                Step::Within(lows, highs) => within(shape, &certifier, &lows, &highs),
                 Step::Build(points) | Step::Raise(points) => building(rng, shape, &certifier, &points),
             }
         }
@@ -117,6 +127,12 @@ pub fn asking(rng: &mut Rng, shape: Shape, certifier: &reference::Certifier, cou
     answers.actions.sized(count, rng);
     let tables = lent::tables(&certifier.tables);
     Call::Each { tables, certifier: lent::certifier(certifier), mixtures, count, answers }
+}
+
+/// Totals within ranges, with no more lows and highs than there are states.
+pub fn within(shape: Shape, certifier: &reference::Certifier, lows: &[u64], highs: &[u64]) -> Call {
+    let (lows, highs) = (lent::mixture(lows, shape.n), lent::mixture(highs, shape.n));
+    Call::Within { tables: lent::tables(&certifier.tables), certifier: lent::certifier(certifier), lows, highs }
 }
 
 pub fn building(rng: &mut Rng, shape: Shape, certifier: &reference::Certifier, points: &Points) -> Call {
@@ -242,6 +258,10 @@ fn served(rng: &mut Rng, kind: u64) -> Call {
             5 => asking(rng, shape, &certifier, 3),
             6 => adopting::random(rng).call(rng),
             7 => replaying::served(rng, shape, &certifier),
+            8 => {
+                let (lows, highs) = gen::ranges(rng, shape.n);
+                within(shape, &certifier, &lows, &highs)
+            }
             _ => {
                 let graph = gen::graph(rng, shape);
                 let asked = gen::question(rng, &graph, shape);
@@ -292,6 +312,10 @@ fn if_short(call: &Call, name: &str, length: usize) -> Option<(u64, usize)> {
         Call::Each { .. } if name == "mixtures" => 17,
         Call::Each { .. } if name.starts_with("answered") => 9,
         Call::Each { .. } => 7,
+        // A weight that is missing is 0 for 24.
+        Call::Within { lows, .. } if name == "highs" && lows[length - 1] > 0 => 24,
+        Call::Within { .. } if name == "lows" || name == "highs" => 17,
+        Call::Within { .. } => 7,
         Call::Build { .. } | Call::Adopt { .. } if level || name == "points" => 9,
         Call::Build { .. } | Call::Adopt { .. } => 7,
         Call::Worth { .. } => 18,
@@ -302,7 +326,7 @@ fn if_short(call: &Call, name: &str, length: usize) -> Option<(u64, usize)> {
 /// A call that is served, and for each slice the same call with that slice one short, empty, and longer; with how the first
 /// of these ends by the header.
 pub fn lengths(rng: &mut Rng, number: u64) -> Vec<(Call, Option<(u64, usize)>)> {
-    let call = served(rng, number % 9);
+    let call = served(rng, number % 10);
     let mut calls = vec![(call.clone(), Some((0, 0)))];
     let count = call.clone().slices().len();
     for at in 0..count {

@@ -16,7 +16,7 @@ const FILES: u64 = 10_000;
 const CALLS: u64 = 5_000;
 const ENDS: u64 = 1_500;
 const SLICES: u64 = 15_000;
-const LENGTHS: u64 = 675;
+const LENGTHS: u64 = 750;
 const PLANS: u64 = 1_000;
 const CLIMBS: u64 = 500;
 const ADOPTIONS: u64 = 5_000;
@@ -409,7 +409,7 @@ mod tests {
         let mut options = Options::parse(words).unwrap();
         let one = [("fixed", 3), ("random", 5), ("calls", 7), ("ends", 1), ("plans", 2), ("slices", 11), ("ticks", 3)];
         let solver = [("adopted", 4), ("adopt", 9), ("solved", 2), ("replay", 6), ("many", 3)];
-        let lengths = (0..9).map(|number| ("lengths", number));
+        let lengths = (0..10).map(|number| ("lengths", number));
         for (suite, number) in one.into_iter().chain(solver).chain(lengths) {
             options.only = Some((suite.to_string(), number));
             assert!(run(&options, &BY_THE_DOCUMENT).unwrap(), "{}:{}", suite, number);
@@ -430,7 +430,7 @@ mod tests {
             seen.insert(call.number(&BY_THE_DOCUMENT));
         }
         // 1 and 4 are of files alone, which have tests of their own.
-        let all: BTreeSet<u64> = [0, 2, 3, 21, 22, 100].into_iter().chain(5..=18).collect();
+        let all: BTreeSet<u64> = [0, 2, 3, 21, 22, 24, 100].into_iter().chain(5..=18).collect();
         assert!(seen.is_superset(&all), "{:?}", seen);
     }
 

@@ -6,7 +6,7 @@ use crate::lent::{self, stored, Call, Library};
 use crate::rng::Rng;
 use biidhaqun::slices::{Certifier, Level, Tables};
 use num_bigint::BigInt;
-use reference::{Graph, Points, Refusal, Totals, ROWS, STATES};
+use reference::{Graph, Points, Refusal, Totals, Within, ROWS, STATES};
 
 /// The first call of a case in which the other's answer, or what it leaves in a slice, differs from the one's. The slices
 /// are handed from call to call as the one left them.
@@ -63,6 +63,11 @@ impl Walk<'_> {
                     let mixture = lent::mixture(mixture, self.n + rng.index(STATES - self.n + 1));
                     let (tables, certifier) = (self.tables.clone(), self.certifier.clone());
                     Call::Totals { tables, certifier, mixture }.difference(self.one, self.other)
+                }
+                Step::Within(lows, highs) => {
+                    let (tables, certifier) = (self.tables.clone(), self.certifier.clone());
+                    let (lows, highs) = (lent::weights(lows), lent::weights(highs));
+                    Call::Within { tables, certifier, lows, highs }.difference(self.one, self.other)
                 }
                 Step::Build(points) => self.build(rng, points).err(),
                 Step::Raise(points) => match self.build(rng, points) {
@@ -178,6 +183,13 @@ impl Calls for Through<'_> {
             sawtooth: whole(at.sawtooth),
             informed: whole(at.informed),
         })
+    }
+
+    fn within(&self, certifier: &reference::Certifier, lows: &[u64], highs: &[u64]) -> Result<Within, Refusal> {
+        let (tables, slices) = (lent::tables(&certifier.tables), lent::certifier(certifier));
+        let at = self.0.within(&tables, &slices, &lent::weights(lows), &lent::weights(highs));
+        served(at.number, at.place)?;
+        Ok(Within { lower: BigInt::from(at.lower), upper: BigInt::from(at.upper) })
     }
 
     fn build(&self, certifier: &reference::Certifier, points: &Points) -> Result<reference::Level, Refusal> {

@@ -30,6 +30,7 @@ mod refusal;
 mod rows;
 mod rules;
 mod totals;
+mod within;
 mod words;
 mod worth;
 
@@ -44,4 +45,5 @@ pub use refusal::Refusal;
 pub use rows::ROWS;
 pub use rules::{Rules, Trap};
 pub use totals::{totals, Totals, WEIGHT};
+pub use within::{within, Within};
 pub use worth::{worth, Graph, NODES, STEPS};

@@ -218,6 +218,17 @@ traps! {
         LevelZeroEarly: "level 0 is said to stand at 1",
         MillionRefused: "weight 1,000,000 is refused",
         SeventeenFirst: "17 is tested before 16",
+        // Totals within ranges of weights.
+        LowUnderNegative: "within ranges low × entry counts for negative entries too",
+        CornersExchanged: "within ranges low and high are exchanged at corners",
+        PointsWithin: "points lower the upper total within ranges",
+        RowsWithin: "informed rows lower the upper total within ranges",
+        CountsAtLows: "within ranges a vector counts at the lows",
+        FirstWithin: "within ranges the lower total is the first vector's that counts",
+        SeventeenOfLows: "17 reads the lows",
+        TwentyFourLate: "24 is tested after 17",
+        TwentyFourFirst: "24 is tested before 16",
+        MissingUncompared: "24 passes over a low or a high that is missing",
         // The builder.
         LastLargestChoice: "the last largest vector is chosen",
         LastLargestAction: "the last largest action's vector is kept",

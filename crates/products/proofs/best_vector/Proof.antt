@@ -1,63 +1,15 @@
-use Rattle.integers.proofs.Kit.{needs, ℕ, _+_, _≤_, _<_, _-_, suc, zero, _≡_, _∙_, refl, sym, ap, arith, Bool, true, false, List, getD, ℤ}
-use Rattle.integers.proofs.Kit.{w64, toZ, ofZ, ⊎-elim, ltZ, not-false, not-true}
-use mathlib.Core.Bool.{not}
-use Rattle.integers.proofs.Parts.{is-T}
+use Rattle.integers.proofs.Kit.{needs, ℕ, _≤_, _<_, _-_, _≡_, _∙_, sym, ap, arith, Bool, true, List, getD, ℤ, w64, toZ, ofZ, ⊎-elim, not-false, not-true}
 use Rattle.integers.proofs.Words.{answer}
-use Rattle.integers.specs.Search.{firstLargestOf}
-use Rattle.integers.proofs.Searches.{below-suc, or-true, of-first, of-later, of-same, of-in}
 use Rattle.tables.specs.Storage.{weightIn}
 use Rattle.masks.specs.Masks.{coveredIn, maskedIn}
 use Rattle.masks.specs.Steps.{includes}
 use Rattle.masks.proofs.Bits.{includes-covers}
 use Rattle.plans.specs.Level.{product}
+use Rattle.products.proofs.Found.{Found, found-nothing, first-met, passed, larger, taken, left}
 use Rattle.products.proofs.Weighed.{product-masked}
 use Rattle.products.proofs.Places.{from-start, here-masked}
 use Rattle.products.proofs.best_vector.Statement.{statement}
 use Rattle.products.proofs.best_vector.Tie as tie
-
--- what the search has below v: the first largest so far, and f there, where one was met that p holds of
-record Found (p : ℕ → Bool) (f : ℕ → ℤ) (v : ℕ) (found : Bool) (best : ℕ) (most : ℤ) : Type 0 where
-  place : best ≡ firstLargestOf v p f
-  met : found ≡ true → (p best ≡ true) × (most ≡ f best)
-  none : found ≡ false → (i : ℕ) → i < v → p i ≡ false
-
-module _ (p : ℕ → Bool) (f : ℕ → ℤ) where
-  found-nothing : {most : ℤ} → Found p f 0 false 0 most
-  unfolding firstLargestOf
-  found-nothing = record { place = refl; met = λ e. absurd (is-T e); none = λ e i l. absurd (omega arith) }
-
-  -- the first that is met
-  first-met : (v : ℕ) → p v ≡ true → ((i : ℕ) → i < v → p i ≡ false) → firstLargestOf (v + 1) p f ≡ v
-  first-met zero e none = of-first p f
-  first-met (suc v) e none = of-later p f (suc v) e (rw (none _ (of-in p f (suc v) (omega arith))) refl)
-
-  module _ {v best : ℕ} {found : Bool} {most : ℤ} (so-far : Found p f v found best most) where
-    -- p does not hold of v
-    passed : {r : Bool} {b : ℕ} {m : ℤ} → p v ≡ false → r ≡ found → b ≡ best → m ≡ most → Found p f (v + 1) r b m
-    passed h e g k = record {
-      place = g ∙ so-far .place ∙ sym (of-same p f v (rw h refl));
-      met = λ t. rw (g, k) (so-far .met (sym e ∙ t));
-      none = λ t i l. below-suc v (so-far .none (sym e ∙ t)) h i (omega arith);
-    }
-
-    -- it does, and f is larger there, or not
-    module _ {here : ℤ} (holds : p v ≡ true) (seen : here ≡ f v) where
-      larger : ltZ most here ≡ true → found ≡ true → firstLargestOf (v + 1) p f ≡ v
-      larger t e = of-later p f v holds (rw (← so-far .place, ← so-far .met e .1, ← seen, t) (or-true (not (p best))))
-
-      taken : {r : Bool} {b : ℕ} {m : ℤ} → firstLargestOf (v + 1) p f ≡ v → r ≡ true → b ≡ v → m ≡ here → Found p f (v + 1) r b m
-      taken first e g k = record {
-        place = g ∙ sym first;
-        met = λ t. (ap p g ∙ holds, k ∙ seen ∙ ap f (sym g));
-        none = λ t. absurd (is-T (sym t ∙ e));
-      }
-
-      left : {r : Bool} {b : ℕ} {m : ℤ} → found ≡ true → ltZ most here ≡ false → r ≡ found → b ≡ best → m ≡ most → Found p f (v + 1) r b m
-      left h t e g k = record {
-        place = g ∙ so-far .place ∙ sym (of-same p f v (rw (holds, ← so-far .place, so-far .met h .0, ← so-far .met h .1, ← seen, t) refl));
-        met = λ u. rw (g, k) (so-far .met h);
-        none = λ u. absurd (is-T (sym u ∙ e ∙ h));
-      }
 
 -- which vectors count, and what they are worth
 abbrev counted : List ℕ → ℕ → ℕ → Bool

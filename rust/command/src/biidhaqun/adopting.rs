@@ -1,9 +1,9 @@
 //! `certify` with a solver's files: for each step a level, offered in turn.
 
-use crate::building::{self, joined, progress};
+use crate::building::{self, joined, progress, Asked, Known};
 use crate::levels::{self, Certified};
 use crate::stop::{put, Stop};
-use biidhaqun::{Certifier, Error, Level, Mixture, Model, Points, Refusal, Rule, Totals};
+use biidhaqun::{Certifier, Error, Level, Mixture, Model, Points, Refusal, Rule, Totals, TotalsWithin};
 use command::files;
 use command::options::Weights;
 use command::solver_files::{judge, Step, Which};
@@ -17,7 +17,7 @@ struct Files {
     graph: Vec<u8>,
 }
 
-pub fn run(path: &Path, files: &[PathBuf], points: &[Weights], asked: &[Weights], json: bool) -> Result<(), Stop> {
+pub fn run(path: &Path, files: &[PathBuf], points: &[Weights], asked: &Asked, json: bool) -> Result<(), Stop> {
     if files.len() % 2 == 1 {
         let message = "a solver's files come in pairs, an alpha file and a policy graph for each step";
         return Err(Stop::Usage(format!("{}; here are {}", message, files.len())));
@@ -27,17 +27,19 @@ pub fn run(path: &Path, files: &[PathBuf], points: &[Weights], asked: &[Weights]
     let states = model.shape().states;
     let or_start = |list: Vec<Mixture>| if list.is_empty() { vec![start.clone()] } else { list };
     let points = or_start(building::fitting("--point", points, states)?);
-    let mixtures = or_start(building::fitting("--at", asked, states)?);
+    let mixtures = or_start(building::fitting("--at", asked.at, states)?);
+    let ranges = Known::all(asked.within, states)?;
     let plain = asked.is_empty();
 
     let mut certifier = Certifier::open(&model).map_err(|refusal| Stop::Ours(refusal.to_string()))?;
-    let (mut lines, mut accepted) = (Vec::new(), Vec::new());
+    let (mut lines, mut inside, mut accepted) = (Vec::new(), Vec::new(), Vec::new());
     let bar = progress(steps.len() as u64, "levels");
     let mut ended = Ok(());
     for files in &steps {
-        match step(&mut certifier, files, &points, &mixtures) {
-            Ok((level, totals)) => {
+        match step(&mut certifier, files, &points, (&mixtures, &ranges)) {
+            Ok((level, totals, within)) => {
                 accepted.push(level);
+                inside.push(within);
                 // An adopted level's vectors count everywhere.
                 lines.push(totals.into_iter().map(Some).collect());
             }
@@ -51,8 +53,8 @@ pub fn run(path: &Path, files: &[PathBuf], points: &[Weights], asked: &[Weights]
     drop(bar);
     // What was certified before a refusal is printed too, unless all is to be one JSON object.
     if ended.is_ok() || !(json || lines.is_empty()) {
-        let certified =
-            Certified { model: &model, named: &named, mixtures: &mixtures, lines: &lines, levels: &accepted };
+        let (lines, ranges, inside, levels) = (&lines, &ranges, &inside, &accepted);
+        let certified = Certified { model: &model, named: &named, mixtures: &mixtures, lines, ranges, inside, levels };
         put(&levels::text(&certified, json, plain))?;
     }
     ended
@@ -69,8 +71,8 @@ fn step(
     certifier: &mut Certifier,
     files: &Files,
     points: &[Mixture],
-    mixtures: &[Mixture],
-) -> Result<(Level, Vec<Totals>), Stop> {
+    (mixtures, ranges): (&[Mixture], &[Known]),
+) -> Result<(Level, Vec<Totals>, Vec<Option<TotalsWithin>>), Stop> {
     let given = Points { weights: points.iter().map(|point| point.weights.clone()).collect() };
     let level = certifier.adopt(&files.alpha, &files.graph, &given).map_err(|error| match error {
         Error::Length(length) => Stop::Usage(length.to_string()),
@@ -86,7 +88,8 @@ fn step(
         })
     };
     let totals = mixtures.iter().map(at).collect::<Result<_, _>>()?;
-    Ok((level, totals))
+    let within = ranges.iter().map(|known| known.totals(certifier)).collect::<Result<_, _>>()?;
+    Ok((level, totals, within))
 }
 
 /// A refusal with the file and the word that it is about, or the points.

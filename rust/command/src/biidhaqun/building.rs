@@ -1,10 +1,10 @@
 //! Levels that are built at points, offered, and asked at mixtures.
 
 use crate::stop::Stop;
-use biidhaqun::{Certifier, Error, Mixture, Model, Points, Rule};
+use biidhaqun::{Certifier, Error, Mixture, Model, Points, Refusal, Rule, TotalsWithin};
 use command::files;
 use command::names::Named;
-use command::options::{Built, Weights, LEVELS};
+use command::options::{Built, Ranges, Weights, LEVELS};
 use indicatif::{ProgressBar, ProgressFinish, ProgressStyle};
 use std::path::Path;
 
@@ -18,6 +18,59 @@ pub struct Building {
     /// Where totals are asked.
     pub mixtures: Vec<Mixture>,
     pub levels: u64,
+}
+
+/// Where levels from elsewhere are asked.
+pub struct Asked<'a> {
+    pub at: &'a [Weights],
+    pub within: &'a [Ranges],
+}
+
+impl Asked<'_> {
+    /// Whether nothing is asked but the start mixture.
+    pub fn is_empty(&self) -> bool {
+        self.at.is_empty() && self.within.is_empty()
+    }
+}
+
+/// Weights that are known within ranges.
+pub struct Known {
+    pub lows: Mixture,
+    pub highs: Mixture,
+    /// As they are written in options: `40..60,40..60`.
+    pub text: String,
+}
+
+impl Known {
+    /// Those of the option, if there is a range for each state.
+    pub fn all(list: &[Ranges], states: usize) -> Result<Vec<Known>, Stop> {
+        let one = |Ranges(ranges): &Ranges| {
+            let words: Vec<String> = ranges.iter().map(|(low, high)| format!("{}..{}", low, high)).collect();
+            let (lows, highs): (Vec<u32>, Vec<u32>) = ranges.iter().copied().unzip();
+            let known = Known { lows: Mixture::new(&lows), highs: Mixture::new(&highs), text: words.join(",") };
+            if ranges.len() == states {
+                return Ok(known);
+            }
+            let found = ranges.len();
+            Err(Stop::Usage(format!(
+                "--within {} has {} ranges, and the model has {} states",
+                known.text, found, states
+            )))
+        };
+        list.iter().map(one).collect()
+    }
+
+    /// What is certified of all mixtures inside; none where no vector counts at the highs.
+    pub fn totals(&self, certifier: &Certifier) -> Result<Option<TotalsWithin>, Stop> {
+        match certifier.totals_within(&self.lows, &self.highs) {
+            Ok(totals) => Ok(Some(totals)),
+            Err(Error::Refused(Refusal { rule: Rule::Counting, .. })) => Ok(None),
+            Err(Error::Refused(refusal)) => {
+                Err(Stop::Refused { refusal, note: format!("the ranges are {}", self.text) })
+            }
+            Err(Error::Length(length)) => Err(Stop::Usage(length.to_string())),
+        }
+    }
 }
 
 /// A model file, if the library accepts it: the model, its start mixture, and the names in its comments.

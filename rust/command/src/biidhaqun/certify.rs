@@ -1,29 +1,31 @@
 //! `certify`: levels from anyone, offered in turn.
 
-use crate::building::{self, joined, progress};
+use crate::building::{self, joined, progress, Asked, Known};
 use crate::levels::{self, Certified};
 use crate::shortfall;
 use crate::stop::{put, Stop};
 use biidhaqun::slices::full_mask;
 use biidhaqun::{Certifier, Error, Length, Level, Mixture, Refusal, Rule, Shape};
 use command::files;
-use command::options::Weights;
 use num_traits::Bounded;
 use serde_json::Value;
 use std::path::Path;
 
-pub fn run(path: &Path, offers: &Path, asked: &[Weights], json: bool) -> Result<(), Stop> {
+pub fn run(path: &Path, offers: &Path, asked: &Asked, json: bool) -> Result<(), Stop> {
     let (model, start, named) = building::read(path, !json)?;
     let file = files::read(offers).map_err(Stop::File)?;
     let levels =
         parsed(&file, model.shape()).map_err(|message| Stop::Levels(format!("{}: {}", offers.display(), message)))?;
-    let mixtures = match asked {
+    let states = model.shape().states;
+    let mixtures = match asked.at {
         [] => vec![start],
-        _ => building::fitting("--at", asked, model.shape().states)?,
+        at => building::fitting("--at", at, states)?,
     };
+    let ranges = Known::all(asked.within, states)?;
     let mut certifier = Certifier::open(&model).map_err(|refusal| Stop::Ours(refusal.to_string()))?;
-    let (mut lines, mut accepted) = (Vec::new(), Vec::new());
-    let mut uncounted = None;
+    let (mut lines, mut inside, mut accepted) = (Vec::new(), Vec::new(), Vec::new());
+    // The first level and place at which no vector counts.
+    let mut uncounted: Option<(usize, String)> = None;
     let bar = progress(levels.len() as u64, "levels");
     for (number, level) in levels.iter().enumerate() {
         certifier.offer(level).map_err(|error| match error {
@@ -37,7 +39,7 @@ pub fn run(path: &Path, offers: &Path, asked: &[Weights], json: bool) -> Result<
         let at = |mixture: &Mixture| match certifier.totals(mixture) {
             Ok(totals) => Ok(Some(totals)),
             Err(Error::Refused(Refusal { rule: Rule::Counting, .. })) => {
-                uncounted.get_or_insert_with(|| (number + 1, mixture.clone()));
+                uncounted.get_or_insert_with(|| (number + 1, format!("at {}", joined(&mixture.weights))));
                 Ok(None)
             }
             Err(Error::Refused(refusal)) => {
@@ -46,19 +48,25 @@ pub fn run(path: &Path, offers: &Path, asked: &[Weights], json: bool) -> Result<
             Err(Error::Length(length)) => Err(Stop::Usage(length.to_string())),
         };
         lines.push(mixtures.iter().map(at).collect::<Result<Vec<_>, _>>()?);
+        let within = ranges.iter().map(|known| known.totals(&certifier)).collect::<Result<Vec<_>, _>>()?;
+        if let Some(none) = within.iter().position(Option::is_none) {
+            uncounted.get_or_insert_with(|| (number + 1, format!("within {}", ranges[none].text)));
+        }
+        inside.push(within);
         accepted.push(certifier.standing());
         bar.inc(1);
     }
     drop(bar);
-    let certified = Certified { model: &model, named: &named, mixtures: &mixtures, lines: &lines, levels: &accepted };
+    let (lines, ranges, inside, levels) = (&lines, &ranges, &inside, &accepted);
+    let certified = Certified { model: &model, named: &named, mixtures: &mixtures, lines, ranges, inside, levels };
     put(&levels::text(&certified, json, asked.is_empty()))?;
     match uncounted {
         None => Ok(()),
-        Some((level, mixture)) => Err(Stop::Levels(format!(
-            "level {} is accepted, but certifies nothing at {}: each of its vectors leaves out a state that has weight there; \
-             `biidhaqun explain {}` says more",
+        Some((level, place)) => Err(Stop::Levels(format!(
+            "level {} is accepted, but certifies nothing {}: each of its vectors leaves out a state that has weight there, or may \
+             have; `biidhaqun explain {}` says more",
             level,
-            joined(&mixture.weights),
+            place,
             Rule::Counting.number()
         ))),
     }

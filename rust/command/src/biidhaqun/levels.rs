@@ -1,35 +1,41 @@
-//! `levels`: what is certified at points and mixtures, level by level.
+//! `levels`: what is certified at points and mixtures and within ranges, level by level.
 
-use crate::building::{joined, Building};
+use crate::building::{joined, Building, Known};
 use crate::stop::{put, Stop};
-use biidhaqun::{Level, Mixture, Model, Refusal, Rule, Totals};
+use biidhaqun::{Level, Mixture, Model, Refusal, Rule, Totals, TotalsWithin};
 use command::names::{Named, Names};
-use command::options::Built;
+use command::options::{Built, Ranges};
 use serde_json::{json, Value};
 
-/// What was certified: at each level, at each of the mixtures asked for.
+/// What was certified: at each level, at each of the mixtures and within each of the ranges asked for.
 pub struct Certified<'a> {
     pub model: &'a Model,
     pub named: &'a Named,
     pub mixtures: &'a [Mixture],
     /// None where no vector counts.
     pub lines: &'a [Vec<Option<Totals>>],
+    pub ranges: &'a [Known],
+    /// None where no vector counts at the highs.
+    pub inside: &'a [Vec<Option<TotalsWithin>>],
     /// The levels that were accepted.
     pub levels: &'a [Level],
 }
 
-pub fn run(built: &Built, json: bool) -> Result<(), Stop> {
+pub fn run(built: &Built, within: &[Ranges], json: bool) -> Result<(), Stop> {
     let building = Building::of(built, !json)?;
-    let (mut lines, mut levels) = (Vec::new(), Vec::new());
+    let ranges = Known::all(within, building.model.shape().states)?;
+    let (mut lines, mut inside, mut levels) = (Vec::new(), Vec::new(), Vec::new());
     building.climb(|certifier| {
         let totals = building.mixtures.iter().map(|mixture| building.totals(certifier, mixture).map(Some));
         lines.push(totals.collect::<Result<_, _>>()?);
+        inside.push(ranges.iter().map(|known| known.totals(certifier)).collect::<Result<_, _>>()?);
         levels.push(certifier.standing());
         Ok(())
     })?;
     let Building { model, named, mixtures, .. } = &building;
-    let plain = built.levels.is_none() && built.points.is_empty() && built.mixtures.is_empty();
-    put(&text(&Certified { model, named, mixtures, lines: &lines, levels: &levels }, json, plain))
+    let plain = built.levels.is_none() && built.points.is_empty() && built.mixtures.is_empty() && within.is_empty();
+    let (lines, ranges, inside, levels) = (&lines, &ranges, &inside, &levels);
+    put(&text(&Certified { model, named, mixtures, lines, ranges, inside, levels }, json, plain))
 }
 
 /// One JSON object, the lines of `ladder`, or tables.
@@ -101,6 +107,18 @@ fn tables(certified: &Certified) -> String {
     text.push_str(
         "by: which ceiling is the lower one, the sawtooth of corners and points or the fast informed bound\n",
     );
+    for (number, known) in certified.ranges.iter().enumerate() {
+        text.push_str(&format!("\nwithin {}\n{:>5} {:>14} {:>14}\n", known.text, "level", "lower", "upper"));
+        for (level, totals) in certified.inside.iter().enumerate() {
+            text.push_str(&match &totals[number] {
+                Some(at) => format!("{:>5} {:>14} {:>14}\n", level + 1, at.lower, at.upper),
+                None => format!("{:>5} no vector counts here\n", level + 1),
+            });
+        }
+    }
+    if !certified.ranges.is_empty() {
+        text.push_str("\nwithin ranges, lower, upper: the best plan at each mixture inside earns between the two\n");
+    }
     text
 }
 
@@ -142,7 +160,16 @@ fn object(certified: &Certified) -> String {
             "action_name": named.actions.get(totals.action),
         })
     };
+    let within = |known: &Known, totals: &Option<TotalsWithin>| {
+        let (lows, highs) = (&known.lows.weights, &known.highs.weights);
+        match totals {
+            Some(at) => json!({ "lows": lows, "highs": highs, "lower": at.lower, "upper": at.upper }),
+            None => json!({ "lows": lows, "highs": highs, "refused": Rule::Counting.number() }),
+        }
+    };
     let level = |(number, (totals, level)): (usize, (&Vec<Option<Totals>>, &Level))| {
+        let inside = certified.ranges.iter().zip(&certified.inside[number]);
+        let inside: Vec<Value> = inside.map(|(known, totals)| within(known, totals)).collect();
         let at: Vec<Value> =
             certified.mixtures.iter().zip(totals).map(|(mixture, totals)| at(mixture, totals)).collect();
         let vectors = level.vectors().map(|vector| {
@@ -154,13 +181,17 @@ fn object(certified: &Certified) -> String {
             })
         });
         let points = level.points().map(|point| json!({ "weights": point.weights, "value": point.value }));
-        json!({
+        let mut object = json!({
             "level": number + 1,
             "at": at,
             "vectors": vectors.collect::<Vec<_>>(),
             "corners": level.corners(),
             "points": points.collect::<Vec<_>>(),
-        })
+        });
+        if !inside.is_empty() {
+            object["within"] = json!(inside);
+        }
+        object
     };
     let shape = certified.model.shape();
     let object = json!({

@@ -11,6 +11,7 @@ mod report;
 mod shortfall;
 mod stop;
 
+use building::Asked;
 use clap::Parser;
 use command::explain;
 use command::options::{exit, Options, Request};
@@ -22,13 +23,13 @@ fn main() {
     let json = matches!(options.request, Request::Levels { json: true, .. } | Request::Certify { json: true, .. });
     let ended = match options.request {
         Request::Explain { number } => process::exit(explain::run(number)),
-        Request::Levels { built, json } => levels::run(&built, json),
-        Request::Certify { file, levels, points, at, json } => match &levels[..] {
-            [levels] if points.is_empty() => certify::run(&file, levels, &at, json),
+        Request::Levels { built, within, json } => levels::run(&built, &within, json),
+        Request::Certify { file, levels, points, at, within, json } => match &levels[..] {
+            [levels] if points.is_empty() => certify::run(&file, levels, &Asked { at: &at, within: &within }, json),
             [_] => {
                 Err(Stop::Usage("--point is for a solver's files: levels in JSON have points of their own".to_string()))
             }
-            files => adopting::run(&file, files, &points, &at, json),
+            files => adopting::run(&file, files, &points, &Asked { at: &at, within: &within }, json),
         },
         Request::Check { file } => check::run(&file),
         Request::Import { file, round, out } => import::run(&file, round, out.as_deref()),

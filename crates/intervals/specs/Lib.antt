@@ -1,0 +1,4 @@
+-- Totals of weights known within ranges.
+pub mod Intervals
+pub mod Claim
+pub mod Steps
