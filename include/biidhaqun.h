@@ -14,11 +14,12 @@
  * may be called from any thread, as long as no two calls at once are lent the same memory and one of them writes it.
  *
  * What is proved: whatever it is lent, a call ends without fault, answers, and leaves in every slice what the definitions
- * say (specs/ of crates/runs, mixtures, intervals, worths, worth, modelfile, reading, solver, solved, adopting, replay and
- * answers). Where a certifier was opened by biidhaqun_open, its slices were written by biidhaqun_offer and biidhaqun_replay
- * alone, whatever was offered, and each call was lent the same tables, its totals bracket every plan wherever they are given. A
- * level that is built upon it, or adopted, is accepted if the certifier's slices have room for it. The inline functions at the
- * end, and what this file says, are not proved.
+ * say (specs/ of crates/columns, runs, mixtures, intervals, worths, worth, modelfile, reading, solver, solved, adopting, replay
+ * and answers). Where a certifier was opened by biidhaqun_open, its slices were written by biidhaqun_offer, biidhaqun_replay
+ * and biidhaqun_reprice alone, whatever they were lent, and each call was lent the tables in force (those of the opening, or
+ * the last new ones that were not refused), its totals bracket every plan of these tables wherever they are given. A level
+ * that is built upon it, or adopted, is accepted if the certifier's slices have room for it. The inline functions at the end,
+ * and what this file says, are not proved.
  *
  * SLICES. What a call is lent are slices: a pointer, and a length in elements. They are packed by the model's counts (n
  * states, m actions, k observations), the last index fastest, and may be longer: what lies behind is neither read nor
@@ -29,6 +30,7 @@
  *                observation  m x n x k   by action, state reached, observation     thousandths; a row totals 1,000
  *                reward       m x n       by action, state                          ticks, within -100,000 and 100,000
  *                discount                                                           thousandths
+ *   list         words        see LISTS   of the transitions above 0
  *   certifier    state        3           levels accepted; vectors and points of the last of them
  *                the slices of that level, and
  *                informed     m x n       by action, state                          ticks, within 100,000 x t of 0
@@ -59,6 +61,22 @@
  * be empty: the vector never counts. The vector of level 0, and all that biidhaqun_build and biidhaqun_adopt make, cover every
  * state; biidhaqun_build goes on with such vectors alone. Ceilings have nothing to do with masks.
  *
+ * LISTS. Where most of T is 0, the rest can be kept as a list: biidhaqun_list makes it, and biidhaqun_offer and biidhaqun_build
+ * take it beside the table and work out successor weights and backups from it, with the same answers. It has
+ *
+ *     m x n + 1 words   at which word of the list the cells of each column begin, and where those of the last one end
+ *     the cells         column by column, each by rising s: one word s x 65,536 + T(s,a,s') for each T(s,a,s') above 0
+ *
+ * Column a x n + s' is that of the action a and of the state s' that is reached: a successor weight is a sum down it. So the
+ * first word is m x n + 1, and a list has at most m x n + 1 + m x n x n words. A slice of length 0 says that no list is meant.
+ * Any other must begin with the list of the table that is lent with it, word by word; what lies behind is not read.
+ *
+ * NEW PRICES. Rewards may change while a certifier stands at level t (biidhaqun_reprice). With d the largest change of any
+ * reward, up or down, each entry of a covered state falls by d x t, each corner, informed and QMDP entry rises by d x t, and a
+ * value by d x t times the total of its point's weights; each is held at the end of its range. The number of levels, actions,
+ * choices, masks and weights stay, and so do entries of states that are not covered. From then on the new tables are lent, and
+ * totals bracket every plan of the new model; at level 0 only the tables change.
+ *
  * CEILINGS. Two bounds say what no plan earns more than at a mixture, and the upper total is the lower of them. The sawtooth
  * is that of the level's corners and points: they are offered, and an offer's corners and points are tested against the
  * sawtooth that stands, and nothing else. The fast informed bound is a row for each action, and its ceiling the largest
@@ -85,10 +103,11 @@
  *    5  BIIDHAQUN_TRANSITION_TOTAL    in a file its length; on tables action x n + state left
  *    6  BIIDHAQUN_OBSERVATION_TOTAL   in a file its length; on tables action x n + state reached
  *    7  BIIDHAQUN_CERTIFIER           0; a slice is too short for the tables, for the level that stands (its choices, which
- *                                     no call reads, are not asked for), or for the rows
+ *                                     no call reads, are not asked for), or for the rows; a list that is not the table's
  *    8  BIIDHAQUN_LEVELS              0
  *    9  BIIDHAQUN_LEVEL_SIZE          0; a slice is too short for the level offered, to be built or adopted, for a list of
- *                                     offers, for the points, for level 0 and its rows in biidhaqun_open, or for answers
+ *                                     offers, for the points, for level 0 and its rows in biidhaqun_open, for answers, or for
+ *                                     the list in biidhaqun_list
  *   10  BIIDHAQUN_NUMBERS             the vector
  *   11  BIIDHAQUN_RANGE               the first vector, at a covered state; else the first corner; else the first point, those
  *                                     that get 12 aside
@@ -106,6 +125,7 @@
  *   21  BIIDHAQUN_COVERED             the vector: a state that it covers reaches one that the vector chosen there does not
  *   22  BIIDHAQUN_COUNTING            0; no vector counts at the mixture or at the highs, or none covers all states to build
  *                                     upon
+ *   23  BIIDHAQUN_PRICES              0; new tables of which counts, T, O or discount differ
  *   24  BIIDHAQUN_LOW_HIGH            0; a low or a high that is missing counts as 0 here
  *  100  BIIDHAQUN_ROOM                the length that the first short slice of biidhaqun_read needs
  */
@@ -124,7 +144,7 @@ extern "C" {
  * compiled with another one must be compiled anew. The macro is this file's, the function's answer the archive's: compare
  * the two where header and archive may come from different places, before any other call.
  */
-#define BIIDHAQUN_VERSION 4
+#define BIIDHAQUN_VERSION 5
 
 uint64_t biidhaqun_version(void);
 
@@ -140,6 +160,7 @@ enum {
     BIIDHAQUN_STEPS = 4,
     BIIDHAQUN_ACCEPTED = 100,        /* levels */
     BIIDHAQUN_FILE_BYTES = 32768,    /* of a model file */
+    BIIDHAQUN_LIST_WORDS = 2177,     /* of a list of transitions */
     BIIDHAQUN_SOLVER_BYTES = 4194304 /* of each of a solver's files: 4 MiB */
 };
 
@@ -168,6 +189,7 @@ enum {
     BIIDHAQUN_SOLVER_FILES = 20,
     BIIDHAQUN_COVERED = 21,
     BIIDHAQUN_COUNTING = 22,
+    BIIDHAQUN_PRICES = 23,
     BIIDHAQUN_LOW_HIGH = 24,
     BIIDHAQUN_ROOM = 100
 };
@@ -184,7 +206,8 @@ static inline const char *biidhaqun_words(uint64_t number)
     case BIIDHAQUN_START_TOTAL: return "the start numbers do not total 1";
     case BIIDHAQUN_TRANSITION_TOTAL: return "a row of T does not total 1";
     case BIIDHAQUN_OBSERVATION_TOTAL: return "a row of O does not total 1";
-    case BIIDHAQUN_CERTIFIER: return "the certifier's tables, standing level or rows break a limit, or over 100 levels stand";
+    case BIIDHAQUN_CERTIFIER: return "the certifier's tables, standing level or rows break a limit, over 100 levels stand, or a "
+                                     "list is not that of the transitions";
     case BIIDHAQUN_LEVELS: return "100 levels already stand";
     case BIIDHAQUN_LEVEL_SIZE: return "a level has no vector, over 1,000 vectors or over 32 points, the builder is given "
                                       "over 16 points, or a slice is too short";
@@ -205,6 +228,7 @@ static inline const char *biidhaqun_words(uint64_t number)
                                    "cover";
     case BIIDHAQUN_COUNTING: return "no vector counts at the mixture or at the highs, or none covers all states to build "
                                     "upon";
+    case BIIDHAQUN_PRICES: return "the new tables differ in counts, T, O or discount";
     case BIIDHAQUN_LOW_HIGH: return "a low is above its high";
     case BIIDHAQUN_ROOM: return "a slice that the file is read into is too short";
     default: return "no such refusal is known";
@@ -303,14 +327,25 @@ struct biidhaqun_refusal biidhaqun_open(
     int64_t *qmdp, size_t qmdp_length);
 
 /*
+ * Makes the list of the transitions: it is written over the first words of the slice, and what lies past it stays. Tests: 3,
+ * 5, 6, as biidhaqun_open has them; 9 where the slice has fewer words than the list.
+ */
+struct biidhaqun_refusal biidhaqun_list(
+    size_t states, size_t actions, size_t observations, uint64_t discount,
+    const uint16_t *transition, size_t transition_length, const uint16_t *observation, size_t observation_length,
+    const int64_t *reward, size_t reward_length, uint32_t *list, size_t list_length);
+
+/*
  * Offers a level: accepted, it is copied into the certifier's slices, with 0 for what its masks leave out, the first number of
  * the state is one more, and the rows are stepped. Tests: 7 to 12, 21, 13, 14, 15. A level with slices that are too short
- * therefore gets 8 where 100 levels stand, and 9 before anything in it is looked at.
+ * therefore gets 8 where 100 levels stand, and 9 before anything in it is looked at. A list, if one is meant, is tested before
+ * all else (7); successor weights and backups are then worked out from it, and all that is answered and left is the same.
  */
 struct biidhaqun_refusal biidhaqun_offer(
     size_t states, size_t actions, size_t observations, uint64_t discount,
-    const uint16_t *transition, size_t transition_length, const uint16_t *observation, size_t observation_length,
-    const int64_t *reward, size_t reward_length, size_t *state, size_t state_length,
+    const uint16_t *transition, size_t transition_length, const uint32_t *list, size_t list_length,
+    const uint16_t *observation, size_t observation_length, const int64_t *reward, size_t reward_length,
+    size_t *state, size_t state_length,
     uint8_t *standing_actions, size_t standing_actions_length, uint16_t *choices, size_t choices_length,
     uint64_t *masks, size_t masks_length, int64_t *entries, size_t entries_length,
     int64_t *corners, size_t corners_length, uint32_t *weights, size_t weights_length,
@@ -356,6 +391,22 @@ struct biidhaqun_replayed biidhaqun_replay(
     const uint16_t *new_choices, size_t new_choices_length, const uint64_t *new_masks, size_t new_masks_length,
     const int64_t *new_entries, size_t new_entries_length, const int64_t *new_corners, size_t new_corners_length,
     const uint32_t *new_weights, size_t new_weights_length, const int64_t *new_values, size_t new_values_length);
+
+/*
+ * Moves a certifier to new tables, of which only the rewards differ from those in force, as NEW PRICES says. It is no offer: the
+ * level and its number stay. Once it is served, the new tables are in force, and are lent to the calls that follow. Tests: 7; the
+ * new tables' own 3, 5 and 6, with places by their own counts; 23.
+ */
+struct biidhaqun_refusal biidhaqun_reprice(
+    size_t states, size_t actions, size_t observations, uint64_t discount,
+    const uint16_t *transition, size_t transition_length, const uint16_t *observation, size_t observation_length,
+    const int64_t *reward, size_t reward_length, size_t new_states, size_t new_actions, size_t new_observations,
+    uint64_t new_discount, const uint16_t *new_transition, size_t new_transition_length,
+    const uint16_t *new_observation, size_t new_observation_length, const int64_t *new_reward, size_t new_reward_length,
+    const size_t *state, size_t state_length, const uint8_t *standing_actions, size_t standing_actions_length,
+    const uint64_t *masks, size_t masks_length, int64_t *entries, size_t entries_length,
+    int64_t *corners, size_t corners_length, const uint32_t *weights, size_t weights_length,
+    int64_t *values, size_t values_length, int64_t *informed, size_t informed_length, int64_t *qmdp, size_t qmdp_length);
 
 /*
  * The totals at a mixture. Tests: 7, 16, 17, 22: a short mixture gets 16 at level 0. Where no vector counts, 22 is all that is
@@ -408,13 +459,15 @@ struct biidhaqun_between biidhaqun_within(
 /*
  * Builds a level upon the one that stands, with a vector at each corner and then at each of `count` points; it would be
  * accepted. It has n + count vectors and count points, and its weights are the points: they are not written anew. Its vectors
- * cover all states, and go on with standing vectors that do. If the t levels so far were all built, each entry is less than t
- * ticks below what the plan earns that its vector names. Tests: 7, 8, 9, 12, 22.
+ * cover all states, and go on with standing vectors that do. If the t levels so far were all built, with no price change, each
+ * entry is less than t ticks below what the plan earns that its vector names. Tests: 7, 8, 9, 12, 22. A list is as in
+ * biidhaqun_offer.
  */
 struct biidhaqun_refusal biidhaqun_build(
     size_t states, size_t actions, size_t observations, uint64_t discount,
-    const uint16_t *transition, size_t transition_length, const uint16_t *observation, size_t observation_length,
-    const int64_t *reward, size_t reward_length, const size_t *state, size_t state_length,
+    const uint16_t *transition, size_t transition_length, const uint32_t *list, size_t list_length,
+    const uint16_t *observation, size_t observation_length, const int64_t *reward, size_t reward_length,
+    const size_t *state, size_t state_length,
     const uint8_t *standing_actions, size_t standing_actions_length, const uint64_t *masks, size_t masks_length,
     const int64_t *entries, size_t entries_length, const int64_t *corners, size_t corners_length,
     const uint32_t *weights, size_t weights_length, const int64_t *values, size_t values_length,
@@ -478,6 +531,12 @@ struct biidhaqun_tables {
     size_t observation_length;
     int64_t *reward;
     size_t reward_length;
+};
+
+/* The list of the transitions of tables, if one is meant. */
+struct biidhaqun_transitions {
+    uint32_t *list;
+    size_t list_length;
 };
 
 /* What a certifier keeps between calls. state[0] is the number of levels accepted. */
@@ -564,6 +623,11 @@ struct biidhaqun_tables_room {
     int64_t reward[BIIDHAQUN_ACTIONS * BIIDHAQUN_STATES];
 };
 
+/* Room for the list of any model's transitions, 9 KB. */
+struct biidhaqun_transitions_room {
+    uint32_t list[BIIDHAQUN_LIST_WORDS];
+};
+
 /*
  * Room for any level, 155 KB: one that stands, one that is offered, or one that is built. It is large for a stack: keep it
  * static or allocate it. Where levels are known to be small, lend shorter slices instead: those of n states, k observations, v
@@ -597,6 +661,13 @@ static inline void biidhaqun_tables_in(struct biidhaqun_tables *tables, struct b
     BIIDHAQUN_LEND(tables, room, transition);
     BIIDHAQUN_LEND(tables, room, observation);
     BIIDHAQUN_LEND(tables, room, reward);
+}
+
+/* A list that lies in a room; it is still to be made. */
+static inline void biidhaqun_transitions_in(struct biidhaqun_transitions *transitions,
+                                            struct biidhaqun_transitions_room *room)
+{
+    BIIDHAQUN_LEND(transitions, room, list);
 }
 
 /* A certifier that lies in a room; it is still to be opened. */
@@ -683,19 +754,51 @@ static inline struct biidhaqun_refusal biidhaqun_open_on(const struct biidhaqun_
         c->qmdp_length);
 }
 
-/* biidhaqun_offer */
+/* biidhaqun_list */
+static inline struct biidhaqun_refusal biidhaqun_list_transitions(const struct biidhaqun_tables *t,
+                                                                  struct biidhaqun_transitions *x)
+{
+    return biidhaqun_list(
+        t->states, t->actions, t->observations, t->discount, t->transition, t->transition_length, t->observation,
+        t->observation_length, t->reward, t->reward_length, x->list, x->list_length);
+}
+
+/* biidhaqun_offer, by a list; without one (NULL), by the table */
+static inline struct biidhaqun_refusal biidhaqun_offer_listed(const struct biidhaqun_tables *t,
+                                                              const struct biidhaqun_transitions *x,
+                                                              struct biidhaqun_certifier *c,
+                                                              const struct biidhaqun_level *l)
+{
+    return biidhaqun_offer(
+        t->states, t->actions, t->observations, t->discount, t->transition, t->transition_length, x ? x->list : NULL,
+        x ? x->list_length : 0, t->observation, t->observation_length, t->reward, t->reward_length, c->state, 3,
+        c->actions, c->actions_length, c->choices, c->choices_length, c->masks, c->masks_length, c->entries,
+        c->entries_length, c->corners, c->corners_length, c->weights, c->weights_length, c->values, c->values_length,
+        c->informed, c->informed_length, c->qmdp, c->qmdp_length, l->vectors, l->points, l->actions, l->actions_length, l->choices, l->choices_length, l->masks,
+        l->masks_length, l->entries, l->entries_length, l->corners, l->corners_length, l->weights, l->weights_length,
+        l->values, l->values_length);
+}
+
+/* biidhaqun_offer, by the table */
 static inline struct biidhaqun_refusal biidhaqun_offer_level(const struct biidhaqun_tables *t,
                                                              struct biidhaqun_certifier *c,
                                                              const struct biidhaqun_level *l)
 {
-    return biidhaqun_offer(
+    return biidhaqun_offer_listed(t, NULL, c, l);
+}
+
+/* biidhaqun_reprice: from then on the new tables, `next`, are in force */
+static inline struct biidhaqun_refusal biidhaqun_reprice_on(const struct biidhaqun_tables *t,
+                                                            const struct biidhaqun_tables *next,
+                                                            struct biidhaqun_certifier *c)
+{
+    return biidhaqun_reprice(
         t->states, t->actions, t->observations, t->discount, t->transition, t->transition_length, t->observation,
-        t->observation_length, t->reward, t->reward_length, c->state, 3, c->actions, c->actions_length, c->choices,
-        c->choices_length, c->masks, c->masks_length, c->entries, c->entries_length, c->corners, c->corners_length,
-        c->weights, c->weights_length, c->values, c->values_length, c->informed, c->informed_length, c->qmdp,
-        c->qmdp_length, l->vectors, l->points, l->actions, l->actions_length, l->choices, l->choices_length, l->masks,
-        l->masks_length, l->entries, l->entries_length, l->corners, l->corners_length, l->weights, l->weights_length,
-        l->values, l->values_length);
+        t->observation_length, t->reward, t->reward_length, next->states, next->actions, next->observations,
+        next->discount, next->transition, next->transition_length, next->observation, next->observation_length,
+        next->reward, next->reward_length, c->state, 3, c->actions, c->actions_length, c->masks, c->masks_length,
+        c->entries, c->entries_length, c->corners, c->corners_length, c->weights, c->weights_length, c->values,
+        c->values_length, c->informed, c->informed_length, c->qmdp, c->qmdp_length);
 }
 
 /* biidhaqun_replay */
@@ -756,28 +859,38 @@ static inline struct biidhaqun_between biidhaqun_totals_within(const struct biid
 }
 
 /*
- * biidhaqun_build, which also sets the counts of the level if it is served. Its weights are then the points themselves, which
- * must outlive it.
+ * biidhaqun_build, by a list or, without one (NULL), by the table. It also sets the counts of the level if it is served. Its
+ * weights are then the points themselves, which must outlive it.
  */
-static inline struct biidhaqun_refusal biidhaqun_build_level(const struct biidhaqun_tables *t,
-                                                             const struct biidhaqun_certifier *c, size_t count,
-                                                             const uint32_t *points, size_t points_length,
-                                                             struct biidhaqun_level *l)
+static inline struct biidhaqun_refusal biidhaqun_build_listed(const struct biidhaqun_tables *t,
+                                                              const struct biidhaqun_transitions *x,
+                                                              const struct biidhaqun_certifier *c, size_t count,
+                                                              const uint32_t *points, size_t points_length,
+                                                              struct biidhaqun_level *l)
 {
-    struct biidhaqun_refusal x = biidhaqun_build(
-        t->states, t->actions, t->observations, t->discount, t->transition, t->transition_length, t->observation,
-        t->observation_length, t->reward, t->reward_length, c->state, 3, c->actions, c->actions_length, c->masks,
-        c->masks_length, c->entries, c->entries_length, c->corners, c->corners_length, c->weights, c->weights_length,
-        c->values, c->values_length, c->informed, c->informed_length, c->qmdp, c->qmdp_length, count, points,
-        points_length, l->actions, l->actions_length, l->choices, l->choices_length, l->masks, l->masks_length,
+    struct biidhaqun_refusal refusal = biidhaqun_build(
+        t->states, t->actions, t->observations, t->discount, t->transition, t->transition_length, x ? x->list : NULL,
+        x ? x->list_length : 0, t->observation, t->observation_length, t->reward, t->reward_length, c->state, 3,
+        c->actions, c->actions_length, c->masks, c->masks_length, c->entries, c->entries_length, c->corners,
+        c->corners_length, c->weights, c->weights_length, c->values, c->values_length, c->informed, c->informed_length,
+        c->qmdp, c->qmdp_length, count, points, points_length, l->actions, l->actions_length, l->choices, l->choices_length, l->masks, l->masks_length,
         l->entries, l->entries_length, l->corners, l->corners_length, l->values, l->values_length);
-    if (x.number == BIIDHAQUN_SERVED) {
+    if (refusal.number == BIIDHAQUN_SERVED) {
         l->vectors = t->states + count;
         l->points = count;
         l->weights = points;
         l->weights_length = points_length;
     }
-    return x;
+    return refusal;
+}
+
+/* The same by the table. */
+static inline struct biidhaqun_refusal biidhaqun_build_level(const struct biidhaqun_tables *t,
+                                                             const struct biidhaqun_certifier *c, size_t count,
+                                                             const uint32_t *points, size_t points_length,
+                                                             struct biidhaqun_level *l)
+{
+    return biidhaqun_build_listed(t, NULL, c, count, points, points_length, l);
 }
 
 /*

@@ -308,8 +308,10 @@ pub fn adopt<'a, 'b, 'c>(
         newmasks,
         newentries,
     );
+    let none = [0u32; 0]; // no list of transitions
     builder::build_corners(
         transition,
+        &none,
         observation,
         reward,
         corners,
@@ -321,6 +323,7 @@ pub fn adopt<'a, 'b, 'c>(
     );
     builder::build_values(
         transition,
+        &none,
         observation,
         reward,
         corners,

@@ -6,9 +6,9 @@ use lib.IntN.{ℤ}
 use Rattle.tables.specs.declared.Tables.{Tables}
 use Rattle.tables.specs.declared.Verdict.{Verdict}
 use Rattle.tables.specs.declared.Verdict.the-variants.{Fine, Refused}
-use Rattle.levels.specs.Storage.{Cells, LentLevel, Lent}
+use Rattle.levels.specs.Storage.{Cells, Lent}
 use Rattle.runs.specs.declared.Bounds.{Bounds}
-use Rattle.runs.specs.Demand3.{TotalsHold, BuildHolds}
+use Rattle.runs.specs.Demand3.{Claim, TotalsHold, BuildHolds}
 use Rattle.intervals.specs.declared.Within.{Within}
 use Rattle.intervals.specs.Claim.{WithinHolds}
 use Rattle.reading.specs.declared.TablesRead.{TablesRead}
@@ -25,7 +25,7 @@ use Rattle.answers.specs.declared.Replay.{Replay}
 
 -- the version of the calls' names, parameters and answers
 abbrev pub layoutVersion : ℕ
-layoutVersion = 4
+layoutVersion = 5
 
 -- tables that are handed in: states, actions, observations, discount, T, O, R
 abbrev pub model : ℕ → ℕ → ℕ → ℕ → List ℕ → List ℕ → List ℤ → Tables
@@ -85,20 +85,20 @@ worthBy x = record { number = refusalOf (x .verdict) .number; place = refusalOf 
 
 -- ---- demand 3 over exported calls, each handed the slices as the one before left them
 
--- totals r at a mixture b after a list of offers
-pub record Brackets (m : Tables) (x : Lent) (ls : List LentLevel) (b : List ℕ) (r : Totals) : Type 0 where
+-- totals r at a mixture b, with tables m in force, at level t with claim c
+pub record Brackets (m : Tables) (t : ℕ) (c : Claim) (b : List ℕ) (r : Totals) : Type 0 where
   pub bounds : Bounds
   pub answer : r ≡ totalsBy bounds
-  pub holds : TotalsHold m x ls b bounds
+  pub holds : TotalsHold m t c b bounds
 
--- totals r within ranges after a list of offers
-pub record Encloses (m : Tables) (x : Lent) (ls : List LentLevel) (lows highs : List ℕ) (r : TotalsWithin) : Type 0 where
+-- totals r within ranges, with tables m in force, at level t with claim c
+pub record Encloses (m : Tables) (t : ℕ) (c : Claim) (lows highs : List ℕ) (r : TotalsWithin) : Type 0 where
   pub within : Within
   pub answer : r ≡ totalsWithinBy within
-  pub holds : WithinHolds m x ls lows highs within
+  pub holds : WithinHolds m t c lows highs within
 
--- a built level in slices y' of those that were lent, y, with the answer r
-pub record Builds (m : Tables) (x : Lent) (ls : List LentLevel) (count : ℕ) (y : Cells) (r : Refusal) (y' : Cells) : Type 0 where
+-- a built level in slices y' of those that were lent, y, with the answer r, upon a certifier's slices x with claim c
+pub record Builds (m : Tables) (x : Lent) (c : Claim) (count : ℕ) (y : Cells) (r : Refusal) (y' : Cells) : Type 0 where
   pub verdict : Verdict
   pub answer : r ≡ refusalOf verdict
-  pub holds : BuildHolds m x ls count y verdict y'
+  pub holds : BuildHolds m x c count y verdict y'

@@ -6,7 +6,9 @@ ghost use lib.IntN.{pos};
 ghost use Rattle.integers.specs.Whole.{sumTo, Below};
 ghost use Rattle.integers.specs.Cells.{padded};
 ghost use Rattle.tables.specs.Limits.{maxStates, maxActions, maxObservations, one};
-ghost use Rattle.sums.specs.Steps.{seenIn, TransitionsFit, ObservationsFit, RewardsFit, movedLimit};
+ghost use Rattle.sums.specs.Steps.{seenIn, ObservationsFit, RewardsFit, movedLimit};
+ghost use Rattle.columns.specs.Steps.{Lists};
+ghost use Rattle.engines.specs.Steps.{EngineFits};
 ghost use Rattle.plans.specs.Limits.{maxTotal};
 ghost use Rattle.sawtooth.specs.Steps.{ceilingIn, CornersFit, PointsFit, maxGain};
 ghost use Rattle.backups.specs.Steps.{backupAtIn, Ahead, RoofFits, Roof, Light};
@@ -56,6 +58,7 @@ fn ceilings<'a>(
 // The least K × value at weights p that an action allows.
 fn backup_at<'a, 'b>(
     transition: &'a [u16],
+    list: &[u32],
     observation: &'a [u16],
     reward: &'a [i64],
     corners: &'b [i64],
@@ -68,7 +71,7 @@ fn backup_at<'a, 'b>(
 ) -> i64
     requires { ⌜ (c .states ≤ maxStates) × ((c .observations ≤ maxObservations) × ((a .0 < maxActions) × (c .discount ≤ one))) ⌝ }
     requires { ⌜ Below maxTotal (c .states) (now p) ⌝ }
-    requires { ⌜ (TransitionsFit (c .states) (now transition) (a .0)) ×
+    requires { ⌜ (EngineFits (c .states) (now transition) (now list) (a .0)) ×
         ((ObservationsFit (c .states) (c .observations) (now observation) (a .0)) × (RewardsFit (c .states) (now reward) (a .0))) ⌝ }
     requires { ⌜ (CornersFit (c .states) (now corners)) × ((PointsFit (c .states) points (now weights)) × (Below maxGain points (now gains))) ⌝ }
     requires { ⌜ RoofFits (c .states) (c .observations) (now transition) (now observation)
@@ -77,7 +80,7 @@ fn backup_at<'a, 'b>(
         (ceilingIn (c .states) (now (corners .entry)) (now (weights .entry)) (now (gains .entry)) points) (now (p .entry)) (a .0) ⌝ }
 {
     let n = c.states;
-    let u = sums::moved(transition, n, p, a);
+    let u = engines::moved(transition, list, n, p, a);
     let now = integers::scaled(Tables::K, sums::expected_reward(reward, n, p, a));
     let ahead = ceilings(
         observation,
@@ -96,6 +99,7 @@ fn backup_at<'a, 'b>(
 // The same for each action.
 pub fn backups_at<'a, 'b>(
     transition: &'a [u16],
+    list: &[u32],
     observation: &'a [u16],
     reward: &'a [i64],
     corners: &'b [i64],
@@ -107,6 +111,7 @@ pub fn backups_at<'a, 'b>(
 ) -> Backups
     requires { ⌜ Roof c (now transition) (now observation) (now reward) (now corners) (now weights) (now gains) points ⌝ }
     requires { ⌜ Light (c .states) (now p) ⌝ }
+    requires { ⌜ Lists c (now transition) (now list) ⌝ }
     ensures { λ r. ⌜ r ≡ padded (pos 0) maxActions (c .actions) (backupAtIn c (now (transition .entry)) (now (observation .entry))
         (now (reward .entry)) (ceilingIn (c .states) (now (corners .entry)) (now (weights .entry)) (now (gains .entry)) points) (now (p .entry))) ⌝ }
 {
@@ -115,6 +120,7 @@ pub fn backups_at<'a, 'b>(
     for a in 0..actions {
         backups[a] = backup_at(
             transition,
+            list,
             observation,
             reward,
             corners,

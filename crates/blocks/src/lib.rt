@@ -133,8 +133,10 @@ pub fn offer_block<'a, 'b>(
     let s = i * n;
     let w = i * weight;
     let u = i * p;
+    let none = [0u32; 0]; // no list of transitions
     offering::offer(
         transition,
+        &none,
         observation,
         reward,
         c,

@@ -7,9 +7,10 @@ ghost use Rattle.integers.specs.Whole.{Below};
 ghost use Rattle.tables.specs.Limits.{maxStates, maxWeight};
 ghost use Rattle.tables.specs.Storage.{tablesIn};
 ghost use Rattle.masks.specs.Steps.{someIncludes};
-ghost use Rattle.levels.specs.Storage.{LentLevel, Lent, cells, rows, lent};
+ghost use Rattle.tables.specs.declared.Tables.{Tables};
+ghost use Rattle.levels.specs.Storage.{Lent, cells, rows, lent};
 ghost use Rattle.runs.specs.State.{mixtureHolds, totalsOf};
-ghost use Rattle.runs.specs.Demand3.{ModelAccepted, after, steps, MixtureHolds, TotalsHold};
+ghost use Rattle.runs.specs.Demand3.{ModelAccepted, Event, certifier, after, steps, claim, MixtureHolds, TotalsHold};
 ghost use Rattle.bounds.specs.Steps.{standingVerdict, noBounds, supportIn, boundsIn, answerIn, Asked};
 use levels::Level;
 use levels::shape;
@@ -201,11 +202,11 @@ pub fn totals<'a, 'b>(
         (lent (now (state .entry)) (cells (now (actions .entry)) choices (now (masks .entry)) (now (entries .entry)) (now (corners .entry))
         (now (weights .entry)) (now (values .entry))) (rows (now (informed .entry)) (now (qmdp .entry)))) (now (mixture .entry))) ⌝ }
     ensures { λ r. ⌜ (let m = tablesIn c (now (transition .entry)) (now (observation .entry)) (now (reward .entry)) in
-        (choices : List ℕ) (x : Lent) (ls : List LentLevel) → ModelAccepted m x
-        → lent (now (state .entry)) (cells (now (actions .entry)) choices (now (masks .entry)) (now (entries .entry)) (now (corners .entry))
-        (now (weights .entry)) (now (values .entry))) (rows (now (informed .entry)) (now (qmdp .entry))) ≡ after m x ls → 0 < steps m x ls
-        → MixtureHolds m x ls (now (mixture .entry))
-        → TotalsHold m x ls (now (mixture .entry)) r) ⌝ }
+        (choices : List ℕ) (m₀ : Tables) (x : Lent) (es : List Event) → ModelAccepted m₀ x
+        → certifier m (lent (now (state .entry)) (cells (now (actions .entry)) choices (now (masks .entry)) (now (entries .entry)) (now (corners .entry))
+        (now (weights .entry)) (now (values .entry))) (rows (now (informed .entry)) (now (qmdp .entry)))) ≡ after m₀ x es → 0 < steps m₀ x es
+        → MixtureHolds m (claim m₀ x es) (now (mixture .entry))
+        → TotalsHold m (steps m₀ x es) (claim m₀ x es) (now (mixture .entry)) r) ⌝ }
 {
     let standing = judge_standing(
         transition,

@@ -12,6 +12,7 @@ ghost use Rattle.plans.specs.Limits.{maxBuilt};
 ghost use Rattle.plans.specs.Level.{corner-weight, IsPoint};
 ghost use Rattle.plans.specs.Build.{seed, leastValue, built};
 ghost use Rattle.levels.specs.Storage.{cells, roofIn, levelIn, pointIn, lentFor, complete, over};
+ghost use Rattle.columns.specs.Steps.{Lists};
 ghost use Rattle.backups.specs.Steps.{Roofed};
 ghost use Rattle.candidates.specs.Steps.{uponIn, Upon};
 ghost use Rattle.builder.specs.Steps.{leastOf, RowsFit, Filled};
@@ -55,6 +56,7 @@ fn seed_weights(weights: &[u32], n: usize, v: Vector) -> Weights
 // A vector at each corner, then at each point.
 fn build_vectors<'a>(
     transition: &'a [u16],
+    list: &[u32],
     observation: &'a [u16],
     reward: &'a [i64],
     covered: &[u64],
@@ -72,6 +74,7 @@ fn build_vectors<'a>(
     requires { ⌜ (points ≤ maxBuilt) × (points * c .states ≤ length (now weights)) ⌝ }
     requires { ⌜ ((i : ℕ) → i < points → IsPoint (c .states) (pointIn (c .states) (now weights) i)) ⌝ }
     requires { ⌜ RowsFit (c .states) (c .observations) (c .states + points) (now actions) (now choices) (now masks) (now entries) ⌝ }
+    requires { ⌜ Lists c (now transition) (now list) ⌝ }
     ensures { λ _. ⌜ Filled (c .states) (c .observations) (built (modelIn c (now (transition .entry)) (now (observation .entry))
         (now (reward .entry))) (uponIn c vectors (now (covered .entry)) (now (standing .entry))) points (pointIn (c .states) (now (weights .entry))))
         (c .states + points) (now (actions .entry)) (now (choices .entry)) (now (masks .entry)) (now (entries .entry)) (now (actions .exit))
@@ -85,6 +88,7 @@ fn build_vectors<'a>(
         let p = seed_weights(weights, n, Vector(v));
         let best = candidates::best_candidate(
             transition,
+            list,
             observation,
             reward,
             covered,
@@ -106,6 +110,7 @@ fn build_vectors<'a>(
 // The least corners that meet their inequalities.
 pub fn build_corners<'a, 'b>(
     transition: &'a [u16],
+    list: &[u32],
     observation: &'a [u16],
     reward: &'a [i64],
     corners: &'b [i64],
@@ -117,6 +122,7 @@ pub fn build_corners<'a, 'b>(
 )
     requires { ⌜ Roofed c (now transition) (now observation) (now reward) (now corners) points (now weights) (now values) ⌝ }
     requires { ⌜ c .states ≤ length (now least) ⌝ }
+    requires { ⌜ Lists c (now transition) (now list) ⌝ }
     ensures { λ _. ⌜ now (least .exit) ≡ laid (c .states) (λ s. leastValue
         (modelIn c (now (transition .entry)) (now (observation .entry)) (now (reward .entry)))
         (roofIn (c .states) (now (corners .entry)) points (now (weights .entry)) (now (values .entry))) (corner-weight s)) (now (least .entry)) ⌝ }
@@ -127,6 +133,7 @@ pub fn build_corners<'a, 'b>(
         let p = backups::corner_weights(State(s));
         let backups = backups::backups_at(
             transition,
+            list,
             observation,
             reward,
             corners,
@@ -143,6 +150,7 @@ pub fn build_corners<'a, 'b>(
 // The least point values that meet their inequalities.
 pub fn build_values<'a, 'b>(
     transition: &'a [u16],
+    list: &[u32],
     observation: &'a [u16],
     reward: &'a [i64],
     corners: &'b [i64],
@@ -158,6 +166,7 @@ pub fn build_values<'a, 'b>(
     requires { ⌜ (count ≤ maxBuilt) × (count * c .states ≤ length (now given)) ⌝ }
     requires { ⌜ ((i : ℕ) → i < count → IsPoint (c .states) (pointIn (c .states) (now given) i)) ⌝ }
     requires { ⌜ count ≤ length (now least) ⌝ }
+    requires { ⌜ Lists c (now transition) (now list) ⌝ }
     ensures { λ _. ⌜ now (least .exit) ≡ laid count (λ i. leastValue
         (modelIn c (now (transition .entry)) (now (observation .entry)) (now (reward .entry)))
         (roofIn (c .states) (now (corners .entry)) points (now (weights .entry)) (now (values .entry))) (pointIn (c .states) (now (given .entry)) i))
@@ -169,6 +178,7 @@ pub fn build_values<'a, 'b>(
         let p = ranges::point_weights(given, n, i);
         let backups = backups::backups_at(
             transition,
+            list,
             observation,
             reward,
             corners,
@@ -186,6 +196,7 @@ pub fn build_values<'a, 'b>(
 // of its points are those that were given.
 pub fn build_level<'a, 'b>(
     transition: &'a [u16],
+    list: &[u32],
     observation: &'a [u16],
     reward: &'a [i64],
     c: Counts,
@@ -210,6 +221,7 @@ pub fn build_level<'a, 'b>(
     requires { ⌜ (count ≤ maxBuilt) × ((i : ℕ) → i < count → IsPoint (c .states) (pointIn (c .states) (now given) i)) ⌝ }
     requires { ⌜ complete (tablesIn c (now transition) (now observation) (now reward)) (lentFor (c .states + count) count
         (cells (now actions) (now choices) (now covers) (now made) (now least) (now given) (now worths))) ≡ true ⌝ }
+    requires { ⌜ Lists c (now transition) (now list) ⌝ }
     ensures { λ _. ⌜ cells (now (actions .exit)) (now (choices .exit)) (now (covers .exit)) (now (made .exit)) (now (least .exit)) (now (given .entry))
         (now (worths .exit))
         ≡ over (tablesIn c (now (transition .entry)) (now (observation .entry)) (now (reward .entry)))
@@ -222,6 +234,7 @@ pub fn build_level<'a, 'b>(
 {
     build_vectors(
         transition,
+        list,
         observation,
         reward,
         masks,
@@ -237,6 +250,7 @@ pub fn build_level<'a, 'b>(
     );
     build_corners(
         transition,
+        list,
         observation,
         reward,
         corners,
@@ -248,6 +262,7 @@ pub fn build_level<'a, 'b>(
     );
     build_values(
         transition,
+        list,
         observation,
         reward,
         corners,

@@ -1,11 +1,12 @@
 -- What the tests of building leave known; and what is written is what it is said to leave. Assumes nothing.
-use Rattle.integers.proofs.Kit.{_≡_, _∙_, sym, true, ℕ, _≤_, _<_, _*_, leb-true, ltb-true, leb, getD}
+use Rattle.integers.proofs.Kit.{_≡_, _∙_, sym, true, false, Bool, ℕ, _≤_, _<_, _*_, leb-true, ltb-true, leb, getD}
 use Rattle.integers.proofs.Searches.{and-true, some-cong}
 use Rattle.tables.specs.declared.Tables.{Tables}
 use Rattle.tables.specs.declared.Verdict.{Verdict}
 use Rattle.tables.specs.declared.Verdict.the-variants.{Fine, Refused}
 use Rattle.tables.specs.Limits.{maxVectors, maxLevels}
 use Rattle.tables.specs.Storage.{modelOf}
+use Rattle.tables.specs.Verdicts.{unless, left}
 use Rattle.tables.proofs.Refusals.{before-fine, unless-fine}
 use Rattle.masks.specs.Masks.{maskOf}
 use Rattle.masks.specs.Steps.{someIncludes}
@@ -40,6 +41,13 @@ pub some-covers : (m : Tables) (x : Lent)
     → someIncludes (x .cells .masks) (standingIn x .vectors) (maskOf (m .states) (λ s. true)) ≡ someCoversAll (modelOf m) (levelOf m (standingIn x))
 unfolding coversAll
 some-covers m x = some-cong (standingIn x .vectors) _ _ (λ v l. includes-every (m .states) (getD (x .cells .masks) v 0) (λ s. true))
+
+-- what a test leaves: the new where it passes, the old where it fails
+pub left-passes : {A : Type 0} {b : Bool} {new made : A} (k i : ℕ) (old : A) → b ≡ true → made ≡ new → made ≡ left (unless b k i) new old
+left-passes k i old e f = rw e f
+
+pub left-breaks : {A : Type 0} {b : Bool} {old : A} (k i : ℕ) (new : A) → b ≡ false → old ≡ left (unless b k i) new old
+left-breaks k i new e = rw e
 
 module _ (m : Tables) (x : Lent) (count : ℕ) (y : Cells) where
   pub buildable : buildVerdict m x count y ≡ Fine → Buildable m x count y

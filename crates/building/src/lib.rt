@@ -5,15 +5,17 @@ ghost use mathlib.Core.List.{List};
 ghost use Prim.Native.Nat.{ℕ, _+_, _*_, _<_};
 ghost use lib.Dec.{leb, ltb};
 ghost use lib.ListN.{length};
+ghost use Rattle.tables.specs.declared.Tables.{Tables};
 ghost use Rattle.tables.specs.Limits.{maxLevels};
 ghost use Rattle.tables.specs.Storage.{tablesIn, modelOf};
-ghost use Rattle.tables.specs.Verdicts.{_before_, unless};
+ghost use Rattle.tables.specs.Verdicts.{_before_, unless, left};
 ghost use Rattle.plans.specs.Limits.{maxBuilt};
 ghost use Rattle.plans.specs.Build.{someCoversAll};
-ghost use Rattle.levels.specs.Storage.{LentLevel, Lent, cells, rows, lent, levelOf, standingAt, standingIn, pointIn, longEnough};
+ghost use Rattle.columns.specs.Columns.{listHolds, handedList};
+ghost use Rattle.levels.specs.Storage.{Lent, cells, rows, lent, levelOf, standingAt, standingIn, pointIn, longEnough};
 ghost use Rattle.levels.specs.Judged.{holds, weightsVerdict};
 ghost use Rattle.runs.specs.State.{buildVerdict, builtOf};
-ghost use Rattle.runs.specs.Demand3.{ModelAccepted, after, steps, last, PointsHold, BuildHolds};
+ghost use Rattle.runs.specs.Demand3.{ModelAccepted, Event, certifier, after, steps, claim, PointsHold, BuildHolds};
 use levels::Level;
 use levels::shape;
 use tables::Counts;
@@ -104,9 +106,10 @@ fn judge_build<'a, 'b>(
 }
 
 // Builds the next level from a count of points of any content, whose weights are the level's own: it is accepted where it is offered to the same
-// certifier; or refused by 7, 8, 9, 12 or 22.
+// certifier; or refused by 7, 8, 9, 12 or 22. Backups are worked out from the list of transitions where one is lent.
 pub fn build<'a, 'b>(
     transition: &'a [u16],
+    list: &[u32],
     observation: &'a [u16],
     reward: &'a [i64],
     c: Counts,
@@ -134,7 +137,7 @@ pub fn build<'a, 'b>(
         (now (weights .entry)) (now (values .entry))) (rows (now (informed .entry)) (now (qmdp .entry))) in
         let y = cells (now (newactions .entry)) (now (newchoices .entry)) (now (newmasks .entry)) (now (newentries .entry)) (now (newcorners .entry))
         (now (given .entry)) (now (newvalues .entry)) in
-        r ≡ buildVerdict m standing count y) ⌝ }
+        r ≡ (handedList m (now (list .entry)) before buildVerdict m standing count y)) ⌝ }
     ensures { λ _. ⌜ ((choices : List ℕ) →
         let m = tablesIn c (now (transition .entry)) (now (observation .entry)) (now (reward .entry)) in
         let standing = lent (now (state .entry)) (cells (now (actions .entry)) choices (now (masks .entry)) (now (entries .entry)) (now (corners .entry))
@@ -143,8 +146,8 @@ pub fn build<'a, 'b>(
         (now (given .entry)) (now (newvalues .entry)) in
         let made = cells (now (newactions .exit)) (now (newchoices .exit)) (now (newmasks .exit)) (now (newentries .exit)) (now (newcorners .exit))
         (now (given .entry)) (now (newvalues .exit)) in
-        made ≡ builtOf m standing count y) ⌝ }
-    ensures { λ r. ⌜ ((choices : List ℕ) (x : Lent) (ls : List LentLevel) →
+        made ≡ left (handedList m (now (list .entry))) (builtOf m standing count y) y) ⌝ }
+    ensures { λ r. ⌜ ((choices : List ℕ) (m₀ : Tables) (x : Lent) (es : List Event) →
         let m = tablesIn c (now (transition .entry)) (now (observation .entry)) (now (reward .entry)) in
         let standing = lent (now (state .entry)) (cells (now (actions .entry)) choices (now (masks .entry)) (now (entries .entry)) (now (corners .entry))
         (now (weights .entry)) (now (values .entry))) (rows (now (informed .entry)) (now (qmdp .entry))) in
@@ -152,9 +155,13 @@ pub fn build<'a, 'b>(
         (now (given .entry)) (now (newvalues .entry)) in
         let made = cells (now (newactions .exit)) (now (newchoices .exit)) (now (newmasks .exit)) (now (newentries .exit)) (now (newcorners .exit))
         (now (given .entry)) (now (newvalues .exit)) in
-        ModelAccepted m x → standing ≡ after m x ls → steps m x ls < maxLevels → someCoversAll (modelOf m) (last m x ls) ≡ true
-        → PointsHold m x count y → BuildHolds m x ls count y r made) ⌝ }
+        ModelAccepted m₀ x → certifier m standing ≡ after m₀ x es → steps m₀ x es < maxLevels
+        → someCoversAll (modelOf m) (claim m₀ x es .level) ≡ true
+        → PointsHold m x count y → listHolds m (now (list .entry)) ≡ true → BuildHolds m standing (claim m₀ x es) count y r made) ⌝ }
 {
+    if !lists::holds(transition, list, observation, reward, c) {
+        return Verdict::Refused(7, 0);
+    }
     let verdict = judge_build(
         transition,
         observation,
@@ -184,6 +191,7 @@ pub fn build<'a, 'b>(
     let s = levels::standing_in(state);
     builder::build_level(
         transition,
+        list,
         observation,
         reward,
         c,

@@ -10,8 +10,10 @@ use Rattle.tables.specs.declared.Counts.{Counts}
 use Rattle.tables.specs.Limits.{maxStates, maxActions, maxObservations, one, maxEntry}
 use Rattle.tables.specs.Storage.{weightIn, modelIn}
 use Rattle.masks.specs.Steps.{MaskedFit}
-use Rattle.sums.specs.Steps.{movedIn, seenIn, TransitionsFit, ObservationsFit, RewardsFit}
+use Rattle.columns.specs.Steps.{Listed}
+use Rattle.sums.specs.Steps.{movedIn, seenIn, ObservationsFit, RewardsFit}
 use Rattle.sums.proofs.Regroup.{transitions-fit, observations-fit, rewards-fit}
+use Rattle.engines.specs.Steps.{EngineFits}
 use Rattle.plans.specs.Limits.{maxTotal, maxReached, range}
 use Rattle.plans.specs.Level.{product}
 use Rattle.plans.specs.Build.{entryFor, bestAction}
@@ -60,16 +62,16 @@ module _ {c : Counts} {T O : List ℕ} {R : List ℤ} {masks : List ℕ} {entrie
   }
 
   -- what an action's vector is worked out from is within the limits
-  pub vector-fits : (a : ℕ) → a < c .actions
+  pub vector-fits : (a : ℕ) → a < c .actions → {list : List ℕ} → Listed (c .states) T list a
       → ((c .states ≤ maxStates) × ((c .observations ≤ maxObservations) × ((a < maxActions) × (c .discount ≤ one))))
       × (((0 < c .states) × (0 < vectors))
       × (Below maxTotal (c .states) p
-      × ((TransitionsFit (c .states) T a
+      × ((EngineFits (c .states) T list a
       × (ObservationsFit (c .states) (c .observations) O a × RewardsFit (c .states) R a))
       × (((o : ℕ) → o < c .observations → (s : ℕ) → s < c .states
       → seenIn (c .states) (c .observations) O (padded 0 maxStates (c .states) (movedIn (c .states) T p a)) a o s ≤ maxReached)
       × MaskedFit (c .states) vectors masks entries))))
-  vector-fits a b =
+  vector-fits a b listed =
       let v = h .upon .valid in
       let d = h .upon .stored in
       let s = h .upon .shaped in (
@@ -78,7 +80,10 @@ module _ {c : Counts} {T O : List ℕ} {R : List ℤ} {masks : List ℕ} {entrie
           (v .some-states, s .some-vectors),
           (
             weights-below,
-            ((transitions-fit c T O R v d a b, (observations-fit c T O R v d a b, rewards-fit c T O R v d a b)), (reached a b, entries-in)),
+            (
+              (record { transitions = transitions-fit c T O R v d a b; listed = listed }, (observations-fit c T O R v d a b, rewards-fit c T O R v d a b)),
+              (reached a b, entries-in),
+            ),
           ),
         ),
       )

@@ -97,11 +97,18 @@ chosen-fit n k observation u masks entries count a {chosen} e few some fit = rec
     is o l = rw e (padded-at 0 maxObservations k (picked n k observation u masks entries count a) o 0 l)
 
 -- the candidate, from what each step gave
-pub candidate-made : (c : Counts) (a : ℕ) (T O p : List ℕ) (R : List ℤ) (masks : List ℕ) (entries : List ℤ) (count : ℕ) {u chosen : List ℕ} {f e : List ℤ}
+pub candidate-made : (c : Counts) (a : ℕ) (T O p : List ℕ) (R : List ℤ) (masks : List ℕ) (entries : List ℤ) (count : ℕ) {u chosen : List ℕ}
+    {f b e : List ℤ}
     → u ≡ padded 0 maxStates (c .states) (movedIn (c .states) T p a)
     → chosen ≡ padded 0 maxObservations (c .observations) (picked (c .states) (c .observations) O u masks entries count a)
     → f ≡ padded (pos 0) maxStates (c .states) (foreseenIn (c .states) (c .observations) O masks entries chosen 0 a)
-    → e ≡ padded (pos 0) maxStates (c .states) (λ s. floorDiv (backupIn (c .states) (c .discount) T R f a s) K)
+    → b ≡ padded (pos 0) maxStates (c .states) (backupIn (c .states) (c .discount) T R f a)
+    → e ≡ padded (pos 0) maxStates (c .states) (λ s. floorDiv (getD b s (pos 0)) K)
     → record { chosen = chosen; entries = e } ≡ candidateIn c T O R masks entries count p a
 unfolding candidateIn choiceFor
-candidate-made c a T O p R masks entries count moved h i j = made-of (h ∙ rw moved) (j ∙ rw (i, h, moved))
+candidate-made c a T O p R masks entries count {f = f} moved h i g j =
+    made-of (h ∙ rw moved)
+    (j
+    ∙ padded-cong (pos 0) maxStates (c .states) _ (λ s. floorDiv (backupIn (c .states) (c .discount) T R f a s) K)
+    (λ s l. ap (λ (z : ℤ). floorDiv z K) (rw g (padded-at (pos 0) maxStates (c .states) _ s (pos 0) l)))
+    ∙ rw (i, h, moved))

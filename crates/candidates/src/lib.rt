@@ -8,7 +8,9 @@ ghost use Rattle.tables.specs.Limits.{maxStates, maxActions, maxObservations, o
 ghost use Rattle.tables.specs.Storage.{weightIn, modelIn};
 ghost use Rattle.masks.specs.Masks.{maskedIn};
 ghost use Rattle.masks.specs.Steps.{MaskedFit};
-ghost use Rattle.sums.specs.Steps.{movedIn, seenIn, TransitionsFit, ObservationsFit, RewardsFit, movedLimit};
+ghost use Rattle.sums.specs.Steps.{movedIn, seenIn, ObservationsFit, RewardsFit, movedLimit};
+ghost use Rattle.columns.specs.Steps.{Lists};
+ghost use Rattle.engines.specs.Steps.{EngineFits};
 ghost use Rattle.plans.specs.Limits.{maxTotal, maxReached};
 ghost use Rattle.plans.specs.Level.{product};
 ghost use Rattle.backups.specs.Steps.{Light};
@@ -69,6 +71,7 @@ fn choose(
 // One action's vector at weights p.
 fn vector_for<'a>(
     transition: &'a [u16],
+    list: &[u32],
     observation: &'a [u16],
     reward: &'a [i64],
     masks: &[u64],
@@ -81,7 +84,7 @@ fn vector_for<'a>(
     requires { ⌜ (c .states ≤ maxStates) × ((c .observations ≤ maxObservations) × ((a .0 < maxActions) × (c .discount ≤ one))) ⌝ }
     requires { ⌜ (0 < c .states) × (0 < count) ⌝ }
     requires { ⌜ Below maxTotal (c .states) (now p) ⌝ }
-    requires { ⌜ (TransitionsFit (c .states) (now transition) (a .0)) ×
+    requires { ⌜ (EngineFits (c .states) (now transition) (now list) (a .0)) ×
         ((ObservationsFit (c .states) (c .observations) (now observation) (a .0)) × (RewardsFit (c .states) (now reward) (a .0))) ⌝ }
     requires { ⌜ ((o : ℕ) → o < c .observations → (s : ℕ) → s < c .states → seenIn (c .states) (c .observations) (now observation)
         (padded 0 maxStates (c .states) (movedIn (c .states) (now transition) (now p) (a .0))) (a .0) o s ≤ maxReached) ⌝ }
@@ -91,10 +94,11 @@ fn vector_for<'a>(
 {
     let n = c.states;
     let k = c.observations;
-    let u = sums::moved(transition, n, p, a);
+    let u = engines::moved(transition, list, n, p, a);
     let chosen = choose(observation, masks, entries, &u, n, k, count, a);
     let f = sums::foreseen(observation, n, k, masks, entries, &chosen, Vector(0), a);
-    let e = sums::rounded(transition, reward, &f, n, c.discount, a);
+    let b = engines::backups(transition, list, reward, &f, n, c.discount, a);
+    let e = sums::floored(&b, n);
     Candidate {
         chosen: chosen,
         entries: e,
@@ -104,6 +108,7 @@ fn vector_for<'a>(
 // The first action whose vector has the largest product with p.
 pub fn best_candidate<'a>(
     transition: &'a [u16],
+    list: &[u32],
     observation: &'a [u16],
     reward: &'a [i64],
     masks: &[u64],
@@ -114,6 +119,7 @@ pub fn best_candidate<'a>(
 ) -> Best
     requires { ⌜ Upon c (now transition) (now observation) (now reward) (now masks) (now entries) count ⌝ }
     requires { ⌜ Light (c .states) (now p) ⌝ }
+    requires { ⌜ Lists c (now transition) (now list) ⌝ }
     ensures { λ r. ⌜ r ≡ bestOf (modelIn c (now (transition .entry)) (now (observation .entry)) (now (reward .entry)))
         (uponIn c count (now (masks .entry)) (now (entries .entry))) (now (p .entry)) ⌝ }
 {
@@ -122,6 +128,7 @@ pub fn best_candidate<'a>(
     let mut action: usize = 0;
     let mut best = vector_for(
         transition,
+        list,
         observation,
         reward,
         masks,
@@ -136,6 +143,7 @@ pub fn best_candidate<'a>(
     for a in 1..actions {
         let next = vector_for(
             transition,
+            list,
             observation,
             reward,
             masks,

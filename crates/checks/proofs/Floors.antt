@@ -57,7 +57,7 @@ module _ {c : Counts} {T O : List ℕ} {R : List ℤ} {masks : List ℕ} {entrie
 
   -- vector v, which exists, with its action a
   module _ {v a : ℕ} (exists : v < vectors) (acts : a ≡ getD actions v 0) where
-    acts-in : a < c .actions
+    pub acts-in : a < c .actions
     acts-in = rw acts (j .acts v exists)
 
     pub action-below : a < maxActions

@@ -5,16 +5,16 @@ ghost use Prim.Native.Nat.{ℕ, _*_, _≤_, _<_};
 ghost use lib.ListN.{length, getD};
 ghost use lib.IntN.{pos, natAbs};
 ghost use lib.Signed.{leZ};
-ghost use Rattle.integers.specs.Whole.{_·_, Within};
+ghost use Rattle.integers.specs.Whole.{_·_};
 ghost use Rattle.integers.specs.Search.{every};
-ghost use Rattle.tables.specs.Limits.{maxStates, maxActions, one, maxEntry, K};
+ghost use Rattle.tables.specs.Limits.{maxEntry, K};
 ghost use Rattle.tables.specs.Storage.{modelIn};
-ghost use Rattle.sums.specs.Steps.{backupIn, TransitionsFit, RewardsFit, foreseenLimit};
 ghost use Rattle.plans.specs.Limits.{maxTotal};
 ghost use Rattle.plans.specs.Level.{IsPoint};
 ghost use Rattle.levels.specs.Storage.{pointIn, floorIn, roofIn};
 ghost use Rattle.levels.specs.Judged.{floorsVerdict, cornersVerdict, pointsVerdict};
 ghost use Rattle.sawtooth.specs.Steps.{CornersFit, PointsFit, ValuesFit};
+ghost use Rattle.columns.specs.Steps.{Lists};
 ghost use Rattle.backups.specs.Steps.{Roofed};
 ghost use Rattle.checks.specs.Steps.{Judging};
 use levels::shape;
@@ -44,6 +44,7 @@ fn covers(backups: &[i64], actions: usize, w: i64) -> bool
 // 14: the first corner below its backup.
 pub fn corners_hold<'a, 'b>(
     transition: &'a [u16],
+    list: &[u32],
     observation: &'a [u16],
     reward: &'a [i64],
     corners: &'b [i64],
@@ -55,6 +56,7 @@ pub fn corners_hold<'a, 'b>(
 ) -> Verdict
     requires { ⌜ Roofed c (now transition) (now observation) (now reward) (now corners) points (now weights) (now values) ⌝ }
     requires { ⌜ CornersFit (c .states) (now offered) ⌝ }
+    requires { ⌜ Lists c (now transition) (now list) ⌝ }
     ensures { λ r. ⌜ r ≡ cornersVerdict (modelIn c (now (transition .entry)) (now (observation .entry)) (now (reward .entry)))
         (roofIn (c .states) (now (corners .entry)) points (now (weights .entry)) (now (values .entry))) (roofIn (c .states)
         (now (offered .entry)) 0 [] []) ⌝ }
@@ -65,6 +67,7 @@ pub fn corners_hold<'a, 'b>(
         let p = backups::corner_weights(State(s));
         let backups = backups::backups_at(
             transition,
+            list,
             observation,
             reward,
             corners,
@@ -84,6 +87,7 @@ pub fn corners_hold<'a, 'b>(
 // 15: the first point below its backup.
 pub fn points_hold<'a, 'b, 'c>(
     transition: &'a [u16],
+    list: &[u32],
     observation: &'a [u16],
     reward: &'a [i64],
     corners: &'b [i64],
@@ -99,6 +103,7 @@ pub fn points_hold<'a, 'b, 'c>(
     requires { ⌜ PointsFit (c .states) count (now offered) ⌝ }
     requires { ⌜ ValuesFit count (now at) ⌝ }
     requires { ⌜ ((i : ℕ) → i < count → IsPoint (c .states) (pointIn (c .states) (now offered) i)) ⌝ }
+    requires { ⌜ Lists c (now transition) (now list) ⌝ }
     ensures { λ r. ⌜ r ≡ pointsVerdict (modelIn c (now (transition .entry)) (now (observation .entry)) (now (reward .entry)))
         (roofIn (c .states) (now (corners .entry)) points (now (weights .entry)) (now (values .entry)))
         (roofIn (c .states) [] count (now (offered .entry)) (now (at .entry))) ⌝ }
@@ -109,6 +114,7 @@ pub fn points_hold<'a, 'b, 'c>(
         let p = ranges::point_weights(offered, n, i);
         let backups = backups::backups_at(
             transition,
+            list,
             observation,
             reward,
             corners,
@@ -126,30 +132,17 @@ pub fn points_hold<'a, 'b, 'c>(
 }
 
 // Whether an entry is at most its backup.
-fn entry_holds<'a>(
-    transition: &'a [u16],
-    reward: &'a [i64],
-    n: usize,
-    g: u64,
-    f: &[i64],
-    s: State,
-    a: Action,
-    entry: i64,
-) -> bool
-    requires { ⌜ (n ≤ maxStates) × ((a .0 < maxActions) × ((s .0 < n) × (g ≤ one))) ⌝ }
-    requires { ⌜ TransitionsFit n (now transition) (a .0) ⌝ }
-    requires { ⌜ RewardsFit n (now reward) (a .0) ⌝ }
-    requires { ⌜ Within foreseenLimit n (now f) ⌝ }
+fn entry_holds(backup: i64, entry: i64) -> bool
     requires { ⌜ natAbs entry ≤ maxEntry ⌝ }
-    ensures { λ r. ⌜ r ≡ leZ (K · entry) (backupIn n g (now (transition .entry)) (now (reward .entry)) (now (f .entry)) (a .0) (s .0)) ⌝ }
+    ensures { λ r. ⌜ r ≡ leZ (K · entry) backup ⌝ }
 {
-    let most = sums::backup(transition, reward, n, g, f, s, a);
-    integers::scaled(Tables::K, entry) <= most
+    integers::scaled(Tables::K, entry) <= backup
 }
 
 // 13: the first vector with an entry above its backup, at a state that it covers.
 pub fn floors_hold<'a, 'b>(
     transition: &'a [u16],
+    list: &[u32],
     observation: &'a [u16],
     reward: &'a [i64],
     masks: &[u64],
@@ -163,6 +156,7 @@ pub fn floors_hold<'a, 'b>(
 ) -> Verdict
     requires { ⌜ Judging c (now transition) (now observation) (now reward) (now masks) (now entries) vectors (now actions) (now choices) (now covering)
         (now offered) ⌝ }
+    requires { ⌜ Lists c (now transition) (now list) ⌝ }
     ensures { λ r. ⌜ r ≡ floorsVerdict (modelIn c (now (transition .entry)) (now (observation .entry)) (now (reward .entry)))
         (floorIn (c .states) (c .observations) 0 [] [] (now (masks .entry)) (now (entries .entry)))
         (floorIn (c .states) (c .observations) vectors (now (actions .entry)) (now (choices .entry)) (now (covering .entry)) (now (offered .entry))) ⌝ }
@@ -173,10 +167,11 @@ pub fn floors_hold<'a, 'b>(
     'vectors: for v in 0..vectors {
         let a = Action(shape::action(actions[v]));
         let f = sums::foreseen(observation, n, k, masks, entries, choices, Vector(v), a);
+        let b = engines::backups(transition, list, reward, &f, n, c.discount, a);
         for s in 0..n {
             if masks::covers(covering[v], State(s)) {
                 let e = read::entry_at(offered, n, Vector(v), State(s));
-                if !entry_holds(transition, reward, n, c.discount, &f, State(s), a, e) {
+                if !entry_holds(b[s], e) {
                     found = Verdict::Refused(13, v);
                     break 'vectors;
                 }

@@ -8,36 +8,35 @@ use Rattle.integers.proofs.Sums.{total-part}
 use Rattle.tables.specs.declared.Tables.{Tables}
 use Rattle.tables.specs.declared.Verdict.{Verdict}
 use Rattle.tables.specs.declared.Verdict.the-variants.{Fine}
+use Rattle.tables.specs.Verdicts.{left}
 use Rattle.tables.specs.Limits.{maxStates, maxWeight, maxLevels}
 use Rattle.tables.specs.Model.{Model}
 use Rattle.tables.specs.Storage.{weightIn, modelOf}
-use Rattle.tables.proofs.Accepted.{tables-valid}
 use Rattle.plans.specs.Level.{Level, level0, coversAll, IsPoint}
 use Rattle.plans.specs.Build.{someCoversAll, built}
 use Rattle.plans.proofs.Agreement.{some-covers-counts, point-weights, some-covers-all-agree}
-use Rattle.levels.specs.Storage.{Cells, LentLevel, Lent, levelOf, pointIn, complete, over}
+use Rattle.levels.specs.Storage.{Cells, Lent, levelOf, pointIn, complete, over}
 use Rattle.levels.specs.Judged.{offerVerdict}
 use Rattle.levels.proofs.Over.{covers-elsewhere, Complete, complete-is, complete-true, complete-long, over-agree, over-long}
 use Rattle.runs.specs.State.{opened, offered, mixtureHolds, totalsOf, answerFor, builtFrom}
-use Rattle.runs.specs.Demand3.{ModelAccepted, run, tally, acceptances, newer, lastOf, after, steps, last, BuildHolds, PointsHold}
-use Rattle.runs.proofs.Demand3.{fine-tables, run-append, acceptances-append, demand3}
+use Rattle.runs.specs.Demand3.{ModelAccepted, Event, offer, Certifier, certifier, handed, run, counted, acceptances, Claim, claimedBy, claimed, after}
+use Rattle.runs.specs.Demand3.{steps, tally, stepped, claim0, claim, BuildHolds, PointsHold}
+use Rattle.runs.proofs.Demand3.{run-append, acceptances-append, claimed-append, in-force, stands-in-force}
 use Rattle.climbing.specs.Climb.{Climbed}
 
--- ---- one offer more
-run-more : (m : Tables) (x : Lent) (ls : List LentLevel) (l : LentLevel) → run m x (ls ++ (l ∷ [])) ≡ offered m (run m x ls) l
+-- ---- one event more
+run-more : (y : Certifier) (es : List Event) (e : Event) → run y (es ++ (e ∷ [])) ≡ handed (run y es) e
 unfolding run
-run-more m x ls l = run-append m x ls (l ∷ [])
+run-more y es e = run-append y es (e ∷ [])
 
-acceptances-more : (m : Tables) (x : Lent) (ls : List LentLevel) (l : LentLevel)
-    → acceptances m x (ls ++ (l ∷ [])) ≡ acceptances m x ls + tally (offerVerdict m (run m x ls) l)
+acceptances-more : (y : Certifier) (es : List Event) (e : Event) → acceptances y (es ++ (e ∷ [])) ≡ acceptances y es + counted (run y es) e
 unfolding acceptances
-acceptances-more m x ls l = acceptances-append m x ls (l ∷ []) ∙ ap (λ (n : ℕ). acceptances m x ls + n) (add-zero _)
+acceptances-more y es e = acceptances-append y es (e ∷ []) ∙ ap (λ (n : ℕ). acceptances y es + n) (add-zero _)
 
-last-more : (m : Tables) (L : Level) (x : Lent) (ls : List LentLevel) (l : LentLevel)
-    → lastOf m L x (ls ++ (l ∷ [])) ≡ newer (offerVerdict m (run m x ls) l) (levelOf m l) (lastOf m L x ls)
-unfolding run lastOf
-last-more m L x [] l = refl
-last-more m L x (k ∷ ls) l = last-more m (newer (offerVerdict m x k) (levelOf m k) L) (offered m x k) ls l
+claimed-more : (t : ℕ) (y : Certifier) (c : Claim) (es : List Event) (e : Event)
+    → claimed t y c (es ++ (e ∷ [])) ≡ claimedBy (t + acceptances y es) (run y es) e (claimed t y c es)
+unfolding claimed
+claimed-more t y c es e = claimed-append t y c es (e ∷ [])
 
 -- ---- a level that can be built upon
 -- where each vector covers all states, some vector does
@@ -61,12 +60,13 @@ first-point n b i s l =
 
 -- ---- climbing
 pub climbed-0 : {m : Tables} {x z : Lent} {y : Cells} → ModelAccepted m x → PointsHold m x 1 y → z ≡ opened m x → Climbed 0 m z y
-unfolding run acceptances lastOf level0
+unfolding run acceptances claimed level0
 climbed-0 {m} {x} o p e = record {
+  on = m;
   first = x;
-  offers = [];
+  events = [];
   opens = o;
-  left = e;
+  left = ap (certifier m) e;
   accepted = refl;
   covers = covers-some (modelOf m) level0 (omega arith) (λ v s. refl);
   points = p;
@@ -74,27 +74,27 @@ climbed-0 {m} {x} o p e = record {
 
 module _ {t : ℕ} {m : Tables} {z : Lent} {y : Cells} (k : Climbed t m z y) where
   pub few-states : m .states ≤ maxStates
-  few-states = tables-valid m (fine-tables m (k .first) (k .opens)) .few-states
+  few-states = stands-in-force (k .on) (k .first) (k .events) (k .opens) (k .left) .valid-tables .few-states
 
   -- what the builder's contract says of its verdict v and of the slices y' that it left
   module _ {v : Verdict} {y' : Cells} (few : t < maxLevels)
-      (h : (x : Lent) (ls : List LentLevel) → ModelAccepted m x → z ≡ after m x ls → steps m x ls < maxLevels
-      → someCoversAll (modelOf m) (last m x ls) ≡ true → PointsHold m x 1 y → BuildHolds m x ls 1 y v y') where
-    built-holds : BuildHolds m (k .first) (k .offers) 1 y v y'
-    built-holds = h (k .first) (k .offers) (k .opens) (k .left) (rw (k .accepted) few) (k .covers) (k .points)
+      (h : (m₀ : Tables) (x : Lent) (es : List Event) → ModelAccepted m₀ x → certifier m z ≡ after m₀ x es → steps m₀ x es < maxLevels
+      → someCoversAll (modelOf m) (claim m₀ x es .level) ≡ true → PointsHold m x 1 y → BuildHolds m z (claim m₀ x es) 1 y v y') where
+    built-holds : BuildHolds m z (claim (k .on) (k .first) (k .events)) 1 y v y'
+    built-holds = h (k .on) (k .first) (k .events) (k .opens) (k .left) (rw (k .accepted) few) (k .covers) (k .points)
 
     pub built-given : v ≡ Fine
     built-given = built-holds .given
 
     pub built-accepted : offerVerdict m z (answerFor m 1 y') ≡ Fine
-    built-accepted = rw (k .left) (built-holds .accepted)
+    built-accepted = built-holds .accepted
 
     -- the slices that it left are as long as they were
     built-room : complete m (answerFor m 1 y') ≡ true
     unfolding built
     built-room =
         let room = complete-true m (answerFor m 1 y) (k .points .answer-room) in
-        let W = builtFrom m (last m (k .first) (k .offers)) 1 y in
+        let W = builtFrom m (claim (k .on) (k .first) (k .events) .level) 1 y in
         complete-is m (answerFor m 1 y') (subst (λ (w : Cells). Complete m (answerFor m 1 w)) (sym (built-holds .level-is))
         (complete-long m (over-long m W y room) room))
 
@@ -102,22 +102,40 @@ module _ {t : ℕ} {m : Tables} {z : Lent} {y : Cells} (k : Climbed t m z y) whe
     built-covers : someCoversAll (modelOf m) (levelOf m (answerFor m 1 y')) ≡ true
     unfolding built
     built-covers =
-        let W = builtFrom m (last m (k .first) (k .offers)) 1 y in
+        let W = builtFrom m (claim (k .on) (k .first) (k .events) .level) 1 y in
         let one : 0 < m .states + 1 = omega arith in
         let agree = over-agree m W y (covers-elsewhere (m .states) W (λ v s. refl)) in
         subst (λ (w : Cells). someCoversAll (modelOf m) (levelOf m (answerFor m 1 w)) ≡ true) (sym (built-holds .level-is))
         (some-covers-all-agree (modelOf m) W (levelOf m (answerFor m 1 (over m W y))) agree ∙ covers-some (modelOf m) W one (λ v s. refl))
 
+    -- the built level is one event more
+    abbrev next : Event
+    next = offer (answerFor m 1 y')
+
+    abbrev begun : Certifier
+    begun = certifier (k .on) (opened (k .on) (k .first))
+
+    -- it is accepted, and claimed then
+    next-counts : counted (run begun (k .events)) next ≡ 1
+    next-counts = ap (λ (z : Certifier). counted z next) (sym (k .left)) ∙ ap tally (built-holds .accepted)
+
+    next-claimed : (t : ℕ) (c : Claim) → claimedBy t (run begun (k .events)) next c .level ≡ levelOf m (answerFor m 1 y')
+    next-claimed t c =
+        ap (λ (z : Certifier). claimedBy t z next c .level) (sym (k .left))
+        ∙ ap (λ (v : Verdict). left v (stepped (modelOf m) (levelOf m (answerFor m 1 y')) c) c .level) (built-holds .accepted)
+
     pub climbed-next : {z' : Lent} → y' .weights ≡ y .weights → z' ≡ offered m z (answerFor m 1 y') → Climbed (t + 1) m z' y'
     climbed-next e f = record {
+      on = k .on;
       first = k .first;
-      offers = k .offers ++ (answerFor m 1 y' ∷ []);
+      events = k .events ++ (next ∷ []);
       opens = k .opens;
-      left = f ∙ rw (k .left) (sym (run-more m (opened m (k .first)) (k .offers) (answerFor m 1 y')));
-      accepted =
-          acceptances-more m (opened m (k .first)) (k .offers) (answerFor m 1 y')
-          ∙ rw (built-holds .accepted) (ap (λ (n : ℕ). n + 1) (k .accepted));
-      covers = rw (last-more m level0 (opened m (k .first)) (k .offers) (answerFor m 1 y'), built-holds .accepted) built-covers;
+      left = ap (certifier m) f ∙ ap (λ (z : Certifier). handed z next) (k .left) ∙ sym (run-more begun (k .events) next);
+      accepted = acceptances-more begun (k .events) next ∙ ap (λ (n : ℕ). steps (k .on) (k .first) (k .events) + n) next-counts
+          ∙ ap (λ (n : ℕ). n + 1) (k .accepted);
+      covers = ap (λ (c : Claim). someCoversAll (modelOf m) (c .level)) (claimed-more 0 begun (claim0 (modelOf (k .on))) (k .events) next)
+          ∙ ap (λ (L : Level). someCoversAll (modelOf m) L) (next-claimed (0 + steps (k .on) (k .first) (k .events)) (claim (k .on) (k .first) (k .events)))
+          ∙ built-covers;
       points = record {
         few = k .points .few;
         total = λ i l. rw e (k .points .total i l);
@@ -133,5 +151,5 @@ module _ {t : ℕ} {m : Tables} {z : Lent} {y : Cells} (k : Climbed t m z y) whe
       let point = point-weights (m .states) (λ s l. sym (first-point (m .states) (y .weights) 0 s (let h : 0 < 1 = omega arith in h)))
       (k .points .total 0 (let h : 0 < 1 = omega arith in h)) in
       let mixture = mixture-holds (m .states) (y .weights) (omega (arith, room .read .weights)) point in
-      let counts = some-covers-counts (modelOf m) (last m (k .first) (k .offers)) (k .covers) (weightIn (y .weights)) in
-      rw (k .left) (demand3 m (k .first) (k .opens) (k .offers) .totals (rw (k .accepted) some) (y .weights) (mixture, counts) .given)
+      let counts = some-covers-counts (modelOf m) (claim (k .on) (k .first) (k .events) .level) (k .covers) (weightIn (y .weights)) in
+      in-force (k .on) (k .first) (k .events) (k .opens) (k .left) .totals (rw (k .accepted) some) (y .weights) (mixture, counts) .given

@@ -58,8 +58,10 @@ pub fn rung<'a>(
         (lent (now (state .exit)) (cells (now (actions .exit)) (now (choices .exit)) (now (masks .exit)) (now (entries .exit)) (now (corners .exit))
         (now (weights .exit)) (now (values .exit))) (rows (now (informed .exit)) (now (qmdp .exit)))) (now (given .entry)) ⌝ }
 {
+    let none = [0u32; 0]; // no list of transitions
     let made = building::build(
         transition,
+        &none,
         observation,
         reward,
         c,
@@ -84,6 +86,7 @@ pub fn rung<'a>(
     served(made);
     let accepted = offering::offer(
         transition,
+        &none,
         observation,
         reward,
         c,

@@ -4,13 +4,16 @@ ghost use mathlib.Core.Path.{_≡_};
 ghost use mathlib.Core.Bool.{true};
 ghost use mathlib.Core.List.{List};
 ghost use Prim.Native.Nat.{ℕ, _<_};
+ghost use Rattle.tables.specs.declared.Tables.{Tables};
 ghost use Rattle.tables.specs.Limits.{maxLevels};
 ghost use Rattle.tables.specs.Storage.{modelOf};
+ghost use Rattle.tables.specs.Verdicts.{_before_, left};
+ghost use Rattle.columns.specs.Columns.{listHolds, handedList};
 ghost use Rattle.plans.specs.Build.{someCoversAll};
-ghost use Rattle.levels.specs.Storage.{LentLevel, Lent, cells, rows, lent, lentFor};
+ghost use Rattle.levels.specs.Storage.{Lent, cells, rows, lent, lentFor};
 ghost use Rattle.levels.specs.Judged.{offerVerdict};
 ghost use Rattle.runs.specs.State.{openVerdict, opened, offered, buildVerdict, builtOf};
-ghost use Rattle.runs.specs.Demand3.{ModelAccepted, after, steps, last, PointsHold};
+ghost use Rattle.runs.specs.Demand3.{ModelAccepted, Event, certifier, after, steps, claim, PointsHold};
 ghost use Rattle.answers.specs.Calls.{layoutVersion, model, refusalOf, Builds};
 use answers::Refusal;
 use tables::Counts;
@@ -20,7 +23,7 @@ use tables::Counts;
 pub extern "C" fn biidhaqun_version() -> u64
     ensures { λ r. ⌜ r ≡ layoutVersion ⌝ }
 {
-    4
+    5
 }
 
 // Opens a certifier on tables, at level 0. Nothing is written to weights and values: level 0 has no point.
@@ -88,6 +91,7 @@ pub extern "C" fn biidhaqun_offer<'a, 'b>(
     k: usize,
     g: u64,
     transition: &'a [u16],
+    list: &[u32],
     observation: &'a [u16],
     reward: &'a [i64],
     state: &mut [usize],
@@ -115,7 +119,7 @@ pub extern "C" fn biidhaqun_offer<'a, 'b>(
         (now (corners .entry)) (now (weights .entry)) (now (values .entry))) (rows (now (informed .entry)) (now (qmdp .entry))) in
         let l = lentFor vectors points (cells (now (newactions .entry)) (now (newchoices .entry)) (now (newmasks .entry)) (now (newentries .entry))
         (now (newcorners .entry)) (now (newweights .entry)) (now (newvalues .entry))) in
-        r ≡ refusalOf (offerVerdict tables x l)) ⌝ }
+        r ≡ refusalOf (handedList tables (now (list .entry)) before offerVerdict tables x l)) ⌝ }
     ensures { λ _. ⌜ (let tables = model n m k g (now (transition .entry)) (now (observation .entry)) (now (reward .entry)) in
         let x = lent (now (state .entry)) (cells (now (actions .entry)) (now (choices .entry)) (now (masks .entry)) (now (entries .entry))
         (now (corners .entry)) (now (weights .entry)) (now (values .entry))) (rows (now (informed .entry)) (now (qmdp .entry))) in
@@ -123,7 +127,7 @@ pub extern "C" fn biidhaqun_offer<'a, 'b>(
         (now (newcorners .entry)) (now (newweights .entry)) (now (newvalues .entry))) in
         lent (now (state .exit)) (cells (now (actions .exit)) (now (choices .exit)) (now (masks .exit)) (now (entries .exit)) (now (corners .exit))
         (now (weights .exit)) (now (values .exit))) (rows (now (informed .exit)) (now (qmdp .exit)))
-        ≡ offered tables x l) ⌝ }
+        ≡ left (handedList tables (now (list .entry))) (offered tables x l) x) ⌝ }
 {
     let c = Counts {
         states: n,
@@ -133,6 +137,7 @@ pub extern "C" fn biidhaqun_offer<'a, 'b>(
     };
     let verdict = offering::offer(
         transition,
+        list,
         observation,
         reward,
         c,
@@ -167,6 +172,7 @@ pub extern "C" fn biidhaqun_build<'a, 'b>(
     k: usize,
     g: u64,
     transition: &'a [u16],
+    list: &[u32],
     observation: &'a [u16],
     reward: &'a [i64],
     state: &'b [usize],
@@ -193,7 +199,7 @@ pub extern "C" fn biidhaqun_build<'a, 'b>(
         (now (weights .entry)) (now (values .entry))) (rows (now (informed .entry)) (now (qmdp .entry))) in
         let y = cells (now (newactions .entry)) (now (newchoices .entry)) (now (newmasks .entry)) (now (newentries .entry)) (now (newcorners .entry))
         (now (given .entry)) (now (newvalues .entry)) in
-        r ≡ refusalOf (buildVerdict tables standing count y)) ⌝ }
+        r ≡ refusalOf (handedList tables (now (list .entry)) before buildVerdict tables standing count y)) ⌝ }
     ensures { λ _. ⌜ ((choices : List ℕ) →
         let tables = model n m k g (now (transition .entry)) (now (observation .entry)) (now (reward .entry)) in
         let standing = lent (now (state .entry)) (cells (now (actions .entry)) choices (now (masks .entry)) (now (entries .entry)) (now (corners .entry))
@@ -202,8 +208,8 @@ pub extern "C" fn biidhaqun_build<'a, 'b>(
         (now (given .entry)) (now (newvalues .entry)) in
         let made = cells (now (newactions .exit)) (now (newchoices .exit)) (now (newmasks .exit)) (now (newentries .exit)) (now (newcorners .exit))
         (now (given .entry)) (now (newvalues .exit)) in
-        made ≡ builtOf tables standing count y) ⌝ }
-    ensures { λ r. ⌜ ((choices : List ℕ) (x : Lent) (ls : List LentLevel) →
+        made ≡ left (handedList tables (now (list .entry))) (builtOf tables standing count y) y) ⌝ }
+    ensures { λ r. ⌜ ((choices : List ℕ) (m₀ : Tables) (x : Lent) (es : List Event) →
         let tables = model n m k g (now (transition .entry)) (now (observation .entry)) (now (reward .entry)) in
         let standing = lent (now (state .entry)) (cells (now (actions .entry)) choices (now (masks .entry)) (now (entries .entry)) (now (corners .entry))
         (now (weights .entry)) (now (values .entry))) (rows (now (informed .entry)) (now (qmdp .entry))) in
@@ -211,8 +217,9 @@ pub extern "C" fn biidhaqun_build<'a, 'b>(
         (now (given .entry)) (now (newvalues .entry)) in
         let made = cells (now (newactions .exit)) (now (newchoices .exit)) (now (newmasks .exit)) (now (newentries .exit)) (now (newcorners .exit))
         (now (given .entry)) (now (newvalues .exit)) in
-        ModelAccepted tables x → standing ≡ after tables x ls → steps tables x ls < maxLevels
-        → someCoversAll (modelOf tables) (last tables x ls) ≡ true → PointsHold tables x count y → Builds tables x ls count y r made) ⌝ }
+        ModelAccepted m₀ x → certifier tables standing ≡ after m₀ x es → steps m₀ x es < maxLevels
+        → someCoversAll (modelOf tables) (claim m₀ x es .level) ≡ true → PointsHold tables x count y
+        → listHolds tables (now (list .entry)) ≡ true → Builds tables standing (claim m₀ x es) count y r made) ⌝ }
 {
     let c = Counts {
         states: n,
@@ -222,6 +229,7 @@ pub extern "C" fn biidhaqun_build<'a, 'b>(
     };
     let verdict = building::build(
         transition,
+        list,
         observation,
         reward,
         c,

@@ -1,8 +1,9 @@
 // The interface for C and Rust: a list of offers in one call.
 ghost use mathlib.Core.Path.{_≡_};
 ghost use mathlib.Core.List.{List};
-ghost use Rattle.levels.specs.Storage.{LentLevel, Lent, cells, rows, lent};
-ghost use Rattle.runs.specs.Demand3.{ModelAccepted, after};
+ghost use Rattle.levels.specs.Storage.{Lent, cells, rows, lent};
+ghost use Rattle.tables.specs.declared.Tables.{Tables};
+ghost use Rattle.runs.specs.Demand3.{ModelAccepted, Event, certifier, after};
 ghost use Rattle.tables.specs.declared.Verdict.the-variants.{Fine};
 ghost use Rattle.blocks.specs.Blocks.{packed};
 ghost use Rattle.replay.specs.Replay.{offersIn, replayVerdict, replayAnswer, replayed, ReplayHolds};
@@ -63,8 +64,8 @@ pub extern "C" fn biidhaqun_replay<'a, 'b>(
         (now (corners .entry)) (now (weights .entry)) (now (values .entry))) (rows (now (informed .entry)) (now (qmdp .entry))) in
         let b = packed v p (now (vectors .entry)) (now (points .entry)) (cells (now (newactions .entry)) (now (newchoices .entry)) (now (newmasks .entry))
         (now (newentries .entry)) (now (newcorners .entry)) (now (newweights .entry)) (now (newvalues .entry))) in
-        (x₀ : Lent) (ls : List LentLevel) → ModelAccepted tables x₀ → x ≡ after tables x₀ ls → replayVerdict tables x b count ≡ Fine
-        → ReplayHolds tables x₀ ls (offersIn tables b count)
+        (m₀ : Tables) (x₀ : Lent) (es : List Event) → ModelAccepted m₀ x₀ → certifier tables x ≡ after m₀ x₀ es → replayVerdict tables x b count ≡ Fine
+        → ReplayHolds m₀ x₀ es (offersIn tables b count) tables
         (lent (now (state .exit)) (cells (now (actions .exit)) (now (choices .exit)) (now (masks .exit)) (now (entries .exit)) (now (corners .exit))
         (now (weights .exit)) (now (values .exit))) (rows (now (informed .exit)) (now (qmdp .exit))))
         (r .accepted)) ⌝ }

@@ -1,13 +1,13 @@
 // The interface for C and Rust: totals at one mixture, at many and within ranges of weights, and the worth of a plan graph. Nothing is kept.
 ghost use mathlib.Core.Path.{_≡_};
-ghost use mathlib.Core.Bool.{true};
 ghost use mathlib.Core.List.{List};
 ghost use Prim.Native.Nat.{ℕ, _<_};
-ghost use Rattle.levels.specs.Storage.{LentLevel, Lent, cells, rows, lent};
+ghost use Rattle.levels.specs.Storage.{Lent, cells, rows, lent};
+ghost use Rattle.tables.specs.declared.Tables.{Tables};
 ghost use Rattle.tables.specs.Verdicts.{left};
 ghost use Rattle.runs.specs.State.{totalsOf};
 ghost use Rattle.mixtures.specs.Each.{answers, eachVerdict, eachOf};
-ghost use Rattle.runs.specs.Demand3.{ModelAccepted, after, steps, MixtureHolds};
+ghost use Rattle.runs.specs.Demand3.{ModelAccepted, Event, certifier, after, steps, claim, MixtureHolds};
 ghost use Rattle.intervals.specs.Intervals.{withinOf};
 ghost use Rattle.intervals.specs.Claim.{RangesHold};
 ghost use Rattle.worths.specs.Storage.{lentGraph};
@@ -47,12 +47,12 @@ pub extern "C" fn biidhaqun_totals<'a, 'b>(
         let standing = lent (now (state .entry)) (cells (now (actions .entry)) choices (now (masks .entry)) (now (entries .entry)) (now (corners .entry))
         (now (weights .entry)) (now (values .entry))) (rows (now (informed .entry)) (now (qmdp .entry))) in
         r ≡ totalsBy (totalsOf tables standing (now (mixture .entry)))) ⌝ }
-    ensures { λ r. ⌜ ((choices : List ℕ) (x : Lent) (ls : List LentLevel) →
+    ensures { λ r. ⌜ ((choices : List ℕ) (m₀ : Tables) (x : Lent) (es : List Event) →
         let tables = model n m k g (now (transition .entry)) (now (observation .entry)) (now (reward .entry)) in
         let standing = lent (now (state .entry)) (cells (now (actions .entry)) choices (now (masks .entry)) (now (entries .entry)) (now (corners .entry))
         (now (weights .entry)) (now (values .entry))) (rows (now (informed .entry)) (now (qmdp .entry))) in
-        ModelAccepted tables x → standing ≡ after tables x ls → 0 < steps tables x ls → MixtureHolds tables x ls (now (mixture .entry)) →
-        Brackets tables x ls (now (mixture .entry)) r) ⌝ }
+        ModelAccepted m₀ x → certifier tables standing ≡ after m₀ x es → 0 < steps m₀ x es → MixtureHolds tables (claim m₀ x es) (now (mixture .entry)) →
+        Brackets tables (steps m₀ x es) (claim m₀ x es) (now (mixture .entry)) r) ⌝ }
 {
     let c = Counts {
         states: n,
@@ -188,13 +188,13 @@ pub extern "C" fn biidhaqun_within<'a, 'b, 'c>(
         let standing = lent (now (state .entry)) (cells (now (actions .entry)) choices (now (masks .entry)) (now (entries .entry)) (now (corners .entry))
         (now (weights .entry)) (now (values .entry))) (rows (now (informed .entry)) (now (qmdp .entry))) in
         r ≡ totalsWithinBy (withinOf tables standing (now (lows .entry)) (now (highs .entry)))) ⌝ }
-    ensures { λ r. ⌜ ((choices : List ℕ) (x : Lent) (ls : List LentLevel) →
+    ensures { λ r. ⌜ ((choices : List ℕ) (m₀ : Tables) (x : Lent) (es : List Event) →
         let tables = model n m k g (now (transition .entry)) (now (observation .entry)) (now (reward .entry)) in
         let standing = lent (now (state .entry)) (cells (now (actions .entry)) choices (now (masks .entry)) (now (entries .entry)) (now (corners .entry))
         (now (weights .entry)) (now (values .entry))) (rows (now (informed .entry)) (now (qmdp .entry))) in
-        ModelAccepted tables x → standing ≡ after tables x ls → 0 < steps tables x ls →
-        RangesHold tables x ls (now (lows .entry)) (now (highs .entry)) →
-        Encloses tables x ls (now (lows .entry)) (now (highs .entry)) r) ⌝ }
+        ModelAccepted m₀ x → certifier tables standing ≡ after m₀ x es → 0 < steps m₀ x es →
+        RangesHold tables (claim m₀ x es) (now (lows .entry)) (now (highs .entry)) →
+        Encloses tables (steps m₀ x es) (claim m₀ x es) (now (lows .entry)) (now (highs .entry)) r) ⌝ }
 {
     let c = Counts {
         states: n,

@@ -1,13 +1,15 @@
 -- Laws of arrays of which the first cells count. Assumes nothing.
 use Rattle.integers.proofs.Kit.{_≡_, _∙_, refl, ap, sym, List, [], _∷_, ℕ, _≤_, _<_, _+_, _*_, suc, _-_, zero, _/_, _%_, arith, add-zero}
 use Rattle.integers.proofs.Kit.{zero-add, add-one, decLt, length, getD, drop, replicate, set, length-replicate, take, paste, drop-drop, ℤ, pos}
-use Rattle.integers.proofs.Kit.{natAbs}
+use Rattle.integers.proofs.Kit.{natAbs, subst}
 use mathlib.Core.List.{_++_, append-assoc, append-nil}
 use native.Mathlib.Nat as NatL
 use native.Mathlib.Nat.{add-suc}
+use native.Mathlib.Decide.{ℕ-discrete}
 use lib.ListN.{length-append, length-set, length-drop, List·getD-append}
 use lib.ListN.{replicate-append-replicate, take-append-drop}
-use lib.Seq.{paste-zero, paste-suc, ext-getD, take-at, drop-append-add, drop-cons, set-at, getD-append-seam, getD-take, length-take-le}
+use lib.Seq.{paste-zero, paste-suc, ext-getD, take-at, drop-append-add, drop-cons, set-at, getD-append-seam, getD-append-add, getD-take, getD-drop}
+use lib.Seq.{getD-set-same, getD-set-other, length-take-le}
 use lib.Arith.{digits-div, digits-mod}
 use Rattle.integers.specs.Whole.{Below, Within}
 use Rattle.integers.specs.Cells.{listed, padded, laid, laidRows, grid}
@@ -94,6 +96,21 @@ module _ {A : Type 0} where
   pub pasting-end : {at x : ℕ} {row xs ys : List A} (w : ℕ) → Pasting at x row xs ys → x ≡ w → ys ≡ paste xs at row w
   pasting-end w p e = rw e at (p .same)
 
+  -- a part of the row, pasted at its place
+  pub pasting-part : (at x : ℕ) (row xs ys part : List A) (d : A) (w : ℕ) → w ≤ length part → x + w ≤ length row → at + (x + w) ≤ length xs
+      → ((i : ℕ) → i < w → getD part i d ≡ getD row (x + i) d) → Pasting at x row xs ys → Pasting at (x + w) row xs (paste ys (at + x) part w)
+  pasting-part at x row xs ys part d zero few in-row in-list same p =
+      subst (λ (k : ℕ). Pasting at k row xs (paste ys (at + x) part 0)) (sym (add-zero x))
+      (subst (λ (zs : List A). Pasting at x row xs zs) (paste-zero ys (at + x) part) p)
+  pasting-part at x row xs ys part d (suc w) few in-row in-list same p =
+      let q = pasting-part at x row xs ys part d w (omega arith) (omega arith) (omega arith) (λ i l. same i (omega arith)) p in
+      let place : at + (x + w) ≡ at + x + w = omega arith in
+      let next : x + w + 1 ≡ x + suc w = omega arith in
+      subst (λ (k : ℕ). Pasting at k row xs (paste ys (at + x) part (suc w))) next
+      (subst (λ (zs : List A). Pasting at (x + w + 1) row xs zs)
+      (ap (λ (k : ℕ). set (paste ys (at + x) part w) k (getD part w d)) place ∙ paste-suc ys (at + x) part w d (omega (arith, p .long)) (omega arith))
+      (pasting-more at (x + w) row xs (paste ys (at + x) part w) d (omega arith) (omega arith) (same w (omega arith)) q))
+
   listed-add : (n m : ℕ) (f : ℕ → A) → listed (n + m) f ≡ listed n f ++ listed m (λ i. f (n + i))
   unfolding listed
   listed-add n zero f = ap (λ (k : ℕ). listed k f) (add-zero n) ∙ sym (append-nil (listed n f))
@@ -153,6 +170,42 @@ module _ {A : Type 0} where
   unfolding laid
   laid-self n xs d l =
       ap (λ (r : List A). r ++ drop n xs) (sym (take-listed n xs (λ i. getD xs i d) d l (λ x b. refl))) ∙ take-append-drop n xs
+
+  -- past what is laid, what was there
+  pub laid-past : (n : ℕ) (f : ℕ → A) (xs : List A) (i : ℕ) (d : A) → n ≤ i → getD (laid n f xs) i d ≡ getD xs i d
+  unfolding laid
+  laid-past n f xs i d l =
+      let e : i ≡ length (listed n f) + (i - n) = omega (arith, length-listed n f) in
+      let k : n + (i - n) ≡ i = omega arith in
+      ap (λ (j : ℕ). getD (listed n f ++ drop n xs) j d) e
+      ∙ getD-append-add (listed n f) (drop n xs) (i - n) d
+      ∙ getD-drop n xs (i - n) d
+      ∙ ap (λ (j : ℕ). getD xs j d) k
+
+  -- one cell of what is laid, changed
+  pub laid-set : (n : ℕ) (f g : ℕ → A) (xs : List A) (j : ℕ) (v d : A) → j < n → n ≤ length xs → v ≡ g j
+      → ((i : ℕ) → i < n → (i ≡ j → ⊥) → f i ≡ g i) → set (laid n f xs) j v ≡ laid n g xs
+  laid-set n f g xs j v d h l same others =
+      let long = laid-length n f xs l in
+      ext-getD d (set (laid n f xs) j v) (laid n g xs) (length-set (laid n f xs) j v ∙ long ∙ sym (laid-length n g xs l))
+      (λ i b. by i (ℕ-discrete i j) (decLt i n) (omega (arith, long)))
+    where
+      by : (i : ℕ) → Dec (i ≡ j) → Dec (i < n) → j < length (laid n f xs) → getD (set (laid n f xs) j v) i d ≡ getD (laid n g xs) i d
+      by i (yes e) k b = rw e (getD-set-same (laid n f xs) j v d b ∙ same ∙ sym (laid-at n g xs j d h))
+      by i (no e) (yes k) b = getD-set-other (laid n f xs) j i v d e ∙ laid-at n f xs i d k ∙ others i k e ∙ sym (laid-at n g xs i d k)
+      by i (no e) (no k) b =
+          getD-set-other (laid n f xs) j i v d e ∙ laid-past n f xs i d (omega arith) ∙ sym (laid-past n g xs i d (omega arith))
+
+  -- cells pasted behind those that are laid
+  pub laid-paste : (k w : ℕ) (f : ℕ → A) (xs row : List A) (d : A) → w ≤ length row → k + w ≤ length xs → ((i : ℕ) → i < w → getD row i d ≡ f (k + i))
+      → paste (laid k f xs) k row w ≡ laid (k + w) f xs
+  laid-paste k zero f xs row d few long same = sym (paste-zero (laid k f xs) k row) ∙ ap (λ (j : ℕ). laid j f xs) (sym (add-zero k))
+  laid-paste k (suc w) f xs row d few long same =
+      let so-far = laid-paste k w f xs row d (omega arith) (omega arith) (λ i l. same i (omega arith)) in
+      let next : k + w + 1 ≡ k + suc w = omega arith in
+      sym (paste-suc (laid k f xs) k row w d (omega (arith, laid-length k f xs (omega arith))) (omega arith))
+      ∙ laid-turn f (k + w) xs d so-far (same w (omega arith)) (omega arith)
+      ∙ ap (λ (j : ℕ). laid j f xs) next
 
   -- ---- rows laid over others
   pub laidRows-none : (w : ℕ) (f : ℕ → ℕ → A) (xs : List A) → laidRows 0 w f xs ≡ xs
@@ -224,6 +277,20 @@ module _ {A : Type 0} where
       let e : rows * w + (size - rows * w) ≡ size = omega arith in
       rw (listed-same z (rows * w), drop-replicate z (rows * w) size) (replicate-append-replicate (rows * w) (size - rows * w) z)
       ∙ ap (λ (k : ℕ). replicate k z) e
+
+  pub padded-same : (z : A) (size n : ℕ) → n ≤ size → padded z size n (λ i. z) ≡ replicate size z
+  unfolding padded
+  padded-same z size n h =
+      let e : n + (size - n) ≡ size = omega arith in
+      rw (listed-same z n) (replicate-append-replicate n (size - n) z) ∙ ap (λ (k : ℕ). replicate k z) e
+
+  -- cells laid over those of an array that count
+  pub laid-padded : (z : A) (size n : ℕ) (f g : ℕ → A) → laid n g (padded z size n f) ≡ padded z size n g
+  unfolding padded laid
+  laid-padded z size n f g =
+      let e : n ≡ length (listed n f) + 0 = omega (arith, length-listed n f) in
+      ap (λ (k : ℕ). listed n g ++ drop k (listed n f ++ replicate (size - n) z)) e
+      ∙ ap (λ (l : List A). listed n g ++ l) (drop-append-add (listed n f) (replicate (size - n) z) 0)
 
 -- a default that fills a list is found at every place
 pub replicate-at : {A : Type 0} (z : A) (n i : ℕ) → getD (replicate n z) i z ≡ z

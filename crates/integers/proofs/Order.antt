@@ -64,6 +64,9 @@ add-left-comm a b c = eq-by (a +ℤ (b +ℤ c)) (b +ℤ (a +ℤ c)) (omega (arit
 pub sub-zero : (x : ℤ) → x -ℤ pos 0 ≡ x
 sub-zero x = eq-by (x -ℤ pos 0) x (omega (arith, sub-parts-ℤ x (pos 0)))
 
+pub add-none : (x : ℤ) → x +ℤ pos 0 ≡ x
+add-none x = eq-by (x +ℤ pos 0) x (omega (arith, add-parts x (pos 0)))
+
 pub sub-gap : (x y : ℤ) → x ≡ y +ℤ (x -ℤ y)
 sub-gap x y = eq-by x (y +ℤ (x -ℤ y)) (omega (arith, add-parts y (x -ℤ y), sub-parts-ℤ x y))
 

@@ -1,7 +1,9 @@
 -- Laws of the searches: as a loop makes them, and what their answers say. Assumes nothing.
 use Rattle.integers.proofs.Kit.{_≡_, _∙_, refl, sym, true, false, Bool, cond, _&&_, ℕ, _<_, _+_, suc, zero, arith, add-one, decLt, T, ℤ, _≤ℤ_}
-use Rattle.integers.proofs.Kit.{_||_, ap, _≤_, _*_, mul-le-mul, eqb, eq-eqb, ne-eqb, ltZ, _<ℤ_}
+use Rattle.integers.proofs.Kit.{_||_, ap, _≤_, _*_, _-_, add-zero, mul-le-mul, eqb, eq-eqb, ne-eqb, ltZ, _<ℤ_}
 use mathlib.Core.Bool.{not}
+use mathlib.Core.Bool as BoolL
+use native.Mathlib.Nat.{add-suc}
 use lib.Signed.{ltZ-yes, ltZ-no}
 use Rattle.integers.specs.Search.{every, some, firstLargestOf, firstLargest}
 use Rattle.integers.proofs.Parts.{is-T}
@@ -76,6 +78,19 @@ pub every-cong : (n : ℕ) (p q : ℕ → Bool) → ((i : ℕ) → i < n → p i
 unfolding every
 every-cong zero p q h = refl
 every-cong (suc n) p q h = rw (every-cong n p q (λ i l. h i (omega arith)), h n (omega arith))
+
+-- the indices below a, then those from a on
+pub every-add : (a b : ℕ) (p : ℕ → Bool) → every (a + b) p ≡ (every a p && every b (λ i. p (a + i)))
+unfolding every
+every-add a zero p = ap (λ (k : ℕ). every k p) (add-zero a) ∙ sym (BoolL.and-true (every a p))
+every-add a (suc b) p =
+    ap (λ (k : ℕ). every k p) (add-suc a b) ∙ rw (every-add a b p) (BoolL.and-assoc (every a p) (every b (λ i. p (a + i))) (p (a + b)))
+
+-- what fails below k fails below any larger n
+pub every-short : (k n : ℕ) (p : ℕ → Bool) → k ≤ n → every k p ≡ false → every n p ≡ false
+every-short k n p l e =
+    let all : n ≡ k + (n - k) = omega arith in
+    ap (λ (j : ℕ). every j p) all ∙ every-add k (n - k) p ∙ rw e refl
 
 -- ---- some
 pub some-at : (n : ℕ) (p : ℕ → Bool) (i : ℕ) → i < n → p i ≡ true → some n p ≡ true

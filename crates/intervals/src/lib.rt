@@ -7,11 +7,12 @@ ghost use lib.ListN.{length, getD};
 ghost use lib.IntN.{pos, natAbs};
 ghost use Rattle.integers.specs.Whole.{Below};
 ghost use Rattle.tables.specs.Limits.{maxStates, maxWeight, maxEntry};
+ghost use Rattle.tables.specs.declared.Tables.{Tables};
 ghost use Rattle.tables.specs.Storage.{weightIn, tablesIn};
 ghost use Rattle.masks.specs.Steps.{someIncludes, MaskedFit};
 ghost use Rattle.plans.specs.Intervals.{leastProduct};
-ghost use Rattle.levels.specs.Storage.{LentLevel, Lent, cells, rows, lent};
-ghost use Rattle.runs.specs.Demand3.{ModelAccepted, after, steps};
+ghost use Rattle.levels.specs.Storage.{Lent, cells, rows, lent};
+ghost use Rattle.runs.specs.Demand3.{ModelAccepted, Event, certifier, after, steps, claim};
 ghost use Rattle.bounds.specs.Steps.{supportIn};
 ghost use Rattle.intervals.specs.Intervals.{rangesHold, highsHold, withinOf};
 ghost use Rattle.intervals.specs.Claim.{RangesHold, WithinHolds};
@@ -202,11 +203,11 @@ pub fn totals_within<'a, 'b, 'c>(
         (lent (now (state .entry)) (cells (now (actions .entry)) choices (now (masks .entry)) (now (entries .entry)) (now (corners .entry))
         (now (weights .entry)) (now (values .entry))) (rows (now (informed .entry)) (now (qmdp .entry)))) (now (lows .entry)) (now (highs .entry))) ⌝ }
     ensures { λ r. ⌜ (let m = tablesIn c (now (transition .entry)) (now (observation .entry)) (now (reward .entry)) in
-        (choices : List ℕ) (x : Lent) (ls : List LentLevel) → ModelAccepted m x
-        → lent (now (state .entry)) (cells (now (actions .entry)) choices (now (masks .entry)) (now (entries .entry)) (now (corners .entry))
-        (now (weights .entry)) (now (values .entry))) (rows (now (informed .entry)) (now (qmdp .entry))) ≡ after m x ls → 0 < steps m x ls
-        → RangesHold m x ls (now (lows .entry)) (now (highs .entry))
-        → WithinHolds m x ls (now (lows .entry)) (now (highs .entry)) r) ⌝ }
+        (choices : List ℕ) (m₀ : Tables) (x : Lent) (es : List Event) → ModelAccepted m₀ x
+        → certifier m (lent (now (state .entry)) (cells (now (actions .entry)) choices (now (masks .entry)) (now (entries .entry)) (now (corners .entry))
+        (now (weights .entry)) (now (values .entry))) (rows (now (informed .entry)) (now (qmdp .entry)))) ≡ after m₀ x es → 0 < steps m₀ x es
+        → RangesHold m (claim m₀ x es) (now (lows .entry)) (now (highs .entry))
+        → WithinHolds m (steps m₀ x es) (claim m₀ x es) (now (lows .entry)) (now (highs .entry)) r) ⌝ }
 {
     let standing = bounds::judge_standing(
         transition,

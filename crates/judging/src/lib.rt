@@ -1,11 +1,14 @@
 // What an offer to a certifier is refused for, 7 to 15 and 21. Tables, the standing level and the offered one are lent; nothing is written.
 ghost use mathlib.Core.Path.{_≡_};
+ghost use mathlib.Core.Bool.{true};
 ghost use Prim.Native.Nat.{_*_, _≤_};
 ghost use lib.ListN.{length};
 ghost use Rattle.tables.specs.declared.Verdict.the-variants.{Fine};
 ghost use Rattle.tables.specs.Limits.{maxStates, maxObservations, maxVectors, maxLevels};
 ghost use Rattle.tables.specs.Storage.{modelOf, tablesIn};
 ghost use Rattle.plans.specs.Limits.{maxPoints};
+ghost use Rattle.tables.specs.Verdicts.{_before_};
+ghost use Rattle.columns.specs.Columns.{listHolds, handedList};
 ghost use Rattle.levels.specs.Storage.{cells, rows, lentFor, levelIn, levelOf, lent, standingIn};
 ghost use Rattle.levels.specs.Judged.{levelVerdict, shapeVerdict, backupsVerdict, offerVerdict};
 use levels::Level;
@@ -171,6 +174,7 @@ fn judge_shape<'a, 'b, 'c>(
 // 21, then 13 to 15: the masks and the backup inequalities.
 fn judge_backups<'a, 'b, 'c>(
     transition: &'a [u16],
+    list: &[u32],
     observation: &'a [u16],
     reward: &'a [i64],
     c: Counts,
@@ -199,6 +203,7 @@ fn judge_backups<'a, 'b, 'c>(
         (rows (now informed) (now qmdp)))
         (lentFor vectors points (cells (now newactions) (now newchoices) (now newmasks) (now newentries) (now newcorners) (now newweights)
         (now newvalues))) ≡ Fine ⌝ }
+    requires { ⌜ listHolds (tablesIn c (now transition) (now observation) (now reward)) (now list) ≡ true ⌝ }
     ensures { λ r. ⌜ (let m = tablesIn c (now (transition .entry)) (now (observation .entry)) (now (reward .entry)) in
         let x = lent (now (state .entry)) (cells (now (actions .entry)) (now (choices .entry)) (now (masks .entry)) (now (entries .entry))
         (now (corners .entry)) (now (weights .entry)) (now (values .entry))) (rows (now (informed .entry)) (now (qmdp .entry))) in
@@ -209,6 +214,7 @@ fn judge_backups<'a, 'b, 'c>(
     let s = levels::standing_in(state);
     let reached = reaches::masks_hold(
         transition,
+        list,
         observation,
         masks,
         newactions,
@@ -222,6 +228,7 @@ fn judge_backups<'a, 'b, 'c>(
     };
     let floor = checks::floors_hold(
         transition,
+        list,
         observation,
         reward,
         masks,
@@ -238,6 +245,7 @@ fn judge_backups<'a, 'b, 'c>(
     };
     let roof = checks::corners_hold(
         transition,
+        list,
         observation,
         reward,
         corners,
@@ -252,6 +260,7 @@ fn judge_backups<'a, 'b, 'c>(
     };
     checks::points_hold(
         transition,
+        list,
         observation,
         reward,
         corners,
@@ -265,9 +274,10 @@ fn judge_backups<'a, 'b, 'c>(
     )
 }
 
-// 7 to 12, 21, 13 to 15.
+// 7 to 12, 21, 13 to 15; 7 also of the list of transitions, where one is lent.
 pub fn judge_offer<'a, 'b, 'c>(
     transition: &'a [u16],
+    list: &[u32],
     observation: &'a [u16],
     reward: &'a [i64],
     c: Counts,
@@ -296,8 +306,11 @@ pub fn judge_offer<'a, 'b, 'c>(
         (now (corners .entry)) (now (weights .entry)) (now (values .entry))) (rows (now (informed .entry)) (now (qmdp .entry))) in
         let l = lentFor vectors points (cells (now (newactions .entry)) (now (newchoices .entry)) (now (newmasks .entry)) (now (newentries .entry))
         (now (newcorners .entry)) (now (newweights .entry)) (now (newvalues .entry))) in
-        r ≡ offerVerdict m x l) ⌝ }
+        r ≡ (handedList m (now (list .entry)) before offerVerdict m x l)) ⌝ }
 {
+    if !lists::holds(transition, list, observation, reward, c) {
+        return Verdict::Refused(7, 0);
+    }
     let shape = judge_shape(
         transition,
         observation,
@@ -328,6 +341,7 @@ pub fn judge_offer<'a, 'b, 'c>(
     };
     judge_backups(
         transition,
+        list,
         observation,
         reward,
         c,

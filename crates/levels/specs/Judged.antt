@@ -14,7 +14,7 @@ use Rattle.tables.specs.declared.Verdict.the-variants.{Fine, Refused}
 use Rattle.tables.specs.Limits.{maxVectors, K, maxLevels}
 use Rattle.tables.specs.Model.{Model, backup}
 use Rattle.tables.specs.Storage.{entryIn, modelOf}
-use Rattle.tables.specs.Verdicts.{_before_, unless, firstOf}
+use Rattle.tables.specs.Verdicts.{_before_, unless, firstOf, isFine}
 use Rattle.tables.specs.Judged.{countWithin, tablesVerdict}
 use Rattle.plans.specs.Limits.{maxPoints, maxTotal, range}
 use Rattle.plans.specs.Level.{Level, backupAt, corner-weight, follows}
@@ -55,10 +55,6 @@ weightsVerdict n points weight = firstOf points (λ i. unless (totalHolds (total
 
 abbrev pub actionsExist : ℕ → ℕ → (ℕ → ℕ) → Bool
 actionsExist m vectors action = every vectors (λ v. ltb (action v) m)
-
-abbrev pub isFine : Verdict → Bool
-isFine Fine = true
-isFine (Refused number place) = false
 
 -- ---- a level W that is offered over the standing level L
 

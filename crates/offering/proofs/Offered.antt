@@ -8,6 +8,7 @@ use Rattle.tables.specs.declared.Verdict.the-variants.{Fine, Refused}
 use Rattle.tables.specs.Limits.{maxVectors}
 use Rattle.tables.specs.Model.{Valid}
 use Rattle.tables.specs.Storage.{modelOf}
+use Rattle.tables.specs.Verdicts.{_before_, left}
 use Rattle.plans.specs.Limits.{maxPoints}
 use Rattle.plans.specs.Rows.{informedNext, qmdpNext}
 use Rattle.levels.specs.Storage.{Cells, LentLevel, rows, Lent, stateSize, lent, lentFor, levelOf, over, numberIn, informedIn, qmdpIn}
@@ -36,9 +37,11 @@ lays m y v few-vectors few-points c = record {
 }
 
 module _ (m : Tables) (x : Lent) (l : LentLevel) where
-  pub offered-refused : {k i : ℕ} {v : Verdict} → v ≡ offerVerdict m x l → v ≡ Refused k i → x ≡ offered m x l
+  -- a refusal, of the list that is handed in or of the offer, leaves all as it was
+  pub handed-refused : (h : Verdict) {k i : ℕ} → (h before offerVerdict m x l) ≡ Refused k i → x ≡ left h (offered m x l) x
   unfolding offered
-  offered-refused e f = rw (sym e ∙ f)
+  handed-refused Fine e = rw e refl
+  handed-refused (Refused number place) e = refl
 
   -- choices and weights, laid as they lie, are their rows
   laid-over : laidBy (m .states) (m .observations) (l .vectors) (l .points) (l .cells) (x .cells) ≡ over m (levelOf m l) (x .cells)
@@ -47,11 +50,11 @@ module _ (m : Tables) (x : Lent) (l : LentLevel) where
       cells-same refl (sym (laidRows-flat (l .vectors) (m .observations) (l .cells .choices) (x .cells .choices) 0)) refl refl refl
       (sym (laidRows-flat (l .points) (m .states) (l .cells .weights) (x .cells .weights) 0)) refl
 
-  pub offered-fine : {v : Verdict} → v ≡ offerVerdict m x l → v ≡ Fine → {state : List ℕ} {y : Cells} {f q : List ℤ}
+  pub offered-fine : (h : Verdict) → h ≡ Fine → offerVerdict m x l ≡ Fine → {state : List ℕ} {y : Cells} {f q : List ℤ}
       → state ≡ (numberIn x + 1) ∷ l .vectors ∷ l .points ∷ drop stateSize (x .state)
       → y ≡ laidBy (m .states) (m .observations) (l .vectors) (l .points) (l .cells) (x .cells)
       → f ≡ laidRows (m .actions) (m .states) (informedNext (modelOf m) (informedIn m x)) (x .rows .informed)
       → q ≡ laidRows (m .actions) (m .states) (qmdpNext (modelOf m) (qmdpIn m x)) (x .rows .qmdp)
-      → lent state y (rows f q) ≡ offered m x l
+      → lent state y (rows f q) ≡ left h (offered m x l) x
   unfolding offered
-  offered-fine e fine s c f q = rw (sym e ∙ fine) (lent-same s (c ∙ laid-over) f q)
+  offered-fine h e fine s c f q = rw (e, fine) (lent-same s (c ∙ laid-over) f q)

@@ -5,6 +5,8 @@ ghost use lib.ListN.{length};
 ghost use Rattle.integers.specs.Cells.{laid, laidRows};
 ghost use Rattle.tables.specs.Limits.{maxStates, maxVectors};
 ghost use Rattle.tables.specs.Storage.{tablesIn};
+ghost use Rattle.tables.specs.Verdicts.{_before_, left};
+ghost use Rattle.columns.specs.Columns.{handedList};
 ghost use Rattle.masks.specs.Masks.{maskOf, coveredIn, maskedIn};
 ghost use Rattle.levels.specs.Storage.{cells, rows, lent, lentFor};
 ghost use Rattle.levels.specs.Judged.{offerVerdict};
@@ -90,9 +92,11 @@ fn lay_level<'b>(
     cells::paste_i64(values, 0, newvalues, points);
 }
 
-// Offers a level of any content: the certifier then stands one level higher with it; or refused by 7 to 15 or 21 and unchanged.
+// Offers a level of any content: the certifier then stands one level higher with it; or refused by 7 to 15 or 21 and unchanged. Backups are worked out from
+// the list of transitions where one is lent, and from the table where none is.
 pub fn offer<'a, 'b>(
     transition: &'a [u16],
+    list: &[u32],
     observation: &'a [u16],
     reward: &'a [i64],
     c: Counts,
@@ -121,7 +125,7 @@ pub fn offer<'a, 'b>(
         (now (corners .entry)) (now (weights .entry)) (now (values .entry))) (rows (now (informed .entry)) (now (qmdp .entry))) in
         let l = lentFor vectors points (cells (now (newactions .entry)) (now (newchoices .entry)) (now (newmasks .entry)) (now (newentries .entry))
         (now (newcorners .entry)) (now (newweights .entry)) (now (newvalues .entry))) in
-        r ≡ offerVerdict m x l) ⌝ }
+        r ≡ (handedList m (now (list .entry)) before offerVerdict m x l)) ⌝ }
     ensures { λ _. ⌜ (let m = tablesIn c (now (transition .entry)) (now (observation .entry)) (now (reward .entry)) in
         let x = lent (now (state .entry)) (cells (now (actions .entry)) (now (choices .entry)) (now (masks .entry)) (now (entries .entry))
         (now (corners .entry)) (now (weights .entry)) (now (values .entry))) (rows (now (informed .entry)) (now (qmdp .entry))) in
@@ -129,10 +133,11 @@ pub fn offer<'a, 'b>(
         (now (newcorners .entry)) (now (newweights .entry)) (now (newvalues .entry))) in
         lent (now (state .exit)) (cells (now (actions .exit)) (now (choices .exit)) (now (masks .exit)) (now (entries .exit)) (now (corners .exit))
         (now (weights .exit)) (now (values .exit))) (rows (now (informed .exit)) (now (qmdp .exit)))
-        ≡ offered m x l) ⌝ }
+        ≡ left (handedList m (now (list .entry))) (offered m x l) x) ⌝ }
 {
     let verdict = judging::judge_offer(
         transition,
+        list,
         observation,
         reward,
         c,

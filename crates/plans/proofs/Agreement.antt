@@ -162,6 +162,20 @@ module _ (M : Model) (W W' : Level) (e : Agree M W W') where
     unfolding advice
     advice-agree = ap (W' .action) best-agree ∙ e .action-same (best M W b) (best-exists M W b one)
 
+-- what agrees with a level that agrees, agrees
+pub agree-agree : {M : Model} {L L' L'' : Level} → Agree M L L' → Agree M L' L'' → Agree M L L''
+agree-agree g h = record {
+  vectors-same = h .vectors-same ∙ g .vectors-same;
+  points-same = h .points-same ∙ g .points-same;
+  action-same = λ v l. h .action-same v (rw (g .vectors-same) l) ∙ g .action-same v l;
+  choice-same = λ v l o b. h .choice-same v (rw (g .vectors-same) l) o b ∙ g .choice-same v l o b;
+  covers-same = λ v l s b. h .covers-same v (rw (g .vectors-same) l) s b ∙ g .covers-same v l s b;
+  entry-same = λ v l s b. h .entry-same v (rw (g .vectors-same) l) s b ∙ g .entry-same v l s b;
+  corner-same = λ s b. h .corner-same s b ∙ g .corner-same s b;
+  weight-same = λ i l s b. h .weight-same i (rw (g .points-same) l) s b ∙ g .weight-same i l s b;
+  value-same = λ i l. h .value-same i (rw (g .points-same) l) ∙ g .value-same i l;
+}
+
 -- A level that agrees with one that meets its inequalities over L meets them too.
 -- Both sides of each inequality are made of parts of the level below its counts, and of L: the backup of a vector reads its action and its choices by
 -- observation, that of a point its weights by state (`backupAt-weights`); entries, corners and values agree. Qed.

@@ -65,7 +65,7 @@ unfolding K range
 next-range g P t x y h hx hy =
     omega (arith, abs-add (K · x) (g · y), abs-times K x, times-bound g y (NatL.le-refl g) hy, NatL.mul-le-mul-right (P * t) h)
 
-sums-weighed : (m n r : ℕ) (w : ℕ → ℕ → ℕ) (e : ℕ → ℕ → ℤ) → ((i : ℕ) → i < m → (j : ℕ) → j < n → natAbs (e i j) ≤ r)
+pub sums-weighed : (m n r : ℕ) (w : ℕ → ℕ → ℕ) (e : ℕ → ℕ → ℤ) → ((i : ℕ) → i < m → (j : ℕ) → j < n → natAbs (e i j) ≤ r)
     → natAbs (sumTo m (λ i. sumTo n (λ j. w i j · e i j))) ≤ totalTo m (λ i. totalTo n (λ j. w i j)) * r
 sums-weighed m n r w e h =
     sum-weighed m r _ _ (λ i l. sum-weighed n r _ _ (λ j b. times-bound (w i j) (e i j) (NatL.le-refl (w i j)) (h i l j b)))

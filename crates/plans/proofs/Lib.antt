@@ -1,5 +1,5 @@
--- Laws of plans and levels: what vectors and ceilings say of all plans, what agreement keeps, what the builder makes, how drops are found fast, and what the
--- informed rows say.
+-- Laws of plans and levels: what vectors and ceilings say of all plans, what agreement keeps, what the builder makes, how drops are found fast, what the
+-- informed rows say, and what new prices leave certified.
 pub mod Certified
 pub mod Floor
 pub mod Ceiling
@@ -12,3 +12,4 @@ pub mod Ticks
 pub mod Multiples
 pub mod Intervals
 pub mod Rows
+pub mod Prices

@@ -86,7 +86,7 @@ pub fn point_weights(weights: &[u32], n: usize, i: usize) -> Weights
 }
 
 // The total of the n weights from `at` on.
-fn weights_total(cells: &[u32], at: usize, n: usize) -> u64
+pub fn weights_total(cells: &[u32], at: usize, n: usize) -> u64
     requires { ⌜ (at + n ≤ length (now cells)) × (n ≤ maxStates) ⌝ }
     ensures { λ r. ⌜ r ≡ totalTo n (λ s. getD (now (cells .entry)) (at + s) 0) ⌝ }
 {

@@ -2,14 +2,15 @@
 ghost use mathlib.Core.Path.{_≡_};
 ghost use mathlib.Core.Bool.{_&&_, _||_};
 ghost use mathlib.Core.List.{[]};
-ghost use Prim.Native.Nat.{_≤_, _<_};
+ghost use Prim.Native.Nat.{ℕ, _≤_, _<_};
 ghost use lib.Dec.{ltb, eqb};
-ghost use lib.ListN.{length};
+ghost use lib.ListN.{length, getD};
 ghost use Rattle.integers.specs.Search.{every, some};
 ghost use Rattle.tables.specs.Limits.{maxStates, maxActions, maxObservations};
 ghost use Rattle.tables.specs.Storage.{transitionIn, observationIn, choiceIn, modelIn};
 ghost use Rattle.tables.specs.Steps.{cellsTo};
 ghost use Rattle.masks.specs.Masks.{covered, coveredIn};
+ghost use Rattle.columns.specs.Steps.{Listed};
 ghost use Rattle.levels.specs.Storage.{floorIn};
 ghost use Rattle.levels.specs.Judged.{masksVerdict};
 ghost use Rattle.reaches.specs.Steps.{reachedIn, ActionStored, Chooses, Reaching};
@@ -36,6 +37,26 @@ fn reached(transition: &[u16], n: usize, mask: u64, a: Action, to: State) -> boo
         }
     }
     false
+}
+
+// The same from the table's list where one is lent.
+fn reached_by<'a>(
+    transition: &'a [u16],
+    list: &[u32],
+    n: usize,
+    mask: u64,
+    a: Action,
+    to: State,
+) -> bool
+    requires { ⌜ (n ≤ maxStates) × ((a .0 < maxActions) × (to .0 < n)) ⌝ }
+    requires { ⌜ cellsTo n n (a .0) ≤ length (now transition) ⌝ }
+    requires { ⌜ Listed n (now transition) (now list) (a .0) ⌝ }
+    ensures { λ r. ⌜ r ≡ some n (λ s. covered mask s && ltb 0 (transitionIn n (now (transition .entry)) s (a .0) (to .0))) ⌝ }
+{
+    if list.len() == 0 {
+        return reached(transition, n, mask, a, to);
+    }
+    sparse::reached(list, n, mask, a, to)
 }
 
 // Whether the vector that v chooses for each observation, with O above 0 at a state, covers the state.
@@ -87,6 +108,7 @@ fn chosen_cover(masks: &[u64], choices: &[u16], n: usize, k: usize, v: Vector) -
 // 21 of a vector with a mask, an action and choices.
 pub fn reached_covered<'a>(
     transition: &'a [u16],
+    list: &[u32],
     observation: &'a [u16],
     masks: &[u64],
     choices: &[u16],
@@ -98,6 +120,7 @@ pub fn reached_covered<'a>(
 ) -> bool
     requires { ⌜ (0 < n) × (ActionStored n k (now transition) (now observation) (a .0)) ⌝ }
     requires { ⌜ Chooses k (now masks) (now choices) (v .0) ⌝ }
+    requires { ⌜ Listed n (now transition) (now list) (a .0) ⌝ }
     ensures { λ r. ⌜ r ≡ reachedIn n k (now (transition .entry)) (now (observation .entry)) (now (masks .entry)) (covered mask) (a .0)
         (choiceIn k (now (choices .entry)) (v .0)) ⌝ }
 {
@@ -105,7 +128,7 @@ pub fn reached_covered<'a>(
         return true;
     }
     for to in 0..n {
-        if reached(transition, n, mask, a, State(to)) {
+        if reached_by(transition, list, n, mask, a, State(to)) {
             if !seen_covered(observation, masks, choices, n, k, v, a, State(to)) {
                 return false;
             }
@@ -117,6 +140,7 @@ pub fn reached_covered<'a>(
 // 21: the first vector with a state that it covers, from which one is reached that the vector chosen does not cover.
 pub fn masks_hold<'a, 'b>(
     transition: &'a [u16],
+    list: &[u32],
     observation: &'a [u16],
     masks: &[u64],
     actions: &'b [u8],
@@ -126,6 +150,7 @@ pub fn masks_hold<'a, 'b>(
     vectors: usize,
 ) -> Verdict
     requires { ⌜ Reaching c (now transition) (now observation) (now masks) vectors (now actions) (now choices) (now covering) ⌝ }
+    requires { ⌜ ((v : ℕ) → v < vectors → Listed (c .states) (now transition) (now list) (getD (now actions) v 0)) ⌝ }
     ensures { λ r. ⌜ r ≡ masksVerdict (modelIn c (now (transition .entry)) (now (observation .entry)) [])
         (floorIn (c .states) (c .observations) 0 [] [] (now (masks .entry)) [])
         (floorIn (c .states) (c .observations) vectors (now (actions .entry)) (now (choices .entry)) (now (covering .entry)) []) ⌝ }
@@ -134,6 +159,7 @@ pub fn masks_hold<'a, 'b>(
         let a = Action(shape::action(actions[v]));
         if !reached_covered(
             transition,
+            list,
             observation,
             masks,
             choices,

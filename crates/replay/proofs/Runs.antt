@@ -15,14 +15,14 @@ use Rattle.levels.specs.Storage.{LentLevel, Lent}
 use Rattle.levels.specs.Judged.{holds, offerVerdict}
 use Rattle.levels.proofs.Over.{AsLong, as-long, long-long}
 use Rattle.runs.specs.State.{opened, offered}
-use Rattle.runs.specs.Demand3.{ModelAccepted, run, tally, acceptances, after, steps}
+use Rattle.runs.specs.Demand3.{ModelAccepted, Event, offer, offers, Certifier, certifier, handed, run, tally, counted, acceptances, after, steps}
 use Rattle.runs.proofs.Judged.{standing-true}
-use Rattle.runs.proofs.Demand3.{run-append, acceptances-append, demand3}
+use Rattle.runs.proofs.Demand3.{run-append, acceptances-append, offers-append, offers-keep, demand3}
 use Rattle.blocks.specs.Blocks.{Packed, offerIn, packedFits}
 use Rattle.blocks.specs.Steps.{Packs}
 use Rattle.blocks.proofs.Blocks.{packs}
 use Rattle.replay.specs.declared.Replayed.{Replayed}
-use Rattle.replay.specs.Replay.{offersIn, replayVerdict, replayAnswer, replayed, ReplayHolds}
+use Rattle.replay.specs.Replay.{offersIn, offeredAll, acceptedOf, replayVerdict, replayAnswer, replayed, ReplayHolds}
 
 -- ---- the offers, one after the other
 -- a certifier's slices are as long as they came
@@ -45,30 +45,46 @@ longer a b = record {
 
 -- the first i offers left y of x, and so many of them were accepted
 pub record Running (m : Tables) (b : Packed) (x : Lent) (i : ℕ) (y : Lent) (accepted : ℕ) : Type 0 where
-  pub left-is : y ≡ run m x (offersIn m b i)
-  pub accepted-is : accepted ≡ acceptances m x (offersIn m b i)
+  pub left-is : y ≡ offeredAll m x (offersIn m b i)
+  pub accepted-is : accepted ≡ acceptedOf m x (offersIn m b i)
   pub few : accepted ≤ i
+
+-- one offer more
+offered-more : (m : Tables) (x : Lent) (ls : List LentLevel) (l : LentLevel) → offeredAll m x (ls ++ (l ∷ [])) ≡ offered m (offeredAll m x ls) l
+unfolding run offers
+offered-more m x ls l =
+    ap (λ (es : List Event). run (certifier m x) es .lent) (offers-append ls (l ∷ []))
+    ∙ ap (λ (y : Certifier). y .lent) (run-append (certifier m x) (offers ls) (offer l ∷ [])
+    ∙ ap (λ (y : Certifier). handed y (offer l)) (offers-keep m x ls))
+
+accepted-more : (m : Tables) (x : Lent) (ls : List LentLevel) (l : LentLevel)
+    → acceptedOf m x (ls ++ (l ∷ [])) ≡ acceptedOf m x ls + tally (offerVerdict m (offeredAll m x ls) l)
+unfolding acceptances offers
+accepted-more m x ls l =
+    ap (λ (es : List Event). acceptances (certifier m x) es) (offers-append ls (l ∷ []))
+    ∙ acceptances-append (certifier m x) (offers ls) (offer l ∷ [])
+    ∙ ap (λ (n : ℕ). acceptedOf m x ls + n) (NatL.add-zero _ ∙ ap (λ (y : Certifier). counted y (offer l)) (offers-keep m x ls))
 
 pub counted-few : (v : Verdict) → tally v ≤ 1
 counted-few Fine = omega arith
 counted-few (Refused number place) = omega arith
 
 pub running-none : (m : Tables) (b : Packed) (x : Lent) → Running m b x 0 x 0
-unfolding run acceptances offersIn
+unfolding run acceptances offers offersIn
 running-none m b x = record { left-is = refl; accepted-is = refl; few = omega arith }
 
 pub running-more : {m : Tables} {b : Packed} {x y z : Lent} {i a k : ℕ} {v : Verdict} → Running m b x i y a
     → v ≡ offerVerdict m y (offerIn m b i) → z ≡ offered m y (offerIn m b i) → k ≡ tally v → Running m b x (i + 1) z (a + k)
-unfolding run acceptances offersIn
+unfolding offersIn
 running-more {m} {b} {x} {y} {z} {i} {a} {k} {v} r e f g =
     let ls = offersIn m b i in
     let l = offerIn m b i in
-    let said : k ≡ tally (offerVerdict m (run m x ls) l) = g ∙ (ap tally e ∙ ap (λ (y : Lent). tally (offerVerdict m y l)) (r .left-is)) in
+    let said : k ≡ tally (offerVerdict m (offeredAll m x ls) l) = g ∙ (ap tally e ∙ ap (λ (y : Lent). tally (offerVerdict m y l)) (r .left-is)) in
     rw (add-one i) record {
-      left-is = f ∙ (ap (λ (y : Lent). offered m y l) (r .left-is) ∙ sym (run-append m x ls (l ∷ [])));
+      left-is = f ∙ (ap (λ (y : Lent). offered m y l) (r .left-is) ∙ sym (offered-more m x ls l));
       accepted-is =
-          ap (λ (j : ℕ). a + j) (said ∙ sym (NatL.add-zero _)) ∙ (ap (λ (j : ℕ). j + acceptances m (run m x ls) (l ∷ [])) (r .accepted-is)
-          ∙ sym (acceptances-append m x ls (l ∷ [])));
+          ap (λ (j : ℕ). a + j) said ∙ (ap (λ (j : ℕ). j + tally (offerVerdict m (offeredAll m x ls) l)) (r .accepted-is)
+          ∙ sym (accepted-more m x ls l));
       few = omega (arith, r .few, g, counted-few v);
     }
 
@@ -77,13 +93,13 @@ abbrev pub Said : Tables → Lent → Packed → ℕ → Replayed → Lent → T
 Said m x b count r y =
     (r ≡ replayAnswer m x b count)
     × ((y ≡ replayed m x b count)
-    × ((x₀ : Lent) (ls : List LentLevel) → ModelAccepted m x₀ → x ≡ after m x₀ ls → r .verdict ≡ Fine
-    → ReplayHolds m x₀ ls (offersIn m b count) y (r .accepted)))
+    × ((m₀ : Tables) (x₀ : Lent) (es : List Event) → ModelAccepted m₀ x₀ → certifier m x ≡ after m₀ x₀ es → r .verdict ≡ Fine
+    → ReplayHolds m₀ x₀ es (offersIn m b count) m y (r .accepted)))
 
 module _ (m : Tables) (x : Lent) (b : Packed) (count : ℕ) where
   pub refused : {k i : ℕ} {v : Verdict} → v ≡ replayVerdict m x b count → v ≡ Refused k i → Said m x b count record { verdict = v; accepted = 0 } x
   unfolding replayAnswer replayed
-  refused e f = (ap (λ (w : Verdict). record { verdict = w; accepted = 0 }) f ∙ rw (sym e ∙ f), (rw (sym e ∙ f), λ x₀ ls o q h. never (sym f ∙ h)))
+  refused e f = (ap (λ (w : Verdict). record { verdict = w; accepted = 0 }) f ∙ rw (sym e ∙ f), (rw (sym e ∙ f), λ m₀ x₀ es o q h. never (sym f ∙ h)))
 
   -- what is offered has its blocks
   pub list-packs : Fine ≡ replayVerdict m x b count → Packs (m .states) (m .observations) count b
@@ -94,7 +110,7 @@ module _ (m : Tables) (x : Lent) (b : Packed) (count : ℕ) where
       packs m b count (v .few-states) (v .few-observations) (unless-fine (packedFits m b count) 9 0 (f .1))
 
   -- A list that is offered to what another list left is offered after it, and demand 3 holds of every list: so of both together. Qed.
-  pub given : Fine ≡ replayVerdict m x b count → {a : ℕ} {y : Lent} → a ≡ acceptances m x (offersIn m b count) → y ≡ run m x (offersIn m b count)
+  pub given : Fine ≡ replayVerdict m x b count → {a : ℕ} {y : Lent} → a ≡ acceptedOf m x (offersIn m b count) → y ≡ offeredAll m x (offersIn m b count)
       → Said m x b count record { verdict = Fine; accepted = a } y
   unfolding replayAnswer replayed
   given e {a} {y} f g =
@@ -102,11 +118,12 @@ module _ (m : Tables) (x : Lent) (b : Packed) (count : ℕ) where
         rw (sym e, f),
         (
           g ∙ rw (sym e),
-          λ x₀ ls o q h. record {
-            left-is = g ∙ (ap (λ (z : Lent). run m z ks) q ∙ sym (run-append m (opened m x₀) ls ks));
-            steps-are = acceptances-append m (opened m x₀) ls ks
-                ∙ ap (λ (j : ℕ). steps m x₀ ls + j) (ap (λ (z : Lent). acceptances m z ks) (sym q) ∙ sym f);
-            claim = demand3 m x₀ o (ls ++ ks);
+          λ m₀ x₀ es o q h. record {
+            left-is = ap (certifier m) g ∙ sym (offers-keep m x ks) ∙ ap (λ (z : Certifier). run z (offers ks)) q
+                ∙ sym (run-append (certifier m₀ (opened m₀ x₀)) es (offers ks));
+            steps-are = acceptances-append (certifier m₀ (opened m₀ x₀)) es (offers ks)
+                ∙ ap (λ (j : ℕ). steps m₀ x₀ es + j) (ap (λ (z : Certifier). acceptances z (offers ks)) (sym q) ∙ sym f);
+            claim = demand3 m₀ x₀ o (es ++ offers ks);
           },
         ),
       )

@@ -2,13 +2,14 @@
 ghost use mathlib.Core.Path.{_≡_};
 ghost use mathlib.Core.List.{List};
 ghost use Prim.Native.Nat.{ℕ};
+ghost use Rattle.tables.specs.declared.Tables.{Tables};
 ghost use Rattle.tables.specs.declared.Verdict.the-variants.{Fine};
 ghost use Rattle.tables.specs.Storage.{tablesIn};
-ghost use Rattle.levels.specs.Storage.{LentLevel, Lent, cells, rows, lent};
-ghost use Rattle.runs.specs.Demand3.{ModelAccepted, run, tally, acceptances, after};
+ghost use Rattle.levels.specs.Storage.{Lent, cells, rows, lent};
+ghost use Rattle.runs.specs.Demand3.{ModelAccepted, Event, certifier, tally, after};
 ghost use Rattle.blocks.specs.Blocks.{packed};
 ghost use Rattle.blocks.specs.Steps.{Packs};
-ghost use Rattle.replay.specs.Replay.{offersIn, replayVerdict, replayAnswer, replayed, ReplayHolds};
+ghost use Rattle.replay.specs.Replay.{offersIn, offeredAll, acceptedOf, replayVerdict, replayAnswer, replayed, ReplayHolds};
 use tables::Counts;
 use tables::Verdict;
 
@@ -64,7 +65,7 @@ fn offer_all<'a, 'b>(
         (now (corners .entry)) (now (weights .entry)) (now (values .entry))) (rows (now (informed .entry)) (now (qmdp .entry))) in
         let b = packed v p (now (vectors .entry)) (now (points .entry)) (cells (now (newactions .entry)) (now (newchoices .entry)) (now (newmasks .entry))
         (now (newentries .entry)) (now (newcorners .entry)) (now (newweights .entry)) (now (newvalues .entry))) in
-        r ≡ acceptances m x (offersIn m b count)) ⌝ }
+        r ≡ acceptedOf m x (offersIn m b count)) ⌝ }
     ensures { λ _. ⌜ (let m = tablesIn c (now (transition .entry)) (now (observation .entry)) (now (reward .entry)) in
         let x = lent (now (state .entry)) (cells (now (actions .entry)) (now (choices .entry)) (now (masks .entry)) (now (entries .entry))
         (now (corners .entry)) (now (weights .entry)) (now (values .entry))) (rows (now (informed .entry)) (now (qmdp .entry))) in
@@ -72,7 +73,7 @@ fn offer_all<'a, 'b>(
         (now (newentries .entry)) (now (newcorners .entry)) (now (newweights .entry)) (now (newvalues .entry))) in
         lent (now (state .exit)) (cells (now (actions .exit)) (now (choices .exit)) (now (masks .exit)) (now (entries .exit)) (now (corners .exit))
         (now (weights .exit)) (now (values .exit))) (rows (now (informed .exit)) (now (qmdp .exit)))
-        ≡ run m x (offersIn m b count)) ⌝ }
+        ≡ offeredAll m x (offersIn m b count)) ⌝ }
 {
     let mut accepted: usize = 0;
     for i in 0..count {
@@ -232,8 +233,8 @@ pub fn replay<'a, 'b>(
         (now (newentries .entry)) (now (newcorners .entry)) (now (newweights .entry)) (now (newvalues .entry))) in
         let y = lent (now (state .exit)) (cells (now (actions .exit)) (now (choices .exit)) (now (masks .exit)) (now (entries .exit)) (now (corners .exit))
         (now (weights .exit)) (now (values .exit))) (rows (now (informed .exit)) (now (qmdp .exit))) in
-        (x₀ : Lent) (ls : List LentLevel) → ModelAccepted m x₀ → x ≡ after m x₀ ls → r .verdict ≡ Fine
-        → ReplayHolds m x₀ ls (offersIn m b count) y (r .accepted)) ⌝ }
+        (m₀ : Tables) (x₀ : Lent) (es : List Event) → ModelAccepted m₀ x₀ → certifier m x ≡ after m₀ x₀ es → r .verdict ≡ Fine
+        → ReplayHolds m₀ x₀ es (offersIn m b count) m y (r .accepted)) ⌝ }
 {
     let verdict = judge_list(
         transition,

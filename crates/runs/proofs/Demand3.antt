@@ -1,5 +1,5 @@
 -- Demand 3, proved over the definitions that the contracts name. Assumes nothing.
-use Rattle.integers.proofs.Kit.{_≡_, _∙_, refl, ap, sym, true, List, [], _∷_, ℕ, _≤_, _<_, _+_, _*_, suc, arith, add-zero, zero-add, add-one, le-leb}
+use Rattle.integers.proofs.Kit.{_≡_, _∙_, refl, ap, sym, subst, true, List, [], _∷_, ℕ, _≤_, _<_, _+_, _*_, suc, arith, add-zero, zero-add, add-one, le-leb}
 use Rattle.integers.proofs.Kit.{leb-true, lt-ltb, leb, length, drop}
 use mathlib.Core.List.{_++_}
 use native.Mathlib.Nat.{add-assoc}
@@ -8,23 +8,25 @@ use Rattle.tables.specs.declared.Tables.{Tables}
 use Rattle.tables.specs.declared.Verdict.{Verdict}
 use Rattle.tables.specs.declared.Verdict.the-variants.{Fine, Refused}
 use Rattle.tables.specs.Model.{Model}
-use Rattle.tables.specs.Storage.{weightIn, modelOf}
+use Rattle.tables.specs.Storage.{weightIn, entryIn, modelOf}
 use Rattle.tables.specs.Judged.{tablesVerdict}
 use Rattle.tables.proofs.Refusals.{before-fine, unless-fine}
 use Rattle.tables.proofs.Accepted.{tables-valid, tables-stored}
 use Rattle.tables.specs.Limits.{maxVectors, maxLevels}
-use Rattle.plans.specs.Level.{Level, level0, Agree, ceiling}
-use Rattle.plans.specs.Build.{someCoversAll, built}
+use Rattle.plans.specs.Level.{level0, Agree, ceiling}
+use Rattle.plans.specs.Build.{someCoversAll}
 use Rattle.plans.specs.Rows.{bestRow, informed, qmdp, informedNext, qmdpNext}
+use Rattle.plans.specs.Prices.{change, repriced, raisedRows}
 use Rattle.plans.specs.Totals.{someCounts, lower, upper, advice}
-use Rattle.plans.proofs.Certified.{Certified}
+use Rattle.plans.proofs.Certified.{Certified, RowsCertified}
 use Rattle.plans.proofs.Bracket.{certified-0, certified-next, bracket}
-use Rattle.plans.proofs.Agreement.{shaped-agree, meets-below, some-counts-agree, some-covers-all-agree, lower-agree, ceiling-agree, advice-agree}
-use Rattle.plans.proofs.Built.{built-shaped, built-meets, level0-shaped}
+use Rattle.plans.proofs.Agreement.{agree-agree, shaped-agree, meets-below, some-counts-agree, some-covers-all-agree, lower-agree, ceiling-agree, advice-agree}
+use Rattle.plans.proofs.Built.{level0-shaped}
 use Rattle.plans.proofs.Rebuilt.{built-same}
-use Rattle.plans.proofs.Rows.{rows-certified, rows-roof, informed-range, qmdp-range, bestRow-cong, informed-cong, qmdp-cong}
+use Rattle.plans.proofs.Rows.{rows-0, rows-next, rows-roof, informed-range, qmdp-range, bestRow-cong, informed-cong, qmdp-cong}
+use Rattle.plans.proofs.Prices.{agree-same, certified-repriced, rows-repriced, repriced-shaped, raised-within, repriced-agree}
 use Rattle.levels.specs.Storage.{Cells, LentLevel, Lent, rows, stateSize, levelOf, pointIn, complete, over, numberIn, standingIn, lentFor}
-use Rattle.levels.specs.Storage.{informedIn, qmdpIn}
+use Rattle.levels.specs.Storage.{overRows, informedIn, qmdpIn}
 use Rattle.levels.specs.Judged.{holds}
 use Rattle.levels.proofs.Laws.{passed, fine-before}
 use Rattle.levels.proofs.Over.{read-elsewhere, covers-elsewhere, Complete, AsLong, long-long, complete-true, complete-is, complete-long}
@@ -34,20 +36,24 @@ use Rattle.runs.specs.declared.Bounds.{Bounds}
 use Rattle.tables.specs.Verdicts.{left}
 use Rattle.runs.specs.State.{at, openVerdict, opened, verdictOn, raised, offered, mixtureHolds, totalsVerdict, totalsOf}
 use Rattle.runs.specs.State.{answerFor, buildVerdict, builtFrom, builtOf}
-use Rattle.runs.specs.Demand3.{ModelAccepted, run, tally, acceptances, newer, lastOf, after, steps, last}
-use Rattle.runs.specs.Demand3.{StateHolds, RowsAre, MixtureHolds, TotalsHold, BuildHolds, PointsHold, Demand3}
+use Rattle.runs.specs.Prices.{pricesVerdict, moved, pricedOf}
+use Rattle.runs.specs.Demand3.{ModelAccepted, Event, offer, prices, offers, Certifier, certifier, handed, run, tally, counted, acceptances}
+use Rattle.runs.specs.Demand3.{Claim, stepped, shifted, claimedBy, claimed, after, steps, claim0, claim}
+use Rattle.runs.specs.Demand3.{RowsAre, MixtureHolds, TotalsHold, BuildHolds, PointsHold, ClaimHolds, Demand3}
 use Rattle.runs.proofs.Judged.{Held, Accepted, standing-is, accepted, weights-is}
 use Rattle.runs.proofs.Vectors.{accepted-1000}
+use Rattle.runs.proofs.Prices.{Priced, priced, level-same, readable-same, raised-same, moved-agree, moved-long, moved-read}
 
--- what holds of slices x after t acceptances, the last of them of level L, of which the first had the cells x₀
-pub record Reached (m : Tables) (x₀ : Cells) (t : ℕ) (L : Level) (x : Lent) : Type 0 where
+-- what holds of slices x under tables m after t acceptances, with claim c; opened, they had the cells x₀
+pub record Reached (m : Tables) (x₀ : Cells) (t : ℕ) (c : Claim) (x : Lent) : Type 0 where
   pub number : numberIn x ≡ t
-  pub certified : Certified (modelOf m) t L
-  pub agrees : Agree (modelOf m) L (levelOf m (standingIn x))
+  pub certified : Certified (modelOf m) t (c .level)
+  pub rows-certified : RowsCertified (modelOf m) t (c .informed) (c .qmdp)
+  pub agrees : Agree (modelOf m) (c .level) (levelOf m (standingIn x))
   pub stands : Held maxVectors m x
   pub as-lent : AsLong x₀ (x .cells)
-  pub informed-is : (a : ℕ) → a < m .actions → (s : ℕ) → s < m .states → informedIn m x a s ≡ informed (modelOf m) t a s
-  pub qmdp-is : (a : ℕ) → a < m .actions → (s : ℕ) → s < m .states → qmdpIn m x a s ≡ qmdp (modelOf m) t a s
+  pub informed-is : (a : ℕ) → a < m .actions → (s : ℕ) → s < m .states → informedIn m x a s ≡ c .informed a s
+  pub qmdp-is : (a : ℕ) → a < m .actions → (s : ℕ) → s < m .states → qmdpIn m x a s ≡ c .qmdp a s
 
 state-kept : (xs : List ℕ) (a b d : ℕ) → stateSize ≤ length xs → stateSize ≤ length (a ∷ b ∷ d ∷ drop stateSize xs)
 state-kept xs a b d h = omega arith
@@ -69,7 +75,7 @@ module _ (m : Tables) (x : Lent) (o : ModelAccepted m x) where
       let rows = and-true _ _ (k .1) in
       (leb-true _ _ (h .0), (complete-true m l (k .0), (leb-true _ _ (rows .0), leb-true _ _ (rows .1))))
 
-  pub reached-open : Reached m (x .cells) 0 level0 (opened m x)
+  pub reached-open : Reached m (x .cells) 0 (claim0 (modelOf m)) (opened m x)
   unfolding opened level0 informed qmdp
   reached-open =
       let room = room-for-level-0 .1 .0 in
@@ -80,6 +86,7 @@ module _ (m : Tables) (x : Lent) (o : ModelAccepted m x) where
       rw o record {
         number = refl;
         certified = certified-0 (modelOf m);
+        rows-certified = rows-0 (modelOf m);
         agrees = agree;
         stands = record {
           valid-tables = v;
@@ -102,13 +109,13 @@ module _ (m : Tables) (x : Lent) (o : ModelAccepted m x) where
         qmdp-is = qmdp-over m F Q (x .rows);
       }
 
--- ---- one offer
-module _ {m : Tables} {x₀ : Cells} {t : ℕ} {L : Level} {x : Lent} (r : Reached m x₀ t L x) where
-  -- An accepted level meets its inequalities over the standing level; so it does over the last accepted one, with which that agrees, and is certified
+-- ---- one event
+module _ {m : Tables} {x₀ : Cells} {t : ℕ} {c : Claim} {x : Lent} (r : Reached m x₀ t c x) where
+  -- An accepted level meets its inequalities over the standing level; so it does over the one that is claimed, with which that agrees, and is certified
   -- with one step more. It is laid over the slices: what is read of them agrees with it, and so has its shape. The rows that are laid are a step above
-  -- those that stood, so they are those of the next level, within its range. Qed.
-  pub reached-next : (l : LentLevel) → Accepted maxVectors m x l → Reached m x₀ (suc t) (levelOf m l) (raised m x (levelOf m l))
-  unfolding informed qmdp
+  -- those that stood, so they are certified with one step more, within the range of the next level. Qed.
+  pub reached-next : (l : LentLevel) → Accepted maxVectors m x l
+      → Reached m x₀ (suc t) (stepped (modelOf m) (levelOf m l) c) (raised m x (levelOf m l))
   reached-next l a =
       let M : Model = modelOf m in
       let v = r .stands .valid-tables in
@@ -119,7 +126,8 @@ module _ {m : Tables} {x₀ : Cells} {t : ℕ} {L : Level} {x : Lent} (r : Reach
       record {
         number = ap (λ (n : ℕ). n + 1) (r .number) ∙ add-one t;
         certified = certified-next (r .certified) (levelOf m l)
-            (meets-below (modelOf m) L (levelOf m (standingIn x)) (r .agrees) (levelOf m l) (a .meets));
+            (meets-below (modelOf m) (c .level) (levelOf m (standingIn x)) (r .agrees) (levelOf m l) (a .meets));
+        rows-certified = rows-next v (r .rows-certified);
         agrees = agree;
         stands = record {
           valid-tables = r .stands .valid-tables;
@@ -142,62 +150,125 @@ module _ {m : Tables} {x₀ : Cells} {t : ℕ} {L : Level} {x : Lent} (r : Reach
         qmdp-is = λ a h s b. qmdp-over m F Q (x .rows) a h s b ∙ qmdp-cong M (v .some-actions) _ _ (r .qmdp-is) a s;
       }
 
-  -- one offer keeps it: a refused one leaves all as it was
-  reached-step : (l : LentLevel)
-      → Reached m x₀ (t + tally (verdictOn m x l)) (newer (verdictOn m x l) (levelOf m l) L) (offered m x l)
-  unfolding offered
-  reached-step l = by (verdictOn m x l) (accepted maxVectors m x l)
+  -- New prices that are not refused move the standing level as they move the one that is claimed, with which it agrees; so what is read of the slices agrees
+  -- with what is claimed then. That is certified under the new rewards (`certified-repriced`, `rows-repriced`), and lies within its ranges. Qed.
+  reached-prices : (m' : Tables) → Priced m x m'
+      → Reached m' x₀ t (shifted (modelOf m) (modelOf m') t c) (moved m x (change (modelOf m) (modelOf m')))
+  reached-prices m' p =
+      let M : Model = modelOf m in
+      let M' : Model = modelOf m' in
+      let d : ℕ = change M M' in
+      let e = p .same in
+      let l = standingIn x in
+      let v = r .stands .valid-tables in
+      let F = raisedRows (numberIn x) d (informedIn m x) in
+      let Q = raisedRows (numberIn x) d (qmdpIn m x) in
+      let long = moved-long m l (numberIn x) d (r .stands .read) in
+      let level = level-same m m' (e .states-same) (e .observations-same) (standingIn (moved m x d)) in
+      let laid : Agree M' (repriced (m .states) (numberIn x) d (levelOf m l)) (levelOf m' (standingIn (moved m x d))) =
+      rw level (agree-same e (moved-agree m l (numberIn x) d)) in
+      let old-action : (a : ℕ) → a < m' .actions → a < m .actions = λ a h. rw (e .actions-same) at h in
+      let old-state : (s : ℕ) → s < m' .states → s < m .states = λ s h. rw (e .states-same) at h in
+      let informed-read : (a : ℕ) → a < m' .actions → (s : ℕ) → s < m' .states → informedIn m' (moved m x d) a s ≡ F a s =
+      λ a h s b. ap (λ (n : ℕ). entryIn n (overRows m F Q (x .rows) .informed) a s) (e .states-same)
+      ∙ informed-over m F Q (x .rows) a (old-action a h) s (old-state s b) in
+      let qmdp-read : (a : ℕ) → a < m' .actions → (s : ℕ) → s < m' .states → qmdpIn m' (moved m x d) a s ≡ Q a s =
+      λ a h s b. ap (λ (n : ℕ). entryIn n (overRows m F Q (x .rows) .qmdp) a s) (e .states-same)
+      ∙ qmdp-over m F Q (x .rows) a (old-action a h) s (old-state s b) in
+      let size : m .actions * m .states ≡ m' .actions * m' .states = sym (ap (λ (k : ℕ). k * m' .states) (e .actions-same)
+      ∙ ap (λ (k : ℕ). m .actions * k) (e .states-same)) in
+      record {
+        number = r .number;
+        certified = certified-repriced v (p .valid) e t (c .level) (r .certified);
+        rows-certified = rows-repriced v (p .valid) e t (c .informed) (c .qmdp) (r .rows-certified);
+        agrees = subst (λ (k : ℕ). Agree M' (repriced (m .states) k d (c .level)) (levelOf m' (standingIn (moved m x d)))) (r .number)
+            (agree-agree (repriced-agree e (numberIn x) d (c .level) (levelOf m l) (r .agrees)) laid);
+        stands = record {
+          valid-tables = p .valid;
+          stored-tables = p .stored;
+          state-long = r .stands .state-long;
+          few-levels = r .stands .few-levels;
+          read = readable-same m m' (e .states-same) (standingIn (moved m x d)) (moved-read m l (numberIn x) d (r .stands .read));
+          shaped = shaped-agree M' (repriced (m .states) (numberIn x) d (levelOf m l)) _ laid (numberIn x)
+              (repriced-shaped e (numberIn x) d (levelOf m l) (r .stands .shaped));
+          informed = record {
+            long = subst (λ (k : ℕ). k ≤ length (overRows m F Q (x .rows) .informed)) size (informed-long m F Q (x .rows) (r .stands .informed .long));
+            entry = λ a h s b. rw (informed-read a h s b) (raised-within e (numberIn x) d (informedIn m x) (r .stands .informed .entry) a h s b);
+          };
+          qmdp = record {
+            long = subst (λ (k : ℕ). k ≤ length (overRows m F Q (x .rows) .qmdp)) size (qmdp-long m F Q (x .rows) (r .stands .qmdp .long));
+            entry = λ a h s b. rw (qmdp-read a h s b) (raised-within e (numberIn x) d (qmdpIn m x) (r .stands .qmdp .entry) a h s b);
+          };
+        };
+        as-lent = long-long (r .as-lent) long;
+        informed-is = λ a h s b. informed-read a h s b
+            ∙ raised-same (r .number) d (informedIn m x) (c .informed) a s (r .informed-is a (old-action a h) s (old-state s b));
+        qmdp-is = λ a h s b. qmdp-read a h s b
+            ∙ raised-same (r .number) d (qmdpIn m x) (c .qmdp) a s (r .qmdp-is a (old-action a h) s (old-state s b));
+      }
+
+  -- one event keeps it: a refused one leaves all as it was
+  reached-step : (e : Event) → let y = handed (certifier m x) e in
+      Reached (y .tables) x₀ (t + counted (certifier m x) e) (claimedBy t (certifier m x) e c) (y .lent)
+  unfolding offered pricedOf
+  reached-step (offer l) = by (verdictOn m x l) (accepted maxVectors m x l)
     where
       by : (v : Verdict) → (v ≡ Fine → Accepted maxVectors m x l)
-          → Reached m x₀ (t + tally v) (newer v (levelOf m l) L) (left v (raised m x (levelOf m l)) x)
+          → Reached m x₀ (t + tally v) (left v (stepped (modelOf m) (levelOf m l) c) c) (left v (raised m x (levelOf m l)) x)
       by Fine a = rw (add-one t) (reached-next l (a refl))
       by (Refused number place) a = rw (add-zero t) r
+  reached-step (prices m') = rw (add-zero t) (by (pricesVerdict m x m') (priced m x m'))
+    where
+      by : (v : Verdict) → (v ≡ Fine → Priced m x m')
+          → Reached (left v m' m) x₀ t (left v (shifted (modelOf m) (modelOf m') t c) c) (left v (moved m x (change (modelOf m) (modelOf m'))) x)
+      by Fine p = reached-prices m' (p refl)
+      by (Refused number place) p = r
 
   -- ---- totals
   holds-true : holds m x ≡ true
   holds-true = standing-is maxVectors m x (r .stands)
 
-  pub some-vectors : 0 < L .vectors
+  pub some-vectors : 0 < c .level .vectors
   some-vectors = rw (r .agrees .vectors-same) at (r .stands .shaped .some-vectors)
 
   module _ (b : List ℕ) where
-    counts-is : someCounts (modelOf m) (levelOf m (standingIn x)) (weightIn b) ≡ someCounts (modelOf m) L (weightIn b)
-    counts-is = some-counts-agree (modelOf m) L (levelOf m (standingIn x)) (r .agrees) (weightIn b)
+    counts-is : someCounts (modelOf m) (levelOf m (standingIn x)) (weightIn b) ≡ someCounts (modelOf m) (c .level) (weightIn b)
+    counts-is = some-counts-agree (modelOf m) (c .level) (levelOf m (standingIn x)) (r .agrees) (weightIn b)
 
-    totals-fine : 0 < t → mixtureHolds (m .states) b ≡ true → someCounts (modelOf m) L (weightIn b) ≡ true → totalsVerdict m x b ≡ Fine
+    totals-fine : 0 < t → mixtureHolds (m .states) b ≡ true → someCounts (modelOf m) (c .level) (weightIn b) ≡ true → totalsVerdict m x b ≡ Fine
     unfolding totalsVerdict
     totals-fine h e counted =
         fine-before (passed 7 0 holds-true) (fine-before (passed 16 0 (lt-ltb 0 (numberIn x) (omega (arith, r .number))))
         (fine-before (passed 17 0 e) (passed 22 0 (counts-is ∙ counted))))
 
-    lower-is : lower (modelOf m) (levelOf m (standingIn x)) (weightIn b) ≡ lower (modelOf m) L (weightIn b)
-    lower-is = lower-agree (modelOf m) L (levelOf m (standingIn x)) (r .agrees) some-vectors (weightIn b)
+    lower-is : lower (modelOf m) (levelOf m (standingIn x)) (weightIn b) ≡ lower (modelOf m) (c .level) (weightIn b)
+    lower-is = lower-agree (modelOf m) (c .level) (levelOf m (standingIn x)) (r .agrees) some-vectors (weightIn b)
 
-    sawtooth-is : ceiling (m .states) (levelOf m (standingIn x)) (weightIn b) ≡ ceiling (m .states) L (weightIn b)
-    sawtooth-is = ceiling-agree (modelOf m) L (levelOf m (standingIn x)) (r .agrees) (weightIn b)
+    sawtooth-is : ceiling (m .states) (levelOf m (standingIn x)) (weightIn b) ≡ ceiling (m .states) (c .level) (weightIn b)
+    sawtooth-is = ceiling-agree (modelOf m) (c .level) (levelOf m (standingIn x)) (r .agrees) (weightIn b)
 
-    best-row-is : bestRow (modelOf m) (informedIn m x) (weightIn b) ≡ bestRow (modelOf m) (informed (modelOf m) t) (weightIn b)
+    best-row-is : bestRow (modelOf m) (informedIn m x) (weightIn b) ≡ bestRow (modelOf m) (c .informed) (weightIn b)
     best-row-is = bestRow-cong (modelOf m) (r .stands .valid-tables .some-actions) _ _ (r .informed-is) (weightIn b)
 
-    upper-is : upper (modelOf m) (levelOf m (standingIn x)) (informedIn m x) (weightIn b) ≡ upper (modelOf m) L (informed (modelOf m) t) (weightIn b)
+    upper-is : upper (modelOf m) (levelOf m (standingIn x)) (informedIn m x) (weightIn b) ≡ upper (modelOf m) (c .level) (c .informed) (weightIn b)
     unfolding upper
     upper-is = rw (sawtooth-is, best-row-is)
 
-    advice-is : advice (modelOf m) (levelOf m (standingIn x)) (weightIn b) ≡ advice (modelOf m) L (weightIn b)
-    advice-is = advice-agree (modelOf m) L (levelOf m (standingIn x)) (r .agrees) some-vectors (weightIn b)
+    advice-is : advice (modelOf m) (levelOf m (standingIn x)) (weightIn b) ≡ advice (modelOf m) (c .level) (weightIn b)
+    advice-is = advice-agree (modelOf m) (c .level) (levelOf m (standingIn x)) (r .agrees) some-vectors (weightIn b)
 
   -- ---- building
   -- what is built over the standing level is what is built over the last accepted one
-  pub level-built : (count : ℕ) (y : Cells) → over m (builtFrom m (levelOf m (standingIn x)) count y) y ≡ over m (builtFrom m L count y) y
+  pub level-built : (count : ℕ) (y : Cells) → over m (builtFrom m (levelOf m (standingIn x)) count y) y ≡ over m (builtFrom m (c .level) count y) y
   level-built count y =
-      over-same m (builtFrom m L count y) y (builtFrom m (levelOf m (standingIn x)) count y)
-      (built-same (modelOf m) L (levelOf m (standingIn x)) (r .agrees) some-vectors
+      over-same m (builtFrom m (c .level) count y) y (builtFrom m (levelOf m (standingIn x)) count y)
+      (built-same (modelOf m) (c .level) (levelOf m (standingIn x)) (r .agrees) some-vectors
       (r .stands .valid-tables .some-actions) count (pointIn (m .states) (y .weights)))
 
   module _ (h : t < maxLevels) (count : ℕ) (y : Cells) where
-    module _ (points : PointsHold m record { state = []; cells = x₀; rows = rows [] [] } count y) (some : someCoversAll (modelOf m) L ≡ true) where
+    module _ (points : PointsHold m record { state = []; cells = x₀; rows = rows [] [] } count y) (some : someCoversAll (modelOf m) (c .level) ≡ true) where
       covers-all : someCoversAll (modelOf m) (levelOf m (standingIn x)) ≡ true
-      covers-all = some-covers-all-agree (modelOf m) L (levelOf m (standingIn x)) (r .agrees) ∙ some
+      covers-all = some-covers-all-agree (modelOf m) (c .level) (levelOf m (standingIn x)) (r .agrees) ∙ some
 
       build-fine : buildVerdict m x count y ≡ Fine
       unfolding buildVerdict
@@ -218,93 +289,123 @@ module _ {m : Tables} {x₀ : Cells} {t : ℕ} {L : Level} {x : Lent} (r : Reach
           }
 
 -- ---- a list after a list
-pub run-append : (m : Tables) (x : Lent) (ls ks : List LentLevel) → run m x (ls ++ ks) ≡ run m (run m x ls) ks
+pub run-append : (y : Certifier) (es fs : List Event) → run y (es ++ fs) ≡ run (run y es) fs
 unfolding run
-run-append m x [] ks = refl
-run-append m x (l ∷ ls) ks = run-append m (offered m x l) ls ks
+run-append y [] fs = refl
+run-append y (e ∷ es) fs = run-append (handed y e) es fs
 
-pub acceptances-append : (m : Tables) (x : Lent) (ls ks : List LentLevel)
-    → acceptances m x (ls ++ ks) ≡ acceptances m x ls + acceptances m (run m x ls) ks
+pub acceptances-append : (y : Certifier) (es fs : List Event) → acceptances y (es ++ fs) ≡ acceptances y es + acceptances (run y es) fs
 unfolding run acceptances
-acceptances-append m x [] ks = sym (zero-add _)
-acceptances-append m x (l ∷ ls) ks =
-    ap (λ (n : ℕ). tally (verdictOn m x l) + n) (acceptances-append m (offered m x l) ls ks) ∙ sym (add-assoc _ _ _)
+acceptances-append y [] fs = sym (zero-add _)
+acceptances-append y (e ∷ es) fs = ap (λ (n : ℕ). counted y e + n) (acceptances-append (handed y e) es fs) ∙ sym (add-assoc _ _ _)
 
--- ---- a list of offers
--- by induction over the list, each offer by `reached-step`
-reached-run : (m : Tables) (x₀ : Cells) (ls : List LentLevel) (t : ℕ) (L : Level) (x : Lent) → Reached m x₀ t L x
-    → Reached m x₀ (t + acceptances m x ls) (lastOf m L x ls) (run m x ls)
-unfolding run acceptances lastOf
-reached-run m x₀ [] t L x r = rw (add-zero t) r
-reached-run m x₀ (l ∷ ls) t L x r =
-    rw (← add-assoc t (tally (verdictOn m x l)) (acceptances m (offered m x l) ls))
-    (reached-run m x₀ ls _ _ (offered m x l) (reached-step r l))
+pub claimed-append : (t : ℕ) (y : Certifier) (c : Claim) (es fs : List Event)
+    → claimed t y c (es ++ fs) ≡ claimed (t + acceptances y es) (run y es) (claimed t y c es) fs
+unfolding run acceptances claimed
+claimed-append t y c [] fs = ap (λ (n : ℕ). claimed n y c fs) (sym (add-zero t))
+claimed-append t y c (e ∷ es) fs =
+    claimed-append (t + counted y e) (handed y e) (claimedBy t y e c) es fs
+    ∙ ap (λ (n : ℕ). claimed n (run (handed y e) es) (claimed (t + counted y e) (handed y e) (claimedBy t y e c) es) fs) (add-assoc _ _ _)
 
-module _ (m : Tables) (x : Lent) (o : ModelAccepted m x) (ls : List LentLevel) where
-  pub reached : Reached m (x .cells) (steps m x ls) (last m x ls) (after m x ls)
-  reached = rw (zero-add (steps m x ls)) at (reached-run m (x .cells) ls 0 level0 (opened m x) (reached-open m x o))
+-- ---- offers alone
+pub offers-append : (ls ks : List LentLevel) → offers (ls ++ ks) ≡ offers ls ++ offers ks
+unfolding offers
+offers-append [] ks = refl
+offers-append (l ∷ ls) ks = ap (λ (es : List Event). offer l ∷ es) (offers-append ls ks)
 
-  state-holds : StateHolds m x ls
-  state-holds = record { number = reached .number; standing = reached .agrees }
+-- the tables stay in force
+pub offers-keep : (m : Tables) (x : Lent) (ls : List LentLevel) → run (certifier m x) (offers ls) ≡ certifier m (run (certifier m x) (offers ls) .lent)
+unfolding run offers
+offers-keep m x [] = refl
+offers-keep m x (l ∷ ls) = offers-keep m (offered m x l) ls
 
-  rows-are : RowsAre m x ls
+-- ---- a list of events
+-- by induction over the list, each event by `reached-step`
+reached-run : (x₀ : Cells) (es : List Event) (t : ℕ) (c : Claim) (y : Certifier) → Reached (y .tables) x₀ t c (y .lent)
+    → Reached (run y es .tables) x₀ (t + acceptances y es) (claimed t y c es) (run y es .lent)
+unfolding run acceptances claimed
+reached-run x₀ [] t c y r = rw (add-zero t) r
+reached-run x₀ (e ∷ es) t c y r =
+    rw (← add-assoc t (counted y e) (acceptances (handed y e) es)) (reached-run x₀ es _ _ (handed y e) (reached-step r e))
+
+pub reached : (m : Tables) (x : Lent) → ModelAccepted m x → (es : List Event)
+    → Reached (after m x es .tables) (x .cells) (steps m x es) (claim m x es) (after m x es .lent)
+reached m x o es = rw (zero-add (steps m x es)) at (reached-run (x .cells) es 0 (claim0 (modelOf m)) (certifier m (opened m x)) (reached-open m x o))
+
+-- ---- what holds then
+module _ (x : Lent) {m : Tables} {z : Lent} {t : ℕ} {c : Claim} (r : Reached m (x .cells) t c z) where
+  rows-are : RowsAre m z t c
   rows-are =
-      let v = reached .stands .valid-tables in
-      let c = rows-certified v (steps m x ls) in
-      let some = v .some-actions in
+      let some = r .stands .valid-tables .some-actions in
       record {
-        informed-is = reached .informed-is;
-        qmdp-is = reached .qmdp-is;
-        below = λ a h s b. rw (reached .informed-is a h s b, reached .qmdp-is a h s b) (c .below a h s b);
-        roof = λ b π f. rw (bestRow-cong (modelOf m) some _ _ (reached .informed-is) b) (rows-roof some c π f b);
+        informed-is = r .informed-is;
+        qmdp-is = r .qmdp-is;
+        below = λ a h s b. rw (r .informed-is a h s b, r .qmdp-is a h s b) (r .rows-certified .below a h s b);
+        roof = λ b π f. rw (bestRow-cong (modelOf m) some _ _ (r .informed-is) b) (rows-roof some (r .rows-certified) π f b);
       }
 
-  totals-hold : 0 < steps m x ls → (b : List ℕ) → MixtureHolds m x ls b → TotalsHold m x ls b (totalsOf m (after m x ls) b)
+  totals-hold : 0 < t → (b : List ℕ) → MixtureHolds m c b → TotalsHold m t c b (totalsOf m z b)
   unfolding totalsOf
   totals-hold h b e =
-      let v = reached .stands .valid-tables in
-      rw (totals-fine reached b h (e .0) (e .1)) record {
+      rw (totals-fine r b h (e .0) (e .1)) record {
         given = refl;
-        lower-is = lower-is reached b;
-        sawtooth-is = sawtooth-is reached b;
-        informed-is = best-row-is reached b;
-        upper-is = upper-is reached b;
+        lower-is = lower-is r b;
+        sawtooth-is = sawtooth-is r b;
+        informed-is = best-row-is r b;
+        upper-is = upper-is r b;
         gap-is = refl;
-        action-is = advice-is reached b;
-        bracket = bracket (v .some-actions) (reached .certified) (rows-certified v (steps m x ls)) (some-vectors reached) (weightIn b) (e .1);
+        action-is = advice-is r b;
+        bracket = bracket (r .stands .valid-tables .some-actions) (r .certified) (r .rows-certified) (some-vectors r) (weightIn b) (e .1);
       }
 
-  build-holds : steps m x ls < maxLevels → someCoversAll (modelOf m) (last m x ls) ≡ true → (count : ℕ) (y : Cells) → PointsHold m x count y
-      → BuildHolds m x ls count y (buildVerdict m (after m x ls) count y) (builtOf m (after m x ls) count y)
+  build-holds : t < maxLevels → someCoversAll (modelOf m) (c .level) ≡ true → (count : ℕ) (y : Cells) → PointsHold m x count y
+      → BuildHolds m z c count y (buildVerdict m z count y) (builtOf m z count y)
   unfolding builtOf
   build-holds h some count y p =
       let points : PointsHold m record { state = []; cells = x .cells; rows = rows [] [] } count y =
       record { few = p .few; total = p .total; answer-room = p .answer-room; certifier-room = p .certifier-room } in
-      rw (build-fine reached h count y points some) record {
+      rw (build-fine r h count y points some) record {
         given = refl;
-        level-is = level-built reached count y;
-        accepted = built-accepted reached h count y points some;
+        level-is = level-built r count y;
+        accepted = built-accepted r h count y points some;
       }
 
--- Demand 3: what holds after any list of offers, of any content, to the certifier that opening left on accepted tables.
+  holds-then : ClaimHolds x (certifier m z) t c
+  holds-then = record {
+    state = record { number = r .number; standing = r .agrees };
+    rows = rows-are;
+    totals = totals-hold;
+    build = build-holds;
+  }
+
+-- Demand 3: what holds after any list of offers and new prices, of any content, to the certifier that opening left on accepted tables.
 -- By induction over the list, `Reached` holds after it. Level 0 is certified for plans of no steps, and is read from the slices over which it was laid. A
--- refused offer changes nothing. An accepted one passed every test: it has the shape of the next level and meets its inequalities over the standing level.
--- Inequalities read only parts that agree, so it meets them over the last accepted level too, and is certified with one step more (`certified-next`).
--- The rows step from 0 with each acceptance, so they are those of level t, which no plan passes (`rows-certified`).
--- Totals are given, since `Reached` passes 7, the number is above 0 and some vector counts. They are those of the last accepted level, with which the
+-- refused event changes nothing. An accepted level passed every test: it has the shape of the next level and meets its inequalities over the standing
+-- level. Inequalities read only parts that agree, so it meets them over the level that is claimed too, and is certified with one step more
+-- (`certified-next`), and so are the rows (`rows-next`). New prices move all numbers so far that they are certified for the plans of the new model
+-- (`reached-prices`). Nothing else is asked of the level before: whether it was accepted or moved, later levels go on from what is certified of it.
+-- Totals are given, since `Reached` passes 7, the number is above 0 and some vector counts. They are those of the level that is claimed, with which the
 -- standing one agrees, and the totals of a certified level bracket what plans earn (`bracket`). Building is not refused either, if some vector covers all
 -- states: the built level has the shape of the next level and meets its inequalities over the standing one (`built-shaped`, `built-meets`); what is laid of
 -- it agrees with it, so it passes every test of an offer. Qed.
-pub demand3 : (m : Tables) (x : Lent) → ModelAccepted m x → (ls : List LentLevel) → Demand3 m x ls
-demand3 m x o ls = record { state = state-holds m x o ls; rows = rows-are m x o ls; totals = totals-hold m x o ls; build = build-holds m x o ls }
+pub demand3 : (m : Tables) (x : Lent) → ModelAccepted m x → (es : List Event) → Demand3 m x es
+demand3 m x o es = holds-then x (reached m x o es)
 
 -- ---- an answer that meets its equation has what demand 3 says of it
+-- the tables at hand are those in force
+module _ {m : Tables} {y : Lent} (m₀ : Tables) (x : Lent) (es : List Event) (o : ModelAccepted m₀ x) (q : certifier m y ≡ after m₀ x es) where
+  pub in-force : ClaimHolds x (certifier m y) (steps m₀ x es) (claim m₀ x es)
+  in-force = subst (λ (z : Certifier). ClaimHolds x z (steps m₀ x es) (claim m₀ x es)) (sym q) (demand3 m₀ x o es)
+
+  pub stands-in-force : Held maxVectors m y
+  stands-in-force = subst (λ (z : Certifier). Held maxVectors (z .tables) (z .lent)) (sym q) (reached m₀ x o es .stands)
+
 pub totals-demand : (m : Tables) (y : Lent) (b : List ℕ) (r : Bounds) → r ≡ totalsOf m y b
-    → (x : Lent) (ls : List LentLevel) → ModelAccepted m x → y ≡ after m x ls → 0 < steps m x ls → MixtureHolds m x ls b
-    → TotalsHold m x ls b r
-totals-demand m y b r e x ls o q h mixture = rw (e, q) (demand3 m x o ls .totals h b mixture)
+    → (m₀ : Tables) (x : Lent) (es : List Event) → ModelAccepted m₀ x → certifier m y ≡ after m₀ x es → 0 < steps m₀ x es
+    → MixtureHolds m (claim m₀ x es) b → TotalsHold m (steps m₀ x es) (claim m₀ x es) b r
+totals-demand m y b r e m₀ x es o q h mixture = rw e (in-force m₀ x es o q .totals h b mixture)
 
 pub build-demand : (m : Tables) (z : Lent) (count : ℕ) (y : Cells) (v : Verdict) (y' : Cells) → v ≡ buildVerdict m z count y → y' ≡ builtOf m z count y
-    → (x : Lent) (ls : List LentLevel) → ModelAccepted m x → z ≡ after m x ls → steps m x ls < maxLevels
-    → someCoversAll (modelOf m) (last m x ls) ≡ true → PointsHold m x count y → BuildHolds m x ls count y v y'
-build-demand m z count y v y' e f x ls o q h some points = rw (e, f, q) (demand3 m x o ls .build h some count y points)
+    → (m₀ : Tables) (x : Lent) (es : List Event) → ModelAccepted m₀ x → certifier m z ≡ after m₀ x es → steps m₀ x es < maxLevels
+    → someCoversAll (modelOf m) (claim m₀ x es .level) ≡ true → PointsHold m x count y → BuildHolds m z (claim m₀ x es) count y v y'
+build-demand m z count y v y' e f m₀ x es o q h some points = rw (e, f) (in-force m₀ x es o q .build h some count y points)

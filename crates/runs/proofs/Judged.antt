@@ -18,7 +18,8 @@ use Rattle.tables.proofs.Refusals.{before-fine, unless-fine, fine-at, at-fine}
 use Rattle.tables.proofs.Accepted.{tables-valid, tables-stored, tables-fine}
 use Rattle.plans.specs.Limits.{maxTotal, range}
 use Rattle.plans.specs.Level.{Level, backupAt, corner-weight, follows, Meets, ShapedUpTo, IsPoint}
-use Rattle.levels.specs.Judged.{countsHold, rowsWithin, totalHolds, valuesWithin, rangesVerdict, weightsVerdict, actionsExist, isFine}
+use Rattle.tables.specs.Verdicts.{isFine}
+use Rattle.levels.specs.Judged.{countsHold, rowsWithin, totalHolds, valuesWithin, rangesVerdict, weightsVerdict, actionsExist}
 use Rattle.levels.specs.Judged.{numbersIn, numbersVerdict, masksVerdict, floorsVerdict, coversBackups, cornersVerdict, pointsVerdict, levelVerdict}
 use Rattle.levels.specs.Judged.{rowsHold, holdsUpTo, fits, shapeUpTo, backupsVerdict, offerUpTo}
 use Rattle.levels.specs.Storage.{LentLevel, Lent, stateSize, levelOf, numberIn, standingIn, lentFor}

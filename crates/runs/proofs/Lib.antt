@@ -4,5 +4,7 @@ pub mod Dough
 pub mod Masked
 pub mod Vectors
 pub mod Multiples
+pub mod Prices
+pub mod Repriced
 pub mod Demand3
 pub mod Ticks

@@ -1,5 +1,5 @@
 -- How much rounding costs, as one claim about a whole list of point lists: each is built and offered in turn, from the certifier that opening left on
--- accepted tables. Of a list that the builder refuses, no level is offered.
+-- accepted tables, with no new prices. Of a list that the builder refuses, no level is offered.
 --
 --   made m x ps      the levels that are offered
 --   levels m x ls    the accepted ones of a list of offers, the last one first
@@ -21,7 +21,7 @@ use Rattle.plans.specs.Level.{Level}
 use Rattle.plans.specs.Named.{named}
 use Rattle.levels.specs.Storage.{Cells, LentLevel, Lent, levelOf}
 use Rattle.runs.specs.State.{opened, verdictOn, offered, answerFor, buildVerdict, builtOf}
-use Rattle.runs.specs.Demand3.{steps, last}
+use Rattle.runs.specs.Demand3.{offers, steps, claim}
 
 -- what a building is handed: a count of points, and the slices lent for its level, whose weights are the points'
 pub record Points : Type 0 where
@@ -37,13 +37,13 @@ unlessRefused Fine l with-it without = l ∷ with-it
 unlessRefused (Refused number place) l with-it without = without
 
 -- each level is built upon what the offers before it left
-unfoldable pub offers : Tables → Lent → List Points → List LentLevel
-offers m x [] = []
-offers m x (p ∷ ps) =
-    unlessRefused (buildVerdict m x (p .count) (p .cells)) (builtLevel m x p) (offers m (offered m x (builtLevel m x p)) ps) (offers m x ps)
+unfoldable pub madeFrom : Tables → Lent → List Points → List LentLevel
+madeFrom m x [] = []
+madeFrom m x (p ∷ ps) =
+    unlessRefused (buildVerdict m x (p .count) (p .cells)) (builtLevel m x p) (madeFrom m (offered m x (builtLevel m x p)) ps) (madeFrom m x ps)
 
 abbrev pub made : Tables → Lent → List Points → List LentLevel
-made m x ps = offers m (opened m x) ps
+made m x ps = madeFrom m (opened m x) ps
 
 -- a level on top of those below, if its offer was accepted
 abbrev pub stacked : Verdict → Level → List Level → List Level
@@ -57,6 +57,10 @@ levelsOf m below x (l ∷ ls) = levelsOf m (stacked (verdictOn m x l) (levelOf m
 abbrev pub levels : Tables → Lent → List LentLevel → List Level
 levels m x ls = levelsOf m [] (opened m x) ls
 
+-- the last of them, or level 0: what is claimed after offers alone
+abbrev pub last : Tables → Lent → List LentLevel → Level
+last m x ls = claim m x (offers ls) .level
+
 -- an entry against what the plan named by its vector earns from that state, over t accepted levels: both times K^t
 abbrev pub EntryHolds : Tables → Lent → List LentLevel → ℕ → ℕ → Type 0
 EntryHolds m x ls v s =
@@ -66,5 +70,5 @@ EntryHolds m x ls v s =
 
 -- the whole claim
 pub record Ticks (m : Tables) (x : Lent) (ps : List Points) : Type 0 where
-  pub number : length (levels m x (made m x ps)) ≡ steps m x (made m x ps)
-  pub entry : 0 < steps m x (made m x ps) → (v : ℕ) → v < last m x (made m x ps) .vectors → (s : ℕ) → s < m .states → EntryHolds m x (made m x ps) v s
+  pub number : length (levels m x (made m x ps)) ≡ steps m x (offers (made m x ps))
+  pub entry : 0 < steps m x (offers (made m x ps)) → (v : ℕ) → v < last m x (made m x ps) .vectors → (s : ℕ) → s < m .states → EntryHolds m x (made m x ps) v s

@@ -1,4 +1,5 @@
-// What the calls answer, and demand 3: what holds after any list of offers. The calls themselves are in `opening`, `offering` and `building`.
+// What the calls answer, and demand 3: what holds after any list of offers and new prices. The calls themselves are in `opening`, `offering`, `building` and
+// `pricing`.
 use tables::Action;
 use tables::Verdict;
 

@@ -273,6 +273,7 @@ fn masks_hold<'a, 'c>(
     let n = c.states;
     let k = c.observations;
     let all = masks::all(n);
+    let none = [0u32; 0]; // no list of transitions
     let mut p: usize = 0;
     let mut q: usize = 0;
     for v in 0..count {
@@ -280,6 +281,7 @@ fn masks_hold<'a, 'c>(
         let chosen = x.chosen;
         if !reaches::reached_covered(
             transition,
+            &none,
             observation,
             masks,
             &chosen,

@@ -10,7 +10,8 @@ use Rattle.masks.specs.Masks.{maskedIn}
 use Rattle.plans.specs.Limits.{maxPoints, range}
 use Rattle.plans.specs.Level.{Level}
 use Rattle.levels.specs.Storage.{pointIn, levelIn}
-use Rattle.levels.specs.Judged.{countsHold, rowsWithin, valuesWithin, rangesVerdict, isFine}
+use Rattle.tables.specs.Verdicts.{isFine}
+use Rattle.levels.specs.Judged.{countsHold, rowsWithin, valuesWithin, rangesVerdict}
 
 -- ---- several tests: one that fails is the whole, and after one that holds the whole is the rest
 pub fails : {a : Bool} (b : Bool) → a ≡ false → false ≡ (a && b)

@@ -1,5 +1,5 @@
 -- What more than one proof of this crate names.
-pub use Rattle.integers.proofs.Kit.{_≡_, _∙_, refl, sym, _≤_, _<_, _*_, _-_, arith, mul-le-mul, needs, lit<, getD, pos, w64, toZ, ofZ}
+pub use Rattle.integers.proofs.Kit.{_≡_, _∙_, refl, ap, sym, _≤_, _<_, _*_, _-_, arith, mul-le-mul, needs, lit<, getD, pos, w64, toZ, ofZ, toZ-ofZ}
 pub use Rattle.integers.proofs.Lists.{padded-none, padded-turn}
 pub use Rattle.integers.proofs.Sums.{sum-none, total-none, total-step}
 pub use Rattle.integers.proofs.Terms.{Terms, term-added, term-fits}

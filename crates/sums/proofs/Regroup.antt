@@ -12,7 +12,7 @@ use Rattle.tables.specs.Model.{Valid, successor, expectedReward, backup}
 use Rattle.tables.specs.Storage.{transitionIn, observationIn, rewardIn, weightIn, modelIn}
 use Rattle.tables.specs.Steps.{rowsTo, Stored}
 use Rattle.sums.specs.Steps.{movedIn, expectedIn, chosenIn, foreseenIn, onwardIn, backupIn, TransitionsFit, ObservationsFit}
-use Rattle.sums.specs.Steps.{RewardsFit, ChosenFit, movedLimit, foreseenLimit}
+use Rattle.sums.specs.Steps.{RewardsFit, ChosenFit, movedLimit, foreseenLimit, onwardLimit}
 
 -- ---- to the model's sums
 
@@ -54,10 +54,6 @@ module _ (c : Counts) (T O : List ℕ) (R : List ℤ) where
 
 -- ---- how large they are
 
--- the largest sum onward
-abbrev pub onwardLimit : ℕ
-onwardLimit = maxStates * (one * foreseenLimit)
-
 module _ {n a s' : ℕ} {cells p : List ℕ} (fit : TransitionsFit n cells a) (light : Below maxWeight n p) (reached : s' < n) (few : n ≤ maxStates) where
   -- what moved to a state from the first ones is within its limit
   pub moved-part : (i : ℕ) → i ≤ n → totalTo i (λ s. weightIn p s * transitionIn n cells s a s') ≤ movedLimit
@@ -94,12 +90,12 @@ module _ {n a s : ℕ} {cells : List ℕ} {f : List ℤ} (fit : TransitionsFit n
   unfolding onwardIn
   onward-limit few = omega (arith, terms-limit onward-terms n (omega arith))
 
-  -- the two parts of a backup fit 64 bits together
-  pub backup-fits : {g : ℕ} {rewards : List ℤ} → RewardsFit n rewards a → n ≤ maxStates → g ≤ one
-      → natAbs (K · rewardIn n rewards s a) + g * natAbs (onwardIn n cells f s a) < 2 ^ 63
-  unfolding K
-  backup-fits {rewards} small few less =
-      omega (arith, abs-times K (rewardIn n rewards s a), small .reward s start, mul-le-mul less (onward-limit few))
+-- the two parts of a backup fit 64 bits together
+pub backup-fits : {n a s g : ℕ} {rewards : List ℤ} (later : ℤ) → RewardsFit n rewards a → s < n → g ≤ one → natAbs later ≤ onwardLimit
+    → natAbs (K · rewardIn n rewards s a) + g * natAbs later < 2 ^ 63
+unfolding K
+backup-fits {n} {a} {s} {rewards} later small start less few =
+    omega (arith, abs-times K (rewardIn n rewards s a), small .reward s start, mul-le-mul less few)
 
 module _ (c : Counts) (T O : List ℕ) (R : List ℤ) (valid : Valid (modelIn c T O R)) (stored : Stored c T O R) (a : ℕ) (l : a < c .actions) where
   -- the rows of the blocks up to an action are among those of all

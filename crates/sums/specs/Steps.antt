@@ -65,9 +65,12 @@ pub record ChosenFit (n k : ℕ) (masks : List ℕ) (entries : List ℤ) (choice
   pub stored : rowsTo k v ≤ length choices
   pub vector : (o : ℕ) → o < k → choiceIn k choices v o < vectors
 
--- the largest that moves to a state, and that is foreseen there
+-- the largest that moves to a state, that is foreseen there, and that is summed onward
 abbrev pub movedLimit : ℕ
 movedLimit = maxStates * (maxWeight * one)
 
 abbrev pub foreseenLimit : ℕ
 foreseenLimit = maxObservations * (one * maxEntry)
+
+abbrev pub onwardLimit : ℕ
+onwardLimit = maxStates * (one * foreseenLimit)

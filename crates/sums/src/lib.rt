@@ -2,11 +2,13 @@
 // Σ_s p(s) × T(s,a,s') for an action, Σ_o O(a,s',o) × (entry chosen for o) for a vector and a state reached.
 ghost use mathlib.Core.Path.{_≡_};
 ghost use Prim.Native.Nat.{_+_, _*_, _≤_, _<_};
-ghost use lib.IntN.{pos};
-ghost use Rattle.integers.specs.Whole.{floorDiv, Below, Within};
+ghost use lib.ListN.{length, getD};
+ghost use lib.IntN.{pos, natAbs, _+ℤ_};
+ghost use Rattle.integers.specs.Whole.{_·_, floorDiv, Below, Within};
 ghost use Rattle.integers.specs.Cells.{padded};
 ghost use Rattle.tables.specs.Limits.{maxStates, maxActions, maxObservations, one, maxWeight, K};
-ghost use Rattle.sums.specs.Steps.{movedIn, seenIn, expectedIn, foreseenIn, onwardIn, backupIn, movedLimit, foreseenLimit};
+ghost use Rattle.tables.specs.Storage.{rewardIn};
+ghost use Rattle.sums.specs.Steps.{movedIn, seenIn, expectedIn, foreseenIn, onwardIn, backupIn, movedLimit, foreseenLimit, onwardLimit};
 ghost use Rattle.sums.specs.Steps.{TransitionsFit, ObservationsFit, RewardsFit, ChosenFit};
 use tables::Action;
 use tables::Foreseen;
@@ -18,7 +20,7 @@ use tables::Weights;
 use tables::read;
 
 // sum + p × t, of a weight and a transition
-fn add_moved(sum: u64, p: u64, t: u64) -> u64
+pub fn add_moved(sum: u64, p: u64, t: u64) -> u64
     requires { ⌜ (sum ≤ movedLimit) × ((p ≤ maxWeight) × (t ≤ one)) ⌝ }
     ensures { λ r. ⌜ r ≡ sum + p * t ⌝ }
 {
@@ -168,6 +170,17 @@ fn onward(cells: &[u16], n: usize, f: &[i64], s: State, a: Action) -> i64
     sum
 }
 
+// K × R(s,a) + g × the sum onward, which is handed in.
+pub fn backup_from(reward: &[i64], n: usize, g: u64, later: i64, s: State, a: Action) -> i64
+    requires { ⌜ (n ≤ maxStates) × ((a .0 < maxActions) × ((s .0 < n) × (g ≤ one))) ⌝ }
+    requires { ⌜ RewardsFit n (now reward) (a .0) ⌝ }
+    requires { ⌜ natAbs later ≤ onwardLimit ⌝ }
+    ensures { λ r. ⌜ r ≡ K · rewardIn n (now (reward .entry)) (s .0) (a .0) +ℤ g · later ⌝ }
+{
+    let now = integers::scaled(Tables::K, read::reward_at(reward, n, s, a));
+    integers::add_scaled(now, g, later)
+}
+
 // The vector backup: K × R(s,a) + g × the sum onward.
 pub fn backup<'a>(
     transition: &'a [u16],
@@ -184,31 +197,45 @@ pub fn backup<'a>(
     requires { ⌜ Within foreseenLimit n (now f) ⌝ }
     ensures { λ r. ⌜ r ≡ backupIn n g (now (transition .entry)) (now (reward .entry)) (now (f .entry)) (a .0) (s .0) ⌝ }
 {
-    let now = integers::scaled(Tables::K, read::reward_at(reward, n, s, a));
     let later = onward(transition, n, f, s, a);
-    integers::add_scaled(now, g, later)
-}
-
-// The backup over K, rounded towards minus infinity.
-pub fn backed_up<'a>(
-    transition: &'a [u16],
-    reward: &'a [i64],
-    n: usize,
-    g: u64,
-    f: &[i64],
-    s: State,
-    a: Action,
-) -> i64
-    requires { ⌜ (n ≤ maxStates) × ((a .0 < maxActions) × ((s .0 < n) × (g ≤ one))) ⌝ }
-    requires { ⌜ TransitionsFit n (now transition) (a .0) ⌝ }
-    requires { ⌜ RewardsFit n (now reward) (a .0) ⌝ }
-    requires { ⌜ Within foreseenLimit n (now f) ⌝ }
-    ensures { λ r. ⌜ r ≡ floorDiv (backupIn n g (now (transition .entry)) (now (reward .entry)) (now (f .entry)) (a .0) (s .0)) K ⌝ }
-{
-    integers::floor_div(backup(transition, reward, n, g, f, s, a), Tables::K)
+    backup_from(reward, n, g, later, s, a)
 }
 
 // The same at each state.
+pub fn backups<'a>(
+    transition: &'a [u16],
+    reward: &'a [i64],
+    f: &[i64],
+    n: usize,
+    g: u64,
+    a: Action,
+) -> Foreseen
+    requires { ⌜ (n ≤ maxStates) × ((a .0 < maxActions) × (g ≤ one)) ⌝ }
+    requires { ⌜ TransitionsFit n (now transition) (a .0) ⌝ }
+    requires { ⌜ RewardsFit n (now reward) (a .0) ⌝ }
+    requires { ⌜ Within foreseenLimit n (now f) ⌝ }
+    ensures { λ r. ⌜ r ≡ padded (pos 0) maxStates n (backupIn n g (now (transition .entry)) (now (reward .entry)) (now (f .entry)) (a .0)) ⌝ }
+{
+    let mut e = [0i64; Tables::STATES];
+    for s in 0..n {
+        e[s] = backup(transition, reward, n, g, f, State(s), a);
+    }
+    e
+}
+
+// Backups over K, each rounded towards minus infinity.
+pub fn floored(b: &[i64], n: usize) -> Foreseen
+    requires { ⌜ (n ≤ maxStates) × (n ≤ length (now b)) ⌝ }
+    ensures { λ r. ⌜ r ≡ padded (pos 0) maxStates n (λ s. floorDiv (getD (now (b .entry)) s (pos 0)) K) ⌝ }
+{
+    let mut e = [0i64; Tables::STATES];
+    for s in 0..n {
+        e[s] = integers::floor_div(b[s], Tables::K);
+    }
+    e
+}
+
+// The vector backup over K at each state, rounded towards minus infinity.
 pub fn rounded<'a>(
     transition: &'a [u16],
     reward: &'a [i64],
@@ -224,9 +251,6 @@ pub fn rounded<'a>(
     ensures { λ r. ⌜ r
         ≡ padded (pos 0) maxStates n (λ s. floorDiv (backupIn n g (now (transition .entry)) (now (reward .entry)) (now (f .entry)) (a .0) s) K) ⌝ }
 {
-    let mut e = [0i64; Tables::STATES];
-    for s in 0..n {
-        e[s] = backed_up(transition, reward, n, g, f, State(s), a);
-    }
-    e
+    let b = backups(transition, reward, f, n, g, a);
+    floored(&b, n)
 }

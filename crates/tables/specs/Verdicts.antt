@@ -3,6 +3,7 @@
 --   v before w            v where it refuses, else w
 --   unless ok number at   the refusal where the test fails
 --   firstOf n v           the first refusal among v 0, v 1, .., v (n - 1)
+--   isFine v              whether it refuses nothing
 --   left v new old        what is lent, as a verdict leaves it: a refusal leaves it as it was
 use Prim.Native.Nat.{ℕ, zero, suc}
 use mathlib.Core.Bool.{Bool, true, false}
@@ -21,6 +22,10 @@ unless false number place = Refused number place
 unfoldable pub firstOf : ℕ → (ℕ → Verdict) → Verdict
 firstOf zero v = Fine
 firstOf (suc n) v = firstOf n v before v n
+
+abbrev pub isFine : Verdict → Bool
+isFine Fine = true
+isFine (Refused number place) = false
 
 abbrev pub left : {A : Type 0} → Verdict → A → A → A
 left Fine new old = new

@@ -413,3 +413,25 @@ pub fn worth(tables: &Tables, graph: &Graph, node: usize, state: usize, steps: u
     }
     level.vectors[node].entries[state]
 }
+
+/// The transitions above 0, by action and state reached: the state left, and the chance.
+pub fn listed(tables: &Tables) -> Vec<Vec<(usize, f64)>> {
+    let n = tables.states;
+    let column = |column: usize| {
+        let rows = tables.transitions_of(column / n).chunks_exact(n).map(|row| row[column % n]);
+        rows.enumerate().filter(|&(_, chance)| chance > 0.0).collect()
+    };
+    (0..tables.actions * n).map(column).collect()
+}
+
+/// New prices: the floor falls and both ceilings rise by the largest change times the level.
+pub fn reprice(certifier: &mut Certifier, new: &Tables) {
+    let changes = certifier.tables.rewards.iter().zip(&new.rewards).map(|(old, new)| (new - old).abs());
+    let by = changes.fold(0.0, f64::max) * certifier.number as f64;
+    let Level { vectors, corners, points } = &mut certifier.level;
+    vectors.iter_mut().flat_map(|vector| &mut vector.entries).for_each(|entry| *entry -= by);
+    points.iter_mut().for_each(|point| point.value += by);
+    let rows = certifier.informed.iter_mut().chain(&mut certifier.qmdp);
+    corners.iter_mut().chain(rows).for_each(|cell| *cell += by);
+    certifier.tables.rewards.copy_from_slice(&new.rewards);
+}

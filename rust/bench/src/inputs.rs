@@ -52,6 +52,21 @@ fn parted_tables(rng: &mut Rng, counts: Counts) -> Tables {
     tables
 }
 
+/// Tables whose actions lead from each state to 2 or 3 others.
+fn sparse_tables(rng: &mut Rng, counts: Counts) -> Tables {
+    let mut tables = tables(rng, counts);
+    let n = counts.states;
+    for cells in tables.transition.chunks_exact_mut(n) {
+        cells.fill(0);
+        let (first, reached) = (rng.index(n), 2 + rng.index(2));
+        let chances: Vec<u16> = shares(rng, reached, 1_000);
+        for (at, chance) in chances.into_iter().enumerate() {
+            cells[(first + 5 * at) % n] = chance;
+        }
+    }
+    tables
+}
+
 /// A plan graph with so many nodes.
 pub fn graph(rng: &mut Rng, counts: Counts, nodes: usize) -> Graph {
     Graph {
@@ -86,7 +101,7 @@ impl Standing {
         let (n, k) = (self.tables.states, self.tables.observations);
         let count = points.len() / n;
         let mut level = Level::zeros(n, k, n + count, count);
-        let ended = Tuned.build(&self.tables, &self.certifier, count, points, &mut level);
+        let ended = Tuned.build(&self.tables, &[], &self.certifier, (count, points), &mut level);
         assert_eq!(ended, Refusal::default(), "points within the limits");
         Level { vectors: n + count, points: count, weights: points.to_vec(), ..level }
     }
@@ -146,6 +161,21 @@ pub fn offer(rng: &mut Rng, counts: Counts, vectors: usize, count: usize, steep:
     offer_upon(rng, tables, vectors, count, steep)
 }
 
+/// The same upon a model whose transitions are mostly 0.
+pub fn sparse_offer(rng: &mut Rng, counts: Counts, vectors: usize, count: usize) -> (Standing, Level) {
+    let tables = sparse_tables(rng, counts);
+    offer_upon(rng, tables, vectors, count, false)
+}
+
+/// Tables of which every reward is changed by up to 30 ticks.
+pub fn repriced(rng: &mut Rng, tables: &Tables) -> Tables {
+    let mut new = tables.clone();
+    for reward in &mut new.reward {
+        *reward = (*reward + rng.within(-30, 30)).clamp(-REWARD, REWARD);
+    }
+    new
+}
+
 fn offer_upon(rng: &mut Rng, tables: Tables, vectors: usize, count: usize, steep: bool) -> (Standing, Level) {
     let states = tables.states;
     let mut standing = Standing::fresh(tables);
@@ -154,7 +184,7 @@ fn offer_upon(rng: &mut Rng, tables: Tables, vectors: usize, count: usize, steep
         if steep && step == 3 {
             next = stairs(next);
         }
-        let ended = Tuned.offer(&standing.tables, &mut standing.certifier, &next);
+        let ended = Tuned.offer(&standing.tables, &[], &mut standing.certifier, &next);
         assert_eq!(ended, Refusal::default(), "a built level is accepted");
     }
     let offered = standing.level(&points(rng, states, count), vectors);
@@ -238,7 +268,7 @@ mod tests {
                 let corners: i64 = weights.iter().zip(corners).map(|(&p, c)| i64::from(p) * c).sum();
                 assert!(corners > *value);
             }
-            let ended = Tuned.offer(&standing.tables, &mut standing.certifier, &offered);
+            let ended = Tuned.offer(&standing.tables, &[], &mut standing.certifier, &offered);
             assert_eq!(ended, Refusal::default());
         }
     }
@@ -248,7 +278,7 @@ mod tests {
         let counts = Counts { states: 16, actions: 8, observations: 8 };
         let (mut standing, offered) = halved(&mut Rng::for_case(1, "bench", 0), counts, VECTORS);
         assert!(offered.masks.iter().all(|mask| mask.count_ones() == 8));
-        let ended = Tuned.offer(&standing.tables, &mut standing.certifier, &offered);
+        let ended = Tuned.offer(&standing.tables, &[], &mut standing.certifier, &offered);
         assert_eq!(ended, Refusal::default());
         let at = |first: u32, last: u32| {
             let mixture = [[first; 8], [last; 8]].concat();

@@ -5,6 +5,7 @@ pub mod convert;
 pub mod floating;
 pub mod inputs;
 pub mod limits;
+pub mod moved;
 pub mod plain;
 pub mod plain_file;
 pub mod solver_file;

@@ -10,7 +10,7 @@ use bench::inputs::{self, Counts, Standing};
 use bench::limits::{self, FILE_BYTES, NODES, POINTS, STEPS, TOTAL, VECTORS};
 use bench::plain::Plain;
 use bench::tuned::Tuned;
-use bench::{convert, floating};
+use bench::{convert, floating, moved};
 use biidhaqun::slices::{
     self, Adopted, Answers, Certifier, Graph, Level, Offers, Reading, Refusal, Replayed, Tables, Totals, TotalsWithin,
     Worth,
@@ -44,8 +44,16 @@ impl Library for Linked {
         slices::open(tables, certifier)
     }
 
-    fn offer(&self, tables: &Tables, certifier: &mut Certifier, level: &Level) -> Refusal {
-        slices::offer(tables, certifier, level)
+    fn list(&self, tables: &Tables, list: &mut [u32]) -> Refusal {
+        slices::list(tables, list)
+    }
+
+    fn offer(&self, tables: &Tables, list: &[u32], certifier: &mut Certifier, level: &Level) -> Refusal {
+        slices::offer(tables, list, certifier, level)
+    }
+
+    fn reprice(&self, tables: &Tables, new: &Tables, certifier: &mut Certifier) -> Refusal {
+        slices::reprice(tables, new, certifier)
     }
 
     fn replay(&self, tables: &Tables, certifier: &mut Certifier, offers: &Offers) -> Replayed {
@@ -74,12 +82,12 @@ impl Library for Linked {
     fn build(
         &self,
         tables: &Tables,
+        list: &[u32],
         certifier: &Certifier,
-        count: usize,
-        points: &[u32],
+        (count, points): (usize, &[u32]),
         level: &mut Level,
     ) -> Refusal {
-        slices::build(tables, certifier, count, points, level)
+        slices::build(tables, list, certifier, count, points, level)
     }
 
     fn adopt(
@@ -129,22 +137,26 @@ impl Form for Lent {
     }
 
     fn changes(&self) -> bool {
-        matches!(self.call, Call::Offer { .. } | Call::Replay { .. })
+        matches!(self.call, Call::Offer { .. } | Call::Replay { .. } | Call::Reprice { .. })
     }
 
     fn call(&mut self) -> i64 {
         match &mut self.call {
             Call::Read { file, tables, start } => self.by.read(file, tables, start).number as i64,
             Call::Open { tables, certifier } => self.by.open(tables, certifier).number as i64,
-            Call::Offer { tables, certifier, level } => self.by.offer(tables, certifier, level).number as i64,
+            Call::List { tables, list } => self.by.list(tables, list).number as i64,
+            Call::Offer { tables, list, certifier, level } => {
+                self.by.offer(tables, list, certifier, level).number as i64
+            }
+            Call::Reprice { tables, new, certifier } => self.by.reprice(tables, new, certifier).number as i64,
             Call::Replay { tables, certifier, offers } => self.by.replay(tables, certifier, offers).accepted as i64,
             Call::Totals { tables, certifier, mixture } => self.by.totals(tables, certifier, mixture).gap,
             Call::Each { tables, certifier, mixtures, count, answers } => {
                 self.by.each(tables, certifier, mixtures, *count, answers).number as i64
             }
             Call::Within { tables, certifier, lows, highs } => self.by.within(tables, certifier, lows, highs).lower,
-            Call::Build { tables, certifier, count, points, level } => {
-                self.by.build(tables, certifier, *count, points, level).number as i64
+            Call::Build { tables, list, certifier, count, points, level } => {
+                self.by.build(tables, list, certifier, (*count, points), level).number as i64
             }
             Call::Adopt { tables, certifier, alpha, graph, points, count, level } => {
                 self.by.adopt(tables, certifier, (alpha, graph), (points, *count), level).number as i64
@@ -284,7 +296,26 @@ fn floating_form(call: &Call) -> Result<Box<dyn Form + '_>, String> {
             let standing = floating::open(&float).ok_or("the floating form does not open")?;
             Ok(form(standing, false, move |_| floating::open(&float).map_or(-1, |opened| opened.number as i64)))
         }
-        Call::Offer { tables, certifier, level } => {
+        Call::List { tables, .. } => {
+            let float = convert::floating_tables(tables);
+            let standing = floating::open(&float).ok_or("the floating form does not open")?;
+            Ok(form(standing, false, move |_| floating::listed(&float).len() as i64))
+        }
+        Call::Reprice { tables, new, certifier } => {
+            let standing = convert::floating_certifier(tables, certifier);
+            let new = convert::floating_tables(new);
+            let mut moved = standing.clone();
+            floating::reprice(&mut moved, &new);
+            if let Call::Reprice { certifier, .. } = after {
+                close(certifier.corners[0] as f64, moved.level.corners[0])?;
+            }
+            let call = move |certifier: &mut floating::Certifier| {
+                floating::reprice(certifier, &new);
+                certifier.level.corners[0] as i64
+            };
+            Ok(form(standing, true, call))
+        }
+        Call::Offer { tables, certifier, level, .. } => {
             let standing = convert::floating_certifier(tables, certifier);
             let level = convert::floating_level(level, tables.states, tables.observations);
             if !floating::offer(&mut standing.clone(), &level) {
@@ -401,7 +432,29 @@ fn opening(tables: &Tables) -> Call {
 }
 
 fn offering((Standing { tables, certifier }, level): (Standing, Level)) -> Call {
-    Call::Offer { tables, certifier, level }
+    Call::Offer { tables, list: Vec::new(), certifier, level }
+}
+
+/// The same call, handed the list of its tables.
+fn listed(mut call: Call) -> Call {
+    if let Call::Offer { tables, list, .. } | Call::Build { tables, list, .. } = &mut call {
+        *list = words(tables);
+    }
+    call
+}
+
+/// The list of tables within the limits.
+fn words(tables: &Tables) -> Vec<u32> {
+    limits::Model::of(tables).map_or(Vec::new(), |model| moved::words(&model))
+}
+
+/// The list, to be made.
+fn listing(tables: &Tables) -> Call {
+    Call::List { tables: tables.clone(), list: vec![0; words(tables).len()] }
+}
+
+fn repricing(Standing { tables, certifier }: Standing) -> Call {
+    Call::Reprice { new: inputs::repriced(&mut rng(), &tables), tables, certifier }
 }
 
 fn asking(Standing { tables, certifier }: Standing) -> Call {
@@ -434,7 +487,7 @@ fn asking_at(Standing { tables, certifier }: Standing, count: usize) -> Call {
 fn building(Standing { tables, certifier }: Standing, count: usize) -> Call {
     let points = inputs::points(&mut rng(), tables.states, count);
     let level = Level::zeros(tables.states, tables.observations, tables.states + count, count);
-    Call::Build { tables, certifier, count, points, level }
+    Call::Build { tables, list: Vec::new(), certifier, count, points, level }
 }
 
 /// A level as a solver saves it, at some points.
@@ -454,11 +507,17 @@ fn valuing(counts: Counts, nodes: usize, steps: usize) -> Call {
 }
 
 /// Every call at the limits, by name; those on levels with 32 vectors, and with 1,000.
-fn calls() -> [(&'static str, Call); 17] {
+fn calls() -> [(&'static str, Call); 28] {
     let (standing, level) = inputs::offer(&mut rng(), LARGEST, FEW, POINTS, false);
     let (wide, larger) = inputs::offer(&mut rng(), LARGEST, VECTORS, POINTS, false);
     let pointless = inputs::offer(&mut rng(), LARGEST, VECTORS, 0, false);
     let (halves, masked) = inputs::halved(&mut rng(), LARGEST, VECTORS);
+    let (sparse, next) = inputs::sparse_offer(&mut rng(), LARGEST, FEW, POINTS);
+    let (broad, many) = inputs::sparse_offer(&mut rng(), LARGEST, VECTORS, POINTS);
+    let sparse_offer = offering((sparse.clone(), next));
+    let bare_offer = offering(inputs::sparse_offer(&mut rng(), LARGEST, VECTORS, 0));
+    let broad_offer = offering((broad.clone(), many));
+    let broad_build = building(broad.clone(), 16);
     [
         ("reading", reading(&standing.tables)),
         ("opening", opening(&standing.tables)),
@@ -476,6 +535,17 @@ fn calls() -> [(&'static str, Call); 17] {
         ("totals within ranges upon 1,000 vectors", asking_within(wide.clone())),
         ("building at 16 points upon 1,000 vectors", building(wide.clone(), 16)),
         ("a solver's 1,000 vectors, 16 points", adopting((wide, larger), 16)),
+        ("mostly zeros: the list", listing(&sparse.tables)),
+        ("an offer, 32 vectors, 32 points", sparse_offer.clone()),
+        ("the same by the list", listed(sparse_offer)),
+        ("an offer, 1,000 vectors, no points", bare_offer.clone()),
+        ("the same by the list", listed(bare_offer)),
+        ("an offer, 1,000 vectors, 32 points", broad_offer.clone()),
+        ("the same by the list", listed(broad_offer)),
+        ("building at 16 points upon 1,000 vectors", broad_build.clone()),
+        ("the same by the list", listed(broad_build)),
+        ("new prices upon 32 vectors, 32 points", repricing(sparse)),
+        ("new prices upon 1,000 vectors, 32 points", repricing(broad)),
         ("a plan's worth, 32 nodes, 4 steps", valuing(LARGEST, NODES, STEPS)),
     ]
 }
@@ -489,7 +559,9 @@ fn run(rounds: usize) -> Result<(), String> {
             _ => name.to_string(),
         };
         line(&name, &measure(&call, rounds)?, None);
-        if matches!(&call, Call::Offer { level, .. } if level.vectors == FEW) {
+        let first = matches!(&call, Call::Offer { tables, list, level, .. }
+            if level.vectors == FEW && list.is_empty() && !tables.transition.contains(&0));
+        if first {
             let steep = offering(inputs::offer(&mut rng(), LARGEST, FEW, POINTS, true));
             line("the same, no point left early", &measure(&steep, rounds)?, None);
         }

@@ -4,6 +4,7 @@
 //! next.
 
 use crate::limits::*;
+use crate::moved;
 use crate::plain_file;
 use crate::solver_file::{self, adopted};
 use biidhaqun::slices::{
@@ -376,8 +377,18 @@ impl Library for Plain {
         ended(judge(tables).and_then(|model| open(model, certifier)))
     }
 
-    fn offer(&self, tables: &Tables, certifier: &mut Certifier, level: &Level) -> Refusal {
-        ended(offer(tables, certifier, level))
+    fn list(&self, tables: &Tables, list: &mut [u32]) -> Refusal {
+        ended(judge(tables).and_then(|model| moved::list(&model, list)))
+    }
+
+    fn offer(&self, tables: &Tables, list: &[u32], certifier: &mut Certifier, level: &Level) -> Refusal {
+        let handed = moved::handed(|| judge(tables).map(|model| moved::words(&model)), list);
+        ended(handed.and_then(|()| offer(tables, certifier, level)))
+    }
+
+    fn reprice(&self, tables: &Tables, new: &Tables, certifier: &mut Certifier) -> Refusal {
+        let examined = examine(tables, certifier).map(|_| ());
+        moved::repriced(examined, tables, judge(new), certifier)
     }
 
     fn replay(&self, tables: &Tables, certifier: &mut Certifier, offers: &Offers) -> Replayed {
@@ -415,12 +426,13 @@ impl Library for Plain {
     fn build(
         &self,
         tables: &Tables,
+        list: &[u32],
         certifier: &Certifier,
-        count: usize,
-        points: &[u32],
+        points: (usize, &[u32]),
         level: &mut Level,
     ) -> Refusal {
-        ended(build(tables, certifier, (count, points), level))
+        let handed = moved::handed(|| judge(tables).map(|model| moved::words(&model)), list);
+        ended(handed.and_then(|()| build(tables, certifier, points, level)))
     }
 
     fn adopt(

@@ -5,6 +5,7 @@
 //! counts is one `&` of its mask with the mask of the weights.
 
 use crate::limits::*;
+use crate::moved;
 use crate::solver_file::{self, adopted};
 use crate::tuned_file;
 use biidhaqun::slices::{
@@ -591,8 +592,18 @@ impl Library for Tuned {
         ended(judge(tables).and_then(|model| open(model, certifier)))
     }
 
-    fn offer(&self, tables: &Tables, certifier: &mut Certifier, level: &Level) -> Refusal {
-        ended(offer(tables, certifier, level))
+    fn list(&self, tables: &Tables, list: &mut [u32]) -> Refusal {
+        ended(judge(tables).and_then(|model| moved::list(&model, list)))
+    }
+
+    fn offer(&self, tables: &Tables, list: &[u32], certifier: &mut Certifier, level: &Level) -> Refusal {
+        let handed = moved::handed(|| judge(tables).map(|model| moved::words(&model)), list);
+        ended(handed.and_then(|()| offer(tables, certifier, level)))
+    }
+
+    fn reprice(&self, tables: &Tables, new: &Tables, certifier: &mut Certifier) -> Refusal {
+        let examined = examine(tables, certifier).map(|_| ());
+        moved::repriced(examined, tables, judge(new), certifier)
     }
 
     fn replay(&self, tables: &Tables, certifier: &mut Certifier, offers: &Offers) -> Replayed {
@@ -630,12 +641,13 @@ impl Library for Tuned {
     fn build(
         &self,
         tables: &Tables,
+        list: &[u32],
         certifier: &Certifier,
-        count: usize,
-        points: &[u32],
+        points: (usize, &[u32]),
         level: &mut Level,
     ) -> Refusal {
-        ended(build(tables, certifier, (count, points), level))
+        let handed = moved::handed(|| judge(tables).map(|model| moved::words(&model)), list);
+        ended(handed.and_then(|()| build(tables, certifier, points, level)))
     }
 
     fn adopt(

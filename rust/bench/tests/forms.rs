@@ -106,7 +106,7 @@ fn the_floating_form_comes_close() {
             let points: Vec<Vec<u64>> = (0..2).map(|_| gen::shares(&mut rng, shape.n, 100)).collect();
             let points: Vec<u32> = points.concat().iter().map(|&weight| weight as u32).collect();
             let level = standing.built(&points);
-            let ended = Tuned.offer(&standing.tables, &mut standing.certifier, &level);
+            let ended = Tuned.offer(&standing.tables, &[], &mut standing.certifier, &level);
             assert_eq!(ended, Refusal::default());
             assert!(floating::offer(&mut float, &convert::floating_level(&level, shape.n, shape.k)));
             let beliefs: Vec<Vec<f64>> = points.chunks(shape.n).map(convert::belief).collect();

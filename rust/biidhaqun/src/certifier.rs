@@ -3,7 +3,7 @@
 use crate::error::{Error, Handed, Length, Refusal};
 use crate::level::Level;
 use crate::model::Model;
-use crate::parts::{Mixture, Points};
+use crate::parts::{List, Mixture, Points};
 use crate::rule::Rule;
 use crate::shape::Shape;
 use crate::slices;
@@ -22,10 +22,12 @@ use crate::totals::{Bounds, Totals, TotalsWithin};
 /// its totals bracket what every plan earns that has as many steps as levels were accepted; and a level that it builds is
 /// accepted. A vector counts where all weight lies on states that it covers; where none does, no totals are given. At every
 /// mixture the best informed row is no lower than what any such plan earns, and at every action and state no higher than the
-/// QMDP row.
+/// QMDP row. All of this is so, of the plans of the model now in force, where prices changed in between ([`Certifier::reprice`]).
 #[derive(Clone, Debug)]
 pub struct Certifier {
     model: Model,
+    /// The list that offers and buildings work from; without words they work from the table.
+    list: List,
     slices: slices::Certifier,
 }
 
@@ -35,7 +37,7 @@ impl Certifier {
         let Shape { states, actions, observations } = model.shape();
         let mut slices = slices::Certifier::roomy(states, actions, observations);
         Refusal::unless(slices::open(model.tables(), &mut slices), Handed::Tables(states))?;
-        Ok(Certifier { model: model.clone(), slices })
+        Ok(Certifier { model: model.clone(), list: List::from_words(&[]), slices })
     }
 
     /// The certifier of these slices, as [`Certifier::slices`] gave them. Refused with 7 where they break a limit or are too
@@ -48,7 +50,44 @@ impl Certifier {
         }
         let Shape { states, actions, observations } = model.shape();
         let room = slices::Certifier::roomy(states, actions, observations);
-        Ok(Certifier { model: model.clone(), slices: grown(slices, &room) })
+        Ok(Certifier { model: model.clone(), list: List::from_words(&[]), slices: grown(slices, &room) })
+    }
+
+    /// The certifier, with offers and buildings that work out successor weights and backups from the list of its model's
+    /// transitions. What they answer and leave is the same; docs/BENCHMARK.md has what they take. Refused with 7 where it is not
+    /// that list.
+    ///
+    /// ```
+    /// use biidhaqun::{Certifier, List, Model, Points};
+    ///
+    /// # fn main() -> Result<(), Box<dyn std::error::Error>> {
+    /// let (model, start) = Model::read(&std::fs::read("../../examples/tempering.pomdp")?)?;
+    /// let by_table = Certifier::open(&model)?;
+    /// let mut by_list = by_table.clone().with_list(&model.list()?)?;
+    /// let level = by_list.build(&Points::one(&start.weights))?;
+    /// assert_eq!(level, by_table.build(&Points::one(&start.weights))?);
+    /// by_list.offer(&level)?;
+    /// assert_eq!(by_list.level(), 1);
+    ///
+    /// // Another list is refused.
+    /// let mut words = model.list()?.words().to_vec();
+    /// words[0] += 1;
+    /// assert_eq!(by_table.with_list(&List::from_words(&words)).unwrap_err().number(), 7);
+    /// # Ok(())
+    /// # }
+    /// ```
+    pub fn with_list(mut self, list: &List) -> Result<Certifier, Refusal> {
+        // To build at too many points is always refused: with 7 for a list that is not the table's, else with 8 or 9. A list
+        // without words would pass as none.
+        let words = if list.words.is_empty() { &[0] } else { &list.words[..] };
+        let mut nothing = slices::Level::default();
+        let ended =
+            slices::build(self.model.tables(), words, &self.slices, slices::BUILT_POINTS + 1, &[], &mut nothing);
+        if ended.number == Rule::Certifier.number() {
+            Refusal::unless(ended, Handed::Other)?;
+        }
+        self.list = list.clone();
+        Ok(self)
     }
 
     /// The slices: the state, the standing level in slices with room for every other, and the rows.
@@ -109,8 +148,45 @@ impl Certifier {
         let shape = self.model.shape();
         Length::test("states of the level", None, level.states, shape.states)?;
         Length::test("observations of the level", None, level.observations, shape.observations)?;
-        let ended = slices::offer(self.model.tables(), &mut self.slices, &level.slices);
+        let ended = slices::offer(self.model.tables(), &self.list.words, &mut self.slices, &level.slices);
         Ok(Refusal::unless(ended, Handed::Other)?)
+    }
+
+    /// New prices: the certifier goes on under a model of which only the rewards differ from its own. With d the largest change of
+    /// any reward, up or down, and t levels accepted, entries of covered states fall by d × t, corners and rows rise by d × t, and
+    /// point values by d × t times the total of their weights, each held at the end of its range: so its totals bracket every plan
+    /// of the new model, and so do those of later levels. The level that stands is the one so changed, and its number stays. Refused
+    /// with 23 where counts, T, O or the discount differ.
+    ///
+    /// ```
+    /// use biidhaqun::{Certifier, Model, Points};
+    ///
+    /// # fn main() -> Result<(), Box<dyn std::error::Error>> {
+    /// let (model, start) = Model::read(&std::fs::read("../../examples/dough.pomdp")?)?;
+    /// let mut certifier = Certifier::open(&model)?;
+    /// for _ in 0..2 {
+    ///     certifier.offer(&certifier.build(&Points::one(&start.weights))?)?;
+    /// }
+    /// let at = certifier.totals(&start)?;
+    /// assert_eq!((at.lower, at.upper), (10_000, 12_500));
+    ///
+    /// // Butter is dearer: a bread earns 0.30 less.
+    /// let dearer = model.with_rewards(&[vec![-100, -100], vec![-1_000, 570]])?;
+    /// certifier.reprice(&dearer)?;
+    /// let at = certifier.totals(&start)?;
+    /// assert_eq!((certifier.level(), at.lower, at.upper), (2, 4_000, 18_500));
+    ///
+    /// // Levels upon it are of the new model.
+    /// certifier.offer(&certifier.build(&Points::one(&start.weights))?)?;
+    /// assert_eq!(certifier.model(), &dearer);
+    /// # Ok(())
+    /// # }
+    /// ```
+    pub fn reprice(&mut self, new: &Model) -> Result<(), Refusal> {
+        let ended = slices::reprice(self.model.tables(), new.tables(), &mut self.slices);
+        Refusal::unless(ended, Handed::Other)?;
+        self.model = new.clone();
+        Ok(())
     }
 
     /// Offers stored levels, one after the other, and tells how many were accepted: what [`Certifier::offer`] does with each of
@@ -233,7 +309,8 @@ impl Certifier {
         let weights = points.packed(states)?;
         let vectors = states + count;
         let mut level = slices::Level::zeros(states, observations, vectors, count);
-        let ended = slices::build(self.model.tables(), &self.slices, count, &weights, &mut level);
+        let tables = self.model.tables();
+        let ended = slices::build(tables, &self.list.words, &self.slices, count, &weights, &mut level);
         Refusal::unless(ended, Handed::Other)?;
         Ok(Level { states, observations, slices: slices::Level { vectors, points: count, weights, ..level } })
     }
@@ -273,7 +350,7 @@ impl Certifier {
 }
 
 /// Equal are certifiers of the same model at the same level, upon which the same level and the same rows stand; what lies past
-/// their counts is not looked at.
+/// their counts is not looked at, nor whether they work from a list.
 impl PartialEq for Certifier {
     fn eq(&self, other: &Certifier) -> bool {
         self.model == other.model

@@ -135,7 +135,11 @@ impl fmt::Display for Refusal {
             }
             (Rule::ObservationTotal, _) => write!(f, "a row of O does not total 1; the place is the file's length"),
             (Rule::Certifier, _) => {
-                write!(f, "the certifier handed in is no certifier: its tables, its standing level or its rows break a limit")
+                write!(
+                    f,
+                    "the certifier handed in is no certifier: its tables, its standing level or its rows break a limit, or a list \
+                     handed in with it is not that of its transitions"
+                )
             }
             (Rule::Levels, _) => write!(f, "100 levels already stand, and no more are accepted"),
             (Rule::LevelSize, _) => write!(
@@ -183,6 +187,9 @@ impl fmt::Display for Refusal {
                 "no vector counts: at the mixture each leaves out a state that has weight, or that may have some within the \
                  ranges, or, to build upon, none covers all states"
             ),
+            (Rule::Prices, _) => {
+                write!(f, "the new tables differ in more than rewards: counts, T, O and discount must be the same")
+            }
             (Rule::LowHigh, _) => write!(f, "a low is above its high; within a range of weights the low comes first"),
             (Rule::Room, _) => write!(f, "a slice lent for the answer is too short; it needs {}", at),
         }

@@ -66,6 +66,8 @@ mod library {
             discount: u64,
             transition: *const u16,
             transition_length: usize,
+            list: *const u32,
+            list_length: usize,
             observation: *const u16,
             observation_length: usize,
             reward: *const i64,
@@ -279,6 +281,8 @@ mod library {
             discount: u64,
             transition: *const u16,
             transition_length: usize,
+            list: *const u32,
+            list_length: usize,
             observation: *const u16,
             observation_length: usize,
             reward: *const i64,
@@ -388,6 +392,62 @@ mod library {
             new_values: *mut i64,
             new_values_length: usize,
         ) -> Adopted;
+
+        pub fn biidhaqun_list(
+            states: usize,
+            actions: usize,
+            observations: usize,
+            discount: u64,
+            transition: *const u16,
+            transition_length: usize,
+            observation: *const u16,
+            observation_length: usize,
+            reward: *const i64,
+            reward_length: usize,
+            list: *mut u32,
+            list_length: usize,
+        ) -> Refusal;
+
+        pub fn biidhaqun_reprice(
+            states: usize,
+            actions: usize,
+            observations: usize,
+            discount: u64,
+            transition: *const u16,
+            transition_length: usize,
+            observation: *const u16,
+            observation_length: usize,
+            reward: *const i64,
+            reward_length: usize,
+            new_states: usize,
+            new_actions: usize,
+            new_observations: usize,
+            new_discount: u64,
+            new_transition: *const u16,
+            new_transition_length: usize,
+            new_observation: *const u16,
+            new_observation_length: usize,
+            new_reward: *const i64,
+            new_reward_length: usize,
+            state: *const usize,
+            state_length: usize,
+            standing_actions: *const u8,
+            standing_actions_length: usize,
+            masks: *const u64,
+            masks_length: usize,
+            entries: *mut i64,
+            entries_length: usize,
+            corners: *mut i64,
+            corners_length: usize,
+            weights: *const u32,
+            weights_length: usize,
+            values: *mut i64,
+            values_length: usize,
+            informed: *mut i64,
+            informed_length: usize,
+            qmdp: *mut i64,
+            qmdp_length: usize,
+        ) -> Refusal;
     }
 }
 
@@ -460,8 +520,9 @@ pub fn open(tables: &Tables, certifier: &mut Certifier) -> Refusal {
 }
 
 /// Offers a level: accepted, it stands, the first number of the state is one more, and the rows are stepped; or 7 to 12, 21,
-/// 13, 14, 15.
-pub fn offer(tables: &Tables, certifier: &mut Certifier, level: &Level) -> Refusal {
+/// 13, 14, 15. A list that is not empty must be the tables' own ([`list`]), else 7: backups are then worked out from it, with the
+/// same answers.
+pub fn offer(tables: &Tables, list: &[u32], certifier: &mut Certifier, level: &Level) -> Refusal {
     unsafe {
         library::biidhaqun_offer(
             tables.states,
@@ -470,6 +531,8 @@ pub fn offer(tables: &Tables, certifier: &mut Certifier, level: &Level) -> Refus
             tables.discount,
             tables.transition.as_ptr(),
             tables.transition.len(),
+            list.as_ptr(),
+            list.len(),
             tables.observation.as_ptr(),
             tables.observation.len(),
             tables.reward.as_ptr(),
@@ -702,8 +765,15 @@ pub fn within(tables: &Tables, certifier: &Certifier, lows: &[u32], highs: &[u32
 
 /// Builds the next level upon the standing one, at so many points: its actions, choices, masks, entries, corners and values
 /// are written; or 7, 8, 9, 12, 22. Its vectors are states + count, its points count, its weights the points: that is left to the
-/// caller to say in the level.
-pub fn build(tables: &Tables, certifier: &Certifier, count: usize, points: &[u32], level: &mut Level) -> Refusal {
+/// caller to say in the level. A list is handed in as to [`offer`].
+pub fn build(
+    tables: &Tables,
+    list: &[u32],
+    certifier: &Certifier,
+    count: usize,
+    points: &[u32],
+    level: &mut Level,
+) -> Refusal {
     unsafe {
         library::biidhaqun_build(
             tables.states,
@@ -712,6 +782,8 @@ pub fn build(tables: &Tables, certifier: &Certifier, count: usize, points: &[u32
             tables.discount,
             tables.transition.as_ptr(),
             tables.transition.len(),
+            list.as_ptr(),
+            list.len(),
             tables.observation.as_ptr(),
             tables.observation.len(),
             tables.reward.as_ptr(),
@@ -840,6 +912,73 @@ pub fn adopt(
             level.corners.len(),
             level.values.as_mut_ptr(),
             level.values.len(),
+        )
+    }
+}
+
+/// Writes the list of the tables' transitions over the first words of a slice; or 3, 5, 6, 9.
+pub fn list(tables: &Tables, list: &mut [u32]) -> Refusal {
+    unsafe {
+        library::biidhaqun_list(
+            tables.states,
+            tables.actions,
+            tables.observations,
+            tables.discount,
+            tables.transition.as_ptr(),
+            tables.transition.len(),
+            tables.observation.as_ptr(),
+            tables.observation.len(),
+            tables.reward.as_ptr(),
+            tables.reward.len(),
+            list.as_mut_ptr(),
+            list.len(),
+        )
+    }
+}
+
+/// Moves a certifier to new tables, of which only the rewards differ: its entries, corners, values and rows are moved, and from
+/// then on the new tables are handed in; or 7, the new tables' own 3, 5, 6, then 23.
+pub fn reprice(tables: &Tables, new: &Tables, certifier: &mut Certifier) -> Refusal {
+    unsafe {
+        library::biidhaqun_reprice(
+            tables.states,
+            tables.actions,
+            tables.observations,
+            tables.discount,
+            tables.transition.as_ptr(),
+            tables.transition.len(),
+            tables.observation.as_ptr(),
+            tables.observation.len(),
+            tables.reward.as_ptr(),
+            tables.reward.len(),
+            new.states,
+            new.actions,
+            new.observations,
+            new.discount,
+            new.transition.as_ptr(),
+            new.transition.len(),
+            new.observation.as_ptr(),
+            new.observation.len(),
+            new.reward.as_ptr(),
+            new.reward.len(),
+            certifier.state.as_ptr(),
+            certifier.state.len(),
+            certifier.actions.as_ptr(),
+            certifier.actions.len(),
+            certifier.masks.as_ptr(),
+            certifier.masks.len(),
+            certifier.entries.as_mut_ptr(),
+            certifier.entries.len(),
+            certifier.corners.as_mut_ptr(),
+            certifier.corners.len(),
+            certifier.weights.as_ptr(),
+            certifier.weights.len(),
+            certifier.values.as_mut_ptr(),
+            certifier.values.len(),
+            certifier.informed.as_mut_ptr(),
+            certifier.informed.len(),
+            certifier.qmdp.as_mut_ptr(),
+            certifier.qmdp.len(),
         )
     }
 }

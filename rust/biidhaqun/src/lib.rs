@@ -11,6 +11,9 @@
 //! proved, stands with the type. The library keeps nothing between calls and allocates nothing; its calls may be made from
 //! any thread.
 //!
+//! Where most of a model's transitions are 0, a certifier can work from a [`List`] of the others, with the same answers. Rewards
+//! may change while it stands at a level ([`Certifier::reprice`]): its bounds are moved so that they hold for the new ones.
+//!
 //! The types are handles over [`slices`], the layout that the library takes: a C program lends the same.
 //!
 //! ```
@@ -68,7 +71,7 @@ pub use ffi::version;
 pub use level::{Level, Point, Vector};
 #[cfg(feature = "linked")]
 pub use model::{Action, Model};
-pub use parts::{Graph, Mixture, Points};
+pub use parts::{Graph, List, Mixture, Points};
 pub use rule::Rule;
 pub use shape::Shape;
 pub use slices::VERSION;

@@ -1,7 +1,7 @@
 //! Models.
 
 use crate::error::{Error, Handed, Length, Refusal};
-use crate::parts::{Graph, Mixture};
+use crate::parts::{Graph, List, Mixture};
 use crate::shape::Shape;
 use crate::slices::{self, Certifier, Tables, STATES};
 
@@ -94,6 +94,39 @@ impl Model {
         cut(&mut tables);
         let weights = start[..tables.states].iter().map(|&number| u32::from(number)).collect();
         Ok((Model { tables }, Mixture { weights }))
+    }
+
+    /// The same model at other prices: for each action the reward in ticks at each state. Refused with 3.
+    pub fn with_rewards(&self, rewards: &[Vec<i64>]) -> Result<Model, Error> {
+        let Shape { states, actions, .. } = self.shape();
+        Length::test("actions with rewards", None, rewards.len(), actions)?;
+        for (number, row) in rewards.iter().enumerate() {
+            Length::test("rewards of action", Some(number), row.len(), states)?;
+        }
+        Ok(Model::from_tables(Tables { reward: rewards.concat(), ..self.tables.clone() })?)
+    }
+
+    /// The transitions as a list, to be worked from by [`Certifier::with_list`](crate::Certifier::with_list). A model is never
+    /// refused.
+    ///
+    /// ```
+    /// use biidhaqun::Model;
+    ///
+    /// # fn main() -> Result<(), Box<dyn std::error::Error>> {
+    /// let (model, _) = Model::read(&std::fs::read("../../examples/dough.pomdp")?)?;
+    /// // Where the four columns begin and the last one ends; then the five cells above 0, each with the state left.
+    /// let (unready, ready) = (0 << 16, 1 << 16);
+    /// assert_eq!(model.list()?.words()[..5], [5, 6, 8, 10, 10]);
+    /// assert_eq!(model.list()?.words()[5..], [unready + 500, unready + 500, ready + 1_000, unready + 1_000, ready + 1_000]);
+    /// # Ok(())
+    /// # }
+    /// ```
+    pub fn list(&self) -> Result<List, Refusal> {
+        let columns = self.tables.actions * self.tables.states;
+        let cells = self.tables.transition.iter().filter(|&&cell| cell > 0).count();
+        let mut words = vec![0; columns + 1 + cells];
+        Refusal::unless(slices::list(&self.tables, &mut words), Handed::Tables(self.tables.states))?;
+        Ok(List { words })
     }
 
     /// The tables, as the library takes them.

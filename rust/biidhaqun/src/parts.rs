@@ -1,4 +1,4 @@
-//! What else is handed to a certifier: points, mixtures, plan graphs.
+//! What else is handed to a certifier: points, mixtures, lists of transitions, plan graphs.
 
 use crate::error::Length;
 use crate::slices;
@@ -41,6 +41,25 @@ impl Mixture {
     /// The total of the weights.
     pub fn total(&self) -> u64 {
         self.weights.iter().map(|&weight| u64::from(weight)).sum()
+    }
+}
+
+/// The transitions of a model as a list, in the layout of [`slices`](crate::slices): of T only what is above 0, by column. It is
+/// made by [`Model::list`](crate::Model::list); one that was stored may hold anything, and is tested where a certifier takes it.
+#[derive(Clone, Debug, PartialEq, Eq, Hash)]
+pub struct List {
+    pub(crate) words: Vec<u32>,
+}
+
+impl List {
+    /// The list of these words, as [`List::words`] gave them.
+    pub fn from_words(words: &[u32]) -> List {
+        List { words: words.to_vec() }
+    }
+
+    /// The words.
+    pub fn words(&self) -> &[u32] {
+        &self.words
     }
 }
 

@@ -41,7 +41,7 @@ rules! {
     4 StartTotal: "the start numbers total 1",
     5 TransitionTotal: "each row of T totals 1",
     6 ObservationTotal: "each row of O totals 1",
-    7 Certifier: "the tables, the standing level and the rows of a certifier are within their limits, and at most 100 levels stand",
+    7 Certifier: "the tables, the standing level and the rows of a certifier are within their limits, at most 100 levels stand, and a list is that of its table",
     8 Levels: "at most 100 levels are accepted",
     9 LevelSize: "a level has 1 to 1,000 vectors and at most 32 points, the builder is given at most 16, and slices have room",
     10 Numbers: "actions and chosen vectors exist",
@@ -57,6 +57,7 @@ rules! {
     20 SolverFiles: "a solver's two files have as many vectors, and the same actions",
     21 Covered: "what a covered state reaches is covered by the vector that is chosen there",
     22 Counting: "some vector counts at a mixture or at the highs, and some covers all states where a level is built",
+    23 Prices: "new tables differ in their rewards at most: counts, T, O and discount are the same",
     24 LowHigh: "no low of a range of weights is above its high",
     100 Room: "the slices that a file is read into have room",
 }

@@ -4,25 +4,32 @@
 //! nor written. n stands for the model's states, m for its actions, k for its observations.
 //!
 //! What is handed in may hold anything and have any length. With the feature `linked`, this module has the calls themselves
-//! too: [`version`], [`read`], [`open`], [`offer`], [`replay`], [`totals`], [`each`], [`within`], [`build`], [`adopt`] and
-//! [`worth`]. Each is proved to answer, and to leave in what it is lent, what its definitions say; one that is refused leaves all
+//! too: [`version`], [`read`], [`open`], [`list`], [`offer`], [`replay`], [`reprice`], [`totals`], [`each`], [`within`],
+//! [`build`], [`adopt`] and [`worth`]. Each is proved to answer, and to leave in what it is lent, what its definitions say; one that is refused leaves all
 //! as it was.
 //!
 //! A vector's mask says which states it covers. Its entries elsewhere are unread, and an acceptance stores them as 0, and the
 //! mask's bits past the states too.
 //!
-//! A slice that is too short is refused: one of the tables by 3 at 0 where they are opened or a worth is asked, else by 7;
+//! A list of transitions is m × n + 1 words that say at which word of it the cells of each column begin, the last one where they
+//! end, and then the cells: for each T(s, a, s') above 0 the word s × 65,536 + T(s, a, s'), in column a × n + s', each column by
+//! rising s. A slice of length 0 says that no list is meant; any other must begin with the list of the tables that it is handed
+//! in with, or it is refused by 7.
+//!
+//! A slice that is too short is refused: one of the tables by 3 at 0 where they are opened, listed or new or a worth is asked,
+//! else by 7;
 //! one of a certifier by 7 for what stands and for the rows (its choices are read by no call, and not asked for), by 9 for
 //! what is to stand;
-//! one of an offered level, of a list of offers, of points, of a level to be built or adopted, or of answers by 9; a mixture, or
+//! one of an offered level, of a list of offers, of points, of a level to be built or adopted, of answers, or to write a list of
+//! transitions over by 9; a mixture, or
 //! several, and lows and highs by 17; one of a plan graph by 18; one that a file is read into by 100, and the place is then the length that it
 //! needs.
 
 #[cfg(feature = "linked")]
-pub use crate::ffi::{adopt, build, each, offer, open, read, replay, totals, version, within, worth};
+pub use crate::ffi::{adopt, build, each, list, offer, open, read, replay, reprice, totals, version, within, worth};
 
 /// The version of this layout, the C header's too. [`version`] is the linked library's.
-pub const VERSION: u64 = 4;
+pub const VERSION: u64 = 5;
 
 /// Most states, actions, observations, vectors and points of a level, points to build at, nodes and steps of a plan graph,
 /// levels, and bytes of a model file and of each of a solver's files.
@@ -37,6 +44,9 @@ pub const STEPS: usize = 4;
 pub const LEVELS: usize = 100;
 pub const FILE_BYTES: usize = 32_768;
 pub const SOLVER_BYTES: usize = 4 << 20;
+
+/// Most words of a list of transitions: one for each column and for the end, and one for each cell of T.
+pub const LIST_WORDS: usize = ACTIONS * STATES + 1 + ACTIONS * STATES * STATES;
 
 /// The mask of a vector that covers all of so many states, at most 64: bit s is 1 where state s is covered.
 pub fn full_mask(states: usize) -> u64 {

@@ -76,6 +76,110 @@ fn weights_within_ranges() {
 
 /// Each of the two ceilings is the lower one somewhere.
 #[test]
+fn offers_and_buildings_from_a_list() {
+    let (model, start, by_table) = standing(1);
+    let list = model.list().unwrap();
+    let mut by_list = by_table.clone().with_list(&list).unwrap();
+    let points = Points::one(&start.weights);
+    let level = by_list.build(&points).unwrap();
+    assert_eq!(Ok(level.clone()), by_table.build(&points));
+    let mut wrong = level.clone();
+    wrong.entries_mut(0)[0] += 1;
+    assert_eq!(by_list.offer(&wrong), by_table.clone().offer(&wrong));
+    by_list.offer(&level).unwrap();
+    assert_eq!(by_list, standing(2).2);
+    // What lies past the list is not read; no words, fewer, or others are no list.
+    let with = |words: &[u32]| by_table.clone().with_list(&List::from_words(words)).map(|_| ());
+    let mut words = list.words().to_vec();
+    let seven = Err(Refusal { rule: Rule::Certifier, place: Place::Whole });
+    assert_eq!((with(&words), with(&words[..9]), with(&[])), (Ok(()), seven, seven));
+    words.push(u32::MAX);
+    assert_eq!(with(&words), Ok(()));
+    words[9] += 1;
+    assert_eq!(with(&words), seven);
+    // The same where 100 levels stand.
+    let (_, _, full) = standing(100);
+    assert!(full.clone().with_list(&list).is_ok());
+    assert_eq!(full.with_list(&List::from_words(&[5])).unwrap_err().number(), 7);
+}
+
+#[test]
+fn a_list_in_slices() {
+    let (model, _, _) = standing(0);
+    let listed = |tables: &Tables, length: usize| {
+        let mut words = vec![7; length];
+        let ended = slices::list(tables, &mut words);
+        assert!(ended.number == 0 || words.iter().all(|&word| word == 7));
+        (ended.number, ended.place, words)
+    };
+    let (number, _, words) = listed(model.tables(), 12);
+    assert_eq!((number, &words[..10]), (0, model.list().unwrap().words()));
+    assert_eq!(words[10..], [7, 7]);
+    assert_eq!(listed(model.tables(), 9).0, 9);
+    let mut tables = model.tables().clone();
+    tables.transition[3] = 999;
+    assert_eq!(listed(&tables, 0).0, 5);
+    tables.reward.pop();
+    assert_eq!(listed(&tables, 0).0, 3);
+}
+
+#[test]
+fn new_prices() {
+    let (model, start, mut two) = standing(2);
+    let dearer = model.with_rewards(&[vec![-100, -110], vec![-1_000, 570]]).unwrap();
+    let before = two.clone();
+    two.reprice(&dearer).unwrap();
+    assert_eq!((two.level(), two.standing().corners()), (2, &[28, 570][..]));
+    assert_eq!(two.standing().point(0).map(|point| point.value), Some(18_500));
+    assert_eq!((two.informed(1, 0), two.qmdp(0, 0)), (-1_030, 185));
+    for (new, old) in two.standing().vectors().zip(before.standing().vectors()) {
+        let fallen: Vec<i64> = old.entries.iter().map(|entry| entry - 60).collect();
+        assert_eq!((new.action, new.choices, new.mask, new.entries), (old.action, old.choices, old.mask, &fallen[..]));
+    }
+    // Levels upon it, and prices that change back.
+    two.offer(&two.build(&Points::one(&start.weights)).unwrap()).unwrap();
+    let mut back = two.clone();
+    back.reprice(&model).unwrap();
+    assert_eq!((back.model(), back.level()), (&model, 3));
+    // A list goes on: T is the same.
+    let mut listed = two.clone().with_list(&dearer.list().unwrap()).unwrap();
+    listed.reprice(&model).unwrap();
+    listed.offer(&listed.build(&Points::default()).unwrap()).unwrap();
+    // At level 0 only the model changes.
+    let (_, _, mut fresh) = standing(0);
+    fresh.reprice(&dearer).unwrap();
+    assert_eq!(fresh, Certifier::open(&dearer).unwrap());
+    // Another model is refused, and nothing changes.
+    let other = Model::from_tables(Tables { discount: 901, ..model.tables().clone() }).unwrap();
+    let refused = two.clone().reprice(&other).unwrap_err();
+    assert_eq!(refused, Refusal { rule: Rule::Prices, place: Place::Whole });
+    assert!(matches!(model.with_rewards(&[vec![0, 0]]), Err(Error::Length(_))));
+    assert_eq!(refusal(model.with_rewards(&[vec![0, 100_001], vec![0, 0]])), (3, 0));
+}
+
+#[test]
+fn new_tables_in_slices() {
+    let (model, _, one) = standing(1);
+    let moved = |change: &dyn Fn(&mut Tables, &mut slices::Certifier)| {
+        let (mut new, mut certifier) = (model.tables().clone(), one.slices().clone());
+        change(&mut new, &mut certifier);
+        let before = certifier.clone();
+        let ended = slices::reprice(model.tables(), &new, &mut certifier);
+        assert!(ended.number == 0 || certifier == before);
+        (ended.number, ended.place)
+    };
+    assert_eq!(moved(&|_, _| {}), (0, 0));
+    assert_eq!(moved(&|new, certifier| (new.discount, certifier.state[0]) = (1_001, 101)), (7, 0));
+    assert_eq!(moved(&|new, _| (new.reward[0], new.transition[3]) = (100_001, 1)), (3, 0));
+    assert_eq!(moved(&|new, _| new.reward.truncate(3)), (3, 0));
+    assert_eq!(moved(&|new, _| (new.transition[3], new.discount) = (999, 1)), (5, 1));
+    assert_eq!(moved(&|new, _| (new.observation[7], new.discount) = (999, 1)), (6, 3));
+    assert_eq!(moved(&|new, _| new.discount = 1), (23, 0));
+    assert_eq!(moved(&|new, _| new.actions = 1), (23, 0));
+    assert_eq!(moved(&|_, certifier| certifier.choices.clear()), (0, 0));
+}
+
+#[test]
 fn the_ceilings_apart() {
     let (_, _, two) = standing(2);
     let apart = |weights: &[u32]| {
@@ -590,13 +694,13 @@ fn wrong_lengths_are_told() {
 
 #[test]
 fn every_refusal_has_a_rule_and_a_sentence() {
-    for number in (1..=22).chain([24, 100]) {
+    for number in (1..=24).chain([100]) {
         let rule = Rule::of(number).unwrap();
         assert_eq!(rule.number(), number);
         let text = Refusal { rule, place: Place::Byte(3) }.to_string();
         assert!(text.starts_with(&format!("refused {} at 3: ", number)));
     }
-    assert_eq!((Rule::of(0), Rule::of(23), Rule::of(101)), (None, None, None));
+    assert_eq!((Rule::of(0), Rule::of(25), Rule::of(101)), (None, None, None));
 }
 
 /// The C header says the same numbers.
@@ -632,6 +736,7 @@ fn the_header_has_the_same_numbers() {
         ("ACCEPTED", slices::LEVELS),
         ("FILE_BYTES", slices::FILE_BYTES),
         ("SOLVER_BYTES", slices::SOLVER_BYTES),
+        ("LIST_WORDS", slices::LIST_WORDS),
     ];
     for (name, limit) in limits {
         says(name, limit as u64);

@@ -217,6 +217,16 @@ const EXPLANATIONS: &[Explanation] = &[
         ],
     },
     Explanation {
+        number: 23,
+        means: "New prices must leave all but the rewards as it is: the new tables differ in the number of states, actions or \
+                observations, in T, in O, or in the discount.",
+        place: NONE,
+        causes: &[
+            "A probability that was written anew and rounded otherwise: copy the file, and change its R statements alone.",
+            "A state or an action more: that is another model, and its levels are built anew.",
+        ],
+    },
+    Explanation {
         number: 24,
         means: "A low is above its high: there is no weight in that range.",
         place: NONE,
@@ -251,7 +261,7 @@ pub fn run(number: u64) -> i32 {
             exit::SERVED
         }
         None => {
-            eprintln!("biidhaqun: there is no refusal {}; they are 1 to 22, 24 and 100", number);
+            eprintln!("biidhaqun: there is no refusal {}; they are 1 to 24 and 100", number);
             exit::USAGE
         }
     }
@@ -263,10 +273,10 @@ mod tests {
 
     #[test]
     fn every_refusal_is_explained() {
-        for number in (1..=22).chain([24, 100]) {
+        for number in (1..=24).chain([100]) {
             assert!(text(number).unwrap().starts_with(&format!("{}. ", number)));
         }
         assert_eq!(text(0), None);
-        assert_eq!(text(23), None);
+        assert_eq!(text(25), None);
     }
 }

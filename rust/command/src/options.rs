@@ -41,6 +41,10 @@ pub enum Request {
         /// Ranges of weights to ask within: a low and a high for each state, of all mixtures inside
         #[arg(long = "within", value_name = "L..H,L..H,..", value_parser = ranges)]
         within: Vec<Ranges>,
+        /// A model file that differs in its rewards alone: after the last level they are in force, and what is then certified is
+        /// printed too
+        #[arg(long, value_name = "FILE")]
+        prices: Option<PathBuf>,
         /// Print one JSON object
         #[arg(long)]
         json: bool,
@@ -106,7 +110,7 @@ pub enum Request {
     },
     /// Explain a refusal
     Explain {
-        /// The number of the refusal, 1 to 22, or 24
+        /// The number of the refusal, 1 to 24
         number: u64,
     },
 }
@@ -158,7 +162,10 @@ impl Request {
     /// The files that are read.
     pub fn inputs(&self) -> Vec<&Path> {
         match self {
-            Request::Levels { built, .. } | Request::Picture { built, .. } => vec![&built.file],
+            Request::Levels { built, prices, .. } => {
+                std::iter::once(&built.file).chain(prices).map(PathBuf::as_path).collect()
+            }
+            Request::Picture { built, .. } => vec![&built.file],
             Request::Check { file } | Request::Import { file, .. } => vec![file],
             Request::Certify { file, levels, .. } => {
                 std::iter::once(file).chain(levels).map(PathBuf::as_path).collect()

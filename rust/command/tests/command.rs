@@ -297,6 +297,23 @@ fn levels_within_ranges() {
     }
 }
 
+/// New prices after the last level: with a bread that earns 0.30 less, every bound of level 2 moves by 60 ticks.
+#[test]
+fn levels_with_new_prices() {
+    let dough = ["levels", "examples/dough.pomdp", "--levels", "2", "--prices"];
+    let out = served(&[&dough[..], &["examples/dearer.pomdp", "--within", "40..60,40..60"]].concat());
+    let shown = "    2       1.0000       1.2500     0.2500          10000          12500  sawtooth  0\n  \
+                 new       0.4000       1.8500     1.4500           4000          18500  sawtooth  0\n";
+    assert!(out.contains(shown), "{}", out);
+    assert!(out.ends_with("\nnew: level 2 once the rewards of examples/dearer.pomdp are in force\n"), "{}", out);
+    let out = served(&[&dough[..], &["examples/dearer.pomdp", "--json"]].concat());
+    assert!(out.contains("\"prices\": {") && out.contains("\"upper\": 18500"), "{}", out);
+    let err = stopped(&[&dough[..], &["examples/tiger.pomdp"]].concat(), 1);
+    assert!(err.contains("refused 23 at 0"), "{}", err);
+    stopped(&[&dough[..], &["examples/nowhere.pomdp"]].concat(), 3);
+    assert!(served(&["explain", "23"]).starts_with("23. New prices"));
+}
+
 /// What a picture shows is in its words.
 #[test]
 fn pictures() {

@@ -30,7 +30,7 @@ fn the_runs_of_the_front_page() {
     // The folder that the front page speaks of: the examples, and a dough model with a wrong row.
     let folder = Path::new(env!("CARGO_TARGET_TMPDIR")).join("front");
     fs::create_dir_all(folder.join("examples/solver")).unwrap();
-    let models = ["dough.pomdp", "tempering.pomdp", "tiger.pomdp", "seeding.pomdp", "seeding.json"];
+    let models = ["dough.pomdp", "dearer.pomdp", "tempering.pomdp", "tiger.pomdp", "seeding.pomdp", "seeding.json"];
     let models = models.map(|name| format!("examples/{}", name));
     let solver = (1..=3).flat_map(|t| ["alpha", "pg"].map(|kind| format!("examples/solver/tiger.{}{}", kind, t)));
     for example in models.into_iter().chain(solver) {
@@ -47,7 +47,7 @@ fn the_runs_of_the_front_page() {
             runs += 1;
         }
     }
-    assert_eq!(runs, 6);
+    assert_eq!(runs, 7);
 }
 
 /// The image in the front page is what the command beside it draws.

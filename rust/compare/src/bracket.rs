@@ -1,11 +1,11 @@
-//! The totals against the best of all plans, over lists of offers to small models.
+//! The totals against the best of all plans, over lists of offers and new prices to small models.
 
 use crate::calls::Calls;
 use crate::gen::{self, List, Step, DOCUMENT};
 use crate::rng::Rng;
 use num_bigint::BigInt;
 use reference::{
-    all_plans, best, full_mask, scale, Certifier, Earned, Level, Model, Points, Refusal, Totals, STATES, WEIGHT,
+    all_plans, best, full_mask, scale, Certifier, Earned, Level, Model, Points, Refusal, Tables, Totals, STATES, WEIGHT,
 };
 
 /// No list is followed further than this many levels.
@@ -41,13 +41,16 @@ pub struct Seen {
     pub uncounted: u64,
     /// Ranges of which mixtures inside were compared.
     pub ranges: u64,
+    /// New prices that were accepted, and those that were refused.
+    pub priced: u64,
+    pub unpriced: u64,
 }
 
 /// Follows a list, and at each step compares what is answered with all plans of as many steps as levels were accepted:
 /// no plan is above the upper total, nor above either ceiling, some plan that opens with the action is at or above the lower
 /// one, no plan is above its own action's informed row, which is nowhere above the QMDP row, a built level is accepted, a
 /// refused one changes nothing. Totals are given exactly where a vector counts, and a level is built exactly where one covers all
-/// states. The totals at multiples of a mixture and at its sum with another are held against those at the mixture, and those
+/// states. New prices put another model in force, of which the plans are from then on. The totals at multiples of a mixture and at its sum with another are held against those at the mixture, and those
 /// within ranges against all plans at mixtures inside.
 pub fn check(list: &List, by: &dyn Calls) -> Result<Seen, String> {
     let model = Model::of(&list.tables, &DOCUMENT).map_err(|refusal| refusal.to_string())?;
@@ -88,6 +91,7 @@ impl Run<'_> {
                 }
                 None => Ok(()),
             },
+            Step::Reprice(new) => self.reprice(new),
             Step::Totals(_) | Step::Within(..) if self.seen.accepted == 0 => Ok(()),
             Step::Totals(mixture) => self.compare(mixture),
             Step::Within(lows, highs) => self.inside(lows, highs),
@@ -128,6 +132,12 @@ impl Run<'_> {
             return Err(format!("level {} after {} acceptances", self.certifier.level, self.seen.accepted));
         }
         self.seen.above_corners += u64::from(above_corners(&self.certifier, self.model.n));
+        self.corners()?;
+        Ok(true)
+    }
+
+    /// The rows and the totals at each corner, against all plans of the model in force.
+    fn corners(&mut self) -> Result<(), String> {
         self.plans = all_plans(&self.model, self.seen.accepted as u32);
         self.rows()?;
         for s in 0..self.model.n {
@@ -135,7 +145,28 @@ impl Run<'_> {
             mixture[s] = 1;
             self.compare(&mixture)?;
         }
-        Ok(true)
+        Ok(())
+    }
+
+    /// New prices: where they are not refused, the plans are from then on those of the new model.
+    fn reprice(&mut self, new: &Tables) -> Result<(), String> {
+        let before = self.certifier.clone();
+        if self.by.reprice(&mut self.certifier, new).is_err() {
+            if self.certifier != before {
+                return Err("new prices that are refused changed the certifier".to_string());
+            }
+            self.seen.unpriced += 1;
+            return Ok(());
+        }
+        if self.certifier.level != self.seen.accepted {
+            return Err(format!("level {} after {} acceptances", self.certifier.level, self.seen.accepted));
+        }
+        self.model = Model::of(new, &DOCUMENT).map_err(|refusal| format!("new tables that are {} pass", refusal))?;
+        self.seen.priced += 1;
+        if self.seen.accepted == 0 {
+            return Ok(());
+        }
+        self.corners()
     }
 
     /// Each entry of the rows, against the plans that open with its action.

@@ -1,4 +1,4 @@
-//! Calls on storage of any content: opening, offers, totals, totals within ranges, building, the worth of plan graphs.
+//! Calls on storage of any content: opening, offers, new prices, totals, totals within ranges, building, the worth of plan graphs.
 
 use crate::gen::{self, List, Question, Shape, Step, DOCUMENT};
 use crate::rng::Rng;
@@ -13,6 +13,7 @@ pub trait Calls {
     fn totals(&self, certifier: &Certifier, mixture: &[u64]) -> Result<Totals, Refusal>;
     fn within(&self, certifier: &Certifier, lows: &[u64], highs: &[u64]) -> Result<Within, Refusal>;
     fn build(&self, certifier: &Certifier, points: &Points) -> Result<Level, Refusal>;
+    fn reprice(&self, certifier: &mut Certifier, new: &Tables) -> Result<(), Refusal>;
     fn adopt(&self, certifier: &Certifier, alpha: &[u8], graph: &[u8], points: &Points) -> Result<Level, Refusal>;
     fn worth(&self, tables: &Tables, graph: &Graph, asked: Question) -> Result<BigInt, Refusal>;
 }
@@ -37,6 +38,10 @@ impl Calls for Rules {
 
     fn build(&self, certifier: &Certifier, points: &Points) -> Result<Level, Refusal> {
         reference::build(certifier, points, self)
+    }
+
+    fn reprice(&self, certifier: &mut Certifier, new: &Tables) -> Result<(), Refusal> {
+        reference::reprice(certifier, new, self)
     }
 
     fn adopt(&self, certifier: &Certifier, alpha: &[u8], graph: &[u8], points: &Points) -> Result<Level, Refusal> {
@@ -157,6 +162,9 @@ fn steps_differ(ours: &Certifier, theirs: &Certifier, steps: &[Step], other: &dy
             Step::Within(lows, highs) => {
                 differ("within", &DOCUMENT.within(&ours, lows, highs), &other.within(&theirs, lows, highs))
             }
+            Step::Reprice(new) => {
+                differ("new prices", &DOCUMENT.reprice(&mut ours, new), &other.reprice(&mut theirs, new))
+            }
             Step::Build(points) => differ("build", &DOCUMENT.build(&ours, points), &other.build(&theirs, points)),
             Step::Raise(points) => {
                 differ("build and offer", &raise(&DOCUMENT, &mut ours, points), &raise(other, &mut theirs, points))
@@ -201,6 +209,7 @@ mod tests {
                 Step::Offer(level) => number(DOCUMENT.offer(&mut certifier, level)),
                 Step::Totals(mixture) => number(DOCUMENT.totals(&certifier, mixture)),
                 Step::Within(lows, highs) => number(DOCUMENT.within(&certifier, lows, highs)),
+                Step::Reprice(new) => number(DOCUMENT.reprice(&mut certifier, new)),
                 Step::Build(points) => number(DOCUMENT.build(&certifier, points)),
                 Step::Raise(points) => number(raise(&DOCUMENT, &mut certifier, points)),
             };
@@ -222,7 +231,7 @@ mod tests {
             assert!(!case.show().is_empty());
             seen.extend(numbers(&case));
         }
-        let all: BTreeSet<u8> = [0, 3, 21, 22, 24].into_iter().chain(5..=18).collect();
+        let all: BTreeSet<u8> = [0, 3, 21, 22, 23, 24].into_iter().chain(5..=18).collect();
         assert_eq!(seen, all);
     }
 

@@ -12,7 +12,7 @@ use crate::lent::{front, narrowed, stored, Cell, Library};
 use biidhaqun::slices::{
     Adopted, Answers, Certifier, Graph, Level, Offers, Reading, Refusal, Replayed, Tables, Totals, TotalsWithin, Worth,
 };
-use reference::{Rules, ACTIONS, BUILT_POINTS, NODES, OBSERVATIONS, POINTS, ROWS, STATES, VECTORS};
+use reference::{Rules, ACTIONS, BUILT_POINTS, LIST, NODES, OBSERVATIONS, POINTS, ROWS, STATES, VECTORS};
 
 /// Lists the slips with a sentence each: those of any call, and those with many vectors.
 macro_rules! slips {
@@ -108,6 +108,11 @@ slips! {
         ListReopens: "a certifier is opened anew before a list",
         ListBeforeCertifier: "a list is asked for its lengths before 7",
         RefusedReplay: "a refused list carries a number of acceptances",
+        ListWanted: "a slice of no words is no list, and gets 7",
+        ListUntested: "a list that is handed in is not tested",
+        ListTestedLate: "a list that is handed in is tested after all else",
+        NewTablesBySeven: "new tables that are refused get 7",
+        NewByOldCounts: "new tables are read by the counts in force",
         RowsBySixteen: "entries and weights are packed by 16 states",
         StateInOtherOrder: "a state is the levels, the points, the vectors",
     }
@@ -115,6 +120,7 @@ slips! {
         FirstCopied: "an acceptance copies the first 32 vectors only",
         LengthsOfFirst: "a slice is asked for the cells of 32 vectors at most",
         SmallBlocks: "blocks of over 32 vectors are refused",
+        FirstMoved: "new prices move the first 32 vectors only",
     }
 }
 
@@ -184,7 +190,7 @@ impl Copied {
         Needed::of(vectors, points, n, k)
     }
 
-    fn tables(&self, lent: &Tables) -> reference::Tables {
+    pub fn tables(&self, lent: &Tables) -> reference::Tables {
         let mut tables = reference::Tables::zero();
         if !lent.counts_fit() {
             return tables;
@@ -412,7 +418,67 @@ impl Copied {
         Ok(())
     }
 
-    fn offered(&self, tables: &Tables, lent: &mut Certifier, level: &Level) -> Result<(), reference::Refusal> {
+    /// A call that is handed a list with a certifier's tables.
+    fn by_list<Answer>(
+        &self,
+        standing: &mut reference::Certifier,
+        list: &[u32],
+        call: impl Fn(&mut reference::Certifier) -> Result<Answer, reference::Refusal>,
+    ) -> Result<Answer, reference::Refusal> {
+        let words: Vec<u64> = match self.slip {
+            Some(Slip::ListUntested) => Vec::new(),
+            Some(Slip::ListWanted) if list.is_empty() => vec![0],
+            _ => list.iter().map(|&word| word.into()).collect(),
+        };
+        if self.has(Slip::ListTestedLate) {
+            call(&mut standing.clone())?;
+        }
+        reference::by_list(standing, &words, &self.rules, call)
+    }
+
+    /// Writes the list of tables.
+    fn listed(&self, tables: &Tables, list: &mut [u32]) -> Result<(), reference::Refusal> {
+        // A slip about lengths has its own say on the room.
+        let room = if self.slip.is_some() { LIST } else { list.len() };
+        let words = reference::list(&self.tables(tables), room, &self.rules)?;
+        if !self.long(list, words.len()) {
+            return Err(NINE);
+        }
+        self.lay(&narrowed(&words, words.len()), list);
+        Ok(())
+    }
+
+    /// Moves what stands to new tables.
+    fn repriced(&self, tables: &Tables, new: &Tables, lent: &mut Certifier) -> Result<(), reference::Refusal> {
+        let mut standing = self.standing(tables, lent);
+        let mut next = new.clone();
+        if self.has(Slip::NewByOldCounts) {
+            (next.states, next.actions, next.observations) = (tables.states, tables.actions, tables.observations);
+        }
+        let moved = reference::reprice(&mut standing, &self.tables(&next), &self.rules);
+        moved.map_err(|refusal| match refusal.number {
+            3 | 5 | 6 if self.has(Slip::NewTablesBySeven) => reference::Refusal::at(7, 0),
+            _ => refusal,
+        })?;
+        let level = &standing.standing;
+        self.lay(&[standing.level as usize], &mut lent.state);
+        let few = if self.has(Slip::FirstMoved) { 32 * standing.tables.states as usize } else { level.entries.len() };
+        self.lay(front(&level.entries, few), &mut lent.entries);
+        self.lay(&level.corners, &mut lent.corners);
+        self.lay(&level.values, &mut lent.values);
+        let (informed, qmdp) = self.row_slices(lent);
+        self.lay_rows(&standing.tables, &standing.informed, informed);
+        self.lay_rows(&standing.tables, &standing.qmdp, qmdp);
+        Ok(())
+    }
+
+    fn offered(
+        &self,
+        tables: &Tables,
+        list: &[u32],
+        lent: &mut Certifier,
+        level: &Level,
+    ) -> Result<(), reference::Refusal> {
         let mut standing = self.standing(tables, lent);
         let (n, k) = (standing.tables.states as usize, standing.tables.observations as usize);
         let mut offered = self.level(level, n, k);
@@ -422,7 +488,7 @@ impl Copied {
         if !receives && !self.has(Slip::ReceivingAtTheEnd) {
             offered = reference::Level::default();
         }
-        let answer = reference::offer(&mut standing, &offered, &self.rules);
+        let answer = self.by_list(&mut standing, list, |by| reference::offer(by, &offered, &self.rules));
         if answer.is_err() && standing != self.standing(tables, lent) {
             // Only a trap changes a certifier that refuses.
             self.stand(&standing, lent);
@@ -500,11 +566,12 @@ impl Copied {
     fn built(
         &self,
         tables: &Tables,
+        list: &[u32],
         lent: &Certifier,
         (count, points): (usize, &[u32]),
         level: &mut Level,
     ) -> Result<(), reference::Refusal> {
-        let standing = self.standing(tables, lent);
+        let mut standing = self.standing(tables, lent);
         let (n, k) = (standing.tables.states as usize, standing.tables.observations as usize);
         let few = count.min(BUILT_POINTS + 1);
         let needed = Needed::of(n + few, few, n, k);
@@ -519,7 +586,7 @@ impl Copied {
             count: if fits { few as u64 } else { BUILT_POINTS as u64 + 1 },
             weights: stored(points, needed.weights, (BUILT_POINTS + 1) * STATES),
         };
-        let built = reference::build(&standing, &given, &self.rules)?;
+        let built = self.by_list(&mut standing, list, |by| reference::build(by, &given, &self.rules))?;
         if !room {
             return Err(NINE);
         }
@@ -585,8 +652,25 @@ impl Library for Copied {
         self.ended(answer, certifier)
     }
 
-    fn offer(&self, tables: &Tables, certifier: &mut Certifier, level: &Level) -> Refusal {
-        let answer = self.offered(tables, certifier, level);
+    fn list(&self, tables: &Tables, list: &mut [u32]) -> Refusal {
+        match self.listed(tables, list) {
+            Ok(()) => Refusal::default(),
+            Err(refusal) => {
+                if self.has(Slip::RefusalClears) {
+                    list.fill(0);
+                }
+                refused(refusal)
+            }
+        }
+    }
+
+    fn offer(&self, tables: &Tables, list: &[u32], certifier: &mut Certifier, level: &Level) -> Refusal {
+        let answer = self.offered(tables, list, certifier, level);
+        self.ended(answer, certifier)
+    }
+
+    fn reprice(&self, tables: &Tables, new: &Tables, certifier: &mut Certifier) -> Refusal {
+        let answer = self.repriced(tables, new, certifier);
         self.ended(answer, certifier)
     }
 
@@ -662,12 +746,12 @@ impl Library for Copied {
     fn build(
         &self,
         tables: &Tables,
+        list: &[u32],
         certifier: &Certifier,
-        count: usize,
-        points: &[u32],
+        points: (usize, &[u32]),
         level: &mut Level,
     ) -> Refusal {
-        match self.built(tables, certifier, (count, points), level) {
+        match self.built(tables, list, certifier, points, level) {
             Ok(()) => Refusal::default(),
             Err(refusal) => {
                 if self.has(Slip::RefusalClears) {

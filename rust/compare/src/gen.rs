@@ -6,8 +6,8 @@
 use crate::rng::Rng;
 use num_bigint::BigInt;
 use reference::{
-    build, full_mask, offer, open, scale, Certifier, Graph, Level, Model, Points, Rules, Tables, ACTIONS, BUILT_POINTS,
-    LEVELS, NODES, OBSERVATIONS, POINTS, POINT_TOTAL, REWARD, ROWS, STATES, STEPS, THOUSAND, WEIGHT,
+    build, full_mask, offer, open, reprice, scale, Certifier, Graph, Level, Model, Points, Rules, Tables, ACTIONS,
+    BUILT_POINTS, LEVELS, NODES, OBSERVATIONS, POINTS, POINT_TOTAL, REWARD, ROWS, STATES, STEPS, THOUSAND, WEIGHT,
 };
 
 /// The document.
@@ -155,6 +155,73 @@ pub fn spoil_tables(rng: &mut Rng, tables: &mut Tables) {
             }
         }
     }
+}
+
+/// Takes a thousandth from a row of T or of O, which then does not total 1,000.
+pub fn spoil_row(rng: &mut Rng, tables: &mut Tables) {
+    let (t, o, _) = tables.cells_used();
+    let cells = if rng.once_in(2) { &mut tables.transitions[..t] } else { &mut tables.sights[..o] };
+    let above: Vec<usize> = (0..cells.len()).filter(|&cell| cells[cell] > 0).collect();
+    if !above.is_empty() {
+        cells[rng.pick(&above)] -= 1;
+    }
+}
+
+/// The tables at other prices: no reward changed, one, or all, up, down or either way, by little or much, or at the ends.
+pub fn repriced(rng: &mut Rng, tables: &Tables) -> Tables {
+    let (_, _, used) = tables.cells_used();
+    let mut new = tables.clone();
+    let most = rng.pick(&[1, 5, 100, 5_000, 2 * REWARD]);
+    let (style, one) = (rng.below(7), rng.index(used));
+    for (at, reward) in new.rewards[..used].iter_mut().enumerate() {
+        let by = match style {
+            0 => 0,
+            1 if at != one => 0,
+            1 | 2 => rng.within(-most, most),
+            3 => rng.within(0, most),
+            4 => rng.within(-most, 0),
+            5 => most,
+            _ => -most,
+        };
+        *reward = (*reward + by).clamp(-REWARD, REWARD);
+    }
+    litter(rng, &mut new.rewards, used, signed_junk);
+    new
+}
+
+/// New tables that are refused, or nearly: spoiled, of another model with the same counts, or with one number of T, of O or the
+/// discount changed.
+pub fn unpriced(rng: &mut Rng, tables: &Tables, shape: Shape) -> Tables {
+    let mut new = tables.clone();
+    let moved = |rng: &mut Rng, cells: &mut [u64], width: usize| {
+        let row = rng.index(shape.m * shape.n) * width;
+        let (from, to) = (row + rng.index(width), row + rng.index(width));
+        let by = cells[from].min(1);
+        cells[from] -= by;
+        cells[to] = cells[to].saturating_add(by);
+    };
+    match rng.below(7) {
+        0 => new.discount = new.discount.saturating_sub(1),
+        4 if new.counts_fit() => {
+            spoil_row(rng, &mut new);
+            new.discount = rng.pick(&[new.discount, 1]);
+        }
+        1 => moved(rng, &mut new.transitions, shape.n),
+        2 => moved(rng, &mut new.sights, shape.k),
+        3 => {
+            let other = self::shape(rng);
+            new = self::tables(rng, rng.clone().pick(&[shape, other]));
+        }
+        _ => {
+            for _ in 0..1 + rng.index(2) {
+                spoil_tables(rng, &mut new);
+            }
+            if rng.once_in(2) {
+                new.discount = 1;
+            }
+        }
+    }
+    new
 }
 
 /// Points to build upon; as many as are asked for.
@@ -695,6 +762,8 @@ pub enum Step {
     Build(Points),
     /// Build, and offer what was built.
     Raise(Points),
+    /// New prices.
+    Reprice(Tables),
 }
 
 impl Step {
@@ -704,6 +773,11 @@ impl Step {
             Step::Offer(level) => offer(certifier, level, &DOCUMENT).is_ok(),
             Step::Raise(points) => {
                 build(certifier, points, &DOCUMENT).and_then(|level| offer(certifier, &level, &DOCUMENT)).is_ok()
+            }
+            Step::Reprice(new) => {
+                // Whether they are accepted or refused, the certifier goes on.
+                let _ = reprice(certifier, new, &DOCUMENT);
+                false
             }
             Step::Totals(_) | Step::Within(..) | Step::Build(_) => false,
         }
@@ -717,8 +791,8 @@ pub struct List {
     pub steps: Vec<Step>,
 }
 
-/// A list of offers until so many levels are accepted: built, masked, loosened, off by one and spoiled ones, with totals and
-/// buildings in between.
+/// A list of events until so many levels are accepted: offers of built, masked, loosened, off by one and spoiled levels, and new
+/// prices, with totals and buildings in between.
 pub fn list(rng: &mut Rng, shape: Shape, levels: u64) -> List {
     let tables = tables(rng, shape);
     let mut certifier = open(&tables, &DOCUMENT).expect("generated tables open");
@@ -758,6 +832,14 @@ pub fn list(rng: &mut Rng, shape: Shape, levels: u64) -> List {
         }
         let (lows, highs) = ranges(rng, shape.n);
         steps.push(Step::Within(lows, highs));
+        if rng.once_in(4) {
+            let new = repriced(rng, &certifier.tables);
+            let new = if rng.once_in(3) { unpriced(rng, &new, shape) } else { new };
+            let step = Step::Reprice(new);
+            step.follow(&mut certifier);
+            steps.push(step);
+            steps.push(Step::Totals(mixture(rng, shape.n)));
+        }
     }
     List { tables, steps }
 }
@@ -838,6 +920,8 @@ pub fn handed(rng: &mut Rng, shape: Shape) -> (Certifier, Vec<Step>) {
     if rng.once_in(2) {
         spoil_rows(rng, &mut certifier, shape);
     }
+    let new = repriced(rng, &certifier.tables);
+    let other = unpriced(rng, &certifier.tables, shape);
     if rng.once_in(6) {
         spoil_tables(rng, &mut certifier.tables);
     }
@@ -867,6 +951,8 @@ pub fn handed(rng: &mut Rng, shape: Shape) -> (Certifier, Vec<Step>) {
     }
     steps.push(Step::Offer(level));
     steps.push(Step::Offer(offered));
+    steps.push(Step::Reprice(new));
+    steps.push(Step::Reprice(other));
     (certifier, steps)
 }
 
@@ -946,6 +1032,7 @@ pub fn ends(rng: &mut Rng, shape: Shape) -> (Certifier, Vec<Step>) {
     for (value, weights) in lowest.values.iter_mut().zip(lowest.weights.chunks_exact(n)) {
         *value = value_range(weights, ticks);
     }
+    let new = repriced(rng, &certifier.tables);
     let steps = vec![
         Step::Totals(vec![WEIGHT; STATES]),
         Step::Totals(most.clone()),
@@ -954,6 +1041,8 @@ pub fn ends(rng: &mut Rng, shape: Shape) -> (Certifier, Vec<Step>) {
         Step::Build(self::points(rng, n, count)),
         Step::Offer(any),
         if rng.once_in(2) { Step::Offer(lowest) } else { Step::Raise(self::points(rng, n, count)) },
+        Step::Totals(vec![WEIGHT; STATES]),
+        Step::Reprice(new),
         Step::Totals(vec![WEIGHT; STATES]),
     ];
     (certifier, steps)

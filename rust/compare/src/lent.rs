@@ -9,11 +9,13 @@ use biidhaqun::slices::{
 use reference::{ACTIONS, BUILT_POINTS, NODES, OBSERVATIONS, POINTS, STATES, VECTORS};
 use std::fmt;
 
-/// The library's ten calls.
+/// The library's calls.
 pub trait Library {
     fn read(&self, file: &[u8], tables: &mut Tables, start: &mut [u16]) -> Reading;
     fn open(&self, tables: &Tables, certifier: &mut Certifier) -> Refusal;
-    fn offer(&self, tables: &Tables, certifier: &mut Certifier, level: &Level) -> Refusal;
+    fn list(&self, tables: &Tables, list: &mut [u32]) -> Refusal;
+    fn offer(&self, tables: &Tables, list: &[u32], certifier: &mut Certifier, level: &Level) -> Refusal;
+    fn reprice(&self, tables: &Tables, new: &Tables, certifier: &mut Certifier) -> Refusal;
     fn replay(&self, tables: &Tables, certifier: &mut Certifier, offers: &Offers) -> Replayed;
     fn totals(&self, tables: &Tables, certifier: &Certifier, mixture: &[u32]) -> Totals;
     fn each(
@@ -25,8 +27,15 @@ pub trait Library {
         answers: &mut Answers,
     ) -> Refusal;
     fn within(&self, tables: &Tables, certifier: &Certifier, lows: &[u32], highs: &[u32]) -> TotalsWithin;
-    fn build(&self, tables: &Tables, certifier: &Certifier, count: usize, points: &[u32], level: &mut Level)
-        -> Refusal;
+    /// The number of points and their weights.
+    fn build(
+        &self,
+        tables: &Tables,
+        list: &[u32],
+        certifier: &Certifier,
+        points: (usize, &[u32]),
+        level: &mut Level,
+    ) -> Refusal;
     /// The alpha file and the graph; the points' weights and their count.
     fn adopt(
         &self,
@@ -252,10 +261,20 @@ pub enum Call {
         tables: Tables,
         certifier: Certifier,
     },
+    List {
+        tables: Tables,
+        list: Vec<u32>,
+    },
     Offer {
         tables: Tables,
+        list: Vec<u32>,
         certifier: Certifier,
         level: Level,
+    },
+    Reprice {
+        tables: Tables,
+        new: Tables,
+        certifier: Certifier,
     },
     Replay {
         tables: Tables,
@@ -283,6 +302,7 @@ pub enum Call {
     /// The counts and weights of the level are not lent.
     Build {
         tables: Tables,
+        list: Vec<u32>,
         certifier: Certifier,
         count: usize,
         points: Vec<u32>,
@@ -323,7 +343,9 @@ impl Call {
                 [&[number.into()][..], &counts, &[discount.into()]].concat()
             }
             Call::Open { tables, certifier } => ended(by.open(tables, certifier)),
-            Call::Offer { tables, certifier, level } => ended(by.offer(tables, certifier, level)),
+            Call::List { tables, list } => ended(by.list(tables, list)),
+            Call::Offer { tables, list, certifier, level } => ended(by.offer(tables, list, certifier, level)),
+            Call::Reprice { tables, new, certifier } => ended(by.reprice(tables, new, certifier)),
             Call::Replay { tables, certifier, offers } => {
                 let Replayed { number, place, accepted } = by.replay(tables, certifier, offers);
                 vec![number.into(), place as i128, accepted as i128]
@@ -342,8 +364,8 @@ impl Call {
                 let TotalsWithin { number, place, lower, upper } = by.within(tables, certifier, lows, highs);
                 vec![number.into(), place as i128, lower.into(), upper.into()]
             }
-            Call::Build { tables, certifier, count, points, level } => {
-                ended(by.build(tables, certifier, *count, points, level))
+            Call::Build { tables, list, certifier, count, points, level } => {
+                ended(by.build(tables, list, certifier, (*count, points), level))
             }
             Call::Adopt { tables, certifier, alpha, graph, points, count, level } => {
                 let made = by.adopt(tables, certifier, (alpha, graph), (points, *count), level);
@@ -416,6 +438,14 @@ impl Call {
             }
             slices
         }
+        // A list of no words is none: it is not to be made one.
+        fn meant(list: &mut Vec<u32>) -> Option<(&'static str, &mut dyn Slice)> {
+            if list.is_empty() {
+                None
+            } else {
+                Some(("list", list))
+            }
+        }
         let mut slices: Vec<(&'static str, &mut dyn Slice)> = Vec::new();
         match self {
             Call::Read { tables, start, .. } => {
@@ -426,8 +456,20 @@ impl Call {
                 slices.extend(of_tables(tables));
                 slices.extend(standing(certifier, true));
             }
-            Call::Offer { tables, certifier, level } => {
+            Call::List { tables, list } => {
                 slices.extend(of_tables(tables));
+                slices.push(("list", list));
+            }
+            Call::Reprice { tables, new, certifier } => {
+                slices.extend(of_tables(tables));
+                slices.push(("new transition", &mut new.transition));
+                slices.push(("new observation", &mut new.observation));
+                slices.push(("new reward", &mut new.reward));
+                slices.extend(standing(certifier, false));
+            }
+            Call::Offer { tables, list, certifier, level } => {
+                slices.extend(of_tables(tables));
+                slices.extend(meant(list));
                 slices.extend(standing(certifier, true));
                 slices.extend(of_level(level, true));
             }
@@ -464,8 +506,14 @@ impl Call {
                 slices.push(("lows", lows));
                 slices.push(("highs", highs));
             }
-            Call::Build { tables, certifier, points, level, .. }
-            | Call::Adopt { tables, certifier, points, level, .. } => {
+            Call::Build { tables, list, certifier, points, level, .. } => {
+                slices.extend(of_tables(tables));
+                slices.extend(meant(list));
+                slices.extend(standing(certifier, false));
+                slices.push(("points", points));
+                slices.extend(of_level(level, false));
+            }
+            Call::Adopt { tables, certifier, points, level, .. } => {
                 slices.extend(of_tables(tables));
                 slices.extend(standing(certifier, false));
                 slices.push(("points", points));
@@ -490,8 +538,12 @@ impl fmt::Display for Call {
                 writeln!(f, "  {:?}\n  start {:?}", tables, start)
             }
             Call::Open { tables, certifier } => writeln!(f, "  open: {:?}\n  {:?}", tables, certifier),
-            Call::Offer { tables, certifier, level } => {
-                writeln!(f, "  offer: {:?}\n  {:?}\n  {:?}", tables, certifier, level)
+            Call::List { tables, list } => writeln!(f, "  list: {:?}\n  list {:?}", tables, list),
+            Call::Reprice { tables, new, certifier } => {
+                writeln!(f, "  new prices: {:?}\n  {:?}\n  {:?}", tables, new, certifier)
+            }
+            Call::Offer { tables, list, certifier, level } => {
+                writeln!(f, "  offer: {:?}\n  list {:?}\n  {:?}\n  {:?}", tables, list, certifier, level)
             }
             Call::Replay { tables, certifier, offers } => {
                 writeln!(f, "  replay: {:?}\n  {:?}\n  {:?}", tables, certifier, offers)
@@ -509,8 +561,9 @@ impl fmt::Display for Call {
             Call::Within { tables, certifier, lows, highs } => {
                 writeln!(f, "  within: {:?}\n  {:?}\n  lows {:?}\n  highs {:?}", tables, certifier, lows, highs)
             }
-            Call::Build { tables, certifier, count, points, level } => {
-                writeln!(f, "  build: {:?}\n  {:?}\n  {} points {:?}\n  {:?}", tables, certifier, count, points, level)
+            Call::Build { tables, list, certifier, count, points, level } => {
+                writeln!(f, "  build: {:?}\n  list {:?}\n  {:?}", tables, list, certifier)?;
+                writeln!(f, "  {} points {:?}\n  {:?}", count, points, level)
             }
             Call::Adopt { tables, certifier, alpha, graph, points, count, level } => {
                 writeln!(f, "  adopt, alpha file of {} bytes: {}", alpha.len(), files::escaped(alpha))?;

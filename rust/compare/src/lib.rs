@@ -10,8 +10,10 @@ pub mod gen;
 pub mod lent;
 #[cfg(feature = "library")]
 pub mod linked;
+pub mod listing;
 pub mod many;
 pub mod options;
+pub mod pricing;
 pub mod program;
 pub mod replaying;
 pub mod rng;

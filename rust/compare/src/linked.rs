@@ -106,8 +106,20 @@ impl Library for Linked {
         lend(certifier, |certifier| slices::open(tables, certifier))
     }
 
-    fn offer(&self, tables: &Tables, certifier: &mut Certifier, level: &Level) -> Refusal {
-        lend(certifier, |certifier| slices::offer(tables, certifier, level))
+    fn list(&self, tables: &Tables, list: &mut [u32]) -> Refusal {
+        let mut copy = edged(list);
+        let ended = slices::list(tables, &mut copy);
+        let number = if kept(&mut copy) { ended.number } else { OUTSIDE };
+        list.copy_from_slice(&copy);
+        Refusal { number, ..ended }
+    }
+
+    fn offer(&self, tables: &Tables, list: &[u32], certifier: &mut Certifier, level: &Level) -> Refusal {
+        lend(certifier, |certifier| slices::offer(tables, list, certifier, level))
+    }
+
+    fn reprice(&self, tables: &Tables, new: &Tables, certifier: &mut Certifier) -> Refusal {
+        lend(certifier, |certifier| slices::reprice(tables, new, certifier))
     }
 
     fn replay(&self, tables: &Tables, certifier: &mut Certifier, offers: &Offers) -> Replayed {
@@ -151,13 +163,13 @@ impl Library for Linked {
     fn build(
         &self,
         tables: &Tables,
+        list: &[u32],
         certifier: &Certifier,
-        count: usize,
-        points: &[u32],
+        (count, points): (usize, &[u32]),
         level: &mut Level,
     ) -> Refusal {
         let mut copy = edged_level(level);
-        let ended = slices::build(tables, certifier, count, points, &mut copy);
+        let ended = slices::build(tables, list, certifier, count, points, &mut copy);
         let all = kept_level(&mut copy);
         *level = copy;
         Refusal { number: if all { ended.number } else { OUTSIDE }, ..ended }

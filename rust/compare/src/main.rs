@@ -5,7 +5,7 @@
 //! - `fixed`: files that are the same for every seed (each word and byte of a model damaged in turn, cut at every byte, lengths at and
 //!   past the longest),
 //! - `random`: random models in random dress, half of them damaged,
-//! - `plans`: lists of offers upon small models, the totals held against the best of all plans; a quarter of them are of three
+//! - `plans`: lists of offers and new prices upon small models, the totals held against the best of all plans; a quarter of them are of three
 //!   states thought equally likely, at the point (1, 1, 1); the rows against the plans that open with their action; where vectors
 //!   cover part of the states, there are totals exactly where one counts,
 //! - `ticks`: levels built and offered in turn, each entry held against what the plan named by its vector earns,
@@ -19,6 +19,9 @@
 //!   same for every seed, used with `--library`,
 //! - `adopt`: random files of a solver, most of them damaged, upon certifiers of any content, used likewise,
 //! - `replay`: lists of offers in blocks, refused ones among them, upon certifiers of any content, used likewise,
+//! - `lists`: lists of transitions made and turned back, and offers and buildings that are handed a list of any content: with the
+//!   tables' own list they answer and leave the same as without, used likewise,
+//! - `prices`: new tables, accepted and refused, upon certifiers of any content, used likewise,
 //! - `solved`: the steps that a float solver finds, each adopted and accepted, and what their entries lose.
 //!
 //! From the root of the repository: `rust/target/release/compare target/bin/ladder`; with the feature `library`,
@@ -163,7 +166,8 @@ impl Comparison<'_> {
         println!(
             "  {} levels accepted ({} with a point above the corners), {} refused, {} totals compared ({} at equal thirds, {} where \
              the informed ceiling is the lower, {} where a vector covers part of the states), {} ranges of \
-             which mixtures inside are compared, {} mixtures and highs at which no vector counts",
+             which mixtures inside are compared, {} mixtures and highs at which no vector counts, {} new prices accepted and {} \
+             refused",
             self.plans.accepted,
             self.plans.above_corners,
             self.plans.refused,
@@ -172,7 +176,9 @@ impl Comparison<'_> {
             self.plans.informed,
             self.plans.masked,
             self.plans.ranges,
-            self.plans.uncounted
+            self.plans.uncounted,
+            self.plans.priced,
+            self.plans.unpriced
         );
         if !self.climbs()? || !self.solved()? {
             return Ok(false);
@@ -303,6 +309,8 @@ impl Comparison<'_> {
                 self.plans.masked += seen.masked;
                 self.plans.ranges += seen.ranges;
                 self.plans.uncounted += seen.uncounted;
+                self.plans.priced += seen.priced;
+                self.plans.unpriced += seen.unpriced;
                 Ok(true)
             }
             Err(message) => {

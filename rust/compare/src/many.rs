@@ -252,6 +252,7 @@ impl Stage {
         };
         each("totals upon 1,000 vectors", &self.totals(&self.wide), &standing);
         each("totals within ranges upon 1,000 vectors", &self.within(&self.wide), &standing);
+        each("new prices upon 1,000 vectors", &self.reprice(&self.wide), &standing);
         let few = self.level(&self.wide, 2);
         each("2 vectors upon 1,000", &self.offer(&self.wide, &few), &|name| match name {
             "standing choices" => Some(SERVED),
@@ -275,6 +276,15 @@ impl Stage {
             cases.push(Case { about: format!("{} vectors stand", vectors), call, ends: (7, 0) });
         }
         cases
+    }
+
+    /// New prices upon a certifier: each reward 7 ticks higher than the one before, the last one 42.
+    fn reprice(&self, upon: &Certifier) -> Call {
+        let mut new = upon.tables.clone();
+        let (_, _, used) = new.cells_used();
+        new.rewards[..used].iter_mut().enumerate().for_each(|(at, reward)| *reward += 7 * (at as i64 + 1));
+        let (tables, new) = (lent::tables(&upon.tables), lent::tables(&new));
+        Call::Reprice { tables, new, certifier: lent::certifier(upon) }
     }
 
     /// Lists in blocks of up to 1,000 vectors.

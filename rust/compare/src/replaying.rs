@@ -93,6 +93,10 @@ fn offered(certifier: &mut Certifier, steps: &[Step]) -> Vec<reference::Level> {
         let level = match step {
             Step::Offer(level) => Ok(level.clone()),
             Step::Raise(points) => reference::build(certifier, points, &DOCUMENT),
+            Step::Reprice(new) => {
+                let _ = reference::reprice(certifier, new, &DOCUMENT);
+                continue;
+            }
             Step::Totals(_) | Step::Within(..) | Step::Build(_) => continue,
         };
         if let Ok(level) = level {
@@ -227,7 +231,7 @@ mod tests {
                     weights: offers.weights[at * p * n..(at + 1) * p * n].to_vec(),
                     values: offers.values[at * p..(at + 1) * p].to_vec(),
                 };
-                let offer = Call::Offer { tables: tables.clone(), certifier, level };
+                let offer = Call::Offer { tables: tables.clone(), list: Vec::new(), certifier, level };
                 let (ended, left) = offer.made(&BY_THE_DOCUMENT);
                 accepted += i128::from(ended[0] == 0);
                 certifier = match left {

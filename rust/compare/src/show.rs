@@ -69,6 +69,7 @@ pub fn steps(steps: &[Step]) -> String {
         Step::Offer(offered) => format!("step {}: offer {}", at, level(offered)),
         Step::Totals(mixture) => format!("step {}: totals at {}\n", at, cells(mixture)),
         Step::Within(lows, highs) => format!("step {}: totals within {} and {}\n", at, cells(lows), cells(highs)),
+        Step::Reprice(new) => format!("step {}: new prices, {}", at, tables(new)),
         Step::Build(upon) => format!("step {}: build upon {}", at, points(upon)),
         Step::Raise(upon) => format!("step {}: build and offer upon {}", at, points(upon)),
     };

@@ -5,7 +5,7 @@ use crate::files;
 use crate::gen::{self, Shape, Step};
 use crate::lent::{self, Call, Slice};
 use crate::rng::Rng;
-use crate::{adopting, replaying};
+use crate::{adopting, listing, pricing, replaying};
 use biidhaqun::slices::{Answers, Certifier, Level, Tables};
 use reference::{Points, STATES};
 
@@ -13,7 +13,7 @@ use reference::{Points, STATES};
 /// only written.
 fn whole(rng: &mut Rng) -> Call {
     let shape = gen::shape(rng);
-    match rng.below(10) {
+    match rng.below(12) {
         0 => reading_exactly(rng),
         1 => {
             let mut tables = gen::tables(rng, shape);
@@ -59,6 +59,8 @@ fn whole(rng: &mut Rng) -> Call {
             }
             within(shape, &certifier, &lows, &highs)
         }
+        7 => listing::random(rng),
+        8 => pricing::random(rng),
         _ => {
             let (certifier, steps) = gen::handed(rng, shape);
             match rng.pick(&steps) {
@@ -73,6 +75,10 @@ fn whole(rng: &mut Rng) -> Call {
                     Call::Totals { tables, certifier: lent::certifier(&certifier), mixture }
                 }
                 Step::Within(lows, highs) => within(shape, &certifier, &lows, &highs),
+                Step::Reprice(new) => {
+                    let (tables, new) = (lent::tables(&certifier.tables), lent::tables(&new));
+                    Call::Reprice { tables, new, certifier: lent::certifier(&certifier) }
+                }
                 Step::Build(points) | Step::Raise(points) => building(rng, shape, &certifier, &points),
             }
         }
@@ -105,10 +111,20 @@ pub fn sized(rng: &mut Rng, mut certifier: Certifier, level: &Level) -> Certifie
     certifier
 }
 
+/// No list, or that of the tables.
+fn list(rng: &mut Rng, tables: &Tables) -> Vec<u32> {
+    if rng.once_in(2) {
+        listing::exact(tables)
+    } else {
+        Vec::new()
+    }
+}
+
 pub fn offering(rng: &mut Rng, shape: Shape, certifier: &reference::Certifier, level: &reference::Level) -> Call {
     let level = lent::level(level, shape.n, shape.k);
     let standing = sized(rng, lent::certifier(certifier), &level);
-    Call::Offer { tables: lent::tables(&certifier.tables), certifier: standing, level }
+    let tables = lent::tables(&certifier.tables);
+    Call::Offer { list: list(rng, &tables), tables, certifier: standing, level }
 }
 
 /// Totals at some mixtures, of which some are refused.
@@ -142,7 +158,7 @@ pub fn building(rng: &mut Rng, shape: Shape, certifier: &reference::Certifier, p
     let Certifier { actions, choices, masks, entries, corners, values, .. } = room;
     let level = Level { actions, choices, masks, entries, corners, values, ..Level::default() };
     let tables = lent::tables(&certifier.tables);
-    Call::Build { tables, certifier: lent::certifier(certifier), count, points, level }
+    Call::Build { list: list(rng, &tables), tables, certifier: lent::certifier(certifier), count, points, level }
 }
 
 /// Makes a level of so many vectors from a solver's files.
@@ -188,7 +204,7 @@ pub fn reading(file: &[u8]) -> Call {
 }
 
 /// The certifier after a list of offers.
-fn followed(list: &gen::List) -> reference::Certifier {
+pub fn followed(list: &gen::List) -> reference::Certifier {
     let mut certifier = reference::open(&list.tables, &gen::DOCUMENT).expect("generated tables open");
     for step in &list.steps {
         step.follow(&mut certifier);
@@ -262,6 +278,8 @@ fn served(rng: &mut Rng, kind: u64) -> Call {
                 let (lows, highs) = gen::ranges(rng, shape.n);
                 within(shape, &certifier, &lows, &highs)
             }
+            9 => listing::served(rng, shape),
+            10 => pricing::served(rng, &certifier),
             _ => {
                 let graph = gen::graph(rng, shape);
                 let asked = gen::question(rng, &graph, shape);
@@ -297,8 +315,11 @@ fn if_short(call: &Call, name: &str, length: usize) -> Option<(u64, usize)> {
         Call::Read { .. } => return Some((100, length)),
         Call::Open { .. } if of_tables => 3,
         Call::Open { .. } => 9,
-        Call::Worth { .. } if of_tables => 3,
-        _ if of_tables => 7,
+        Call::Worth { .. } | Call::List { .. } if of_tables => 3,
+        Call::Reprice { .. } if name.starts_with("new ") => 3,
+        Call::List { .. } => 9,
+        _ if of_tables || name == "list" => 7,
+        Call::Reprice { .. } => 7,
         Call::Offer { .. } if level => 9,
         Call::Offer { level, .. } if name == "standing choices" && length > level.choices.len() => 0,
         Call::Offer { tables, certifier, .. } if length > stands(certifier, tables) => 9,
@@ -326,7 +347,7 @@ fn if_short(call: &Call, name: &str, length: usize) -> Option<(u64, usize)> {
 /// A call that is served, and for each slice the same call with that slice one short, empty, and longer; with how the first
 /// of these ends by the header.
 pub fn lengths(rng: &mut Rng, number: u64) -> Vec<(Call, Option<(u64, usize)>)> {
-    let call = served(rng, number % 10);
+    let call = served(rng, number % 12);
     let mut calls = vec![(call.clone(), Some((0, 0)))];
     let count = call.clone().slices().len();
     for at in 0..count {

@@ -5,7 +5,7 @@ use crate::lent::{Call, Library};
 use crate::options::Options;
 use crate::rng::Rng;
 use crate::through::{self, Through};
-use crate::{adopting, bracket, calls, files, many, replaying, show, single, solved, ticks};
+use crate::{adopting, bracket, calls, files, listing, many, pricing, replaying, show, single, solved, ticks};
 use reference::Trap;
 use std::collections::BTreeMap;
 use std::time::{Duration, Instant};
@@ -21,6 +21,8 @@ const PLANS: u64 = 1_000;
 const CLIMBS: u64 = 500;
 const ADOPTIONS: u64 = 5_000;
 const REPLAYS: u64 = 4_000;
+const LISTS: u64 = 4_000;
+const PRICES: u64 = 4_000;
 const SOLVED: u64 = 300;
 
 /// How many random cases a slip or a trap is looked for in.
@@ -128,6 +130,8 @@ impl Suites<'_> {
             ("ticks", CLIMBS),
             ("adopt", ADOPTIONS),
             ("replay", REPLAYS),
+            ("lists", LISTS),
+            ("prices", PRICES),
             ("solved", SOLVED),
         ];
         let all: u64 = shares.iter().map(|(_, share)| share).sum();
@@ -186,6 +190,8 @@ impl Suites<'_> {
             }
             "adopt" => print!("{}", adopting::random(&mut rng).show()),
             "replay" => print!("{}", replaying::random(&mut rng)),
+            "lists" => print!("{}", listing::random(&mut rng)),
+            "prices" => print!("{}", priced(&mut rng, number)),
             "solved" => print!("{}", solved::random(&mut rng).show()),
             _ => return Err(unknown("there is no such suite")),
         }
@@ -239,6 +245,12 @@ impl Suites<'_> {
                 let call = if rng.once_in(2) { call } else { single::touched(&mut rng, call) };
                 self.call(&name, &call)
             }
+            "lists" => {
+                let call = listing::random(&mut rng);
+                *self.tally.entry(call.number(self.linked)).or_insert(0) += 1;
+                self.told(&name, listing::difference(&call, self.linked), || call.to_string())
+            }
+            "prices" => self.call(&name, &priced(&mut rng, number)),
             "solved" => {
                 let climb = solved::random(&mut rng);
                 let losses = solved::check(&climb, &Through(self.linked));
@@ -307,6 +319,11 @@ impl Suites<'_> {
                 let call = single::touched(&mut rng, call);
                 return (format!("adopt:{}", number), Box::new(move |one, other| call.difference(one, other)));
             }
+            if number % 20 == 13 {
+                let call =
+                    single::touched(&mut self.rng("touched", number), listing::random(&mut self.rng("lists", number)));
+                return (format!("lists:{}", number), Box::new(move |one, other| call.difference(one, other)));
+            }
             if number % 10 == 5 {
                 let mut rng = self.rng("replay", number);
                 let call = replaying::random(&mut rng);
@@ -351,6 +368,10 @@ impl Suites<'_> {
                 move |one: &dyn Library, other: &dyn Library| through::difference(&case, one, other, &mut rng.clone());
             (format!("calls:{}", number), Box::new(differs))
         });
+        all &= self.hunt("traps of lists, by single calls", HUNTED, traps(Trap::LISTING), &|number| {
+            let call = listing::random(&mut self.rng("lists", number));
+            (format!("lists:{}", number), Box::new(move |one, other| call.difference(one, other)))
+        });
         let mut large = traps(Trap::MANY);
         large.extend(slips(Slip::MANY));
         all &= self.hunt("both with many vectors and long files", self.many.len() as u64, large, &|number| {
@@ -387,6 +408,20 @@ impl Suites<'_> {
     }
 }
 
+/// New prices of this number: now and then upon the largest model at the ends of all ranges, half of the others with slices that
+/// are touched.
+fn priced(rng: &mut Rng, number: u64) -> Call {
+    if number % 100 == 99 {
+        return pricing::largest(rng);
+    }
+    let call = pricing::random(rng);
+    if rng.once_in(2) {
+        call
+    } else {
+        single::touched(rng, call)
+    }
+}
+
 /// How two differ in a case.
 type Differs = Box<dyn Fn(&dyn Library, &dyn Library) -> Option<String>>;
 
@@ -408,8 +443,9 @@ mod tests {
         let words = ["--library", "--examples", "nowhere"].iter().map(|word| word.to_string());
         let mut options = Options::parse(words).unwrap();
         let one = [("fixed", 3), ("random", 5), ("calls", 7), ("ends", 1), ("plans", 2), ("slices", 11), ("ticks", 3)];
-        let solver = [("adopted", 4), ("adopt", 9), ("solved", 2), ("replay", 6), ("many", 3)];
-        let lengths = (0..10).map(|number| ("lengths", number));
+        let solver =
+            [("adopted", 4), ("adopt", 9), ("solved", 2), ("replay", 6), ("many", 3), ("lists", 4), ("prices", 5)];
+        let lengths = (0..12).map(|number| ("lengths", number));
         for (suite, number) in one.into_iter().chain(solver).chain(lengths) {
             options.only = Some((suite.to_string(), number));
             assert!(run(&options, &BY_THE_DOCUMENT).unwrap(), "{}:{}", suite, number);
@@ -430,7 +466,7 @@ mod tests {
             seen.insert(call.number(&BY_THE_DOCUMENT));
         }
         // 1 and 4 are of files alone, which have tests of their own.
-        let all: BTreeSet<u64> = [0, 2, 3, 21, 22, 24, 100].into_iter().chain(5..=18).collect();
+        let all: BTreeSet<u64> = [0, 2, 3, 21, 22, 23, 24, 100].into_iter().chain(5..=18).collect();
         assert!(seen.is_superset(&all), "{:?}", seen);
     }
 

@@ -3,6 +3,7 @@
 use crate::calls::{Calls, Case};
 use crate::gen::{List, Question, Step, FEW};
 use crate::lent::{self, stored, Call, Library};
+use crate::listing;
 use crate::rng::Rng;
 use biidhaqun::slices::{Certifier, Level, Tables};
 use num_bigint::BigInt;
@@ -58,7 +59,7 @@ impl Walk<'_> {
     fn all(mut self, rng: &mut Rng, steps: &[Step]) -> Option<String> {
         for (at, step) in steps.iter().enumerate() {
             let found = match step {
-                Step::Offer(level) => self.offer(lent::level(level, self.n, self.k)),
+                Step::Offer(level) => self.offer(rng, lent::level(level, self.n, self.k)),
                 Step::Totals(mixture) => {
                     let mixture = lent::mixture(mixture, self.n + rng.index(STATES - self.n + 1));
                     let (tables, certifier) = (self.tables.clone(), self.certifier.clone());
@@ -69,9 +70,10 @@ impl Walk<'_> {
                     let (lows, highs) = (lent::weights(lows), lent::weights(highs));
                     Call::Within { tables, certifier, lows, highs }.difference(self.one, self.other)
                 }
+                Step::Reprice(new) => self.reprice(lent::tables(new)),
                 Step::Build(points) => self.build(rng, points).err(),
                 Step::Raise(points) => match self.build(rng, points) {
-                    Ok(Some(level)) => self.offer(level),
+                    Ok(Some(level)) => self.offer(rng, level),
                     Ok(None) => None,
                     Err(found) => Some(found),
                 },
@@ -83,8 +85,18 @@ impl Walk<'_> {
         None
     }
 
-    fn offer(&mut self, level: Level) -> Option<String> {
-        let call = Call::Offer { tables: self.tables.clone(), certifier: self.certifier.clone(), level };
+    /// No list, or that of the tables.
+    fn list(&self, rng: &mut Rng) -> Vec<u32> {
+        if rng.once_in(2) {
+            listing::exact(&self.tables)
+        } else {
+            Vec::new()
+        }
+    }
+
+    fn offer(&mut self, rng: &mut Rng, level: Level) -> Option<String> {
+        let (tables, list, certifier) = (self.tables.clone(), self.list(rng), self.certifier.clone());
+        let call = Call::Offer { tables, list, certifier, level };
         let found = call.difference(self.one, self.other);
         if let (_, Call::Offer { certifier, .. }) = call.made(self.one) {
             self.certifier = certifier;
@@ -92,11 +104,24 @@ impl Walk<'_> {
         found
     }
 
+    /// New prices, which the one puts in force if they are not refused.
+    fn reprice(&mut self, new: Tables) -> Option<String> {
+        let call = Call::Reprice { tables: self.tables.clone(), new, certifier: self.certifier.clone() };
+        let found = call.difference(self.one, self.other);
+        if let (answer, Call::Reprice { new, certifier, .. }) = call.made(self.one) {
+            self.certifier = certifier;
+            if answer[0] == 0 {
+                self.tables = new;
+            }
+        }
+        found
+    }
+
     /// The level that the one builds, if it is served.
     fn build(&self, rng: &mut Rng, points: &Points) -> Result<Option<Level>, String> {
         let (count, points) = lent::points(points, self.n);
-        let (tables, certifier) = (self.tables.clone(), self.certifier.clone());
-        let call = Call::Build { tables, certifier, count, points, level: lent::roomy_level(rng) };
+        let (tables, list, certifier) = (self.tables.clone(), self.list(rng), self.certifier.clone());
+        let call = Call::Build { tables, list, certifier, count, points, level: lent::roomy_level(rng) };
         if let Some(found) = call.difference(self.one, self.other) {
             return Err(found);
         }
@@ -163,7 +188,7 @@ impl Calls for Through<'_> {
         let (n, k) = lent::counts(&certifier.tables);
         let level = lent::level(level, n, k);
         let mut slices = lent::roomy(&mut Rng::for_case(0, "room", 0), lent::certifier(certifier), level.actions.len());
-        let ended = self.0.offer(&lent::tables(&certifier.tables), &mut slices, &level);
+        let ended = self.0.offer(&lent::tables(&certifier.tables), &[], &mut slices, &level);
         served(ended.number, ended.place)?;
         *certifier = standing(slices, certifier.tables.clone());
         Ok(())
@@ -197,9 +222,26 @@ impl Calls for Through<'_> {
         let (tables, slices) = (lent::tables(&certifier.tables), lent::certifier(certifier));
         let (count, weights) = lent::points(points, n);
         let mut level = lent::roomy_level(&mut Rng::for_case(0, "room", 0));
-        let ended = self.0.build(&tables, &slices, count, &weights, &mut level);
+        let ended = self.0.build(&tables, &[], &slices, (count, &weights), &mut level);
         served(ended.number, ended.place)?;
         Ok(storage(&Level { vectors: n + count, points: count, weights, ..level }, n, k))
+    }
+
+    fn reprice(&self, certifier: &mut reference::Certifier, new: &reference::Tables) -> Result<(), Refusal> {
+        let mut slices = lent::certifier(certifier);
+        let ended = self.0.reprice(&lent::tables(&certifier.tables), &lent::tables(new), &mut slices);
+        served(ended.number, ended.place)?;
+        fn lay(slice: &[i64], cells: &mut [i64]) {
+            cells[..slice.len()].copy_from_slice(slice);
+        }
+        lay(&slices.entries, &mut certifier.standing.entries);
+        lay(&slices.corners, &mut certifier.standing.corners);
+        lay(&slices.values, &mut certifier.standing.values);
+        lay(&slices.informed, &mut certifier.informed);
+        lay(&slices.qmdp, &mut certifier.qmdp);
+        certifier.level = slices.state[0] as u64;
+        certifier.tables = new.stored();
+        Ok(())
     }
 
     fn adopt(

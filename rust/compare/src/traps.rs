@@ -38,7 +38,7 @@ impl Hunt {
 /// `--library` there is a hunt in which the library itself is told from the copies (`suites.rs`).
 pub fn run(answerer: &Answerer, seed: u64) -> io::Result<bool> {
     let hunt = |trap: Trap, reading: bool| Hunt { trap, reading, files: None, calls: None, plans: None, ticks: None };
-    let judging = Trap::JUDGING.iter().map(|&trap| hunt(trap, false));
+    let judging = Trap::JUDGING.iter().chain(Trap::RUNNING).map(|&trap| hunt(trap, false));
     let reading = Trap::READING.iter().map(|&trap| hunt(trap, true));
     let mut hunts: Vec<Hunt> = judging.chain(reading).collect();
 

@@ -201,7 +201,7 @@ pub fn full_mask(n: usize) -> u64 {
 }
 
 /// Whether a mask covers a state.
-fn covers(mask: u64, s: usize) -> bool {
+pub fn covers(mask: u64, s: usize) -> bool {
     mask >> s & 1 == 1
 }
 

@@ -20,10 +20,12 @@ mod exact;
 mod file;
 mod ladder;
 mod level;
+mod lists;
 #[cfg(test)]
 mod masks;
 mod model;
 mod plan;
+mod prices;
 #[cfg(test)]
 mod readings;
 mod refusal;
@@ -39,8 +41,10 @@ pub use build::{build, Points, BUILT_POINTS};
 pub use file::{read, Reading, FILE_BYTES};
 pub use ladder::ladder;
 pub use level::{full_mask, offer, open, Certifier, Level, LEVELS, POINTS, POINT_TOTAL, VECTORS};
+pub use lists::{by_list, list, turned_back, LIST};
 pub use model::{Model, Tables, ACTIONS, OBSERVATIONS, REWARD, STATES, THOUSAND};
 pub use plan::{all_plans, at_mixture, best, earned, scale, Earned, Plan};
+pub use prices::reprice;
 pub use refusal::Refusal;
 pub use rows::ROWS;
 pub use rules::{Rules, Trap};

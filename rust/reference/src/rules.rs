@@ -2,13 +2,16 @@
 
 use std::fmt;
 
-/// Defines the traps with a sentence each: those of the reader, of a solver's files, of the judging, and of large levels.
+/// Defines the traps with a sentence each: those of the reader, of a solver's files, of the judging, of large levels, of lists of
+/// transitions, and of lists of events.
 macro_rules! traps {
     (
         reading { $($word:ident: $word_text:literal,)* }
         adopting { $($file:ident: $file_text:literal,)* }
         judging { $($name:ident: $text:literal,)* }
         many { $($large:ident: $large_text:literal,)* }
+        listing { $($word_list:ident: $list_text:literal,)* }
+        running { $($event:ident: $event_text:literal,)* }
     ) => {
         /// One deliberate departure from the document.
         #[derive(Clone, Copy, Debug, PartialEq, Eq)]
@@ -17,6 +20,8 @@ macro_rules! traps {
             $(#[doc = $file_text] $file,)*
             $(#[doc = $text] $name,)*
             $(#[doc = $large_text] $large,)*
+            $(#[doc = $list_text] $word_list,)*
+            $(#[doc = $event_text] $event,)*
         }
 
         impl Trap {
@@ -32,6 +37,12 @@ macro_rules! traps {
             /// Those that only show in levels of many vectors and in long files.
             pub const MANY: &'static [Trap] = &[$(Trap::$large,)*];
 
+            /// Those that only show where transitions are kept as lists.
+            pub const LISTING: &'static [Trap] = &[$(Trap::$word_list,)*];
+
+            /// Those that only show in a list of events: each call is handed its tables.
+            pub const RUNNING: &'static [Trap] = &[$(Trap::$event,)*];
+
             /// What is done wrong.
             pub fn text(self) -> &'static str {
                 match self {
@@ -39,6 +50,8 @@ macro_rules! traps {
                     $(Trap::$file => $file_text,)*
                     $(Trap::$name => $text,)*
                     $(Trap::$large => $large_text,)*
+                    $(Trap::$word_list => $list_text,)*
+                    $(Trap::$event => $event_text,)*
                 }
             }
         }
@@ -236,6 +249,20 @@ traps! {
         CornersRoundedDown: "corners and point values are rounded down",
         EntriesTickLower: "built entries are a tick lower",
         SeventeenPoints: "17 points may be built upon",
+        // New prices.
+        FallByChangeAlone: "new prices move numbers by the largest change alone, whatever the level",
+        RisesOnly: "of the changes of rewards only rises are looked at",
+        NotHeld: "what new prices move is not held at the end of its range",
+        ValuesWithoutTotal: "a point's value rises without its weights' total",
+        UncoveredMoved: "entries that are not covered fall too",
+        CornersNotRaised: "new prices leave the corners",
+        RowsNotRaised: "new prices leave the informed rows",
+        QmdpNotRaised: "new prices leave the QMDP rows",
+        SevenAfterPrices: "7 is tested after the new tables' 3, 5 and 6",
+        TwentyThreeBeforeFive: "23 is tested before the new tables' 5",
+        OtherDiscountPasses: "23 passes over the discount",
+        OtherSightsPass: "23 passes over O",
+        PricesCounted: "new prices count as a level",
         // The worth of a plan graph.
         WorthRoundedOnce: "a worth is rounded once at the end",
         WorthInPlace: "a step reads worths that it has itself filled",
@@ -250,6 +277,17 @@ traps! {
         HundredRead: "vectors and nodes above 99 are not read",
         SolverFilesAsModel: "a solver's file above 32,768 bytes is refused",
         SolverByteMore: "a solver's file of 4 MiB and one byte passes",
+    }
+    listing {
+        ColumnsByStateLeft: "a column is that of the state left",
+        FallingStates: "columns go by falling state",
+        ZerosStored: "zeros are stored in a list",
+        EndMissing: "a list does not say where its last column ends",
+        OtherListAccepted: "the list of another table is worked from",
+        NineBeforeFive: "9 of a list is tested before 3, 5 and 6",
+    }
+    running {
+        OldTablesStay: "after new prices the old tables stay in force",
     }
 }
 

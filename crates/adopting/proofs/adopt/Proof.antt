@@ -1,4 +1,5 @@
 use Rattle.adopting.proofs.Prelude.{needs, ℕ, _≡_, sym, ap, _∙_, List, Fine}
+use Rattle.integers.proofs.Kit.{refl, arith}
 use mathlib.Core.List.{[]}
 use Rattle.tables.specs.declared.Tables.{Tables}
 use Rattle.tables.specs.Storage.{tablesIn}
@@ -26,10 +27,10 @@ abbrev of-vectors : tie.After-write-vectors → tie.After-enum-told3
 of-vectors c = c .before .before .before .before .before
 
 abbrev of-corners : tie.After-build-corners-arg → tie.After-write-vectors
-of-corners c = c .before .before .before .before .before .before .before .before
+of-corners c = c .before .before .before .before .before .before .before .before .before
 
 abbrev of-values : tie.After-build-values-arg → tie.After-build-corners
-of-values c = c .before .before
+of-values c = c .before .before .before
 
 -- what is lent
 abbrev tables : tie.Start → Tables
@@ -148,7 +149,7 @@ build-corners-requires c κs =
     let s = start (of-files e) in
     let a = s .args in (
       roof-asks (tables s) (certifier s []) (a .alpha .now) (a .graph .now) (a .count) (answer s) (known e []) (stands n) (vectors-are e),
-      known e [] .whole .read .corners,
+      (known e [] .whole .read .corners, λ i l some. absurd (omega arith)),
     )
 
 build-values-requires : tie.Need-build-values-requires
@@ -164,7 +165,7 @@ build-values-requires c κs =
         (k .few, k .whole .read .weights),
         (
           points-are (tables s) (certifier s []) (a .alpha .now) (a .graph .now) (a .count) (answer s) k (stands n) (vectors-are e) (second-fine t []),
-          k .whole .read .values,
+          (k .whole .read .values, λ i l some. absurd (omega arith)),
         ),
       ),
     )
@@ -195,5 +196,5 @@ returns-3 c =
 pub adopt-spec : {M : Type 1} → statement M
 adopt-spec =
     tie.close (tie.spec (λ c κs. search needs) (λ c. search needs) (λ c. search needs) returns standing-in-requires judge-level-requires
-    (λ c. search needs) (λ c. search needs) returns-2 write-vectors-requires build-corners-requires build-values-requires (λ c. search needs)
-    (λ c. search needs) (λ c. search needs) (λ c. search needs) (λ c. search needs) (λ c. search needs) returns-3)
+    (λ c. search needs) (λ c. search needs) returns-2 write-vectors-requires (λ c. refl) build-corners-requires (λ c. refl) build-values-requires
+    (λ c. search needs) (λ c. search needs) (λ c. search needs) (λ c. search needs) (λ c. search needs) (λ c. search needs) returns-3)

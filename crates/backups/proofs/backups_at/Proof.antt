@@ -9,15 +9,15 @@ use Rattle.backups.proofs.backups_at.Statement.{statement}
 use Rattle.backups.proofs.backups_at.Tie as tie
 
 abbrev Inv-loop : tie.InvT-loop
-Inv-loop T O R corners weights gains p c points actions backups₀ a₀ backups a =
+Inv-loop T list O R corners weights gains p c points actions backups₀ a₀ backups a =
     (a ≤ c .actions) × (backups ≡ padded (pos 0) maxActions a (backupAtIn c T O R (ceilingIn (c .states) corners weights gains points) p))
 
 abbrev μ-loop : tie.MeasureT-loop
-μ-loop T O R corners weights gains p c points actions backups₀ a₀ backups a = c .actions - a
+μ-loop T list O R corners weights gains p c points actions backups₀ a₀ backups a = c .actions - a
 
 backup-at-requires : tie.Need-backup-at-requires Inv-loop μ-loop
 backup-at-requires c κs =
-    let s = c .before .before .before .before .before .before .before in
+    let s = c .before .before .before .before .before .before .before .before in
     let m = s .args .c in
     let T = s .args .transition .now in
     let O = s .args .observation .now in
@@ -28,16 +28,19 @@ backup-at-requires c κs =
     let la = c .loop-test .taken in (
       (v .few-states, (v .few-observations, (omega (arith, la, v .few-actions), v .discount-limit))),
       (
-        light-below (s .pre .1),
+        light-below (s .pre .1 .0),
         (
-          (transitions-fit m T O R v (h .stored) a la, (observations-fit m T O R v (h .stored) a la, rewards-fit m T O R v (h .stored) a la)),
-          ((h .corners-fit, (h .points-fit, h .gains-fit)), h .fits (s .args .p .now) (s .pre .1 .light) a la),
+          (
+            record { transitions = transitions-fit m T O R v (h .stored) a la; listed = s .pre .1 .1 a la },
+            (observations-fit m T O R v (h .stored) a la, rewards-fit m T O R v (h .stored) a la),
+          ),
+          ((h .corners-fit, (h .points-fit, h .gains-fit)), h .fits (s .args .p .now) (s .pre .1 .0 .light) a la),
         ),
       ),
     )
 
 few : (c : tie.In-loop Inv-loop μ-loop) → c .before .loop .a < maxActions
-few c = omega (arith, c .loop-test .taken, c .before .before .before .before .before .before .before .pre .0 .valid .few-actions)
+few c = omega (arith, c .loop-test .taken, c .before .before .before .before .before .before .before .before .pre .0 .valid .few-actions)
 
 loop-again : tie.Need-loop-again Inv-loop μ-loop
 loop-again c = (
@@ -46,7 +49,7 @@ loop-again c = (
 )
 
 returns : tie.Need-returns Inv-loop μ-loop
-returns c = let e : c .before .loop .a ≡ c .before .before .before .before .before .before .before .args .c .actions = omega arith in rw e at
+returns c = let e : c .before .loop .a ≡ c .before .before .before .before .before .before .before .before .args .c .actions = omega arith in rw e at
     (c .before .loop .inv .1)
 
 pub backups-at-spec : {M : Type 1} → statement M

@@ -15,7 +15,7 @@ abbrev start : tie.After-struct-known → tie.Start
 start c = c .before .before .before .before .before .before .before .before .before .before .before .before .before .before
 
 abbrev of-slices : tie.After-offer-arg10 → tie.Start
-of-slices c = start (c .before .before .before .before .before .before .before .before .before .before)
+of-slices c = start (c .before .before .before .before .before .before .before .before .before .before .before)
 
 abbrev of-counts : tie.After-shared-slice-known10 → tie.Start
 of-counts c = of-slices (c .before .before)
@@ -57,7 +57,7 @@ certifier s =
 
 abbrev certified : tie.After-offer → Lent
 certified c =
-    let l = c .offer .last .1 .1 .1 .1 in
+    let l = c .offer .last .1 .1 .1 .1 .1 in
     lent (l .0)
     (cells (l .1 .0) (l .1 .1 .0) (l .1 .1 .1 .0) (l .1 .1 .1 .1 .0) (l .1 .1 .1 .1 .1 .0) (l .1 .1 .1 .1 .1 .1 .0) (l .1 .1 .1 .1 .1 .1 .1 .0))
     (rows (l .1 .1 .1 .1 .1 .1 .1 .1 .0) (l .1 .1 .1 .1 .1 .1 .1 .1 .1 .0))
@@ -126,7 +126,7 @@ offer-block-spec =
     tie.close (tie.spec
     (λ c. choices-few (start c)) (λ c. entries-few (start c)) (λ c. weights-few (start c))
     (λ c. in-actions (start c) .start) (λ c. in-choices (start c) .start) (λ c. in-entries (start c) .start)
-    (λ c. in-corners (start c) .start) (λ c. in-weights (start c) .start) (λ c. in-values (start c) .start)
+    (λ c. in-corners (start c) .start) (λ c. in-weights (start c) .start) (λ c. in-values (start c) .start) (λ c. search needs)
     (λ c. in-counts (of-slices c) .0) (λ c. in-counts (of-slices (c .before)) .1 .0)
     (λ c. in-counts (of-slices (c .before)) .0) (λ c. in-counts (of-counts c) .1 .1)
     (λ c. in-actions (of-counts c) .end) (λ c. in-actions (of-counts c) .ordered) (λ c. in-actions (of-counts c) .ordered)
@@ -139,9 +139,9 @@ offer-block-spec =
     (λ c. in-corners (of-corners c) .ordered) (λ c. in-corners (of-corners c) .within) (λ c. in-weights (of-weights c) .end)
     (λ c. in-weights (of-weights c) .byte) (λ c. in-weights (of-weights c) .ordered) (λ c. in-weights (of-weights c) .ordered)
     (λ c. in-weights (of-weights c) .within) (λ c. in-values (of-values c) .end) (λ c. in-values (of-values c) .byte) (λ c. in-values (of-values c) .ordered)
-    (λ c. in-values (of-values c) .ordered) (λ c. in-values (of-values c) .within) (λ c κs. search needs) (λ c. of-offer c .offer .kept .1 .1 .1 .1 .0)
-    (λ c. of-offer c .offer .kept .1 .1 .1 .1 .1 .0) (λ c. of-offer c .offer .kept .1 .1 .1 .1 .1 .1 .0)
-    (λ c. of-offer c .offer .kept .1 .1 .1 .1 .1 .1 .1 .0) (λ c. of-offer c .offer .kept .1 .1 .1 .1 .1 .1 .1 .1 .0)
-    (λ c. of-offer c .offer .kept .1 .1 .1 .1 .1 .1 .1 .1 .1 .0) (λ c. of-offer c .offer .kept .1 .1 .1 .1 .1 .1 .1 .1 .1 .1 .0)
-    (λ c. of-offer c .offer .kept .1 .1 .1 .1 .1 .1 .1 .1 .1 .1 .1 .0) (λ c. of-offer c .offer .kept .1 .1 .1 .1 .1 .1 .1 .1 .1 .1 .1 .1 .0)
-    (λ c. of-offer c .offer .kept .1 .1 .1 .1 .1 .1 .1 .1 .1 .1 .1 .1 .1 .0) returns)
+    (λ c. in-values (of-values c) .ordered) (λ c. in-values (of-values c) .within) (λ c κs. search needs) (λ c. of-offer c .offer .kept .1 .1 .1 .1 .1 .0)
+    (λ c. of-offer c .offer .kept .1 .1 .1 .1 .1 .1 .0) (λ c. of-offer c .offer .kept .1 .1 .1 .1 .1 .1 .1 .0)
+    (λ c. of-offer c .offer .kept .1 .1 .1 .1 .1 .1 .1 .1 .0) (λ c. of-offer c .offer .kept .1 .1 .1 .1 .1 .1 .1 .1 .1 .0)
+    (λ c. of-offer c .offer .kept .1 .1 .1 .1 .1 .1 .1 .1 .1 .1 .0) (λ c. of-offer c .offer .kept .1 .1 .1 .1 .1 .1 .1 .1 .1 .1 .1 .0)
+    (λ c. of-offer c .offer .kept .1 .1 .1 .1 .1 .1 .1 .1 .1 .1 .1 .1 .0) (λ c. of-offer c .offer .kept .1 .1 .1 .1 .1 .1 .1 .1 .1 .1 .1 .1 .1 .0)
+    (λ c. of-offer c .offer .kept .1 .1 .1 .1 .1 .1 .1 .1 .1 .1 .1 .1 .1 .1 .0) returns)

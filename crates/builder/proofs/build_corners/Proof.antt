@@ -10,29 +10,29 @@ use Rattle.builder.proofs.build_corners.Statement.{statement}
 use Rattle.builder.proofs.build_corners.Tie as tie
 
 abbrev Inv-loop : tie.InvT-loop
-Inv-loop T O R corners weights values c points least₀ n gains s₀ least s =
+Inv-loop T list O R corners weights values c points least₀ n gains s₀ least s =
     (s ≤ c .states)
     × (least ≡ laid s (λ i. leastValue (modelIn c T O R) (roofIn (c .states) corners points weights values) (corner-weight i)) least₀)
 
 abbrev μ-loop : tie.MeasureT-loop
-μ-loop T O R corners weights values c points least₀ n gains s₀ least s = c .states - s
+μ-loop T list O R corners weights values c points least₀ n gains s₀ least s = c .states - s
 
 -- from each place to the one before it
 abbrev start : tie.In-loop Inv-loop μ-loop → tie.Start Inv-loop μ-loop
-start k = k .before .before .before .before .before .before
+start k = k .before .before .before .before .before .before .before
 
 abbrev of-least : tie.After-least-of Inv-loop μ-loop → tie.In-loop Inv-loop μ-loop
 of-least c = c .before .before .before .before .before .before
 
 gains-requires : tie.Need-gains-requires Inv-loop μ-loop
-gains-requires c κs = let h = c .before .before .before .pre .0 in (h .valid .few-states, (corners-fit h, (points-fit h, values-fit h)))
+gains-requires c κs = let h = c .before .before .before .before .pre .0 in (h .valid .few-states, (corners-fit h, (points-fit h, values-fit h)))
 
 below : (k : tie.In-loop Inv-loop μ-loop) → k .before .loop .s < maxStates
 below k = omega (arith, k .loop-test .taken, start k .pre .0 .valid .few-states)
 
 -- there is room for the turn's corner
 room : (k : tie.In-loop Inv-loop μ-loop) → k .before .loop .s < length (start k .args .least .now)
-room k = omega (arith, k .loop-test .taken, start k .pre .1)
+room k = omega (arith, k .loop-test .taken, start k .pre .1 .0)
 
 gains-long : tie.Need-slice-aggregate-backups-at Inv-loop μ-loop
 gains-long c =
@@ -46,7 +46,8 @@ backups-at-requires : tie.Need-backups-at-requires Inv-loop μ-loop
 backups-at-requires c κs =
     let k = c .before .before .before in
     let h = start k .pre .0 in
-    (roof-holds h (k .before .before .gains .ensures), corner-light (c .before .before .corner-weights .ensures) (k .loop-test .taken) (h .valid .few-states))
+    let light = corner-light (c .before .before .corner-weights .ensures) (k .loop-test .taken) (h .valid .few-states) in
+    (roof-holds h (k .before .before .gains .ensures), (light, start k .pre .1 .1))
 
 long : tie.Need-slice-aggregate-least-of Inv-loop μ-loop
 long c =
@@ -78,11 +79,12 @@ slice-set c =
     omega (arith, laid-long _ _ _ (l .before .loop .inv .1) (omega (arith, room l)), room l)
 
 same-length : tie.Need-same-length Inv-loop μ-loop
-same-length c = laid-long _ _ _ (c .before .loop .inv .1) (omega (arith, c .before .loop .inv .0, c .before .before .before .before .before .before .pre .1))
+same-length c = laid-long _ _ _ (c .before .loop .inv .1)
+    (omega (arith, c .before .loop .inv .0, c .before .before .before .before .before .before .before .pre .1 .0))
 
 returns : tie.Need-returns Inv-loop μ-loop
 returns c =
-    let e : c .before .loop .s ≡ c .before .before .before .before .before .before .args .c .states = omega
+    let e : c .before .loop .s ≡ c .before .before .before .before .before .before .before .args .c .states = omega
     (arith, c .loop-test .left, c .before .loop .inv .0) in
     rw e at (c .before .loop .inv .1)
 

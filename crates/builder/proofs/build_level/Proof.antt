@@ -9,7 +9,7 @@ use Rattle.builder.proofs.build_level.Tie as tie
 
 -- places of the code, each from one after it
 abbrev begun : tie.After-build-vectors-arg4 → tie.Start
-begun c = c .before .before .before .before .before .before .before .before .before .before .before .before
+begun c = c .before .before .before .before .before .before .before .before .before .before .before .before .before
 
 abbrev vectors-made : tie.After-build-corners-arg → tie.After-build-vectors
 vectors-made c = c .before .before .before .before .before .before .before .before
@@ -26,7 +26,7 @@ tables c = let a = c .args in tablesIn (a .c) (a .transition .now) (a .observati
 
 -- they are long enough
 fit : (c : tie.Start) → Complete (tables c) (lentFor (c .args .c .states + c .args .count) (c .args .count) (lent c))
-fit c = complete-true _ _ (c .pre .1 .1 .1)
+fit c = complete-true _ _ (c .pre .1 .1 .1 .0)
 
 build-vectors-requires : tie.Need-build-vectors-requires
 build-vectors-requires c κs =
@@ -35,18 +35,21 @@ build-vectors-requires c κs =
     let p = s .pre .1 .1 .0 in
     let r = f .read in (
       s .pre .0,
-      ((p .0, r .weights), (p .1, record { actions-fit = r .actions; choices-fit = f .choices; masks-fit = r .masks; entries-fit = r .entries })),
+      (
+        (p .0, r .weights),
+        (p .1, (record { actions-fit = r .actions; choices-fit = f .choices; masks-fit = r .masks; entries-fit = r .entries }, s .pre .1 .1 .1 .1)),
+      ),
     )
 
 build-corners-requires : tie.Need-build-corners-requires
-build-corners-requires c κs = let s = begun (vectors-made c .before) in (s .pre .1 .0, fit s .read .corners)
+build-corners-requires c κs = let s = begun (vectors-made c .before) in (s .pre .1 .0, (fit s .read .corners, s .pre .1 .1 .1 .1))
 
 build-values-requires : tie.Need-build-values-requires
 build-values-requires c κs =
     let s = begun (vectors-made (corners-made c .before) .before) in
     let f = fit s in
     let p = s .pre .1 .1 .0 in
-    (s .pre .1 .0, ((p .0, f .read .weights), (p .1, f .read .values)))
+    (s .pre .1 .0, ((p .0, f .read .weights), (p .1, (f .read .values, s .pre .1 .1 .1 .1))))
 
 returns : tie.Need-returns
 returns c =

@@ -10,29 +10,29 @@ use Rattle.builder.proofs.build_values.Statement.{statement}
 use Rattle.builder.proofs.build_values.Tie as tie
 
 abbrev Inv-loop : tie.InvT-loop
-Inv-loop T O R corners weights values given c points count least₀ n gains i₀ least i =
+Inv-loop T list O R corners weights values given c points count least₀ n gains i₀ least i =
     (i ≤ count)
     × (least ≡ laid i (λ j. leastValue (modelIn c T O R) (roofIn (c .states) corners points weights values) (pointIn (c .states) given j)) least₀)
 
 abbrev μ-loop : tie.MeasureT-loop
-μ-loop T O R corners weights values given c points count least₀ n gains i₀ least i = count - i
+μ-loop T list O R corners weights values given c points count least₀ n gains i₀ least i = count - i
 
 -- from each place to the one before it
 abbrev start : tie.In-loop Inv-loop μ-loop → tie.Start Inv-loop μ-loop
-start k = k .before .before .before .before .before .before .before
+start k = k .before .before .before .before .before .before .before .before
 
 abbrev of-least : tie.After-least-of Inv-loop μ-loop → tie.In-loop Inv-loop μ-loop
 of-least c = c .before .before .before .before .before .before
 
 gains-requires : tie.Need-gains-requires Inv-loop μ-loop
-gains-requires c κs = let h = c .before .before .before .before .pre .0 in (h .valid .few-states, (corners-fit h, (points-fit h, values-fit h)))
+gains-requires c κs = let h = c .before .before .before .before .before .pre .0 in (h .valid .few-states, (corners-fit h, (points-fit h, values-fit h)))
 
 below : (k : tie.In-loop Inv-loop μ-loop) → k .before .loop .i < maxBuilt
 below k = omega (arith, k .loop-test .taken, start k .pre .1 .0 .0)
 
 -- there is room for the turn's value
 room : (k : tie.In-loop Inv-loop μ-loop) → k .before .loop .i < length (start k .args .least .now)
-room k = omega (arith, k .loop-test .taken, start k .pre .1 .1 .1)
+room k = omega (arith, k .loop-test .taken, start k .pre .1 .1 .1 .0)
 
 point-weights-requires : tie.Need-point-weights-requires Inv-loop μ-loop
 point-weights-requires k κs =
@@ -57,8 +57,11 @@ backups-at-requires c κs =
     let k = c .before .before .before in
     let s = start k in (
       roof-holds (s .pre .0) (k .before .before .gains .ensures),
-      point-light (s .args .c .states) (s .args .given .now) (k .before .loop .i) (c .before .before .point-weights .ensures) (s .pre .0 .valid .few-states)
-          (s .pre .1 .1 .0 (k .before .loop .i) (k .loop-test .taken)),
+      (
+        point-light (s .args .c .states) (s .args .given .now) (k .before .loop .i) (c .before .before .point-weights .ensures) (s .pre .0 .valid .few-states)
+            (s .pre .1 .1 .0 (k .before .loop .i) (k .loop-test .taken)),
+        s .pre .1 .1 .1 .1,
+      ),
     )
 
 long : tie.Need-slice-aggregate-least-of Inv-loop μ-loop
@@ -93,11 +96,11 @@ slice-set c =
 
 same-length : tie.Need-same-length Inv-loop μ-loop
 same-length c = laid-long _ _ _ (c .before .loop .inv .1)
-    (omega (arith, c .before .loop .inv .0, c .before .before .before .before .before .before .before .pre .1 .1 .1))
+    (omega (arith, c .before .loop .inv .0, c .before .before .before .before .before .before .before .before .pre .1 .1 .1 .0))
 
 returns : tie.Need-returns Inv-loop μ-loop
 returns c =
-    let e : c .before .loop .i ≡ c .before .before .before .before .before .before .before .args .count = omega
+    let e : c .before .loop .i ≡ c .before .before .before .before .before .before .before .before .args .count = omega
     (arith, c .loop-test .left, c .before .loop .inv .0) in
     rw e at (c .before .loop .inv .1)
 

@@ -17,17 +17,17 @@ abbrev W : Counts → List ℕ → List ℕ → List ℤ → List ℕ → List �
 W c T O R covered standing weights vectors points = built (modelIn c T O R) (uponIn c vectors covered standing) points (pointIn (c .states) weights)
 
 abbrev Inv-loop : tie.InvT-loop
-Inv-loop T O R covered standing weights c vectors points actions₀ choices₀ masks₀ entries₀ n k count all v₀ actions choices masks entries v =
+Inv-loop T list O R covered standing weights c vectors points actions₀ choices₀ masks₀ entries₀ n k count all v₀ actions choices masks entries v =
     (v ≤ c .states + points)
     × Filled (c .states) (c .observations) (W c T O R covered standing weights vectors points) v actions₀ choices₀ masks₀ entries₀ actions choices masks entries
 
 abbrev μ-loop : tie.MeasureT-loop
-μ-loop T O R covered standing weights c vectors points actions₀ choices₀ masks₀ entries₀ n k count all v₀ actions choices masks entries v =
+μ-loop T list O R covered standing weights c vectors points actions₀ choices₀ masks₀ entries₀ n k count all v₀ actions choices masks entries v =
     c .states + points - v
 
 -- from each place to the one before it
 abbrev start : tie.At-loop Inv-loop μ-loop → tie.Start Inv-loop μ-loop
-start c = c .before .before .before .before .before .before .before .before .before
+start c = c .before .before .before .before .before .before .before .before .before .before
 
 abbrev of-best : tie.After-best-candidate Inv-loop μ-loop → tie.In-loop Inv-loop μ-loop
 of-best c = c .before .before .before
@@ -42,11 +42,11 @@ abbrev of-entries : tie.After-paste-i64-arg Inv-loop μ-loop → tie.After-best-
 of-entries c = of-choices (c .before .before .before .before .before .before)
 
 add-count : tie.Need-add-count Inv-loop μ-loop
-add-count c = let p = c .before .before .before .before .before .before .before .pre in omega (arith, p .0 .valid .few-states, p .1 .0 .0)
+add-count c = let p = c .before .before .before .before .before .before .before .before .pre in omega (arith, p .0 .valid .few-states, p .1 .0 .0)
 
 all-requires : tie.Need-all-requires Inv-loop μ-loop
 all-requires c κs =
-    let v = c .before .before .before .before .before .before .before .pre .0 .valid in
+    let v = c .before .before .before .before .before .before .before .before .pre .0 .valid in
     (omega (arith, v .some-states), omega (arith, v .few-states))
 
 below : (c : tie.In-loop Inv-loop μ-loop) → c .before .loop .v < maxVectors
@@ -67,11 +67,14 @@ best-candidate-requires c κs =
     let a = s .args in
     let made = c .before .seed-weights .ensures in (
       s .pre .0,
-      record {
-        long = omega (arith, made .1, s .pre .0 .valid .few-states);
-        light = rw (total-cong (a .c .states) _ _ (made .0))
-            (seed-light (a .c .states) (a .points) (pointIn (a .c .states) (a .weights .now)) (s .pre .1 .1 .0) (i .before .loop .v) (i .loop-test .taken));
-      },
+      (
+        record {
+          long = omega (arith, made .1, s .pre .0 .valid .few-states);
+          light = rw (total-cong (a .c .states) _ _ (made .0))
+              (seed-light (a .c .states) (a .points) (pointIn (a .c .states) (a .weights .now)) (s .pre .1 .1 .0) (i .before .loop .v) (i .loop-test .taken));
+        },
+        s .pre .1 .1 .1 .1,
+      ),
     )
 
 -- the best candidate is the turn's vector of the built level
@@ -94,7 +97,7 @@ room : (c : tie.After-best-candidate Inv-loop μ-loop)
     Room (m .states) (m .observations) (l .loop .v) (l .loop .actions) (l .loop .choices) (l .loop .masks) (l .loop .entries)
 room c =
     let i = of-best c in
-    rows-room _ _ _ (start (i .before) .pre .1 .1 .1) (i .before .loop .inv .1) (i .loop-test .taken)
+    rows-room _ _ _ (start (i .before) .pre .1 .1 .1 .0) (i .before .loop .inv .1) (i .loop-test .taken)
 
 start-requires : tie.Need-start-requires Inv-loop μ-loop
 start-requires c κs =
@@ -125,7 +128,7 @@ loop-again c =
     let l = i .before in
     let p = start l .pre in (
       omega (arith, i .loop-test .taken),
-      filled-more _ _ _ (p .1 .1 .1) (l .loop .inv .1) (i .loop-test .taken) (made b) (p .0 .valid .few-observations) (p .0 .valid .few-states)
+      filled-more _ _ _ (p .1 .1 .1 .0) (l .loop .inv .1) (i .loop-test .taken) (made b) (p .0 .valid .few-observations) (p .0 .valid .few-states)
           (c .before .before .before .before .before .before .before .before .before .before .before .number .ensures) (l .before .all .ensures)
           (rw (c .before .before .before .before .before .before .before .before .before .start .ensures) at
           (c .before .before .before .before .before .before .before .paste-u16 .ensures))
@@ -137,7 +140,7 @@ long : (c : tie.After-loop Inv-loop μ-loop)
     → let a = start (c .before) .args in
     let l = c .before .loop in
     VectorsAsLong (a .actions .now) (a .choices .now) (a .masks .now) (a .entries .now) (l .actions) (l .choices) (l .masks) (l .entries)
-long c = filled-long _ _ _ (start (c .before) .pre .1 .1 .1) (c .before .loop .inv .1) (c .before .loop .inv .0)
+long c = filled-long _ _ _ (start (c .before) .pre .1 .1 .1 .0) (c .before .loop .inv .1) (c .before .loop .inv .0)
 
 returns : tie.Need-returns Inv-loop μ-loop
 returns c =

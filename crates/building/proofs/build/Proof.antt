@@ -1,7 +1,10 @@
-use Rattle.integers.proofs.Kit.{_≡_, _∙_, ap, sym, List, [], ℕ, arith, needs}
+use Rattle.integers.proofs.Kit.{_≡_, _∙_, ap, sym, true, false≢true, not-false, not-true, List, [], ℕ, arith, needs}
 use Rattle.tables.specs.declared.Tables.{Tables}
 use Rattle.tables.specs.declared.Verdict.the-variants.{Fine}
 use Rattle.tables.specs.Storage.{modelOf, tablesIn}
+use Rattle.tables.proofs.Refusals.{breaks, passes}
+use Rattle.columns.specs.Columns.{listHolds}
+use Rattle.lists.proofs.Fitting.{list-listed}
 use Rattle.plans.specs.Level.{Level}
 use Rattle.plans.specs.Build.{built}
 use Rattle.plans.proofs.Built.{shaped-mono}
@@ -11,13 +14,16 @@ use Rattle.runs.specs.State.{buildVerdict, builtFrom, builtOf}
 use Rattle.runs.proofs.Demand3.{build-demand}
 use Rattle.candidates.specs.Steps.{topBuilt}
 use Rattle.builder.proofs.Levels.{upon-lent, roofed-lent, built-read}
-use Rattle.building.proofs.Buildable.{Buildable, buildable, built-refused, built-fine}
+use Rattle.building.proofs.Buildable.{Buildable, left-passes, left-breaks, buildable, built-refused, built-fine}
 use Rattle.building.proofs.build.Statement.{statement}
 use Rattle.building.proofs.build.Tie as tie
 
 -- from each place to the one before it
+abbrev begun : tie.After-holds → tie.Start
+begun c = c .before .before .before .before .before .before .before .before .before .before .before .before
+
 abbrev start : tie.After-judge-build → tie.Start
-start c = c .before .before .before .before .before .before .before .before .before .before .before
+start c = begun (c .before .before)
 
 abbrev of-verdict : tie.After-enum-told → tie.After-judge-build
 of-verdict c = c .before .before
@@ -43,6 +49,10 @@ answer c =
     let a = c .args in
     cells (a .newactions .now) (a .newchoices .now) (a .newmasks .now) (a .newentries .now) (a .newcorners .now) (a .given .now) (a .newvalues .now)
 
+-- the list that is handed in has been tested
+listed : (c : tie.Else1) → let s = begun (c .before) in listHolds (tables s) (s .args .list .now) ≡ true
+listed c = sym (c .before .holds .ensures) ∙ not-false _ (c .if1 .left)
+
 said : (c : tie.After-judge-build) (choices : List ℕ)
     → let s = start c in c .judge-build .result ≡ buildVerdict (tables s) (certifier s choices) (s .args .count) (answer s)
 unfolding buildVerdict
@@ -64,7 +74,7 @@ level s choices = levelOf (tables s) (standingIn (certifier s choices))
 -- what is left in the slices
 abbrev left : (s : tie.Start) → tie.After-build-level → Cells
 left s c =
-    let l = c .build-level .last .1 .1 .1 .1 .1 .1 .1 .1 .1 .1 .1 .1 .1 in
+    let l = c .build-level .last .1 .1 .1 .1 .1 .1 .1 .1 .1 .1 .1 .1 .1 .1 in
     cells (l .0) (l .1 .0) (l .1 .1 .0) (l .1 .1 .1 .0) (l .1 .1 .1 .1 .0) (s .args .given .now) (l .1 .1 .1 .1 .1 .0)
 
 laid : (c : tie.After-build-level) (choices : List ℕ) → let s = start (of-verdict (of-standing c .before)) in
@@ -81,12 +91,27 @@ laid c choices =
 
 returns : tie.Need-returns
 returns c =
+    let s = begun (c .before) in
+    let unlisted = sym (c .before .holds .ensures) ∙ not-true _ (c .if1 .taken) in (
+      λ choices. breaks _ unlisted,
+      (
+        λ choices. left-breaks 7 0 (builtOf (tables s) (certifier s choices) (s .args .count) (answer s)) unlisted,
+        λ choices m₀ x es accepted is few some points holds. absurd (false≢true (sym unlisted ∙ holds)),
+      ),
+    )
+
+returns-2 : tie.Need-returns-2
+returns-2 c =
     let j = c .before .before in
     let s = start j in
     let same : (choices : List ℕ) → answer s ≡ builtOf (tables s) (certifier s choices) (s .args .count) (answer s) =
     λ choices. built-refused (tables s) (certifier s choices) (s .args .count) (answer s) (said j choices) (c .enum-told2 .given .1) in (
-      said j,
-      (same, λ choices. build-demand (tables s) (certifier s choices) (s .args .count) (answer s) _ (answer s) (said j choices) (same choices)),
+      λ choices. passes 7 0 (listed (j .before)) (said j choices),
+      (
+        λ choices. left-passes 7 0 (answer s) (listed (j .before)) (same choices),
+        λ choices m₀ x es accepted is few some points holds. build-demand (tables s) (certifier s choices) (s .args .count) (answer s) _ (answer s)
+            (said j choices) (same choices) m₀ x es accepted is few some points,
+      ),
     )
 
 standing-in-requires : tie.Need-standing-in-requires
@@ -103,12 +128,12 @@ build-level-requires c κs =
       upon-lent {m = tables s} {l = standingIn (certifier s [])} (st .valid-tables) (st .stored-tables) (st .read) shaped,
       (
         roofed-lent {m = tables s} {l = standingIn (certifier s [])} (st .valid-tables) (st .stored-tables) (st .read) shaped,
-        ((b .few, b .total), b .whole),
+        ((b .few, b .total), (b .whole, list-listed (tables s) (s .args .list .now) (st .valid-tables) (listed (of-verdict (n .before) .before)))),
       ),
     )
 
-returns-2 : tie.Need-returns-2
-returns-2 c =
+returns-3 : tie.Need-returns-3
+returns-3 c =
     let l = of-level c in
     let n = of-standing l in
     let f = n .before in
@@ -116,16 +141,21 @@ returns-2 c =
     let s = start j in
     let made : (choices : List ℕ) → left s l ≡ builtOf (tables s) (certifier s choices) (s .args .count) (answer s) =
     λ choices. built-fine (tables s) (certifier s choices) (s .args .count) (answer s) (said j choices) (f .enum-told .given .1) (laid l choices) in (
-      λ choices. sym (fine f choices),
-      (made, λ choices. build-demand (tables s) (certifier s choices) (s .args .count) (answer s) Fine (left s l) (sym (fine f choices)) (made choices)),
+      λ choices. passes 7 0 (listed (j .before)) (sym (fine f choices)),
+      (
+        λ choices. left-passes 7 0 (answer s) (listed (j .before)) (made choices),
+        λ choices m₀ x es accepted is few some points holds. build-demand (tables s) (certifier s choices) (s .args .count) (answer s) Fine (left s l)
+            (sym (fine f choices)) (made choices) m₀ x es accepted is few some points,
+      ),
     )
 
 pub build-spec : {M : Type 1} → statement M
 build-spec =
-    tie.close (tie.spec (λ c κs. search needs) (λ c. search needs) (λ c. search needs) returns standing-in-requires build-level-requires
-    (λ c. of-level c .build-level .kept .1 .1 .1 .1 .1 .1 .1 .1 .1 .1 .1 .1 .1 .0)
+    tie.close (tie.spec (λ c κs. search needs) returns (λ c κs. search needs) (λ c. search needs) (λ c. search needs) returns-2 standing-in-requires
+    build-level-requires
     (λ c. of-level c .build-level .kept .1 .1 .1 .1 .1 .1 .1 .1 .1 .1 .1 .1 .1 .1 .0)
     (λ c. of-level c .build-level .kept .1 .1 .1 .1 .1 .1 .1 .1 .1 .1 .1 .1 .1 .1 .1 .0)
     (λ c. of-level c .build-level .kept .1 .1 .1 .1 .1 .1 .1 .1 .1 .1 .1 .1 .1 .1 .1 .1 .0)
     (λ c. of-level c .build-level .kept .1 .1 .1 .1 .1 .1 .1 .1 .1 .1 .1 .1 .1 .1 .1 .1 .1 .0)
-    (λ c. of-level c .build-level .kept .1 .1 .1 .1 .1 .1 .1 .1 .1 .1 .1 .1 .1 .1 .1 .1 .1 .1 .0) returns-2)
+    (λ c. of-level c .build-level .kept .1 .1 .1 .1 .1 .1 .1 .1 .1 .1 .1 .1 .1 .1 .1 .1 .1 .1 .0)
+    (λ c. of-level c .build-level .kept .1 .1 .1 .1 .1 .1 .1 .1 .1 .1 .1 .1 .1 .1 .1 .1 .1 .1 .1 .0) returns-3)

@@ -5,15 +5,15 @@ use Rattle.candidates.proofs.best_candidate.Statement.{statement}
 use Rattle.candidates.proofs.best_candidate.Tie as tie
 
 abbrev Inv-loop : tie.InvT-loop
-Inv-loop T O R masks entries p c count n actions action₀ best₀ most₀ a₀ action best most a =
+Inv-loop T list O R masks entries p c count n actions action₀ best₀ most₀ a₀ action best most a =
     ((1 ≤ a) × (a ≤ actions)) × Best-of c T O R masks entries count p a action best (toZ w64 most)
 
 abbrev μ-loop : tie.MeasureT-loop
-μ-loop T O R masks entries p c count n actions action₀ best₀ most₀ a₀ action best most a = actions - a
+μ-loop T list O R masks entries p c count n actions action₀ best₀ most₀ a₀ action best most a = actions - a
 
 -- from each place to the one before it
 abbrev start : tie.After-vector-for Inv-loop μ-loop → tie.Start Inv-loop μ-loop
-start c = c .before .before .before .before .before
+start c = c .before .before .before .before .before .before
 
 abbrev of-product : tie.After-product Inv-loop μ-loop → tie.After-vector-for Inv-loop μ-loop
 of-product c = c .before .before .before
@@ -29,10 +29,13 @@ of-product-2 c = c .before .before .before
 
 asked : (c : tie.Start Inv-loop μ-loop) → let a = c .args in
     Asked (a .c) (a .transition .now) (a .observation .now) (a .reward .now) (a .masks .now) (a .entries .now) (a .count) (a .p .now)
-asked c = record { upon = c .pre .0; light = c .pre .1 }
+asked c = record { upon = c .pre .0; light = c .pre .1 .0 }
 
 vector-for-requires : tie.Need-vector-for-requires Inv-loop μ-loop
-vector-for-requires c κs = let s = c .before .before .before .before in vector-fits (asked s) 0 (s .pre .0 .valid .some-actions)
+vector-for-requires c κs =
+    let s = c .before .before .before .before .before in
+    let some = s .pre .0 .valid .some-actions in
+    vector-fits (asked s) 0 some (s .pre .1 .1 0 some)
 
 first-long : tie.Need-slice-aggregate-product Inv-loop μ-loop
 first-long c = let v = c .before .before in sym (vector-long (asked (start v)) 0 (v .vector-for .ensures))
@@ -50,7 +53,10 @@ loop-holds c =
     )
 
 vector-for-requires-2 : tie.Need-vector-for-requires-2 Inv-loop μ-loop
-vector-for-requires-2 c κs = vector-fits (asked (of-loop (c .before))) (c .before .loop .a) (c .loop-test .taken)
+vector-for-requires-2 c κs =
+    let s = of-loop (c .before) in
+    let a = c .before .loop .a in
+    vector-fits (asked s) a (c .loop-test .taken) (s .pre .1 .1 a (c .loop-test .taken))
 
 next-long : tie.Need-slice-aggregate-product-2 Inv-loop μ-loop
 next-long c = let v = c .before .before in sym (vector-long (asked (of-loop (of-next v))) (of-next v .loop .a) (v .vector-for2 .ensures))

@@ -1,4 +1,4 @@
-use Rattle.integers.proofs.Kit.{sym}
+use Rattle.integers.proofs.Kit.{sym, pos}
 use Rattle.integers.proofs.Lists.{filled-within, padded-length}
 use Rattle.tables.specs.Limits.{maxStates, maxObservations}
 use Rattle.sums.specs.Steps.{foreseenIn, ChosenFit}
@@ -10,7 +10,7 @@ use Rattle.candidates.proofs.vector_for.Tie as tie
 
 -- from each place to the one before it
 abbrev start : tie.After-moved → tie.Start
-start c = c .before .before .before .before .before
+start c = c .before .before .before .before .before .before
 
 abbrev of-chosen : tie.After-choose → tie.After-moved
 of-chosen c = c .before .before
@@ -18,8 +18,11 @@ of-chosen c = c .before .before
 abbrev of-foreseen : tie.After-foreseen → tie.After-choose
 of-foreseen c = c .before .before
 
+abbrev of-backups : tie.After-backups → tie.After-foreseen
+of-backups c = c .before .before
+
 moved-requires : tie.Need-moved-requires
-moved-requires c κs = let p = c .before .before .before .before .pre in ((p .0 .0, p .0 .1 .1 .0), (weights-below (p .1 .1 .0), p .1 .1 .1 .0 .0))
+moved-requires c κs = let p = c .before .before .before .before .before .pre in ((p .0 .0, p .0 .1 .1 .0), (weights-below (p .1 .1 .0), p .1 .1 .1 .0 .0))
 
 moved-long : tie.Need-slice-aggregate-choose
 moved-long c = sym (rw (c .before .moved .ensures) (padded-length 0 maxStates _ _ (start (c .before) .pre .0 .0)))
@@ -30,7 +33,7 @@ choose-requires c κs =
     let fits = p .1 .1 .1 .0 in
     let moved = c .before .moved .ensures in (
       (p .0 .0, (p .0 .1 .0, (p .0 .1 .1 .0, p .1 .0))),
-      (moved-below (p .0 .0) (p .1 .1 .0) (fits .0) moved, (fits .1 .0, (rw moved (p .1 .1 .1 .1 .0), p .1 .1 .1 .1 .1))),
+      (moved-below (p .0 .0) (p .1 .1 .0) (fits .0 .transitions) moved, (fits .1 .0, (rw moved (p .1 .1 .1 .1 .0), p .1 .1 .1 .1 .1))),
     )
 
 chosen-long : tie.Need-slice-aggregate-foreseen
@@ -50,11 +53,11 @@ foreseen-requires c κs =
     let p = start (of-chosen (c .before)) .pre in
     ((p .0 .0, (p .0 .1 .0, p .0 .1 .1 .0)), (p .1 .1 .1 .0 .1 .0, chosen-within (c .before)))
 
-foreseen-long : tie.Need-slice-aggregate-rounded
+foreseen-long : tie.Need-slice-aggregate-backups
 foreseen-long c = sym (rw (c .before .foreseen .ensures) (padded-length _ maxStates _ _ (start (of-chosen (of-foreseen (c .before))) .pre .0 .0)))
 
-rounded-requires : tie.Need-rounded-requires
-rounded-requires c κs =
+backups-requires : tie.Need-backups-requires
+backups-requires c κs =
     let chose = of-foreseen (c .before) in
     let a = start (of-chosen chose) .args in
     let p = start (of-chosen chose) .pre in
@@ -71,13 +74,26 @@ rounded-requires c κs =
       ),
     )
 
+backups-long : tie.Need-slice-aggregate-floored
+backups-long c =
+    let few = start (of-chosen (of-foreseen (of-backups (c .before)))) .pre .0 .0 in
+    sym (rw (c .before .backups .ensures) (padded-length (pos 0) maxStates _ _ few))
+
+floored-requires : tie.Need-floored-requires
+floored-requires c κs =
+    let few = start (of-chosen (of-foreseen (of-backups (c .before)))) .pre .0 .0 in
+    (few, rw (c .before .backups .ensures, padded-length (pos 0) maxStates _ _ few) few)
+
 returns : tie.Need-returns
 returns c =
-    let foresaw = c .before .before in
+    let backed = c .before .before in
+    let foresaw = of-backups backed in
     let chose = of-foreseen foresaw in
     let a = start (of-chosen chose) .args in
     candidate-made (a .c) (a .a .0) (a .transition .now) (a .observation .now) (a .p .now) (a .reward .now) (a .masks .now) (a .entries .now) (a .count)
-    (of-chosen chose .moved .ensures) (chose .choose .ensures) (foresaw .foreseen .ensures) (c .rounded .ensures)
+    (of-chosen chose .moved .ensures) (chose .choose .ensures) (foresaw .foreseen .ensures) (backed .backups .ensures) (c .floored .ensures)
 
 pub vector-for-spec : {M : Type 1} → statement M
-vector-for-spec = tie.close (tie.spec moved-requires moved-long choose-requires chosen-long foreseen-requires foreseen-long rounded-requires returns)
+vector-for-spec =
+    tie.close (tie.spec moved-requires moved-long choose-requires chosen-long foreseen-requires foreseen-long backups-requires backups-long
+    floored-requires returns)

@@ -17,21 +17,21 @@ verdict c T O R corners points weights values offered s =
     unless (coversBackups (modelIn c T O R) (roofIn (c .states) corners points weights values) (corner-weight s) (cornerIn offered s)) 14 s
 
 abbrev Inv-loop : tie.InvT-loop
-Inv-loop T O R corners weights values offered c points n gains s₀ s =
+Inv-loop T list O R corners weights values offered c points n gains s₀ s =
     (s ≤ c .states) × (firstOf s (verdict c T O R corners points weights values offered) ≡ Fine)
 
 abbrev μ-loop : tie.MeasureT-loop
-μ-loop T O R corners weights values offered c points n gains s₀ s = c .states - s
+μ-loop T list O R corners weights values offered c points n gains s₀ s = c .states - s
 
 -- from each place to the one before it
 abbrev start : tie.In-loop Inv-loop μ-loop → tie.Start Inv-loop μ-loop
-start k = k .before .before .before .before .before .before
+start k = k .before .before .before .before .before .before .before
 
 abbrev of-covers : tie.After-covers Inv-loop μ-loop → tie.In-loop Inv-loop μ-loop
 of-covers c = c .before .before .before .before .before .before .before
 
 gains-requires : tie.Need-gains-requires Inv-loop μ-loop
-gains-requires c κs = let h = c .before .before .before .pre .0 in (h .valid .few-states, (corners-fit h, (points-fit h, values-fit h)))
+gains-requires c κs = let h = c .before .before .before .before .pre .0 in (h .valid .few-states, (corners-fit h, (points-fit h, values-fit h)))
 
 below : (k : tie.In-loop Inv-loop μ-loop) → k .before .loop .s < maxStates
 below k = omega (arith, k .loop-test .taken, start k .pre .0 .valid .few-states)
@@ -47,8 +47,10 @@ weights-long c = sym (corner-long (c .before .before .before .before .loop .s) (
 backups-at-requires : tie.Need-backups-at-requires Inv-loop μ-loop
 backups-at-requires c κs =
     let k = c .before .before .before in
-    let h = start k .pre .0 in
-    (roof-holds h (k .before .before .gains .ensures), corner-light (c .before .before .corner-weights .ensures) (k .loop-test .taken) (h .valid .few-states))
+    let h = start k .pre .0 in (
+      roof-holds h (k .before .before .gains .ensures),
+      (corner-light (c .before .before .corner-weights .ensures) (k .loop-test .taken) (h .valid .few-states), start k .pre .1 .1),
+    )
 
 long : tie.Need-slice-aggregate-covers Inv-loop μ-loop
 long c =
@@ -56,7 +58,7 @@ long c =
     sym (backups-long (start k .pre .0) (k .before .before .gains .ensures) _ (c .before .backups-at .ensures))
 
 stored : tie.Need-shared-slice-copy-out-covers Inv-loop μ-loop
-stored c = let k = c .before .before .before .before .before in omega (arith, k .loop-test .taken, start k .pre .1 .long)
+stored c = let k = c .before .before .before .before .before in omega (arith, k .loop-test .taken, start k .pre .1 .0 .long)
 
 covers-requires : tie.Need-covers-requires Inv-loop μ-loop
 covers-requires c κs =
@@ -64,7 +66,7 @@ covers-requires c κs =
     let a = start k in (
       omega (arith, a .pre .0 .valid .few-actions, backups-long (a .pre .0) (k .before .before .gains .ensures) _ (c .before .before .backups-at .ensures)),
       rw (back (getD (a .args .offered .now) (k .before .loop .s) (pos 0)) (c .covers-arg .given))
-          (omega (arith, a .pre .1 .corner (k .before .loop .s) (k .loop-test .taken))),
+          (omega (arith, a .pre .1 .0 .corner (k .before .loop .s) (k .loop-test .taken))),
     )
 
 -- the answer, by the corner's own weights and value
@@ -92,7 +94,7 @@ loop-again c =
 
 returns-2 : tie.Need-returns-2 Inv-loop μ-loop
 unfolding cornersVerdict
-returns-2 c = let e : c .before .loop .s ≡ c .before .before .before .before .before .before .args .c .states = omega arith in sym
+returns-2 c = let e : c .before .loop .s ≡ c .before .before .before .before .before .before .before .args .c .states = omega arith in sym
     (rw e at (c .before .loop .inv .1))
 
 pub corners-hold-spec : {M : Type 1} → statement M

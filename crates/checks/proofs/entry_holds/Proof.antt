@@ -1,4 +1,4 @@
-use Rattle.checks.proofs.Prelude.{_≡_, _∙_, arith, needs, lit<, w64, toZ, ofZ, toZ-ofZ, _·_, answer, K}
+use Rattle.checks.proofs.Prelude.{_≡_, _∙_, arith, lit<, w64, toZ, ofZ, toZ-ofZ, _·_, answer, K}
 use Rattle.checks.proofs.entry_holds.Statement.{statement}
 use Rattle.checks.proofs.entry_holds.Tie as tie
 
@@ -7,11 +7,10 @@ entry : (c : tie.Start) → toZ w64 (ofZ w64 (c .args .entry)) ≡ c .args .entr
 entry c = toZ-ofZ (c .fits .entry)
 
 -- K times the entry
-times : (c : tie.After-scaled) → toZ w64 (ofZ w64 (c .scaled .result)) ≡ K · c .before .before .before .args .entry
+times : (c : tie.After-scaled) → toZ w64 (ofZ w64 (c .scaled .result)) ≡ K · c .before .args .entry
 unfolding K
-times c = answer (c .scaled .ok) (c .scaled .ensures ∙ rw (entry (c .before .before .before)))
+times c = answer (c .scaled .ok) (c .scaled .ensures ∙ rw (entry (c .before)))
 
 pub entry-holds-spec : {M : Type 1} → statement M
 entry-holds-spec =
-    tie.close (tie.spec (λ c κs. search needs) (λ c κs. (lit< tt, rw (entry (c .before .before)) (omega (arith, c .before .before .pre))))
-    (λ c. rw (times c, answer (c .before .backup .ok) (c .before .backup .ensures))))
+    tie.close (tie.spec (λ c κs. (lit< tt, rw (entry c) (omega (arith, c .pre)))) (λ c. rw (times c, toZ-ofZ (c .before .fits .backup))))

@@ -18,21 +18,21 @@ verdict c T O R corners points weights values offered at i =
     15 i
 
 abbrev Inv-loop : tie.InvT-loop
-Inv-loop T O R corners weights values offered at c points count n gains i₀ i =
+Inv-loop T list O R corners weights values offered at c points count n gains i₀ i =
     (i ≤ count) × (firstOf i (verdict c T O R corners points weights values offered at) ≡ Fine)
 
 abbrev μ-loop : tie.MeasureT-loop
-μ-loop T O R corners weights values offered at c points count n gains i₀ i = count - i
+μ-loop T list O R corners weights values offered at c points count n gains i₀ i = count - i
 
 -- from each place to the one before it
 abbrev start : tie.In-loop Inv-loop μ-loop → tie.Start Inv-loop μ-loop
-start k = k .before .before .before .before .before .before .before
+start k = k .before .before .before .before .before .before .before .before
 
 abbrev of-covers : tie.After-covers Inv-loop μ-loop → tie.In-loop Inv-loop μ-loop
 of-covers c = c .before .before .before .before .before .before .before
 
 gains-requires : tie.Need-gains-requires Inv-loop μ-loop
-gains-requires c κs = let h = c .before .before .before .before .pre .0 in (h .valid .few-states, (corners-fit h, (points-fit h, values-fit h)))
+gains-requires c κs = let h = c .before .before .before .before .before .pre .0 in (h .valid .few-states, (corners-fit h, (points-fit h, values-fit h)))
 
 below : (k : tie.In-loop Inv-loop μ-loop) → k .before .loop .i < maxPoints
 below k = omega (arith, k .loop-test .taken, start k .pre .1 .0 .few)
@@ -62,8 +62,11 @@ backups-at-requires c κs =
     let k = c .before .before .before in
     let a = start k in (
       roof-holds (a .pre .0) (k .before .before .gains .ensures),
-      point-light (a .args .c .states) (a .args .offered .now) (k .before .loop .i) (c .before .before .point-weights .ensures) (a .pre .0 .valid .few-states)
-          (a .pre .1 .1 .1 (k .before .loop .i) (k .loop-test .taken)),
+      (
+        point-light (a .args .c .states) (a .args .offered .now) (k .before .loop .i) (c .before .before .point-weights .ensures) (a .pre .0 .valid .few-states)
+            (a .pre .1 .1 .1 .0 (k .before .loop .i) (k .loop-test .taken)),
+        a .pre .1 .1 .1 .1,
+      ),
     )
 
 long : tie.Need-slice-aggregate-covers Inv-loop μ-loop
@@ -111,7 +114,7 @@ loop-again c =
 
 returns-2 : tie.Need-returns-2 Inv-loop μ-loop
 unfolding pointsVerdict
-returns-2 c = let e : c .before .loop .i ≡ c .before .before .before .before .before .before .before .args .count = omega arith in sym
+returns-2 c = let e : c .before .loop .i ≡ c .before .before .before .before .before .before .before .before .args .count = omega arith in sym
     (rw e at (c .before .loop .inv .1))
 
 pub points-hold-spec : {M : Type 1} → statement M

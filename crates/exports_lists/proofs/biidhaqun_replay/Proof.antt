@@ -14,7 +14,7 @@ unfolding replayAnswer
 returns c =
     let a = called c .replay .ensures in (
       rw (c .refusal-of .ensures) (ap replayBy (a .0)),
-      (a .1 .0, λ x₀ ls o e fine. a .1 .1 x₀ ls o e (rw fine at (ap (λ (r : Replayed). r .verdict) (a .0)))),
+      (a .1 .0, λ m₀ x₀ es o e fine. a .1 .1 m₀ x₀ es o e (rw fine at (ap (λ (r : Replayed). r .verdict) (a .0)))),
     )
 
 pub biidhaqun-replay-spec : {M : Type 1} → statement M

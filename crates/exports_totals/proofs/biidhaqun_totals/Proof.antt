@@ -1,7 +1,6 @@
-use Rattle.integers.proofs.Kit.{_≡_, _∙_, refl, ap, sym, _<_, _^_, needs, mag}
+use Rattle.integers.proofs.Kit.{refl, ap, _<_, _^_, needs, mag}
 use Rattle.integers.proofs.Words.{back}
 use Rattle.answers.specs.Calls.{totalsBy}
-use Rattle.answers.specs.declared.Totals.{Totals}
 use Rattle.exports_totals.proofs.biidhaqun_totals.Statement.{statement}
 use Rattle.exports_totals.proofs.biidhaqun_totals.Tie as tie
 
@@ -15,10 +14,10 @@ returns c =
     let row : mag (t .result .informed) < 2 ^ 63 = search (needs, t .ok .1 .1 .1 .1 .1 .1 .1) in
     let same = c .before .before .refusal-of .ensures in (
       λ choices. rw (back _ l, back _ u, back _ g, back _ saw, back _ row, same) (ap totalsBy (t .ensures .0 choices)),
-      λ choices x ls o e h b. record {
+      λ choices m₀ x es o e h b. record {
         bounds = t .result;
         answer = rw (back _ l, back _ u, back _ g, back _ saw, back _ row, same) refl;
-        holds = t .ensures .1 choices x ls o e h b;
+        holds = t .ensures .1 choices m₀ x es o e h b;
       },
     )
 

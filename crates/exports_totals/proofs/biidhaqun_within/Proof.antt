@@ -11,10 +11,10 @@ returns c =
     let u : mag (t .result .upper) < 2 ^ 63 = search (needs, t .ok) in
     let same = c .before .refusal-of .ensures in (
       λ choices. rw (back _ l, back _ u, same) (ap totalsWithinBy (t .ensures .0 choices)),
-      λ choices x ls o e h b. record {
+      λ choices m₀ x es o e h b. record {
         within = t .result;
         answer = rw (back _ l, back _ u, same) refl;
-        holds = t .ensures .1 choices x ls o e h b;
+        holds = t .ensures .1 choices m₀ x es o e h b;
       },
     )
 

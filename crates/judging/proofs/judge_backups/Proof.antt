@@ -3,6 +3,8 @@ use Rattle.tables.specs.Limits.{maxVectors}
 use Rattle.tables.specs.declared.Tables.{Tables}
 use Rattle.tables.specs.Storage.{tablesIn}
 use Rattle.levels.specs.Storage.{LentLevel, Lent, cells, rows, lent, lentFor, standingAt}
+use Rattle.columns.specs.Steps.{Lists}
+use Rattle.lists.proofs.Fitting.{list-listed}
 use Rattle.runs.proofs.Judged.{Fitting, fitting}
 use Rattle.backups.proofs.Roofs.{corners-fit, points-fit, values-fit}
 use Rattle.judging.proofs.Offers.{refused-21, refused-13, refused-14, left-15, reaching, judging, standing-roof, offered-roof, offered-shaped}
@@ -10,8 +12,8 @@ use Rattle.judging.proofs.judge_backups.Statement.{statement}
 use Rattle.judging.proofs.judge_backups.Tie as tie
 
 -- from each place to the one before it
-abbrev first : tie.After-shared-slice-known11 → tie.Start
-first c = c .before .before .before .before .before .before .before .before .before .before .before
+abbrev first : tie.After-shared-slice-known12 → tie.Start
+first c = c .before .before .before .before .before .before .before .before .before .before .before .before
 
 abbrev start : tie.After-masks-hold → tie.Start
 start c = first (c .before .before)
@@ -39,13 +41,20 @@ offered c =
     (cells (a .newactions .now) (a .newchoices .now) (a .newmasks .now) (a .newentries .now) (a .newcorners .now) (a .newweights .now) (a .newvalues .now))
 
 known : (c : tie.Start) → Fitting maxVectors (tables c) (certifier c) (offered c)
-known c = fitting maxVectors (tables c) (certifier c) (offered c) (c .pre)
+known c = fitting maxVectors (tables c) (certifier c) (offered c) (c .pre .0)
+
+lists : (c : tie.Start) → Lists (c .args .c) (c .args .transition .now) (c .args .list .now)
+lists c = list-listed (tables c) (c .args .list .now) (known c .standing .valid-tables) (c .pre .1)
 
 stands : (c : tie.After-standing-in) → c .standing-in .result ≡ standingAt (first (c .before) .args .state .now)
 stands c = c .standing-in .ensures
 
 masks-hold-requires : tie.Need-masks-hold-requires
-masks-hold-requires c κs = let s = first (c .before) in reaching (tables s) (certifier s) (offered s) (known s)
+masks-hold-requires c κs =
+    let s = first (c .before) in (
+      reaching (tables s) (certifier s) (offered s) (known s),
+      λ v b. lists s _ (offered-shaped (tables s) (certifier s) (offered s) (known s) .action-in v b),
+    )
 
 returns : tie.Need-returns
 returns c =
@@ -54,7 +63,7 @@ returns c =
     refused-21 (tables s) (certifier s) (offered s) (m .masks-hold .ensures) (c .enum-told2 .given .1)
 
 floors-hold-requires : tie.Need-floors-hold-requires
-floors-hold-requires c κs = let s = start (c .before .before) in judging (tables s) (certifier s) (offered s) (known s)
+floors-hold-requires c κs = let s = start (c .before .before) in (judging (tables s) (certifier s) (offered s) (known s), lists s)
 
 returns-2 : tie.Need-returns-2
 returns-2 c =
@@ -68,8 +77,10 @@ corners-hold-requires : tie.Need-corners-hold-requires
 corners-hold-requires c κs =
     let m = of-floor (c .before .before) in
     let s = start m in
-    rw (stands (m .before))
-    (standing-roof (tables s) (certifier s) (offered s) (known s), corners-fit (offered-roof (tables s) (certifier s) (offered s) (known s)))
+    rw (stands (m .before)) (
+      standing-roof (tables s) (certifier s) (offered s) (known s),
+      (corners-fit (offered-roof (tables s) (certifier s) (offered s) (known s)), lists s),
+    )
 
 returns-3 : tie.Need-returns-3
 returns-3 c =
@@ -87,7 +98,7 @@ points-hold-requires c κs =
     let w = offered-roof (tables s) (certifier s) (offered s) (known s) in
     rw (stands (m .before)) (
       standing-roof (tables s) (certifier s) (offered s) (known s),
-      (points-fit w, (values-fit w, offered-shaped (tables s) (certifier s) (offered s) (known s) .total)),
+      (points-fit w, (values-fit w, (offered-shaped (tables s) (certifier s) (offered s) (known s) .total, lists s))),
     )
 
 returns-4 : tie.Need-returns-4

@@ -1,7 +1,11 @@
 use Rattle.integers.proofs.Kit.{_≡_, _∙_, refl, ap, sym, List, _∷_, ℕ, _+_, arith, needs, drop, ℤ}
 use Rattle.tables.specs.Limits.{maxVectors}
 use Rattle.tables.specs.declared.Tables.{Tables}
+use Rattle.tables.specs.declared.Verdict.{Verdict}
 use Rattle.tables.specs.declared.Verdict.the-variants.{Fine}
+use Rattle.tables.specs.Verdicts.{_before_}
+use Rattle.tables.proofs.Refusals.{before-fine}
+use Rattle.columns.specs.Columns.{handedList}
 use Rattle.tables.specs.Storage.{tablesIn}
 use Rattle.levels.specs.declared.Standing.{Standing}
 use Rattle.levels.specs.Storage.{LentLevel, Lent, stateSize, cells, rows, lent, lentFor, standingAt}
@@ -9,7 +13,7 @@ use Rattle.levels.specs.Judged.{offerVerdict}
 use Rattle.runs.proofs.Judged.{RowsIn, Accepted, accepted}
 use Rattle.rows.specs.Steps.{Ready}
 use Rattle.rows.proofs.Stepped.{ready, seen}
-use Rattle.offering.proofs.Offered.{lays, offered-refused, offered-fine}
+use Rattle.offering.proofs.Offered.{lays, handed-refused, offered-fine}
 use Rattle.offering.proofs.offer.Statement.{statement}
 use Rattle.offering.proofs.offer.Tie as tie
 
@@ -17,7 +21,7 @@ use Rattle.offering.proofs.offer.Tie as tie
 abbrev start : tie.After-judge-offer → tie.Start
 start c =
     let d = c .before .before .before .before .before .before .before .before .before .before .before .before in
-    d .before .before .before .before .before .before .before .before .before .before
+    d .before .before .before .before .before .before .before .before .before .before .before
 
 abbrev of-verdict : tie.After-standing-in-arg → tie.After-judge-offer
 of-verdict c = c .before .before .before
@@ -53,11 +57,19 @@ offered c =
     lentFor (a .vectors) (a .points)
     (cells (a .newactions .now) (a .newchoices .now) (a .newmasks .now) (a .newentries .now) (a .newcorners .now) (a .newweights .now) (a .newvalues .now))
 
-said : (c : tie.After-judge-offer) → let s = start c in c .judge-offer .result ≡ offerVerdict (tables s) (certifier s) (offered s)
+-- the verdict, of which the first part is that on the list
+abbrev onList : tie.Start → Verdict
+onList c = handedList (tables c) (c .args .list .now)
+
+said : (c : tie.After-judge-offer) → let s = start c in c .judge-offer .result ≡ (onList s before offerVerdict (tables s) (certifier s) (offered s))
 said c = c .judge-offer .ensures
 
+both : (c : tie.After-standing-in-arg) → let s = start (of-verdict c) in
+    (onList s ≡ Fine) × (offerVerdict (tables s) (certifier s) (offered s) ≡ Fine)
+both c = before-fine _ _ (sym (said (of-verdict c)) ∙ c .before .enum-told .given .1)
+
 fine : (c : tie.After-standing-in-arg) → let s = start (of-verdict c) in offerVerdict (tables s) (certifier s) (offered s) ≡ Fine
-fine c = sym (said (of-verdict c)) ∙ c .before .enum-told .given .1
+fine c = both c .1
 
 passed : (c : tie.After-standing-in-arg) → let s = start (of-verdict c) in Accepted maxVectors (tables s) (certifier s) (offered s)
 passed c = let s = start (of-verdict c) in accepted maxVectors (tables s) (certifier s) (offered s) (fine c)
@@ -66,7 +78,7 @@ returns : tie.Need-returns
 returns c =
     let j = c .before .before in
     let s = start j in
-    (said j, offered-refused (tables s) (certifier s) (offered s) (said j) (c .enum-told2 .given .1))
+    (said j, handed-refused (tables s) (certifier s) (offered s) (onList s) (sym (said j) ∙ c .enum-told2 .given .1))
 
 standing-in-requires : tie.Need-standing-in-requires
 standing-in-requires c κs = passed c .standing .state-long
@@ -81,8 +93,8 @@ written c =
     c .put-standing .ensures
     ∙ ap (λ (n : ℕ). (n + 1) ∷ s .args .vectors ∷ s .args .points ∷ drop stateSize (s .args .state .now)) (number-is (of-standing c))
 
-add-t51 : tie.Need-add-t51
-add-t51 c = let n = c .before .before in omega (arith, number-is n, passed (n .before) .room)
+add-t52 : tie.Need-add-t52
+add-t52 c = let n = c .before .before in omega (arith, number-is n, passed (n .before) .room)
 
 put-standing-requires : tie.Need-put-standing-requires
 put-standing-requires c κs = passed (c .before .before .before) .standing .state-long
@@ -121,16 +133,16 @@ returns-2 c =
     let g = n .before in
     let j = of-verdict g in
     let s = start j in (
-      sym (fine g),
-      offered-fine (tables s) (certifier s) (offered s) (said j) (g .before .enum-told .given .1)
-          (written p) (l .lay-level .ensures) (c .before .before .step .ensures .0) (c .before .before .step .ensures .1),
+      sym (g .before .enum-told .given .1) ∙ said j,
+      offered-fine (tables s) (certifier s) (offered s) (onList s) (both g .0) (fine g) (written p) (l .lay-level .ensures)
+          (c .before .before .step .ensures .0) (c .before .before .step .ensures .1),
     )
 
 pub offer-spec : {M : Type 1} → statement M
 offer-spec =
     tie.close (tie.spec (λ c κs. search needs) (λ c. search needs) (λ c. search needs) (λ c. refl) (λ c. refl) (λ c. refl)
     (λ c. refl) (λ c. refl) (λ c. refl) (λ c. refl) (λ c. refl) (λ c. refl) (λ c. refl)
-    returns standing-in-requires add-t51 put-standing-requires lay-level-requires step-requires
+    returns standing-in-requires add-t52 put-standing-requires lay-level-requires step-requires
     (λ c. of-state (of-level c) .put-standing .kept .0) (λ c. of-level c .lay-level .kept .1 .1 .0) (λ c. of-level c .lay-level .kept .1 .1 .1 .0)
     (λ c. of-level c .lay-level .kept .1 .1 .1 .1 .0) (λ c. of-level c .lay-level .kept .1 .1 .1 .1 .1 .0)
     (λ c. of-level c .lay-level .kept .1 .1 .1 .1 .1 .1 .0) (λ c. of-level c .lay-level .kept .1 .1 .1 .1 .1 .1 .1 .0)

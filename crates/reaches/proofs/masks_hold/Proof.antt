@@ -23,15 +23,15 @@ verdict c transition observation masks actions choices covering v =
     unless (keeps c transition observation masks choices covering v (getD actions v 0)) 21 v
 
 abbrev Inv-loop : tie.InvT-loop
-Inv-loop transition observation masks actions choices covering c vectors v₀ v =
+Inv-loop transition list observation masks actions choices covering c vectors v₀ v =
     (v ≤ vectors) × (firstOf v (verdict c transition observation masks actions choices covering) ≡ Fine)
 
 abbrev μ-loop : tie.MeasureT-loop
-μ-loop transition observation masks actions choices covering c vectors v₀ v = vectors - v
+μ-loop transition list observation masks actions choices covering c vectors v₀ v = vectors - v
 
 -- the function's start, and a turn that knows its action
 abbrev start : tie.At-loop Inv-loop μ-loop → tie.Start Inv-loop μ-loop
-start c = c .before .before .before .before .before .before .before
+start c = c .before .before .before .before .before .before .before .before
 
 abbrev turn : tie.After-action Inv-loop μ-loop → tie.In-loop Inv-loop μ-loop
 turn c = c .before .before
@@ -45,8 +45,11 @@ acting h {v} l e = rw e (h .acts v l)
 reached-covered-requires : tie.Need-reached-covered-requires Inv-loop μ-loop
 reached-covered-requires c κs =
     let t = turn (c .before) in
-    let h = start (t .before) .pre in
-    ((h .some-states, acting h (t .loop-test .taken) (c .before .action .ensures)), h .chooses (t .before .loop .v) (t .loop-test .taken))
+    let pre = start (t .before) .pre in
+    let h = pre .0 in (
+      (h .some-states, acting h (t .loop-test .taken) (c .before .action .ensures)),
+      (h .chooses (t .before .loop .v) (t .loop-test .taken), rw (c .before .action .ensures) (pre .1 (t .before .loop .v) (t .loop-test .taken))),
+    )
 
 -- the answer, by the vector's own action
 said : (c : tie.After-reached-covered Inv-loop μ-loop)
@@ -85,7 +88,7 @@ returns-2 c =
 pub masks-hold-spec : {M : Type 1} → statement M
 masks-hold-spec =
     tie.close (tie.spec Inv-loop μ-loop (λ c. (omega arith, first-none _))
-    (λ c. omega (arith, c .before .loop-test .taken, start (c .before .before) .pre .actions-long)) (λ c κs. tt)
-    (λ c. omega (arith, start (turn c .before) .pre .chooses (turn c .before .loop .v) (turn c .loop-test .taken) .row))
-    (λ c. omega (arith, turn (c .before) .loop-test .taken, start (turn (c .before) .before) .pre .covering-long))
+    (λ c. omega (arith, c .before .loop-test .taken, start (c .before .before) .pre .0 .actions-long)) (λ c κs. tt)
+    (λ c. omega (arith, start (turn c .before) .pre .0 .chooses (turn c .before .loop .v) (turn c .loop-test .taken) .row))
+    (λ c. omega (arith, turn (c .before) .loop-test .taken, start (turn (c .before) .before) .pre .0 .covering-long))
     reached-covered-requires returns (λ c. search needs) (λ c. search needs) loop-again returns-2)

@@ -20,15 +20,15 @@ asked transition observation masks choices n k v a mask s' =
     || every k (λ o. eqb (observationIn n k observation a s' o) 0 || coveredIn masks (choiceIn k choices v o) s')
 
 abbrev Inv-loop : tie.InvT-loop
-Inv-loop transition observation masks choices n k v a mask to₀ to =
+Inv-loop transition list observation masks choices n k v a mask to₀ to =
     (to ≤ n) × (every to (asked transition observation masks choices n k (v .0) (a .0) mask) ≡ true)
 
 abbrev μ-loop : tie.MeasureT-loop
-μ-loop transition observation masks choices n k v a mask to₀ to = n - to
+μ-loop transition list observation masks choices n k v a mask to₀ to = n - to
 
 -- the function's start
 abbrev start : tie.At-loop Inv-loop μ-loop → tie.Start Inv-loop μ-loop
-start c = c .before .before .before .before .before .before .before
+start c = c .before .before .before .before .before .before .before .before
 
 -- what is asked state by state is the definition
 regrouped : (c : tie.Start Inv-loop μ-loop)
@@ -44,25 +44,28 @@ regrouped c =
 
 chosen-cover-requires : tie.Need-chosen-cover-requires Inv-loop μ-loop
 chosen-cover-requires c κs =
-    let p = c .before .before .before .before .pre in
-    ((p .0 .0, (p .0 .1 .few-states, p .0 .1 .few-observations)), p .1)
+    let p = c .before .before .before .before .before .pre in
+    ((p .0 .0, (p .0 .1 .few-states, p .0 .1 .few-observations)), p .1 .0)
 
 returns : tie.Need-returns Inv-loop μ-loop
 returns c =
-    let a = c .before .before .before .before .before .before .args in
+    let a = c .before .before .before .before .before .before .before .args in
     sym (reached-all (a .n) (a .k) (λ s s'. transitionIn (a .n) (a .transition .now) s (a .a .0) s')
     (observationIn (a .n) (a .k) (a .observation .now) (a .a .0))
     (λ o. coveredIn (a .masks .now) (choiceIn (a .k) (a .choices .now) (a .v .0) o)) (covered (a .mask))
     (sym (c .before .chosen-cover .ensures) ∙ c .if1 .taken))
 
-reached-requires : tie.Need-reached-requires Inv-loop μ-loop
-reached-requires c κs = let p = start (c .before) .pre .0 .1 in ((p .few-states, (p .few-actions, c .loop-test .taken)), p .transitions)
+reached-by-requires : tie.Need-reached-by-requires Inv-loop μ-loop
+reached-by-requires c κs =
+    let pre = start (c .before) .pre in
+    let p = pre .0 .1 in
+    ((p .few-states, (p .few-actions, c .loop-test .taken)), (p .transitions, pre .1 .1))
 
 seen-covered-requires : tie.Need-seen-covered-requires Inv-loop μ-loop
 seen-covered-requires c κs =
     let turn = c .before .before in
     let p = start (turn .before) .pre in
-    ((p .0 .1 .few-states, (p .0 .1 .few-observations, (p .0 .1 .few-actions, turn .loop-test .taken))), (p .0 .1 .observed, p .1))
+    ((p .0 .1 .few-states, (p .0 .1 .few-observations, (p .0 .1 .few-actions, turn .loop-test .taken))), (p .0 .1 .observed, p .1 .0))
 
 -- a state that is reached and not covered refuses
 refuses : {r s : Bool} → r ≡ true → s ≡ false → (not r || s) ≡ false
@@ -73,7 +76,7 @@ returns-2 c =
     let turn = c .before .before .before .before in
     sym (regrouped (start (turn .before))
     ∙ every-not _ _ (turn .before .loop .to) (turn .loop-test .taken)
-    (refuses (sym (c .before .before .before .reached .ensures) ∙ c .before .before .if2 .taken)
+    (refuses (sym (c .before .before .before .reached-by .ensures) ∙ c .before .before .if2 .taken)
     (sym (c .before .seen-covered .ensures) ∙ not-true _ (c .if3 .taken))))
 
 loop-again : tie.Need-loop-again Inv-loop μ-loop
@@ -84,7 +87,7 @@ loop-again c =
       every-more _ _ (turn .loop .inv .1)
           (⊎-elim
           (λ w. rw (sym (w .1 .ensures) ∙ not-false _ (w .2 .left)) (or-true (not (from (a .transition .now) (a .n) (a .a .0) (a .mask) (turn .loop .to)))))
-          (λ w. rw (sym (c .before .reached .ensures) ∙ w .left) refl)
+          (λ w. rw (sym (c .before .reached-by .ensures) ∙ w .left) refl)
           (c .if2 .came)),
     )
 
@@ -95,5 +98,5 @@ returns-3 c =
 
 pub reached-covered-spec : {M : Type 1} → statement M
 reached-covered-spec =
-    tie.close (tie.spec Inv-loop μ-loop chosen-cover-requires returns (λ c. (omega arith, every-none _)) reached-requires seen-covered-requires returns-2
+    tie.close (tie.spec Inv-loop μ-loop chosen-cover-requires returns (λ c. (omega arith, every-none _)) reached-by-requires seen-covered-requires returns-2
     (λ c. search needs) (λ c. search needs) loop-again returns-3)

@@ -11,7 +11,8 @@ use Rattle.tables.proofs.Accepted.{tables-valid}
 use Rattle.plans.specs.Limits.{maxPoints}
 use Rattle.levels.specs.declared.Standing.{Standing}
 use Rattle.levels.specs.Storage.{LentLevel, stateSize, standingAt, cells, lentFor, levelIn, readable, pointIn}
-use Rattle.levels.specs.Judged.{countsHold, actionsExist, isFine, rangesVerdict, weightsVerdict, rowsHold, holdsUpTo}
+use Rattle.tables.specs.Verdicts.{isFine}
+use Rattle.levels.specs.Judged.{countsHold, actionsExist, rangesVerdict, weightsVerdict, rowsHold, holdsUpTo}
 use Rattle.levels.proofs.Over.{Readable, readable-true}
 use Rattle.standing.proofs.Stages.{fails, holds-on, fine, not-fine, counts-few, ranges-read}
 use Rattle.standing.proofs.standing_holds.Statement.{statement}

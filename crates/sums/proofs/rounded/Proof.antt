@@ -1,26 +1,23 @@
-use Rattle.sums.proofs.Prelude.{_-_, _≤_, _≡_, sym, arith, needs, pos, padded, padded-none, padded-turn, answer, maxStates, K}
+use Rattle.sums.proofs.Prelude.{_∙_, sym, ap, needs, pos, maxStates, K}
+use Rattle.integers.proofs.Kit.{ℤ}
 use Rattle.integers.specs.Whole.{floorDiv}
-use Rattle.sums.specs.Steps.{backupIn}
+use Rattle.integers.proofs.Lists.{padded-at, padded-length, padded-cong}
 use Rattle.sums.proofs.rounded.Statement.{statement}
 use Rattle.sums.proofs.rounded.Tie as tie
 
-abbrev Inv-loop : tie.InvT-loop
-Inv-loop transition reward f n g a e₀ s₀ e s =
-    (s ≤ n) × (e ≡ padded (pos 0) maxStates s (λ j. floorDiv (backupIn n g transition reward f (a .0) j) K))
+backups-long : tie.Need-slice-aggregate-floored
+backups-long c = sym (rw (c .before .backups .ensures) (padded-length (pos 0) maxStates _ _ (c .before .before .before .pre .0 .0)))
 
-abbrev μ-loop : tie.MeasureT-loop
-μ-loop transition reward f n g a e₀ s₀ e s = n - s
+floored-requires : tie.Need-floored-requires
+floored-requires c κs =
+    let few = c .before .before .before .pre .0 .0 in
+    (few, rw (c .before .backups .ensures, padded-length (pos 0) maxStates _ _ few) few)
 
-loop-again : tie.Need-loop-again Inv-loop μ-loop
-loop-again c = (
-  search needs,
-  padded-turn _ _ _ _ (c .before .before .loop .inv .1) (answer (c .backed-up .ok) (c .backed-up .ensures)) (omega arith),
-)
-
-returns : tie.Need-returns Inv-loop μ-loop
-returns c = let e : c .before .loop .s ≡ c .before .before .before .args .n = omega arith in rw e at (c .before .loop .inv .1)
+returns : tie.Need-returns
+returns c =
+    c .floored .ensures
+    ∙ padded-cong (pos 0) maxStates _ _ _
+    (λ s l. ap (λ (z : ℤ). floorDiv z K) (rw (c .before .before .backups .ensures) (padded-at (pos 0) maxStates _ _ s (pos 0) l)))
 
 pub rounded-spec : {M : Type 1} → statement M
-rounded-spec =
-    tie.close (tie.spec Inv-loop μ-loop (λ c. (search needs, sym (padded-none _ _ _))) (λ c κs. search needs) (λ c. search needs) (λ c. search needs)
-    (λ c. search needs) (λ c. search needs) loop-again returns)
+rounded-spec = tie.close (tie.spec (λ c κs. search needs) backups-long floored-requires returns)

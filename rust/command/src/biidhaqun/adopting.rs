@@ -54,7 +54,8 @@ pub fn run(path: &Path, files: &[PathBuf], points: &[Weights], asked: &Asked, js
     // What was certified before a refusal is printed too, unless all is to be one JSON object.
     if ended.is_ok() || !(json || lines.is_empty()) {
         let (lines, ranges, inside, levels) = (&lines, &ranges, &inside, &accepted);
-        let certified = Certified { model: &model, named: &named, mixtures: &mixtures, lines, ranges, inside, levels };
+        let (model, named, mixtures, prices) = (&model, &named, &mixtures, None);
+        let certified = Certified { model, named, mixtures, lines, ranges, inside, levels, prices };
         put(&levels::text(&certified, json, plain))?;
     }
     ended

@@ -100,8 +100,8 @@ impl Building {
         Ok(Building { model, named, start, points, mixtures, levels: built.levels.unwrap_or(LEVELS) })
     }
 
-    /// Builds and offers the levels one upon the other, and shows the certifier after each.
-    pub fn climb(&self, mut each: impl FnMut(&Certifier) -> Result<(), Stop>) -> Result<(), Stop> {
+    /// Builds and offers the levels one upon the other, and shows the certifier after each; the last is given back.
+    pub fn climb(&self, mut each: impl FnMut(&Certifier) -> Result<(), Stop>) -> Result<Certifier, Stop> {
         let points = Points { weights: self.points.iter().map(|point| point.weights.clone()).collect() };
         let mut certifier = Certifier::open(&self.model).map_err(|refusal| self.refused(refusal.into()))?;
         let bar = progress(self.levels, "levels");
@@ -111,7 +111,7 @@ impl Building {
             each(&certifier)?;
             bar.inc(1);
         }
-        Ok(())
+        Ok(certifier)
     }
 
     /// What is certified at a mixture.

@@ -58,7 +58,8 @@ pub fn run(path: &Path, offers: &Path, asked: &Asked, json: bool) -> Result<(), 
     }
     drop(bar);
     let (lines, ranges, inside, levels) = (&lines, &ranges, &inside, &accepted);
-    let certified = Certified { model: &model, named: &named, mixtures: &mixtures, lines, ranges, inside, levels };
+    let (model, named, mixtures, prices) = (&model, &named, &mixtures, None);
+    let certified = Certified { model, named, mixtures, lines, ranges, inside, levels, prices };
     put(&levels::text(&certified, json, asked.is_empty()))?;
     match uncounted {
         None => Ok(()),

@@ -1,11 +1,12 @@
 //! `levels`: what is certified at points and mixtures and within ranges, level by level.
 
-use crate::building::{joined, Building, Known};
+use crate::building::{self, joined, Building, Known};
 use crate::stop::{put, Stop};
 use biidhaqun::{Level, Mixture, Model, Refusal, Rule, Totals, TotalsWithin};
 use command::names::{Named, Names};
 use command::options::{Built, Ranges};
 use serde_json::{json, Value};
+use std::path::Path;
 
 /// What was certified: at each level, at each of the mixtures and within each of the ranges asked for.
 pub struct Certified<'a> {
@@ -19,23 +20,48 @@ pub struct Certified<'a> {
     pub inside: &'a [Vec<Option<TotalsWithin>>],
     /// The levels that were accepted.
     pub levels: &'a [Level],
+    /// What is certified after new prices.
+    pub prices: Option<&'a Prices>,
 }
 
-pub fn run(built: &Built, within: &[Ranges], json: bool) -> Result<(), Stop> {
+/// New prices after the last level, and what is certified then.
+pub struct Prices {
+    /// The model file that says them.
+    file: String,
+    at: Vec<Option<Totals>>,
+    inside: Vec<Option<TotalsWithin>>,
+}
+
+pub fn run(built: &Built, within: &[Ranges], prices: Option<&Path>, json: bool) -> Result<(), Stop> {
     let building = Building::of(built, !json)?;
     let ranges = Known::all(within, building.model.shape().states)?;
     let (mut lines, mut inside, mut levels) = (Vec::new(), Vec::new(), Vec::new());
-    building.climb(|certifier| {
+    let mut certifier = building.climb(|certifier| {
         let totals = building.mixtures.iter().map(|mixture| building.totals(certifier, mixture).map(Some));
         lines.push(totals.collect::<Result<_, _>>()?);
         inside.push(ranges.iter().map(|known| known.totals(certifier)).collect::<Result<_, _>>()?);
         levels.push(certifier.standing());
         Ok(())
     })?;
+    let prices = match prices {
+        None => None,
+        Some(path) => {
+            let (new, ..) = building::read(path, !json)?;
+            certifier.reprice(&new).map_err(|refusal| Stop::Refused {
+                refusal,
+                note: format!("{} and {} may differ in their rewards alone", built.file.display(), path.display()),
+            })?;
+            let at = building.mixtures.iter().map(|mixture| building.totals(&certifier, mixture).map(Some));
+            let inside = ranges.iter().map(|known| known.totals(&certifier));
+            let (at, inside) = (at.collect::<Result<_, _>>()?, inside.collect::<Result<_, _>>()?);
+            Some(Prices { file: path.display().to_string(), at, inside })
+        }
+    };
     let Building { model, named, mixtures, .. } = &building;
-    let plain = built.levels.is_none() && built.points.is_empty() && built.mixtures.is_empty() && within.is_empty();
-    let (lines, ranges, inside, levels) = (&lines, &ranges, &inside, &levels);
-    put(&text(&Certified { model, named, mixtures, lines, ranges, inside, levels }, json, plain))
+    let asked = built.levels.is_some() || !built.points.is_empty() || !built.mixtures.is_empty() || !within.is_empty();
+    let plain = !asked && prices.is_none();
+    let (lines, ranges, inside, levels, prices) = (&lines, &ranges, &inside, &levels, prices.as_ref());
+    put(&text(&Certified { model, named, mixtures, lines, ranges, inside, levels, prices }, json, plain))
 }
 
 /// One JSON object, the lines of `ladder`, or tables.
@@ -80,11 +106,14 @@ fn tables(certified: &Certified) -> String {
             "{:>5} {:>12} {:>12} {:>10} {:>14} {:>14}  {:<8}  {}\n",
             "level", "floor", "ceiling", "gap", "lower", "upper", "by", "action"
         ));
-        for (level, totals) in certified.lines.iter().enumerate() {
-            let at = match &totals[number] {
+        let levels =
+            certified.lines.iter().enumerate().map(|(level, totals)| ((level + 1).to_string(), &totals[number]));
+        let new = certified.prices.map(|prices| (NEW.to_string(), &prices.at[number]));
+        for (level, totals) in levels.chain(new) {
+            let at = match totals {
                 Some(at) => at,
                 None => {
-                    text.push_str(&format!("{:>5} no vector counts here\n", level + 1));
+                    text.push_str(&format!("{:>5} no vector counts here\n", level));
                     continue;
                 }
             };
@@ -92,7 +121,7 @@ fn tables(certified: &Certified) -> String {
             let gap = Totals { lower: 0, upper: at.gap, ..*at }.bracket(mixture).ceiling;
             text.push_str(&format!(
                 "{:>5} {:>12} {:>12} {:>10} {:>14} {:>14}  {:<8}  {}\n",
-                level + 1,
+                level,
                 bracket.floor,
                 bracket.ceiling,
                 gap,
@@ -109,18 +138,28 @@ fn tables(certified: &Certified) -> String {
     );
     for (number, known) in certified.ranges.iter().enumerate() {
         text.push_str(&format!("\nwithin {}\n{:>5} {:>14} {:>14}\n", known.text, "level", "lower", "upper"));
-        for (level, totals) in certified.inside.iter().enumerate() {
-            text.push_str(&match &totals[number] {
-                Some(at) => format!("{:>5} {:>14} {:>14}\n", level + 1, at.lower, at.upper),
-                None => format!("{:>5} no vector counts here\n", level + 1),
+        let levels =
+            certified.inside.iter().enumerate().map(|(level, totals)| ((level + 1).to_string(), &totals[number]));
+        let new = certified.prices.map(|prices| (NEW.to_string(), &prices.inside[number]));
+        for (level, totals) in levels.chain(new) {
+            text.push_str(&match totals {
+                Some(at) => format!("{:>5} {:>14} {:>14}\n", level, at.lower, at.upper),
+                None => format!("{:>5} no vector counts here\n", level),
             });
         }
     }
     if !certified.ranges.is_empty() {
         text.push_str("\nwithin ranges, lower, upper: the best plan at each mixture inside earns between the two\n");
     }
+    if let Some(prices) = certified.prices {
+        let last = certified.lines.len();
+        text.push_str(&format!("\n{}: level {} once the rewards of {} are in force\n", NEW, last, prices.file));
+    }
     text
 }
+
+/// What stands in place of a level's number after new prices.
+const NEW: &str = "new";
 
 /// The weights, and which state they are on where names are known.
 fn about(named: &Named, mixture: &Mixture) -> String {
@@ -194,7 +233,7 @@ fn object(certified: &Certified) -> String {
         object
     };
     let shape = certified.model.shape();
-    let object = json!({
+    let mut object = json!({
         "states": shape.states,
         "actions": shape.actions,
         "observations": shape.observations,
@@ -206,6 +245,14 @@ fn object(certified: &Certified) -> String {
         },
         "levels": certified.lines.iter().zip(certified.levels).enumerate().map(level).collect::<Vec<_>>(),
     });
+    if let Some(prices) = certified.prices {
+        let at = certified.mixtures.iter().zip(&prices.at).map(|(mixture, totals)| at(mixture, totals));
+        object["prices"] = json!({ "file": prices.file, "level": certified.lines.len(), "at": at.collect::<Vec<_>>() });
+        if !certified.ranges.is_empty() {
+            let inside = certified.ranges.iter().zip(&prices.inside).map(|(known, totals)| within(known, totals));
+            object["prices"]["within"] = json!(inside.collect::<Vec<_>>());
+        }
+    }
     format!("{:#}\n", object)
 }
 

@@ -23,7 +23,7 @@ fn main() {
     let json = matches!(options.request, Request::Levels { json: true, .. } | Request::Certify { json: true, .. });
     let ended = match options.request {
         Request::Explain { number } => process::exit(explain::run(number)),
-        Request::Levels { built, within, json } => levels::run(&built, &within, json),
+        Request::Levels { built, within, prices, json } => levels::run(&built, &within, prices.as_deref(), json),
         Request::Certify { file, levels, points, at, within, json } => match &levels[..] {
             [levels] if points.is_empty() => certify::run(&file, levels, &Asked { at: &at, within: &within }, json),
             [_] => {

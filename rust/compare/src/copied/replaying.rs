@@ -40,7 +40,7 @@ impl Copied {
         // Only a slip lets a list pass that has fewer counts than offers.
         for at in 0..offers.count.min(offers.vectors.len()) {
             let at = if self.has(Slip::FirstBlockOnly) { 0 } else { at };
-            let ended = self.offered(tables, lent, &self.offer_in(offers, at, n, k));
+            let ended = self.offered(tables, &[], lent, &self.offer_in(offers, at, n, k));
             accepted += usize::from(ended.is_ok() || self.has(Slip::RefusedOfferCounted));
             if ended.is_err() && self.has(Slip::ListStops) {
                 break;

@@ -69,16 +69,11 @@ pub fn run(built: &Built, out: &Path) -> Result<(), Stop> {
         _ => return Err(Stop::Usage("a picture has room for one mixture: give --at once".to_string())),
     };
     let mut over_levels = Vec::new();
-    let mut top = None;
-    building.climb(|certifier| {
+    let certifier = building.climb(|certifier| {
         over_levels.push(sample(&building, certifier, mixture)?);
-        top = Some(certifier.clone());
         Ok(())
     })?;
-    let over_mixtures = match top {
-        Some(certifier) => sampled(&building, &certifier)?,
-        None => Vec::new(),
-    };
+    let over_mixtures = sampled(&building, &certifier)?;
     let mut image = String::new();
     draw(&mut image, &building, mixture, &over_levels, &over_mixtures)
         .map_err(|error| Stop::Ours(format!("the picture cannot be drawn ({})", error)))?;

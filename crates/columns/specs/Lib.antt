@@ -1,0 +1,3 @@
+-- Transitions kept as lists.
+pub mod Columns
+pub mod Steps

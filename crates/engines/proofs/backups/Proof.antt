@@ -1,0 +1,22 @@
+use Rattle.integers.proofs.Kit.{_∙_, arith, needs, pos}
+use Rattle.integers.proofs.Lists.{padded-cong}
+use Rattle.tables.specs.Limits.{maxStates}
+use Rattle.columns.specs.Steps.{Says}
+use Rattle.engines.proofs.Same.{backup-same}
+use Rattle.engines.proofs.backups.Statement.{statement}
+use Rattle.engines.proofs.backups.Tie as tie
+
+-- the list that is there says T
+says : (c : tie.Else1) → let a = c .before .before .before .args in Says (a .n) (a .transition .now) (a .list .now) (a .a .0)
+says c = c .before .before .before .pre .1 .0 .listed (omega (arith, c .if1 .left))
+
+backups-requires-2 : tie.Need-backups-requires-2
+backups-requires-2 c κs = let pre = c .before .before .before .pre in (pre .0, (says c .columns, (pre .1 .1 .0, pre .1 .1 .1)))
+
+returns-2 : tie.Need-returns-2
+returns-2 c =
+    let a = c .before .before .before .before .args in
+    c .backups2 .ensures ∙ padded-cong (pos 0) maxStates (a .n) _ _ (backup-same (says (c .before)) (a .g) (a .reward .now) (a .f .now))
+
+pub backups-spec : {M : Type 1} → statement M
+backups-spec = tie.close (tie.spec (λ c κs. search needs) (λ c. search needs) backups-requires-2 returns-2)

@@ -1,0 +1,2 @@
+-- Two engines of the sums over transitions.
+pub mod Steps

@@ -1,0 +1,2 @@
+-- What lists of transitions promise.
+pub mod Engines

@@ -1,0 +1,2 @@
+-- What the moving of numbers is asked and says.
+pub mod Steps

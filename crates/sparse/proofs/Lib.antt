@@ -1,0 +1,2 @@
+-- Laws of sums over the cells of a column.
+pub mod Cells
