@@ -83,7 +83,7 @@ pub extern "C" fn biidhaqun_open<'a>(
     answers::refusal_of(verdict)
 }
 
-// Offers a level to a certifier, which then stands one level higher.
+// Offers a level to a certifier, which then stands one level higher. A list of the transitions may be lent with the table; of no words, none is meant.
 #[no_mangle]
 pub extern "C" fn biidhaqun_offer<'a, 'b>(
     n: usize,
@@ -164,7 +164,7 @@ pub extern "C" fn biidhaqun_offer<'a, 'b>(
     answers::refusal_of(verdict)
 }
 
-// Builds the next level of a certifier from a count of points, whose weights are the level's own.
+// Builds the next level of a certifier from a count of points, whose weights are the level's own. The list is as for an offer.
 #[no_mangle]
 pub extern "C" fn biidhaqun_build<'a, 'b>(
     n: usize,
