@@ -1,7 +1,7 @@
 /*
  * Biidhaqun: certified floors and ceilings for plans over hidden states.
  *
- * A POMDP with 1 to 16 states, 1 to 8 actions and 1 to 8 observations is held in whole numbers. A certifier opens on it, is
+ * A POMDP with 1 to 64 states, 1 to 8 actions and 1 to 8 observations is held in whole numbers. A certifier opens on it, is
  * offered levels of alpha vectors (a floor) and of corner and point values (a sawtooth ceiling) by anyone, and accepts a
  * level exactly where every backup inequality holds. Beside the level it keeps a ceiling of its own, the fast informed bound,
  * which it steps at each acceptance. From then on its totals at a mixture of the states bracket what the best of all plans
@@ -13,13 +13,14 @@
  * examples/ladder.c is a whole program. The library is for x86-64. It keeps nothing between calls, allocates nothing, and
  * may be called from any thread, as long as no two calls at once are lent the same memory and one of them writes it.
  *
- * What is proved: whatever it is lent, a call ends without fault, answers, and leaves in every slice what the definitions
- * say (specs/ of crates/columns, runs, mixtures, intervals, worths, worth, modelfile, reading, solver, solved, adopting, replay
- * and answers). Where a certifier was opened by biidhaqun_open, its slices were written by biidhaqun_offer, biidhaqun_replay
- * and biidhaqun_reprice alone, whatever they were lent, and each call was lent the tables in force (those of the opening, or
- * the last new ones that were not refused), its totals bracket every plan of these tables wherever they are given. A level
- * that is built upon it, or adopted, is accepted if the certifier's slices have room for it. The inline functions at the end,
- * and what this file says, are not proved.
+ * What is proved: whatever it is lent, a call ends without fault, answers, and leaves in every slice what the definitions say
+ * (specs/ of crates/columns, runs, mixtures, intervals, worths, worth, headers, modelfile, reading, expected, written,
+ * converting, solver, solved, adoption, replay and answers). Where a certifier was opened by biidhaqun_open, its slices were
+ * written by biidhaqun_offer, biidhaqun_replay and biidhaqun_reprice alone, whatever they were lent, and each call was lent
+ * the tables in force (those of the opening, or the last new ones that were not refused), its totals bracket every plan of
+ * these tables wherever they are given. A level that is built upon it, or adopted, is accepted if the certifier's slices have
+ * room for it. What biidhaqun_convert writes is read by biidhaqun_read, with the same T, O, discount and start numbers and
+ * exactly the expected rewards. The inline functions at the end, and what this file says, are not proved.
  *
  * SLICES. What a call is lent are slices: a pointer, and a length in elements. They are packed by the model's counts (n
  * states, m actions, k observations), the last index fastest, and may be longer: what lies behind is neither read nor
@@ -98,7 +99,8 @@
  *    number                           place
  *    1  BIIDHAQUN_FILE_LENGTH         0; a model file, or either of a solver's files
  *    2  BIIDHAQUN_FORM                the bytes before the word; the file's length where a word is missing
- *    3  BIIDHAQUN_LIMIT               in a file the bytes before the word; on tables 0; also: a slice of the tables is short
+ *    3  BIIDHAQUN_LIMIT               in a file the bytes before the word; on tables 0; also, at 0: a slice of the tables is too
+ *                                     short, in biidhaqun_read too, for the counts of the file
  *    4  BIIDHAQUN_START_TOTAL         the file's length
  *    5  BIIDHAQUN_TRANSITION_TOTAL    in a file its length; on tables action x n + state left
  *    6  BIIDHAQUN_OBSERVATION_TOTAL   in a file its length; on tables action x n + state reached
@@ -127,7 +129,10 @@
  *                                     upon
  *   23  BIIDHAQUN_PRICES              0; new tables of which counts, T, O or discount differ
  *   24  BIIDHAQUN_LOW_HIGH            0; a low or a high that is missing counts as 0 here
- *  100  BIIDHAQUN_ROOM                the length that the first short slice of biidhaqun_read needs
+ *   25  BIIDHAQUN_WIDE                0; a model of over 16 states, which is not written
+ *   26  BIIDHAQUN_EXPECTED_REWARD     action x n + state, the first by action, then by state
+ *   27  BIIDHAQUN_OUTPUT              0; an output of less than 32,768 bytes
+ *  100  BIIDHAQUN_ROOM                the length that the start numbers of biidhaqun_read need
  */
 #ifndef BIIDHAQUN_H
 #define BIIDHAQUN_H
@@ -144,13 +149,13 @@ extern "C" {
  * compiled with another one must be compiled anew. The macro is this file's, the function's answer the archive's: compare
  * the two where header and archive may come from different places, before any other call.
  */
-#define BIIDHAQUN_VERSION 5
+#define BIIDHAQUN_VERSION 6
 
 uint64_t biidhaqun_version(void);
 
 /* Limits. */
 enum {
-    BIIDHAQUN_STATES = 16,
+    BIIDHAQUN_STATES = 64,
     BIIDHAQUN_ACTIONS = 8,
     BIIDHAQUN_OBSERVATIONS = 8,
     BIIDHAQUN_VECTORS = 1000,        /* of a level */
@@ -160,7 +165,8 @@ enum {
     BIIDHAQUN_STEPS = 4,
     BIIDHAQUN_ACCEPTED = 100,        /* levels */
     BIIDHAQUN_FILE_BYTES = 32768,    /* of a model file */
-    BIIDHAQUN_LIST_WORDS = 2177,     /* of a list of transitions */
+    BIIDHAQUN_LIST_WORDS = 33281,    /* of a list of transitions */
+    BIIDHAQUN_WRITTEN_STATES = 16,   /* of a model that is written as a model file */
     BIIDHAQUN_SOLVER_BYTES = 4194304 /* of each of a solver's files: 4 MiB */
 };
 
@@ -191,6 +197,9 @@ enum {
     BIIDHAQUN_COUNTING = 22,
     BIIDHAQUN_PRICES = 23,
     BIIDHAQUN_LOW_HIGH = 24,
+    BIIDHAQUN_WIDE = 25,
+    BIIDHAQUN_EXPECTED_REWARD = 26,
+    BIIDHAQUN_OUTPUT = 27,
     BIIDHAQUN_ROOM = 100
 };
 
@@ -202,7 +211,8 @@ static inline const char *biidhaqun_words(uint64_t number)
     case BIIDHAQUN_FILE_LENGTH: return "the model file has more than 32,768 bytes, or one of a solver's files more than "
                                        "4,194,304";
     case BIIDHAQUN_FORM: return "a word of the file does not fit its form, or is missing";
-    case BIIDHAQUN_LIMIT: return "a count, index, start number, probability, discount or reward is outside its limit";
+    case BIIDHAQUN_LIMIT: return "a count, index, start number, probability, discount or reward is outside its limit, or a "
+                                 "slice of the tables is too short";
     case BIIDHAQUN_START_TOTAL: return "the start numbers do not total 1";
     case BIIDHAQUN_TRANSITION_TOTAL: return "a row of T does not total 1";
     case BIIDHAQUN_OBSERVATION_TOTAL: return "a row of O does not total 1";
@@ -230,7 +240,10 @@ static inline const char *biidhaqun_words(uint64_t number)
                                     "upon";
     case BIIDHAQUN_PRICES: return "the new tables differ in counts, T, O or discount";
     case BIIDHAQUN_LOW_HIGH: return "a low is above its high";
-    case BIIDHAQUN_ROOM: return "a slice that the file is read into is too short";
+    case BIIDHAQUN_WIDE: return "the model has over 16 states, and no more are written as a model file";
+    case BIIDHAQUN_EXPECTED_REWARD: return "the expected reward of an action and a state is no whole number of ticks";
+    case BIIDHAQUN_OUTPUT: return "the output that a model file is written into has less than 32,768 bytes";
+    case BIIDHAQUN_ROOM: return "the slice that the start numbers are read into is too short";
     default: return "no such refusal is known";
     }
 }
@@ -249,6 +262,13 @@ struct biidhaqun_reading {
     size_t actions;
     size_t observations;
     uint64_t discount;
+};
+
+/* How a conversion ended, and how many bytes were written. */
+struct biidhaqun_conversion {
+    uint64_t number;
+    size_t place;
+    size_t length;
 };
 
 /* What is certified at a mixture, in ticks times its total weight. */
@@ -304,13 +324,36 @@ struct biidhaqun_value {
 /* ---- the calls, slice by slice; below are shorter ones */
 
 /*
- * Reads a model file. Tests: 1, 2 and 3 word by word, 4, 5, 6, 100. Room is asked for transition, observation, reward and
- * start, in this order.
+ * Reads a model file. Tests: 1, 2 and 3 word by word, 4, 5, 6, 100. Once the three counts are read, and before the start line,
+ * transition, observation and reward must have room for them: 3 at 0. Room for the start numbers is asked for at the end: 100.
  */
 struct biidhaqun_reading biidhaqun_read(
     const uint8_t *file, size_t file_length, uint16_t *transition, size_t transition_length,
     uint16_t *observation, size_t observation_length, int64_t *reward, size_t reward_length,
     uint16_t *start, size_t start_length);
+
+/*
+ * Writes a file whose rewards depend on what follows as a model file that biidhaqun_read takes. The file is a model file with R
+ * statements in full, `R: a : s : s' : o r`, of which each index may be a star for all; later ones supersede outcome by outcome,
+ * and outcomes that none names earn 0. What is written has the same T, O, discount and start numbers, and for each action and
+ * state the expected reward, the sum over s' and o of T x O x r over 1,000,000, with T and O as they stand after the last
+ * statement:
+ *
+ *     discount: 0.900
+ *     values: reward
+ *     states: 2
+ *     actions: 1
+ *     observations: 2
+ *     start: 0.50 0.50
+ *     T: 0 : 0 0.500 0.500          a line for each action and state left
+ *     O: 0 : 0 0.800 0.200          a line for each action and state reached
+ *     R: 0 : 0 : * : * -1.00        a line for each action and state left
+ *
+ * It lies at the front of the output, and what lies behind its length stays. An output of BIIDHAQUN_FILE_BYTES is long enough for
+ * any. Tests: 27, 1, 2 and 3 word by word, 4, 5, 6, 25, 26.
+ */
+struct biidhaqun_conversion biidhaqun_convert(
+    const uint8_t *file, size_t file_length, uint8_t *output, size_t output_length);
 
 /*
  * Opens a certifier: level 0 stands, one vector of zeros with action and choices 0 that covers all states, zero corners and no
@@ -513,8 +556,8 @@ struct biidhaqun_value biidhaqun_worth(
     const uint16_t *next, size_t next_length, size_t node, size_t state, size_t steps);
 
 /*
- * The stack that a thread needs: 36 kilobytes for reading a file; every other call does with 16, the least that a thread has
- * on Linux.
+ * The stack that a thread needs: 88 kilobytes for reading a file, 212 for converting one, 60 for a plan's worth; every other
+ * call does with 16, the least that a thread has on Linux.
  */
 
 /* ---- the same over structs of pointers */
@@ -616,20 +659,20 @@ struct biidhaqun_graph {
     size_t next_length;
 };
 
-/* Room for the tables of any model, 7 KB. */
+/* Room for the tables of any model, 78 KB. */
 struct biidhaqun_tables_room {
     uint16_t transition[BIIDHAQUN_ACTIONS * BIIDHAQUN_STATES * BIIDHAQUN_STATES];
     uint16_t observation[BIIDHAQUN_ACTIONS * BIIDHAQUN_STATES * BIIDHAQUN_OBSERVATIONS];
     int64_t reward[BIIDHAQUN_ACTIONS * BIIDHAQUN_STATES];
 };
 
-/* Room for the list of any model's transitions, 9 KB. */
+/* Room for the list of any model's transitions, 133 KB. */
 struct biidhaqun_transitions_room {
     uint32_t list[BIIDHAQUN_LIST_WORDS];
 };
 
 /*
- * Room for any level, 155 KB: one that stands, one that is offered, or one that is built. It is large for a stack: keep it
+ * Room for any level, 546 KB: one that stands, one that is offered, or one that is built. It is large for a stack: keep it
  * static or allocate it. Where levels are known to be small, lend shorter slices instead: those of n states, k observations, v
  * vectors and p points have v, v x k, v, v x n, n, p x n and p elements, and a level built at c points has n + c vectors.
  */
@@ -643,7 +686,7 @@ struct biidhaqun_level_room {
     int64_t values[BIIDHAQUN_POINTS];
 };
 
-/* Room for any certifier, 157 KB: the level that stands, and the rows. It is large for a stack, too. */
+/* Room for any certifier, 554 KB: the level that stands, and the rows. It is large for a stack, too. */
 struct biidhaqun_certifier_room {
     struct biidhaqun_level_room level;
     int64_t informed[BIIDHAQUN_ACTIONS * BIIDHAQUN_STATES];

@@ -14,8 +14,9 @@ ghost use Rattle.plans.specs.Limits.{maxBuilt};
 ghost use Rattle.levels.specs.Storage.{cells, rows, lent, standingAt, longEnough};
 ghost use Rattle.levels.specs.Judged.{holds};
 ghost use Rattle.solver.specs.Files.{maxFile, vectorsIn, filesVerdict, withCount};
-ghost use Rattle.adopting.specs.Adopt.{adoptVerdict, adopted, adoptAnswer};
-ghost use Rattle.adopting.specs.Claim.{AdoptHolds};
+ghost use Rattle.adoption.specs.Adopt.{adoptVerdict, adopted, adoptAnswer};
+ghost use Rattle.adoption.specs.Claim.{AdoptHolds};
+use adoption::Adopted;
 use levels::Level;
 use levels::shape;
 use solver::Judged;
@@ -23,16 +24,6 @@ use tables::Counts;
 use tables::Tables;
 use tables::Verdict;
 use tables::judge;
-
-// What the files are refused for, and how many vectors the level has that was made of them; with a refusal 0.
-pub struct Adopted {
-    pub verdict: Verdict,
-    pub vectors: usize,
-}
-
-impl Adopted {
-    pub const FILE: usize = 4_194_304; // bytes of a file
-}
 
 // ---- 1 to 9
 

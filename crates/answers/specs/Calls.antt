@@ -3,7 +3,7 @@ use Prim.Native.Nat.{ℕ}
 use mathlib.Core.Path.{_≡_}
 use mathlib.Core.List.{List}
 use lib.IntN.{ℤ}
-use Rattle.tables.specs.declared.Tables.{Tables}
+use Rattle.tables.specs.Tables.{Tables}
 use Rattle.tables.specs.declared.Verdict.{Verdict}
 use Rattle.tables.specs.declared.Verdict.the-variants.{Fine, Refused}
 use Rattle.levels.specs.Storage.{Cells, Lent}
@@ -11,9 +11,10 @@ use Rattle.runs.specs.declared.Bounds.{Bounds}
 use Rattle.runs.specs.Demand3.{Claim, TotalsHold, BuildHolds}
 use Rattle.intervals.specs.declared.Within.{Within}
 use Rattle.intervals.specs.Claim.{WithinHolds}
-use Rattle.reading.specs.declared.TablesRead.{TablesRead}
+use Rattle.modelfile.specs.declared.TablesRead.{TablesRead}
 use Rattle.worth.specs.declared.Valued.{Valued}
-use Rattle.adopting.specs.declared.Adopted.{Adopted}
+use Rattle.adoption.specs.declared.Adopted.{Adopted}
+use Rattle.converting.specs.declared.Converted.{Converted}
 use Rattle.replay.specs.declared.Replayed.{Replayed}
 use Rattle.answers.specs.declared.Refusal.{Refusal}
 use Rattle.answers.specs.declared.Reading.{Reading}
@@ -21,11 +22,12 @@ use Rattle.answers.specs.declared.Totals.{Totals}
 use Rattle.answers.specs.declared.TotalsWithin.{TotalsWithin}
 use Rattle.answers.specs.declared.Worth.{Worth}
 use Rattle.answers.specs.declared.Adoption.{Adoption}
+use Rattle.answers.specs.declared.Conversion.{Conversion}
 use Rattle.answers.specs.declared.Replay.{Replay}
 
 -- the version of the calls' names, parameters and answers
 abbrev pub layoutVersion : ℕ
-layoutVersion = 5
+layoutVersion = 6
 
 -- tables that are handed in: states, actions, observations, discount, T, O, R
 abbrev pub model : ℕ → ℕ → ℕ → ℕ → List ℕ → List ℕ → List ℤ → Tables
@@ -76,6 +78,9 @@ totalsWithinBy w = record {
 
 abbrev pub adoptionBy : Adopted → Adoption
 adoptionBy r = record { number = refusalOf (r .verdict) .number; place = refusalOf (r .verdict) .place; vectors = r .vectors }
+
+abbrev pub conversionBy : Converted → Conversion
+conversionBy r = record { number = refusalOf (r .verdict) .number; place = refusalOf (r .verdict) .place; length = r .length }
 
 abbrev pub replayBy : Replayed → Replay
 replayBy r = record { number = refusalOf (r .verdict) .number; place = refusalOf (r .verdict) .place; accepted = r .accepted }

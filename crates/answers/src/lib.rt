@@ -49,6 +49,13 @@ pub struct Adoption {
 }
 
 #[repr(C)]
+pub struct Conversion {
+    pub number: u64,
+    pub place: usize,
+    pub length: usize,
+}
+
+#[repr(C)]
 pub struct Replay {
     pub number: u64,
     pub place: usize,

@@ -1,6 +1,6 @@
 -- What tables and a level lend: parts that are stored, and within the limits if the whole is. Assumes nothing.
 use Rattle.integers.proofs.Kit.{true, false, Bool, cond, [], ℕ, _≤_, _<_, arith, pos, natAbs}
-use Rattle.tables.specs.declared.Tables.{Tables}
+use Rattle.tables.specs.Tables.{Tables}
 use Rattle.tables.specs.Limits.{maxLevels}
 use Rattle.tables.specs.Model.{Valid}
 use Rattle.tables.specs.Storage.{countsOf, modelOf}

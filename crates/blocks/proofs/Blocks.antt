@@ -9,7 +9,7 @@ use mir.Val.{Fits}
 use native.Mathlib.Nat as NatL
 use Rattle.integers.proofs.Lists.{row-below}
 use Rattle.integers.proofs.Searches.{and-true}
-use Rattle.tables.specs.declared.Tables.{Tables}
+use Rattle.tables.specs.Tables.{Tables}
 use Rattle.tables.specs.Limits.{maxStates, maxObservations}
 use Rattle.tables.specs.Storage.{rowIn}
 use Rattle.levels.specs.Storage.{Cells, cells, LentLevel, lentFor}

@@ -12,7 +12,7 @@ use Rattle.integers.proofs.Lists.{padded-at, padded-length}
 use Rattle.integers.proofs.Searches.{and-true, every-at, every-cong, some-cong, of-in, of-some, of-cong}
 use Rattle.integers.proofs.Sizes.{times-bound, sum-weighed}
 use Rattle.integers.proofs.Sums.{total-bound}
-use Rattle.tables.specs.declared.Tables.{Tables}
+use Rattle.tables.specs.Tables.{Tables}
 use Rattle.tables.specs.declared.Verdict.{Verdict}
 use Rattle.tables.specs.declared.Verdict.the-variants.{Fine, Refused}
 use Rattle.tables.specs.Limits.{maxVectors, maxStates, maxActions, maxWeight, maxEntry, maxLevels}

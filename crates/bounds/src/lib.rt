@@ -7,7 +7,7 @@ ghost use Rattle.integers.specs.Whole.{Below};
 ghost use Rattle.tables.specs.Limits.{maxStates, maxWeight};
 ghost use Rattle.tables.specs.Storage.{tablesIn};
 ghost use Rattle.masks.specs.Steps.{someIncludes};
-ghost use Rattle.tables.specs.declared.Tables.{Tables};
+ghost use Rattle.tables.specs.Tables.{Tables};
 ghost use Rattle.levels.specs.Storage.{Lent, cells, rows, lent};
 ghost use Rattle.runs.specs.State.{mixtureHolds, totalsOf};
 ghost use Rattle.runs.specs.Demand3.{ModelAccepted, Event, certifier, after, steps, claim, MixtureHolds, TotalsHold};

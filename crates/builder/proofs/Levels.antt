@@ -11,7 +11,7 @@ use Rattle.integers.proofs.Words.{answer}
 use Rattle.integers.proofs.Parts.{T-true, T-false}
 use Rattle.integers.proofs.Searches.{of-cong, largest-cong, largest-in}
 use Rattle.tables.specs.declared.Counts.{Counts}
-use Rattle.tables.specs.declared.Tables.{Tables}
+use Rattle.tables.specs.Tables.{Tables}
 use Rattle.tables.specs.Limits.{maxStates, maxActions, maxObservations, K, maxLevels}
 use Rattle.tables.specs.Model.{Model, Valid, backedUp}
 use Rattle.tables.specs.Storage.{weightIn, countsOf, modelIn, modelOf}

@@ -1,7 +1,7 @@
 -- What the tests of building leave known; and what is written is what it is said to leave. Assumes nothing.
 use Rattle.integers.proofs.Kit.{_≡_, _∙_, sym, true, false, Bool, ℕ, _≤_, _<_, _*_, leb-true, ltb-true, leb, getD}
 use Rattle.integers.proofs.Searches.{and-true, some-cong}
-use Rattle.tables.specs.declared.Tables.{Tables}
+use Rattle.tables.specs.Tables.{Tables}
 use Rattle.tables.specs.declared.Verdict.{Verdict}
 use Rattle.tables.specs.declared.Verdict.the-variants.{Fine, Refused}
 use Rattle.tables.specs.Limits.{maxVectors, maxLevels}

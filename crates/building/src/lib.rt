@@ -5,7 +5,7 @@ ghost use mathlib.Core.List.{List};
 ghost use Prim.Native.Nat.{ℕ, _+_, _*_, _<_};
 ghost use lib.Dec.{leb, ltb};
 ghost use lib.ListN.{length};
-ghost use Rattle.tables.specs.declared.Tables.{Tables};
+ghost use Rattle.tables.specs.Tables.{Tables};
 ghost use Rattle.tables.specs.Limits.{maxLevels};
 ghost use Rattle.tables.specs.Storage.{tablesIn, modelOf};
 ghost use Rattle.tables.specs.Verdicts.{_before_, unless, left};

@@ -5,7 +5,7 @@ use mathlib.Core.List.{_++_}
 use Rattle.integers.specs.Whole.{totalTo}
 use Rattle.integers.proofs.Searches.{and-is, at-every, some-at}
 use Rattle.integers.proofs.Sums.{total-part}
-use Rattle.tables.specs.declared.Tables.{Tables}
+use Rattle.tables.specs.Tables.{Tables}
 use Rattle.tables.specs.declared.Verdict.{Verdict}
 use Rattle.tables.specs.declared.Verdict.the-variants.{Fine}
 use Rattle.tables.specs.Verdicts.{left}

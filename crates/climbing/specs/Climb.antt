@@ -3,7 +3,7 @@ use Prim.Native.Nat.{ℕ}
 use mathlib.Core.Path.{_≡_}
 use mathlib.Core.Bool.{true}
 use mathlib.Core.List.{List}
-use Rattle.tables.specs.declared.Tables.{Tables}
+use Rattle.tables.specs.Tables.{Tables}
 use Rattle.tables.specs.Storage.{modelOf}
 use Rattle.plans.specs.Build.{someCoversAll}
 use Rattle.levels.specs.Storage.{Cells, Lent}

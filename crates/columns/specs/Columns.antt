@@ -19,7 +19,7 @@ use lib.ListN.{length, getD}
 use Rattle.integers.specs.Whole.{totalTo}
 use Rattle.integers.specs.Search.{every}
 use Rattle.integers.specs.Cells.{listed, laid}
-use Rattle.tables.specs.declared.Tables.{Tables}
+use Rattle.tables.specs.Tables.{Tables}
 use Rattle.tables.specs.declared.Verdict.{Verdict}
 use Rattle.tables.specs.Storage.{rowPlace, transitionIn}
 use Rattle.tables.specs.Verdicts.{_before_, unless, isFine, left}

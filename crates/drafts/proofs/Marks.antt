@@ -1,10 +1,11 @@
 -- Cells that are marked one after the other, and what an index stands for. Assumes nothing.
 use Rattle.integers.proofs.Kit.{_≡_, _∙_, refl, ap, sym, true, false, Bool, cond, _||_, List, [], _∷_, ℕ, _≤_, _<_, _+_, suc, zero, arith, add-one}
-use Rattle.integers.proofs.Kit.{add-zero, ne-eqb, eq-eqb, eqb, length, getD, set, ℤ}
+use Rattle.integers.proofs.Kit.{add-zero, zero-add, ne-eqb, eq-eqb, eqb, length, getD, set, ℤ}
 use borrow.Author.Tests.{eqb-false}
 use Rattle.integers.specs.Search.{some}
+use Rattle.integers.proofs.Searches.{some-cong}
 use Rattle.tables.specs.Storage.{rowPlace, cellPlace}
-use Rattle.drafts.specs.Drafts.{markedFrom, marked, lowest, spread, stated, rewarded}
+use Rattle.drafts.specs.Drafts.{outcomePlace, markedFrom, marked, lowest, spread, stated, rewarded, outcomed}
 
 module _ {A : Type 0} where
   same-length : (at : ℕ) (test : ℕ → Bool) (v : A) (l : List A) → length (markedFrom at test v l) ≡ length l
@@ -48,6 +49,16 @@ module _ {A : Type 0} where
   write-marks q v l =
       let e : 0 + q ≡ q = omega arith in
       writing 0 q v l ∙ ap (λ (n : ℕ). marked (λ i. eqb i n) v l) e
+
+  from-cong : (at : ℕ) (f g : ℕ → Bool) (v : A) (l : List A) → ((i : ℕ) → f i ≡ g i) → markedFrom at f v l ≡ markedFrom at g v l
+  unfolding markedFrom
+  from-cong at f g v [] h = refl
+  from-cong at f g v (x ∷ l) h =
+      ap (λ (t : Bool). cond t v x ∷ markedFrom (suc at) f v l) (h at) ∙ ap (λ (r : List A). cond (g at) v x ∷ r) (from-cong (suc at) f g v l h)
+
+  -- tests that agree mark alike
+  marked-cong : (f g : ℕ → Bool) (v : A) (l : List A) → ((i : ℕ) → f i ≡ g i) → marked f v l ≡ marked g v l
+  marked-cong f g v l h = from-cong 0 f g v l h
 
   marked-by : (P : A → Type 0) (t : Bool) (v x : A) → P v → P x → P (cond t v x)
   marked-by P true v x p q = p
@@ -124,6 +135,17 @@ stated-one m n w a s x p l la ls lx =
 
 pub rewarded-by : (m n a s : ℕ) (v : ℤ) (l : List ℤ) {r rs y ys : ℕ}
     → r ≡ lowest m a → rs ≡ spread m a → y ≡ lowest n s → ys ≡ spread n s
-    → marked (λ i. some rs (λ r'. some ys (λ j. eqb i (rowPlace n (r + r') (y + j))))) v l ≡ rewarded m n a s v l
+    → marked (λ i. some rs (λ r'. some ys (λ j. eqb i (rowPlace n (0 + (r + r')) (y + j))))) v l ≡ rewarded m n a s v l
 unfolding rewarded
-rewarded-by m n a s v l r rs y ys = rw (r, rs, y, ys) refl
+rewarded-by m n a s v l {r} {rs} {y} {ys} er ers ey eys =
+    marked-cong (λ i. some rs (λ r'. some ys (λ j. eqb i (rowPlace n (0 + (r + r')) (y + j)))))
+    (λ i. some rs (λ r'. some ys (λ j. eqb i (rowPlace n (r + r') (y + j))))) v l
+    (λ i. some-cong rs _ _ (λ r' h. ap (λ (q : ℕ). some ys (λ j. eqb i (rowPlace n q (y + j)))) (zero-add (r + r'))))
+    ∙ rw (er, ers, ey, eys) refl
+
+pub outcomed-by : (m n k a s s' o : ℕ) (v : ℤ) (l : List ℤ) {g gs b bs r rs y ys : ℕ}
+    → g ≡ lowest m a → gs ≡ spread m a → b ≡ lowest n s → bs ≡ spread n s → r ≡ lowest n s' → rs ≡ spread n s' → y ≡ lowest k o → ys ≡ spread k o
+    → marked (λ i. some gs (λ g'. some bs (λ b'. some rs (λ r'. some ys (λ j. eqb i (outcomePlace n k (g + g') (b + b') (r + r') (y + j))))))) v l
+    ≡ outcomed m n k a s s' o v l
+unfolding outcomed
+outcomed-by m n k a s s' o v l g gs b bs r rs y ys = rw (g, gs, b, bs, r, rs, y, ys) refl

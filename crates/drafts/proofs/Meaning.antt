@@ -6,7 +6,7 @@ use Rattle.integers.specs.Search.{some}
 use Rattle.integers.proofs.Lists.{cell-below, row-below}
 use Rattle.integers.proofs.Searches.{or-false, some-none}
 use Rattle.tables.specs.Storage.{rowPlace, cellPlace, cellIn, rewardIn}
-use Rattle.drafts.specs.Drafts.{markedFrom, marked, among, stated, rewarded}
+use Rattle.drafts.specs.Drafts.{outcomePlace, markedFrom, marked, among, stated, rewarded, outcomed}
 
 -- i stands for j: it is n, a star, or j itself
 abbrev pub meant : ℕ → ℕ → ℕ → Bool
@@ -95,27 +95,26 @@ and-front : (a b c : Bool) → (a && (b && c)) ≡ (c && (a && b))
 and-front true b c = and-comm b c
 and-front false b c = and-comm false c
 
+and-assoc : (a b c : Bool) → ((a && b) && c) ≡ (a && (b && c))
+and-assoc true b c = refl
+and-assoc false b c = refl
+
 -- ---- what a statement says of a cell
 
-module _ (n s a' s' : ℕ) (ls : s ≤ n) (ks : s' < n) where
-  -- of the rows of a block
-  row-meant : (b : ℕ) → among n s (λ r. eqb (rowPlace n a' s') (rowPlace n b r)) ≡ (meant n s s' && eqb a' b)
-  row-meant b =
-      among-one n s s' (eqb a' b) (λ r. eqb (rowPlace n a' s') (rowPlace n b r)) ls ks
-      (λ r l. pair-place n a' s' b r ks l ∙ and-comm (eqb a' b) (eqb s' r))
+-- place x' of row q of width w, among the places that x stands for of row q'
+module _ (w x x' : ℕ) (lx : x ≤ w) (kx : x' < w) (q q' : ℕ) where
+  row-meant : among w x (λ y. eqb (rowPlace w q x') (rowPlace w q' y)) ≡ (meant w x x' && eqb q q')
+  row-meant =
+      among-one w x x' (eqb q q') (λ y. eqb (rowPlace w q x') (rowPlace w q' y)) lx kx
+      (λ y l. pair-place w q x' q' y kx l ∙ and-comm (eqb q q') (eqb x' y))
 
-  module _ (w x x' : ℕ) (lx : x ≤ w) (kx : x' < w) where
-    -- of the places of a row
-    place-meant : (b r : ℕ) → among w x (λ y. eqb (cellPlace n w a' s' x') (cellPlace n w b r y)) ≡ (meant w x x' && eqb (rowPlace n a' s') (rowPlace n b r))
-    place-meant b r =
-        among-one w x x' (eqb (rowPlace n a' s') (rowPlace n b r)) (λ y. eqb (cellPlace n w a' s' x') (cellPlace n w b r y)) lx kx
-        (λ y l. pair-place w (rowPlace n a' s') x' (rowPlace n b r) y kx l ∙ and-comm (eqb (rowPlace n a' s') (rowPlace n b r)) (eqb x' y))
-
-    -- of the cells of a block
-    cell-meant : (b : ℕ) → among n s (λ r. among w x (λ y. eqb (cellPlace n w a' s' x') (cellPlace n w b r y))) ≡ (meant n s s' && (meant w x x' && eqb a' b))
-    cell-meant b =
-        among-one n s s' (meant w x x' && eqb a' b) (λ r. among w x (λ y. eqb (cellPlace n w a' s' x') (cellPlace n w b r y))) ls ks
-        (λ r l. place-meant b r ∙ ap (λ (t : Bool). meant w x x' && t) (pair-place n a' s' b r ks l) ∙ and-front (meant w x x') (eqb a' b) (eqb s' r))
+  -- the same where each of them has places of its own, of which t is meant
+  rows-meant : (t : Bool) (test : ℕ → Bool) → ((y : ℕ) → test y ≡ (t && eqb (rowPlace w q x') (rowPlace w q' y)))
+      → among w x test ≡ ((meant w x x' && t) && eqb q q')
+  rows-meant t test h =
+      among-one w x x' (t && eqb q q') test lx kx
+      (λ y l. h y ∙ ap (λ (b : Bool). t && b) (pair-place w q x' q' y kx l) ∙ and-front t (eqb q q') (eqb x' y))
+      ∙ sym (and-assoc (meant w x x') t (eqb q q'))
 
 pub stated-cell : (m n w a s x p : ℕ) (cells : List ℕ) (a' s' x' : ℕ) → a ≤ m → s ≤ n → x ≤ w → a' < m → s' < n → x' < w → m * n * w ≤ length cells
     → cellIn n w (stated m n w a s x p cells) a' s' x' ≡ cond (meant m a a' && (meant n s s' && meant w x x')) p (cellIn n w cells a' s' x')
@@ -125,7 +124,9 @@ stated-cell m n w a s x p cells a' s' x' la ls lx ka ks kx room =
     (omega (arith, cell-below (rowPlace n a' s') (m * n) x' w (cell-below a' m s' n ka ks) kx))
     ∙ ap (λ (t : Bool). cond t p (cellIn n w cells a' s' x'))
     (among-one m a a' (meant n s s' && meant w x x') (λ b. among n s (λ r. among w x (λ y. eqb (cellPlace n w a' s' x') (cellPlace n w b r y)))) la ka
-    (λ b l. cell-meant n s a' s' ls ks w x x' lx kx b ∙ and-front (meant n s s') (meant w x x') (eqb a' b)))
+    (λ b l. rows-meant n s s' ls ks a' b (meant w x x') (λ r. among w x (λ y. eqb (cellPlace n w a' s' x') (cellPlace n w b r y)))
+    (λ r. row-meant w x x' lx kx (rowPlace n a' s') (rowPlace n b r))
+    ∙ and-comm (meant n s s' && meant w x x') (eqb a' b)))
 
 pub rewarded-cell : (m n a s : ℕ) (r : ℤ) (cells : List ℤ) (a' s' : ℕ) → a ≤ m → s ≤ n → a' < m → s' < n → m * n ≤ length cells
     → rewardIn n (rewarded m n a s r cells) s' a' ≡ cond (meant m a a' && meant n s s') r (rewardIn n cells s' a')
@@ -134,4 +135,27 @@ rewarded-cell m n a s r cells a' s' la ls ka ks room =
     marked-at (λ i. among m a (λ b. among n s (λ x. eqb i (rowPlace n b x)))) r (pos 0) cells (rowPlace n a' s') (omega (arith, cell-below a' m s' n ka ks))
     ∙ ap (λ (t : Bool). cond t r (rewardIn n cells s' a'))
     (among-one m a a' (meant n s s') (λ b. among n s (λ x. eqb (rowPlace n a' s') (rowPlace n b x))) la ka
-    (λ b l. row-meant n s a' s' ls ks b ∙ and-comm (meant n s s') (eqb a' b)))
+    (λ b l. row-meant n s s' ls ks a' b ∙ and-comm (meant n s s') (eqb a' b)))
+
+-- a reward by action a', state s₁, state reached s₂ and observation o'
+module _ (m n k a s s' o a' s₁ s₂ o' : ℕ) (la : a ≤ m) (ls : s ≤ n) (ls' : s' ≤ n) (lo : o ≤ k) (ka : a' < m) (ks : s₁ < n) (ks' : s₂ < n) (ko : o' < k) where
+  outcome-below : outcomePlace n k a' s₁ s₂ o' < m * n * n * k
+  outcome-below =
+      cell-below (cellPlace n n a' s₁ s₂) (m * n * n) o' k (cell-below (rowPlace n a' s₁) (m * n) s₂ n (cell-below a' m s₁ n ka ks) ks') ko
+
+  pub outcomed-cell : (r : ℤ) (cells : List ℤ) → m * n * n * k ≤ length cells
+      → getD (outcomed m n k a s s' o r cells) (outcomePlace n k a' s₁ s₂ o') (pos 0)
+      ≡ cond (meant m a a' && (meant n s s₁ && (meant n s' s₂ && meant k o o'))) r (getD cells (outcomePlace n k a' s₁ s₂ o') (pos 0))
+  unfolding outcomed
+  outcomed-cell r cells room =
+      marked-at (λ i. among m a (λ b. among n s (λ x. among n s' (λ y. among k o (λ z. eqb i (outcomePlace n k b x y z)))))) r (pos 0) cells
+      (outcomePlace n k a' s₁ s₂ o') (omega (arith, outcome-below))
+      ∙ ap (λ (t : Bool). cond t r (getD cells (outcomePlace n k a' s₁ s₂ o') (pos 0)))
+      (among-one m a a' (meant n s s₁ && (meant n s' s₂ && meant k o o'))
+      (λ b. among n s (λ x. among n s' (λ y. among k o (λ z. eqb (outcomePlace n k a' s₁ s₂ o') (outcomePlace n k b x y z))))) la ka
+      (λ b l. rows-meant n s s₁ ls ks a' b (meant n s' s₂ && meant k o o')
+      (λ x. among n s' (λ y. among k o (λ z. eqb (outcomePlace n k a' s₁ s₂ o') (outcomePlace n k b x y z))))
+      (λ x. rows-meant n s' s₂ ls' ks' (rowPlace n a' s₁) (rowPlace n b x) (meant k o o')
+      (λ y. among k o (λ z. eqb (outcomePlace n k a' s₁ s₂ o') (outcomePlace n k b x y z)))
+      (λ y. row-meant k o o' lo ko (cellPlace n n a' s₁ s₂) (cellPlace n n b x y)))
+      ∙ and-comm (meant n s s₁ && (meant n s' s₂ && meant k o o')) (eqb a' b)))

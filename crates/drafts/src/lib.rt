@@ -4,10 +4,10 @@ ghost use Prim.Native.Nat.{_+_, _*_, _≤_, _<_};
 ghost use lib.Dec.{eqb};
 ghost use lib.ListN.{length, set};
 ghost use Rattle.integers.specs.Search.{some};
-ghost use Rattle.tables.specs.Limits.{maxStates, maxActions};
-ghost use Rattle.tables.specs.Storage.{rowPlace, cellPlace};
+ghost use Rattle.tables.specs.Limits.{maxStates, maxConverted, maxActions, maxObservations};
+ghost use Rattle.tables.specs.Storage.{rowStart, rowPlace, cellPlace};
 ghost use Rattle.tables.specs.Steps.{cellsTo};
-ghost use Rattle.drafts.specs.Drafts.{marked, lowest, spread, stated, rewarded};
+ghost use Rattle.drafts.specs.Drafts.{maxOutcomeRows, outcomePlace, marked, lowest, spread, stated, rewarded, outcomed};
 use tables::read;
 
 // The first of those that i stands for: 0 where i is n, which stands for all of n.
@@ -134,14 +134,97 @@ pub fn state(cells: &mut [u16], m: usize, n: usize, w: usize, a: usize, s: usize
     }
 }
 
-// v in `count` cells from x on, of `rows` rows of width n from row a on.
-fn mark_rewards(cells: &mut [i64], a: usize, rows: usize, n: usize, x: usize, count: usize, v: i64)
-    requires { ⌜ (a + rows ≤ maxActions) × ((n ≤ maxStates) × (x + count ≤ n)) ⌝ }
-    requires { ⌜ (a + rows) * n ≤ length (now cells) ⌝ }
-    ensures { λ _. ⌜ now (cells .exit) ≡ marked (λ i. some rows (λ r. some count (λ j. eqb i (rowPlace n (a + r) (x + j))))) v (now (cells .entry)) ⌝ }
+// Where row r of width w starts.
+fn start(r: usize, w: usize) -> usize
+    requires { ⌜ (r ≤ maxOutcomeRows) × (w ≤ maxStates) ⌝ }
+    ensures { λ out. ⌜ out ≡ rowStart w r ⌝ }
+{
+    r * w
+}
+
+// v in `count` cells from x on, of `rows` rows of width w, from row y of a block on.
+fn mark_rewards(
+    cells: &mut [i64],
+    block: usize,
+    y: usize,
+    rows: usize,
+    w: usize,
+    x: usize,
+    count: usize,
+    v: i64,
+)
+    requires { ⌜ (block + (y + rows) ≤ maxOutcomeRows) × ((w ≤ maxStates) × (x + count ≤ w)) ⌝ }
+    requires { ⌜ (block + (y + rows)) * w ≤ length (now cells) ⌝ }
+    ensures { λ _. ⌜ now (cells .exit) ≡ marked (λ i. some rows (λ r. some count (λ j. eqb i (rowPlace w (block + (y + r)) (x + j)))))
+        v (now (cells .entry)) ⌝ }
 {
     for r in 0..rows {
-        mark_i64(cells, read::start(a + r, n), x, count, v);
+        mark_i64(cells, start(block + (y + r), w), x, count, v);
+    }
+}
+
+// The same in `blocks` blocks of n rows, from block s of a group on.
+fn mark_reward_blocks(
+    cells: &mut [i64],
+    group: usize,
+    s: usize,
+    blocks: usize,
+    n: usize,
+    y: usize,
+    rows: usize,
+    w: usize,
+    x: usize,
+    count: usize,
+    v: i64,
+)
+    requires { ⌜ (group + (s + blocks) ≤ maxActions * maxConverted) × ((n ≤ maxConverted) × (w ≤ maxStates)) ⌝ }
+    requires { ⌜ (y + rows ≤ n) × (x + count ≤ w) ⌝ }
+    requires { ⌜ (group + (s + blocks)) * n * w ≤ length (now cells) ⌝ }
+    ensures { λ _. ⌜ now (cells .exit)
+        ≡ marked (λ i. some blocks (λ b. some rows (λ r. some count (λ j. eqb i (rowPlace w (rowPlace n (group + (s + b)) (y + r)) (x + j))))))
+        v (now (cells .entry)) ⌝ }
+{
+    for b in 0..blocks {
+        mark_rewards(cells, start(group + (s + b), n), y, rows, w, x, count, v);
+    }
+}
+
+// The same in `groups` groups of n blocks.
+fn mark_outcomes(
+    cells: &mut [i64],
+    a: usize,
+    groups: usize,
+    n: usize,
+    s: usize,
+    blocks: usize,
+    y: usize,
+    rows: usize,
+    w: usize,
+    x: usize,
+    count: usize,
+    v: i64,
+)
+    requires { ⌜ (a + groups ≤ maxActions) × ((n ≤ maxConverted) × (w ≤ maxStates)) ⌝ }
+    requires { ⌜ (s + blocks ≤ n) × ((y + rows ≤ n) × (x + count ≤ w)) ⌝ }
+    requires { ⌜ (a + groups) * n * n * w ≤ length (now cells) ⌝ }
+    ensures { λ _. ⌜ now (cells .exit)
+        ≡ marked (λ i. some groups (λ g. some blocks (λ b. some rows (λ r. some count (λ j. eqb i (outcomePlace n w (a + g) (s + b) (y + r) (x + j)))))))
+        v (now (cells .entry)) ⌝ }
+{
+    for g in 0..groups {
+        mark_reward_blocks(
+            cells,
+            start(a + g, n),
+            s,
+            blocks,
+            n,
+            y,
+            rows,
+            w,
+            x,
+            count,
+            v,
+        );
     }
 }
 
@@ -156,5 +239,46 @@ pub fn state_reward(cells: &mut [i64], m: usize, n: usize, a: usize, s: usize, r
     let rows = spread_of(m, a);
     let place = lowest_of(n, s);
     let count = spread_of(n, s);
-    mark_rewards(cells, row, rows, n, place, count, r);
+    mark_rewards(cells, 0, row, rows, n, place, count, r);
+}
+
+// r is stated for action a, state s, state reached `to` and observation o, of m actions, n states and k observations.
+pub fn state_outcome(
+    cells: &mut [i64],
+    m: usize,
+    n: usize,
+    k: usize,
+    a: usize,
+    s: usize,
+    to: usize,
+    o: usize,
+    r: i64,
+)
+    requires { ⌜ (m ≤ maxActions) × ((n ≤ maxConverted) × (k ≤ maxObservations)) ⌝ }
+    requires { ⌜ (a ≤ m) × ((s ≤ n) × ((to ≤ n) × (o ≤ k))) ⌝ }
+    requires { ⌜ m * n * n * k ≤ length (now cells) ⌝ }
+    ensures { λ _. ⌜ now (cells .exit) ≡ outcomed m n k a s to o r (now (cells .entry)) ⌝ }
+{
+    let group = lowest_of(m, a);
+    let groups = spread_of(m, a);
+    let block = lowest_of(n, s);
+    let blocks = spread_of(n, s);
+    let row = lowest_of(n, to);
+    let rows = spread_of(n, to);
+    let place = lowest_of(k, o);
+    let count = spread_of(k, o);
+    mark_outcomes(
+        cells,
+        group,
+        groups,
+        n,
+        block,
+        blocks,
+        row,
+        rows,
+        k,
+        place,
+        count,
+        r,
+    );
 }

@@ -4,7 +4,7 @@ ghost use mathlib.Core.Path.{_≡_};
 ghost use mathlib.Core.Bool.{true};
 ghost use mathlib.Core.List.{List};
 ghost use Prim.Native.Nat.{ℕ, _<_};
-ghost use Rattle.tables.specs.declared.Tables.{Tables};
+ghost use Rattle.tables.specs.Tables.{Tables};
 ghost use Rattle.tables.specs.Limits.{maxLevels};
 ghost use Rattle.tables.specs.Storage.{modelOf};
 ghost use Rattle.tables.specs.Verdicts.{_before_, left};
@@ -23,7 +23,7 @@ use tables::Counts;
 pub extern "C" fn biidhaqun_version() -> u64
     ensures { λ r. ⌜ r ≡ layoutVersion ⌝ }
 {
-    5
+    6
 }
 
 // Opens a certifier on tables, at level 0. Nothing is written to weights and values: level 0 has no point.

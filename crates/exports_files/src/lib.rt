@@ -1,17 +1,20 @@
-// The interface for C and Rust: a model file, and a solver's files, read into slices that programs lend.
+// The interface for C and Rust: a model file, and a solver's files, read into slices that programs lend; a file of another form converted.
 ghost use mathlib.Core.Path.{_≡_};
 ghost use mathlib.Core.List.{List};
 ghost use Prim.Native.Nat.{ℕ};
+ghost use lib.ListN.{length};
 ghost use Rattle.levels.specs.Storage.{cells, rows, lent};
-ghost use Rattle.modelfile.specs.ModelFile.{modelFile};
-ghost use Rattle.reading.specs.Reading.{readVerdict, readOf, laidTransitions, laidObservations, laidRewards, laidStart};
+ghost use Rattle.reading.specs.Reading.{fileFor, readVerdict, readOf, laidTransitions, laidObservations, laidRewards, laidStart};
 ghost use Rattle.tables.specs.Verdicts.{left};
 ghost use Rattle.tables.specs.declared.Verdict.the-variants.{Fine};
 ghost use Rattle.solver.specs.Files.{vectorsIn};
-ghost use Rattle.adopting.specs.Adopt.{adoptVerdict, adopted, adoptAnswer};
-ghost use Rattle.adopting.specs.Claim.{AdoptHolds};
-ghost use Rattle.answers.specs.Calls.{model, readingBy, adoptionBy};
+ghost use Rattle.adoption.specs.Adopt.{adoptVerdict, adopted, adoptAnswer};
+ghost use Rattle.adoption.specs.Claim.{AdoptHolds};
+ghost use Rattle.converting.specs.Convert.{convertVerdict, converted, convertAnswer, convertedOver};
+ghost use Rattle.converting.specs.Claim.{ConvertHolds};
+ghost use Rattle.answers.specs.Calls.{model, readingBy, adoptionBy, conversionBy};
 use answers::Adoption;
+use answers::Conversion;
 use answers::Reading;
 use tables::Counts;
 
@@ -24,21 +27,16 @@ pub extern "C" fn biidhaqun_read(
     reward: &mut [i64],
     start: &mut [u16],
 ) -> Reading
-    ensures { λ r. ⌜ (let x = modelFile (now (file .entry)) in
-        let v = readVerdict x (now (transition .entry)) (now (observation .entry)) (now (reward .entry)) (now (start .entry)) in
-        r ≡ readingBy (readOf v x)) ⌝ }
-    ensures { λ _. ⌜ (let x = modelFile (now (file .entry)) in
-        let v = readVerdict x (now (transition .entry)) (now (observation .entry)) (now (reward .entry)) (now (start .entry)) in
-        now (transition .exit) ≡ left v (laidTransitions x (now (transition .entry))) (now (transition .entry))) ⌝ }
-    ensures { λ _. ⌜ (let x = modelFile (now (file .entry)) in
-        let v = readVerdict x (now (transition .entry)) (now (observation .entry)) (now (reward .entry)) (now (start .entry)) in
-        now (observation .exit) ≡ left v (laidObservations x (now (observation .entry))) (now (observation .entry))) ⌝ }
-    ensures { λ _. ⌜ (let x = modelFile (now (file .entry)) in
-        let v = readVerdict x (now (transition .entry)) (now (observation .entry)) (now (reward .entry)) (now (start .entry)) in
-        now (reward .exit) ≡ left v (laidRewards x (now (reward .entry))) (now (reward .entry))) ⌝ }
-    ensures { λ _. ⌜ (let x = modelFile (now (file .entry)) in
-        let v = readVerdict x (now (transition .entry)) (now (observation .entry)) (now (reward .entry)) (now (start .entry)) in
-        now (start .exit) ≡ left v (laidStart x (now (start .entry))) (now (start .entry))) ⌝ }
+    ensures { λ r. ⌜ (let x = fileFor (now (file .entry)) (now (transition .entry)) (now (observation .entry)) (now (reward .entry)) in
+        r ≡ readingBy (readOf (readVerdict x (now (start .entry))) x)) ⌝ }
+    ensures { λ _. ⌜ (let x = fileFor (now (file .entry)) (now (transition .entry)) (now (observation .entry)) (now (reward .entry)) in
+        now (transition .exit) ≡ left (readVerdict x (now (start .entry))) (laidTransitions x (now (transition .entry))) (now (transition .entry))) ⌝ }
+    ensures { λ _. ⌜ (let x = fileFor (now (file .entry)) (now (transition .entry)) (now (observation .entry)) (now (reward .entry)) in
+        now (observation .exit) ≡ left (readVerdict x (now (start .entry))) (laidObservations x (now (observation .entry))) (now (observation .entry))) ⌝ }
+    ensures { λ _. ⌜ (let x = fileFor (now (file .entry)) (now (transition .entry)) (now (observation .entry)) (now (reward .entry)) in
+        now (reward .exit) ≡ left (readVerdict x (now (start .entry))) (laidRewards x (now (reward .entry))) (now (reward .entry))) ⌝ }
+    ensures { λ _. ⌜ (let x = fileFor (now (file .entry)) (now (transition .entry)) (now (observation .entry)) (now (reward .entry)) in
+        now (start .exit) ≡ left (readVerdict x (now (start .entry))) (laidStart x (now (start .entry))) (now (start .entry))) ⌝ }
 {
     let read = reading::read(file, transition, observation, reward, start);
     let verdict = read.verdict;
@@ -51,6 +49,24 @@ pub extern "C" fn biidhaqun_read(
         actions: c.actions,
         observations: c.observations,
         discount: c.discount,
+    }
+}
+
+// Writes a file whose rewards depend on what follows as a model file, with expected rewards.
+#[no_mangle]
+pub extern "C" fn biidhaqun_convert(file: &[u8], out: &mut [u8]) -> Conversion
+    ensures { λ r. ⌜ r ≡ conversionBy (convertAnswer (convertVerdict (length (now (out .entry))) (now (file .entry)))
+        (length (converted (now (file .entry))))) ⌝ }
+    ensures { λ _. ⌜ now (out .exit) ≡ convertedOver (now (file .entry)) (now (out .entry)) ⌝ }
+    ensures { λ _. ⌜ (convertVerdict (length (now (out .entry))) (now (file .entry)) ≡ Fine → ConvertHolds (now (file .entry))) ⌝ }
+{
+    let made = converting::convert(file, out);
+    let verdict = made.verdict;
+    let refusal = answers::refusal_of(verdict);
+    Conversion {
+        number: refusal.number,
+        place: refusal.place,
+        length: made.length,
     }
 }
 

@@ -2,7 +2,7 @@
 ghost use mathlib.Core.Path.{_≡_};
 ghost use mathlib.Core.List.{List};
 ghost use Rattle.levels.specs.Storage.{Lent, cells, rows, lent};
-ghost use Rattle.tables.specs.declared.Tables.{Tables};
+ghost use Rattle.tables.specs.Tables.{Tables};
 ghost use Rattle.runs.specs.Demand3.{ModelAccepted, Event, certifier, after};
 ghost use Rattle.tables.specs.declared.Verdict.the-variants.{Fine};
 ghost use Rattle.blocks.specs.Blocks.{packed};

@@ -3,7 +3,7 @@
 use Rattle.integers.proofs.Kit.{_≡_, _∙_, refl, ap, sym, true, false, Bool, List, ℕ, _≤_, _<_, leb-true, leb, length, getD, ℤ}
 use native.Mathlib.Nat as NatL
 use Rattle.integers.proofs.Searches.{and-true, every-at, of-cong}
-use Rattle.tables.specs.declared.Tables.{Tables}
+use Rattle.tables.specs.Tables.{Tables}
 use Rattle.tables.specs.declared.Verdict.{Verdict}
 use Rattle.tables.specs.declared.Verdict.the-variants.{Fine, Refused}
 use Rattle.tables.specs.Limits.{maxStates, maxLevels}

@@ -1,6 +1,6 @@
 -- What totals within ranges say after any list of offers and new prices, proved over the definitions that the contract names. Assumes nothing.
 use Rattle.integers.proofs.Kit.{_≡_, _∙_, refl, sym, subst, List, ℕ, _<_, arith, lt-ltb}
-use Rattle.tables.specs.declared.Tables.{Tables}
+use Rattle.tables.specs.Tables.{Tables}
 use Rattle.tables.specs.declared.Verdict.the-variants.{Fine}
 use Rattle.tables.specs.Limits.{maxVectors}
 use Rattle.tables.specs.Storage.{weightIn, modelOf}

@@ -7,7 +7,7 @@ ghost use lib.ListN.{length, getD};
 ghost use lib.IntN.{pos, natAbs};
 ghost use Rattle.integers.specs.Whole.{Below};
 ghost use Rattle.tables.specs.Limits.{maxStates, maxWeight, maxEntry};
-ghost use Rattle.tables.specs.declared.Tables.{Tables};
+ghost use Rattle.tables.specs.Tables.{Tables};
 ghost use Rattle.tables.specs.Storage.{weightIn, tablesIn};
 ghost use Rattle.masks.specs.Steps.{someIncludes, MaskedFit};
 ghost use Rattle.plans.specs.Intervals.{leastProduct};

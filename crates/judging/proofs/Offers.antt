@@ -1,6 +1,6 @@
 -- An offer's tests in their two stages, and what the first leaves known for the second. Assumes nothing.
 use Rattle.integers.proofs.Kit.{_≡_, [], ℕ, _≤_, _<_, _+_, arith, length}
-use Rattle.tables.specs.declared.Tables.{Tables}
+use Rattle.tables.specs.Tables.{Tables}
 use Rattle.tables.specs.declared.Verdict.{Verdict}
 use Rattle.tables.specs.declared.Verdict.the-variants.{Fine, Refused}
 use Rattle.tables.specs.Limits.{maxVectors, maxLevels}
@@ -17,7 +17,7 @@ use Rattle.runs.proofs.Judged.{Fitting}
 use Rattle.sums.proofs.Regroup.{transitions-fit, observations-fit}
 use Rattle.reaches.specs.Steps.{ActionStored, Reaching}
 use Rattle.backups.specs.Steps.{Roofed}
-use Rattle.checks.specs.Steps.{Judging}
+use Rattle.floors.specs.Steps.{Judging}
 use Rattle.backups.proofs.Lent.{entries-lent, roof-lent}
 
 module _ (m : Tables) (x : Lent) (l : LentLevel) where

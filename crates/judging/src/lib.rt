@@ -226,7 +226,7 @@ fn judge_backups<'a, 'b, 'c>(
     let Verdict::Fine = reached else {
         return reached;
     };
-    let floor = checks::floors_hold(
+    let floor = floors::floors_hold(
         transition,
         list,
         observation,
@@ -243,7 +243,7 @@ fn judge_backups<'a, 'b, 'c>(
     let Verdict::Fine = floor else {
         return floor;
     };
-    let roof = checks::corners_hold(
+    let roof = roofs::corners_hold(
         transition,
         list,
         observation,
@@ -258,7 +258,7 @@ fn judge_backups<'a, 'b, 'c>(
     let Verdict::Fine = roof else {
         return roof;
     };
-    checks::points_hold(
+    roofs::points_hold(
         transition,
         list,
         observation,

@@ -1,8 +1,8 @@
 -- The program's own slices, and the file that it reads: the tables open, and each level has room. Assumes nothing.
-use Rattle.integers.proofs.Kit.{_≡_, _∙_, refl, ap, sym, subst, List, ℕ, _≤_, _+_, _*_, arith, mul-le-mul}
+use Rattle.integers.proofs.Kit.{_≡_, _∙_, refl, sym, List, ℕ, _≤_, _+_, _*_, arith, mul-le-mul}
 use Rattle.integers.proofs.Kit.{le-leb, length, replicate, pos}
 use Rattle.integers.proofs.Searches.{and-is}
-use Rattle.tables.specs.declared.Tables.{Tables}
+use Rattle.tables.specs.Tables.{Tables}
 use Rattle.tables.specs.declared.Verdict.the-variants.{Fine}
 use Rattle.tables.specs.Limits.{maxStates, maxActions, maxObservations}
 use Rattle.tables.specs.Model.{Valid}
@@ -17,9 +17,8 @@ use Rattle.levels.proofs.Laws.{passed, fine-before}
 use Rattle.levels.proofs.Over.{AsLong, Complete, complete-is}
 use Rattle.runs.specs.State.{openVerdict, answerFor}
 use Rattle.runs.specs.Demand3.{ModelAccepted, PointsHold}
-use Rattle.modelfile.specs.declared.ModelFile.{ModelFile}
-use Rattle.modelfile.specs.ModelFile.{modelFile}
-use Rattle.modelfile.proofs.Opens.{read-opens, read-valid, FileOpens}
+use Rattle.modelfile.specs.ModelFile.{Room, ModelFile, modelFile}
+use Rattle.modelfile.proofs.Opens.{opens, read-valid}
 use Rattle.climbing.proofs.Climbing.{first-point}
 use Rattle.ladder.specs.Start.{Alike}
 
@@ -100,15 +99,10 @@ module _ (m : Tables) (v : Valid (modelOf m)) where
   one-more = omega (arith, v .few-states)
 
   -- the tables open in them
-  pub own-open : Long m → (x : Lent) → LentSized x → ModelAccepted m x
+  pub own-open : Stored (countsOf m) (m .transition) (m .observation) (m .reward) → (x : Lent) → LentSized x → ModelAccepted m x
   unfolding openVerdict level0
-  own-open long x h =
+  own-open stored x h =
       let s = sizes (record { actions = v .few-actions; states = v .few-states; observations = v .few-observations }) in
-      let stored : Stored (countsOf m) (m .transition) (m .observation) (m .reward) = record {
-        transitions = omega (arith, s .transitions, long .transition);
-        observed = omega (arith, s .observed, long .observation);
-        rewards = omega (arith, s .rows, long .reward);
-      } in
       fine-before (tables-fine m v stored) (passed 9 0 (and-is (le-leb stateSize (length (x .state)) (omega (arith, h .state)))
       (and-is (complete-is m (lentFor 1 0 (x .cells)) (sized-complete (omega arith) (omega arith) (h .cells)))
       (and-is (le-leb (m .actions * m .states) (length (x .rows .informed)) (omega (arith, s .rows, h .informed)))
@@ -124,15 +118,24 @@ module _ (m : Tables) (v : Valid (modelOf m)) where
   }
 
 -- ---- a file that is read
--- its tables are valid, and its start numbers are a point
-pub read-given : {f : ModelFile} (b file : List ℕ) → f ≡ modelFile file → f .verdict ≡ Fine → Alike maxStates b (f .start)
-    → Valid (modelOf (f .tables)) × IsPoint (f .tables .states) (weightIn b)
-read-given {f} b file e fine alike =
-    let start : IsPoint (f .tables .states) (weightIn (f .start)) = (omega (arith, read .start-total), omega (arith, read .start-total)) in
-    (valid, point-weights (f .tables .states) (λ s l. alike s (omega (arith, valid .few-states))) start)
-  where
-    read : FileOpens f
-    read = subst FileOpens (sym e) (read-opens file (sym (ap (λ (x : ModelFile). x .verdict) e) ∙ fine))
 
-    valid : Valid (modelOf (f .tables))
-    valid = read-valid file e fine
+-- its tables are valid and lie in the program's arrays, and its start numbers are a point
+pub read-given : (f : ModelFile) (r : Room) (b file : List ℕ) → f ≡ modelFile r file → f .verdict ≡ Fine → Long (f .tables) → Alike maxStates b (f .start)
+    → let m = f .tables in
+    Valid (modelOf m) × (Stored (countsOf m) (m .transition) (m .observation) (m .reward) × IsPoint (m .states) (weightIn b))
+read-given f r b file e fine long alike =
+    let m = f .tables in
+    let valid : Valid (modelOf m) = read-valid r file e fine in
+    let read = opens r file e fine in
+    let s = sizes (record { actions = valid .few-actions; states = valid .few-states; observations = valid .few-observations }) in
+    let start : IsPoint (m .states) (weightIn (f .start)) = (omega (arith, read .start-total), omega (arith, read .start-total)) in (
+      valid,
+      (
+        record {
+          transitions = omega (arith, s .transitions, long .transition);
+          observed = omega (arith, s .observed, long .observation);
+          rewards = omega (arith, s .rows, long .reward);
+        },
+        point-weights (m .states) (λ s l. alike s (omega (arith, valid .few-states))) start,
+      ),
+    )

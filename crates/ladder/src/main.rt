@@ -4,7 +4,8 @@ ghost use mathlib.Core.Path.{_≡_};
 ghost use Rattle.tables.specs.declared.Verdict.the-variants.{Fine};
 ghost use Rattle.tables.specs.Limits.{maxStates};
 ghost use Rattle.tables.specs.Model.{Valid};
-ghost use Rattle.tables.specs.Storage.{weightIn, modelOf};
+ghost use Rattle.tables.specs.Steps.{Stored};
+ghost use Rattle.tables.specs.Storage.{weightIn, modelIn};
 ghost use Rattle.plans.specs.Level.{IsPoint};
 ghost use Rattle.ladder.specs.Start.{Alike};
 use climbing::POINTS;
@@ -12,8 +13,6 @@ use levels::Standing;
 use libc::STDERR_FILENO;
 use libc::STDIN_FILENO;
 use libc::STDOUT_FILENO;
-use modelfile::ModelFile;
-use modelfile::Start;
 use runs::Bounds;
 use tables::Counts;
 use tables::Tables;
@@ -24,6 +23,8 @@ const LEVELS: usize = 3;
 const VECTORS: usize = Tables::STATES + POINTS;
 
 const ROWS: usize = Tables::ACTIONS * Tables::STATES;
+
+type Start = [u16; Tables::STATES];
 
 type Mixture = [u32; Tables::STATES];
 
@@ -85,9 +86,16 @@ fn print_refusal(number: u8, place: usize) -> bool {
 }
 
 // The lines of the levels, over slices of its own; false where one could not be written.
-fn levels_of(tables: Tables, given: Mixture) -> bool
-    requires { ⌜ Valid (modelOf tables) ⌝ }
-    requires { ⌜ IsPoint (tables .states) (weightIn given) ⌝ }
+fn levels_of<'a>(
+    transition: &'a [u16],
+    observation: &'a [u16],
+    reward: &'a [i64],
+    c: Counts,
+    given: Mixture,
+) -> bool
+    requires { ⌜ Valid (modelIn c (now transition) (now observation) (now reward)) ⌝ }
+    requires { ⌜ Stored c (now transition) (now observation) (now reward) ⌝ }
+    requires { ⌜ IsPoint (c .states) (weightIn given) ⌝ }
 {
     let mut state = [0usize; Standing::SIZE];
     let mut actions = [0u8; VECTORS];
@@ -105,16 +113,10 @@ fn levels_of(tables: Tables, given: Mixture) -> bool
     let mut newentries = [0i64; VECTORS * Tables::STATES];
     let mut newcorners = [0i64; Tables::STATES];
     let mut newvalues = [0i64; POINTS];
-    let c = Counts {
-        states: tables.states,
-        actions: tables.actions,
-        observations: tables.observations,
-        discount: tables.discount,
-    };
     let opened = opening::open(
-        &tables.transition,
-        &tables.observation,
-        &tables.reward,
+        transition,
+        observation,
+        reward,
         c,
         &mut state,
         &mut actions,
@@ -130,9 +132,9 @@ fn levels_of(tables: Tables, given: Mixture) -> bool
     climbing::served(opened);
     for t in 0..LEVELS {
         let r = climbing::rung(
-            &tables.transition,
-            &tables.observation,
-            &tables.reward,
+            transition,
+            observation,
+            reward,
             c,
             t,
             &mut state,
@@ -162,13 +164,29 @@ fn levels_of(tables: Tables, given: Mixture) -> bool
 
 // What is printed of a file; false where it could not be written.
 fn answer(file: &[u8]) -> bool {
-    let model = modelfile::read(file);
-    let verdict = model.verdict;
+    let mut transition = [0u16; ROWS * Tables::STATES];
+    let mut observation = [0u16; ROWS * Tables::OBSERVATIONS];
+    let mut reward = [0i64; ROWS];
+    let mut start = [0u16; Tables::STATES];
+    let read = modelfile::read(
+        file,
+        ROWS * Tables::STATES,
+        ROWS * Tables::OBSERVATIONS,
+        ROWS,
+        &mut transition,
+        &mut observation,
+        &mut reward,
+        &mut start,
+    );
+    let verdict = read.verdict;
     match verdict {
-        Verdict::Fine => {
-            let start = model.start;
-            levels_of(model.tables, mixture(start))
-        }
+        Verdict::Fine => levels_of(
+            &transition,
+            &observation,
+            &reward,
+            read.counts,
+            mixture(start),
+        ),
         Verdict::Refused(number, place) => print_refusal(number, place),
     }
 }
@@ -180,9 +198,9 @@ fn at_end() -> bool {
 }
 
 fn main() {
-    let mut file = [0u8; ModelFile::BYTES + 1];
+    let mut file = [0u8; modelfile::BYTES + 1];
     let n = io::read_full(STDIN_FILENO, &mut file);
-    if n <= ModelFile::BYTES {
+    if n <= modelfile::BYTES {
         if !at_end() {
             io::write_all(STDERR_FILENO, b"ladder: standard input cannot be read\n");
             return;

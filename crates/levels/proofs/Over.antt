@@ -3,7 +3,7 @@
 use Rattle.integers.proofs.Kit.{_≡_, _∙_, refl, ap, sym, true, false, Bool, cond, List, ℕ, _≤_, _<_, _*_, le-leb, leb-true, length, ℤ, pos}
 use Rattle.integers.proofs.Lists.{laid-at, laid-length, laid-cong, laidRows-at, laidRows-length, laidRows-cong}
 use Rattle.integers.proofs.Searches.{and-true, and-is}
-use Rattle.tables.specs.declared.Tables.{Tables}
+use Rattle.tables.specs.Tables.{Tables}
 use Rattle.tables.specs.Storage.{entryIn, modelOf}
 use Rattle.integers.specs.Cells.{laid}
 use Rattle.integers.proofs.Parts.{is-T}

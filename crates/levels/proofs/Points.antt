@@ -3,7 +3,7 @@
 use Rattle.integers.proofs.Kit.{_≡_, refl, true, false, List, [], _∷_, ℕ, suc, zero, replicate, ℤ, pos, negsuc}
 use Rattle.integers.specs.Whole.{totalTo}
 use Rattle.integers.specs.Search.{every}
-use Rattle.tables.specs.declared.Tables.{Tables}
+use Rattle.tables.specs.Tables.{Tables}
 use Rattle.tables.specs.declared.Verdict.{Verdict}
 use Rattle.tables.specs.declared.Verdict.the-variants.{Fine, Refused}
 use Rattle.tables.specs.Limits.{one}

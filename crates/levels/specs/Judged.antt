@@ -1,6 +1,6 @@
 -- What an offer is refused for, 7 to 15 and 21, in checking order; each number is tested throughout before the next.
 use Prim.Native.Nat.{ℕ, _+_, _*_}
-use mathlib.Core.Bool.{Bool, true, false, not, _&&_, _||_}
+use mathlib.Core.Bool.{Bool, not, _&&_, _||_}
 use mathlib.Core.List.{List}
 use lib.Dec.{leb, ltb, eqb}
 use lib.ListN.{length}
@@ -8,9 +8,8 @@ use lib.IntN.{ℤ, natAbs}
 use lib.Signed.{leZ}
 use Rattle.integers.specs.Whole.{_·_, totalTo}
 use Rattle.integers.specs.Search.{every}
-use Rattle.tables.specs.declared.Tables.{Tables}
+use Rattle.tables.specs.Tables.{Tables}
 use Rattle.tables.specs.declared.Verdict.{Verdict}
-use Rattle.tables.specs.declared.Verdict.the-variants.{Fine, Refused}
 use Rattle.tables.specs.Limits.{maxVectors, K, maxLevels}
 use Rattle.tables.specs.Model.{Model, backup}
 use Rattle.tables.specs.Storage.{entryIn, modelOf}

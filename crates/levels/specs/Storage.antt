@@ -8,7 +8,7 @@ use lib.Dec.{leb}
 use lib.ListN.{length, getD}
 use lib.IntN.{ℤ, pos}
 use Rattle.integers.specs.Cells.{laid, laidRows}
-use Rattle.tables.specs.declared.Tables.{Tables}
+use Rattle.tables.specs.Tables.{Tables}
 use Rattle.tables.specs.Storage.{rowPlace, entryIn, choiceIn}
 use Rattle.masks.specs.Masks.{maskOf, coveredIn, maskedIn}
 use Rattle.plans.specs.Level.{Level}

@@ -7,7 +7,7 @@ use Rattle.integers.proofs.Lists.{laid-at, laid-length}
 use Rattle.integers.proofs.Order.{·-·}
 use Rattle.integers.proofs.Searches.{and-is, at-every, or-true}
 use Rattle.integers.proofs.Sums.{sum-cong, sum-·, total-cong, total-mul-right}
-use Rattle.tables.specs.declared.Tables.{Tables}
+use Rattle.tables.specs.Tables.{Tables}
 use Rattle.tables.specs.declared.Verdict.the-variants.{Fine}
 use Rattle.tables.specs.Limits.{K}
 use Rattle.tables.specs.Model.{Model, successor, backup}

@@ -1,7 +1,7 @@
 -- The table of accepted tables is within the limits of its list; and what a list that is handed in says. Assumes nothing.
 use Rattle.integers.proofs.Kit.{_≡_, sym, true, false, Bool, _||_, _&&_, List, ℕ, _<_, arith, length, eqb, ne-eqb, false≢true}
 use Rattle.integers.proofs.Searches.{and-true}
-use Rattle.tables.specs.declared.Tables.{Tables}
+use Rattle.tables.specs.Tables.{Tables}
 use Rattle.tables.specs.declared.Verdict.the-variants.{Fine}
 use Rattle.tables.specs.Model.{Valid}
 use Rattle.tables.specs.Storage.{modelOf, transitionIn}

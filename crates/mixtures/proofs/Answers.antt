@@ -4,7 +4,7 @@ use Rattle.integers.proofs.Kit.{drop, set, take, ℤ, pos}
 use native.Mathlib.Nat as NatL
 use Rattle.integers.proofs.Lists.{laid-none, laid-turn, laid-length, laid-cong, row-below}
 use Rattle.integers.proofs.Searches.{and-true}
-use Rattle.tables.specs.declared.Tables.{Tables}
+use Rattle.tables.specs.Tables.{Tables}
 use Rattle.tables.specs.declared.Verdict.{Verdict}
 use Rattle.tables.specs.declared.Verdict.the-variants.{Fine, Refused}
 use Rattle.tables.proofs.Refusals.{stops, goes, breaks, passes}

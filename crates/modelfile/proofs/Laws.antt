@@ -1,60 +1,104 @@
 -- A file is refused at its first word that is, or goes on to the next. Assumes nothing.
-use Rattle.integers.proofs.Kit.{_≡_, _∙_, refl, ap, sym, subst, List, [], ℕ, _≤_, _<_, arith, length}
+use Rattle.integers.proofs.Kit.{_≡_, _∙_, refl, ap, sym, subst, true, false, Bool, cond, List, ℕ, _≤_, _+_, arith, leb, length, ℤ}
 use denote.Enum.Declared.{tagOf}
-use Rattle.tables.specs.Judged.{noTables}
+use Rattle.tables.specs.declared.Counts.{Counts}
+use Rattle.tables.specs.declared.Verdict.{Verdict}
+use Rattle.tables.specs.declared.Verdict.the-variants.{Fine, Refused}
+use Rattle.tables.proofs.Refusals.{never}
 use Rattle.words.specs.Words.{Words, wordsIn, between}
 use Rattle.grammar.specs.declared.Read.{Read}
 use Rattle.grammar.specs.declared.Read.the-variants.{Value}
 use Rattle.grammar.specs.declared.Read.the-variants.{Refused as NotRead}
-use Rattle.grammar.specs.Grammar.{Answer, _then_}
-use Rattle.grammar.specs.Steps.{answerOf, Onward, Tells}
-use Rattle.entries.specs.Entries.{Outcome, wholly}
-use Rattle.entries.specs.Steps.{outcomeOf, Leaves}
-use Rattle.grammar.proofs.Arms.{back-is}
+use Rattle.grammar.specs.Grammar.{Answer, refused, _then_}
+use Rattle.grammar.specs.Steps.{answerOf}
 use Rattle.grammar.proofs.Read as read-type
-use Rattle.modelfile.specs.ModelFile.{Text, refusedFile, ended}
-use Rattle.modelfile.specs.Steps.{handed}
-
--- one of them, where a refusal leaves open which
-abbrev anyText : Text
-anyText = record { tables = noTables; start = [] }
-
-handed-is : (size : ℕ) (g : ℕ → Text) (s : List ℕ) (r : Read) → tagOf read-type.the-type r ≡ 1 → handed r ≡ ended size (answerOf g s r)
-handed-is size g s (Value v next) e = absurd (omega arith)
-handed-is size g s (NotRead number place) e = refl
-
-module _ {A : Type 0} (f : ℕ → A) (s : List ℕ) (r : Read) {a : Answer A} (size : ℕ) (k : A → Words → Answer Text) (h : answerOf f s r ≡ a) where
-  -- words that are refused, or read
-  pub ends-there : tagOf read-type.the-type r ≡ 1 → handed r ≡ ended size (a then k)
-  ends-there e = handed-is size (λ _. anyText) s r e ∙ ap (ended size) (back-is f (λ _. anyText) s r k e h)
-
-  pub goes-further : (v next : ℕ) → r ≡ Value v next → ended size (k (f v) (wordsIn between s next)) ≡ ended size (a then k)
-  goes-further v next e = ap (λ (a : Answer A). ended size (a then k)) (sym (ap (answerOf f s) e) ∙ h)
-
-module _ {A : Type 0} {f : ℕ → A} {s : List ℕ} {at l : ℕ} {r : Read} {a : Answer A} (size : ℕ) (k : A → Words → Answer Text) (t : Tells f s at l r a) where
-  pub goes-back : tagOf read-type.the-type r ≡ 1 → handed r ≡ ended size (a then k)
-  goes-back e = ends-there f s r size k (t .is) e
-
-  pub goes-on : (v next : ℕ) → r ≡ Value v next → ended size (k (f v) (wordsIn between s next)) ≡ ended size (a then k)
-  goes-on v next e = goes-further f s r size k (t .is) v next e
-
--- words that are read into cells
-wholly-is : {C : Type 0} (cells : C) (s : List ℕ) (r : Read) → answerOf (λ _. cells) s r ≡ wholly (outcomeOf cells s r)
-wholly-is cells s (Value v next) = refl
-wholly-is cells s (NotRead number place) = refl
-
-module _ {C : Type 0} (cells : C) (s : List ℕ) (r : Read) {o : Outcome C} (size : ℕ) (k : C → Words → Answer Text) (h : outcomeOf cells s r ≡ o) where
-  pub stops-there : tagOf read-type.the-type r ≡ 1 → handed r ≡ ended size (wholly o then k)
-  stops-there e = ends-there (λ _. cells) s r size k (wholly-is cells s r ∙ ap wholly h) e
-
-  pub fills-further : (v next : ℕ) → r ≡ Value v next → ended size (k cells (wordsIn between s next)) ≡ ended size (wholly o then k)
-  fills-further v next e = goes-further (λ _. cells) s r size k (wholly-is cells s r ∙ ap wholly h) v next e
-
-pub leaves-next : {C : Type 0} {s : List ℕ} {at : ℕ} {r : Read} {cells : C} {o : Outcome C} (v next : ℕ) → Leaves s at r cells o → r ≡ Value v next
-    → (v ≤ 0) × ((at < next) × (next ≤ length s))
-leaves-next {s = s} {at} v next h e = subst (Onward s at 0) e (h .onward)
+use Rattle.entries.specs.Entries.{forms}
+use Rattle.statements.specs.Statements.{draft}
+use Rattle.headers.specs.declared.Headed.{Headed}
+use Rattle.headers.specs.declared.Headed.the-variants.{Counts as Counted}
+use Rattle.headers.specs.declared.Headed.the-variants.{Refused as NotHeaded}
+use Rattle.headers.specs.Headers.{counts}
+use Rattle.headers.specs.Steps.{CountsFit, headedOf, Within, Heads}
+use Rattle.modelfile.specs.declared.TablesRead.{TablesRead}
+use Rattle.modelfile.specs.ModelFile.{maxBytes, textBy, modelFile, modelFileBy}
+use Rattle.modelfile.specs.ModelFile.{Text, textOf, sumsVerdict, ModelFile, refusedFile, judgedFile, ended, Room, roomFor, roomed, bodyBy, roomedBy}
+use Rattle.modelfile.specs.Steps.{told, fileIn, refusing, handed}
 
 -- a value hands back nothing
-pub hands-none : (r : Read) → tagOf read-type.the-type r ≡ 0 → refusedFile 0 0 ≡ handed r
+pub hands-none : (r : Read) → tagOf read-type.the-type r ≡ 0 → refusing (Refused 0 0) ≡ handed r
 hands-none (Value v next) e = refl
 hands-none (NotRead number place) e = absurd (omega arith)
+
+pub headed-within : (s : List ℕ) {r : Headed} (n m k d next : ℕ) → Within s r → r ≡ Counted n m k d next → CountsFit n m k d × (next ≤ length s)
+headed-within s n m k d next h e = subst (Within s) e h
+
+module _ (transition observation : List ℕ) (reward : List ℤ) (start : List ℕ) where
+  -- h is the answer on a file, and where it is not refused the slices hold it
+  abbrev pub Answers : ModelFile → TablesRead → Type 0
+  Answers x h = (h ≡ told x) × (h .verdict ≡ Fine → fileIn h transition observation reward start ≡ x)
+
+  pub answers-refused : (number place : ℕ) {h : TablesRead} → h ≡ refusing (Refused number place) → Answers (refusedFile number place) h
+  answers-refused number place e = (e, λ v. never (sym (ap (λ (h : TablesRead). h .verdict) e) ∙ v))
+
+  module _ {A : Type 0} (size : ℕ) (k : A → Words → Answer Text) {h : TablesRead} where
+    handed-answers : (f : ℕ → A) (s : List ℕ) (r : Read) → tagOf read-type.the-type r ≡ 1 → h ≡ handed r → Answers (ended size (answerOf f s r then k)) h
+    handed-answers f s (Value v next) e q = absurd (omega arith)
+    handed-answers f s (NotRead number place) e q = answers-refused number place q
+
+    module _ (f : ℕ → A) (s : List ℕ) (r : Read) {a : Answer A} (is : answerOf f s r ≡ a) where
+      -- words that are refused, or read
+      pub answers-back : tagOf read-type.the-type r ≡ 1 → h ≡ handed r → Answers (ended size (a then k)) h
+      answers-back e q = subst (λ (a : Answer A). Answers (ended size (a then k)) h) is (handed-answers f s r e q)
+
+      pub answers-on : (v next : ℕ) → r ≡ Value v next → Answers (ended size (k (f v) (wordsIn between s next))) h → Answers (ended size (a then k)) h
+      answers-on v next e g = subst (λ (a : Answer A). Answers (ended size (a then k)) h) (sym (ap (answerOf f s) e) ∙ is) g
+
+  -- headers that are refused, or read
+  module _ (size : ℕ) (k : Counts → Words → Answer Text) {s : List ℕ} {r : Headed} {a : Answer Counts} {h : TablesRead} (t : Heads s r a) where
+    pub answers-unheaded : (number place : ℕ) → r ≡ NotHeaded number place → h ≡ refusing (Refused number place) → Answers (ended size (a then k)) h
+    answers-unheaded number place e q =
+        subst (λ (a : Answer Counts). Answers (ended size (a then k)) h) (sym (ap (headedOf s) e) ∙ t .is) (answers-refused number place q)
+
+    pub answers-headed : (n m o d next : ℕ) → r ≡ Counted n m o d next → Answers (ended size (k (counts n m o d) (wordsIn between s next))) h
+        → Answers (ended size (a then k)) h
+    answers-headed n m o d next e g = subst (λ (a : Answer Counts). Answers (ended size (a then k)) h) (sym (ap (headedOf s) e) ∙ t .is) g
+
+  -- a file that is too long, or not
+  module _ (r : Room) (file : List ℕ) {h : TablesRead} where
+    pub answers-long : leb (length file) maxBytes ≡ false → h ≡ refusing (Refused 1 0) → Answers (modelFile r file) h
+    unfolding modelFileBy
+    answers-long e q =
+        subst (λ (b : Bool). Answers (cond b (ended (length file) (textBy forms r (length file + 1) (wordsIn between file 0))) (refusedFile 1 0)) h)
+        (sym e) (answers-refused 1 0 q)
+
+    pub answers-within : leb (length file) maxBytes ≡ true → Answers (ended (length file) (textBy forms r (length file + 1) (wordsIn between file 0))) h
+        → Answers (modelFile r file) h
+    unfolding modelFileBy
+    answers-within e g =
+        subst (λ (b : Bool). Answers (cond b (ended (length file) (textBy forms r (length file + 1) (wordsIn between file 0))) (refusedFile 1 0)) h)
+        (sym e) g
+
+  -- slices without room, or with it
+  module _ (size fuel : ℕ) (r : Room) (c : Counts) (ws : Words) {h : TablesRead} where
+    pub answers-short : roomFor r c ≡ false → h ≡ refusing (Refused 3 0) → Answers (ended size (roomed r fuel c ws)) h
+    unfolding roomedBy
+    answers-short e q =
+        subst (λ (b : Bool). Answers (ended size (cond b (bodyBy forms false fuel c ws) (refused 3 0))) h) (sym e) (answers-refused 3 0 q)
+
+    pub answers-roomy : roomFor r c ≡ true → Answers (ended size (bodyBy forms false fuel c ws)) h → Answers (ended size (roomed r fuel c ws)) h
+    unfolding roomedBy
+    answers-roomy e g = subst (λ (b : Bool). Answers (ended size (cond b (bodyBy forms false fuel c ws) (refused 3 0))) h) (sym e) g
+
+  -- the totals, where all words are read
+  abbrev textIn : Counts → Text
+  textIn c = textOf c start (draft transition observation reward)
+
+  module _ (size : ℕ) (c : Counts) {v : Verdict} {h : TablesRead} (is : v ≡ sumsVerdict size (textIn c)) where
+    pub answers-total : {number place : ℕ} → v ≡ Refused number place → h ≡ refusing v → Answers (judgedFile (sumsVerdict size (textIn c)) (textIn c)) h
+    answers-total {number} {place} e q =
+        subst (λ (v : Verdict). Answers (judgedFile v (textIn c)) h) (sym e ∙ is) (answers-refused number place (q ∙ ap refusing e))
+
+    pub answers-fine : v ≡ Fine → h ≡ record { verdict = Fine; counts = c } → Answers (judgedFile (sumsVerdict size (textIn c)) (textIn c)) h
+    answers-fine e q =
+        subst (λ (v : Verdict). Answers (judgedFile v (textIn c)) h) (sym e ∙ is)
+        (q, λ _. ap (λ (h : TablesRead). fileIn h transition observation reward start) q)

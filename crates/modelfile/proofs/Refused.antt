@@ -2,27 +2,29 @@
 use Rattle.integers.proofs.Kit.{_≡_, refl, sym, subst, true, false, Bool, cond, List, ℕ, _≤_, _+_, _*_, suc, zero, arith, add-one}
 use Rattle.integers.proofs.Kit.{leb, eqb, length, getD, replicate, ℤ}
 use Rattle.integers.specs.Whole.{totalTo}
+use Rattle.tables.specs.declared.Counts.{Counts}
 use Rattle.tables.specs.declared.Verdict.{Verdict}
 use Rattle.tables.specs.declared.Verdict.the-variants.{Fine, Refused}
 use Rattle.tables.specs.Limits.{maxStates, one}
 use Rattle.tables.specs.Storage.{cellIn}
 use Rattle.tables.specs.Verdicts.{_before_, unless, firstOf}
 use Rattle.tables.specs.Judged.{rowsTotal}
-use Rattle.words.specs.Words.{Words, word, end, run, between, wordsOf, wordsIn}
+use Rattle.words.specs.Words.{Words, word, end, between, wordsOf, wordsIn}
 use Rattle.drafts.specs.Drafts.{stated}
 use Rattle.numerals.specs.Numeral.{countForm, probabilityForm, startForm, rewardForm}
-use Rattle.grammar.specs.Grammar.{Answer, got, refused, _then_, choose, key, colon, star, named, field, index, unlessEnd}
+use Rattle.grammar.specs.Grammar.{Answer, got, refused, _then_, choose, key, colon, star, named, field, index}
 use Rattle.grammar.proofs.Named.{UpTo, up-more, words-up, Word-refused, Named, then-named, key-named, number-named, keyed, keys-named, field-named}
 use Rattle.grammar.proofs.Named.{index-named, signed-named}
-use Rattle.entries.specs.Entries.{Outcome, filled, stopped, upon, wholly, probability, startTotal, startNumber, indexed, row, entry, table, entryBy, tableBy}
-use Rattle.statements.specs.Statements.{further, within, rewardNumber, starred, reward, rewards, Draft, oneStatement, statements}
-use Rattle.statements.specs.Statements.{observationOrRewardBy, oneStatementBy, rewardBy, rewardStatementBy, rewardsBy, statementsBy}
-use Rattle.modelfile.specs.ModelFile.{maxBytes, startName, Text, noCells, body, counted, headed, placed, sumsVerdict, refusedFile, judgedFile, ended}
-use Rattle.modelfile.specs.ModelFile.{modelFile}
-use Rattle.modelfile.specs.ModelFile.{bodyBy, countedBy, headedBy, modelFileBy}
+use Rattle.entries.specs.Entries.{Outcome, filled, stopped, upon, wholly, forms, probability, startTotal, startNumber, indexed, row, entry, table}
+use Rattle.entries.specs.Entries.{entryBy, tableBy}
+use Rattle.statements.specs.Statements.{further, within, rewardNumber, starred, rewards, outcomes, rewardsOrOutcomes, Draft, oneStatement, statements}
+use Rattle.statements.specs.Statements.{observationOrRewardBy, oneStatementBy, rewardBy, rewardStatementBy, rewardsBy, outcomeBy, outcomesBy, statementsBy}
+use Rattle.headers.specs.Headers.{startName, header, startNumbers, headerBy, startBy}
+use Rattle.modelfile.specs.ModelFile.{maxBytes, Text, noCells, Room, roomFor, textBy, placed, sumsVerdict, refusedFile, judgedFile, ended}
+use Rattle.modelfile.specs.ModelFile.{body, modelFile, bodyBy, roomedBy, modelFileBy}
 
 module _ (size : ℕ) where
-  abbrev Stops : {C : Type 0} → ℕ → Outcome C → Type 0
+  abbrev pub Stops : {C : Type 0} → ℕ → Outcome C → Type 0
   Stops c (filled cells ws) = UpTo size c ws
   Stops c (stopped n p cells) = Word-refused size n p
 
@@ -88,25 +90,38 @@ module _ (size : ℕ) where
         upon-left c c cells (starred ws) _ (keys-named size c colon star ws h) (λ _ ws h.
         upon-left c c cells (rewardNumber ws) _ (reward-named ws h) (λ r ws k. k)))))
 
+    outcomes-left : (m n k : ℕ) (cells : List ℤ) (ws : Words) → UpTo size c ws → Stops c (outcomes m n k cells ws)
+    unfolding outcomesBy outcomeBy
+    outcomes-left m n k cells ws h =
+        upon-left c c cells (indexed m ws) _ (indexed-named m ws h) (λ a ws h. upon-left c c cells (indexed n ws) _ (indexed-named n ws h) (λ s ws h.
+        upon-left c c cells (indexed n ws) _ (indexed-named n ws h) (λ s' ws h. upon-left c c cells (indexed k ws) _ (indexed-named k ws h) (λ o ws h.
+        upon-left c c cells (rewardNumber ws) _ (reward-named ws h) (λ r ws k. k)))))
+
+    either-left : (full : Bool) (m n k : ℕ) (cells : List ℤ) (ws : Words) → UpTo size c ws → Stops c (rewardsOrOutcomes full m n k cells ws)
+    either-left true m n k cells ws h = outcomes-left m n k cells ws h
+    either-left false m n k cells ws h = rewards-left m n cells ws h
+
     -- it takes a word or more
-    one-left : (m n k : ℕ) (d : Draft) (ws : Words) → UpTo size (suc c) ws → Stops c (oneStatement m n k d ws)
+    pub one-left : (full : Bool) (m n k : ℕ) (d : Draft) (ws : Words) → UpTo size (suc c) ws → Stops c (oneStatement full m n k d ws)
     unfolding oneStatementBy observationOrRewardBy rewardStatementBy
-    one-left m n k d ws h =
+    one-left full m n k d ws h =
         choose-left c c (key _ ws) _ _ (key-named size c _ ws h)
         (λ ws l. within-left c _ (table m n n (d .transition) ws) (table-left m n n (d .transition) ws l))
         (choose-left c c (key _ ws) _ _ (key-named size c _ ws h) (λ ws l. within-left c _ (table m n k (d .observation) ws)
         (table-left m n k (d .observation) ws l))
-        (upon-left c c d (key _ ws) _ (key-named size c _ ws h) (λ _ ws l. within-left c _ (rewards m n (d .reward) ws) (rewards-left m n (d .reward) ws l))))
+        (upon-left c c d (key _ ws) _ (key-named size c _ ws h) (λ _ ws l. within-left c _ (rewardsOrOutcomes full m n k (d .reward) ws)
+        (either-left full m n k (d .reward) ws l))))
 
   -- as many statements as there are words are enough
-  statements-left : (f m n k : ℕ) (d : Draft) (ws : Words) → UpTo size f ws → Stops f (statements f m n k d ws)
+  pub statements-left : (full : Bool) (f m n k : ℕ) (d : Draft) (ws : Words) → UpTo size f ws → Stops f (statements full f m n k d ws)
   unfolding statementsBy
-  statements-left zero m n k d (end at) h = h
-  statements-left zero m n k d (word at w rest) h = absurd h
-  statements-left (suc f) m n k d (end at) h = h
-  statements-left (suc f) m n k d (word at w rest) h =
-      further-left f (suc f) (oneStatement m n k d (word at w rest)) (λ d ws. statements f m n k d ws) (one-left f m n k d (word at w rest) h)
-      (λ d ws l. left-more f (statements f m n k d ws) (statements-left f m n k d ws l))
+  statements-left full zero m n k d (end at) h = h
+  statements-left full zero m n k d (word at w rest) h = absurd h
+  statements-left full (suc f) m n k d (end at) h = h
+  statements-left full (suc f) m n k d (word at w rest) h =
+      further-left f (suc f) (oneStatement full m n k d (word at w rest)) (λ d ws. statements full f m n k d ws)
+      (one-left f full m n k d (word at w rest) h)
+      (λ d ws l. left-more f (statements full f m n k d ws) (statements-left full f m n k d ws l))
     where
       left-more : (c : ℕ) (o : Outcome Draft) → Stops c o → Stops (suc c) o
       left-more c (filled cells ws) h = up-more size c ws h
@@ -115,31 +130,41 @@ module _ (size : ℕ) where
   -- ---- the file
 
   module _ (c : ℕ) where
-    body-named : (d n m k : ℕ) (ws : Words) → UpTo size c ws → Named size c (body c d n m k ws)
-    unfolding bodyBy
-    body-named d n m k ws h =
+    start-named : (n : ℕ) (ws : Words) → UpTo size c ws → Named size c (startNumbers n ws)
+    unfolding startBy
+    start-named n ws h =
         then-named size c c (named startName ws) _ (keys-named size c startName colon ws h) (λ _ ws h.
-        let start = row startNumber (stated 1 1 n 0 0) 0 n (replicate maxStates 0) ws in
-        then-named size c c (wholly start) _
-        (wholly-named c start (row-left c startNumber (stated 1 1 n 0 0) (λ ws. number-named size c startForm 0 startTotal ws) 0 n
-        (replicate maxStates 0) ws h))
-        (λ start ws h.
-        then-named size c c (wholly (statements c m n k noCells ws)) _ (wholly-named c (statements c m n k noCells ws) (statements-left c m n k noCells ws h))
-        (λ cells ws h. h)))
+        wholly-named c (row startNumber (stated 1 1 n 0 0) 0 n (replicate maxStates 0) ws)
+        (row-left c startNumber (stated 1 1 n 0 0) (λ ws. number-named size c startForm 0 startTotal ws) 0 n (replicate maxStates 0) ws h))
 
-    counted-named : (d : ℕ) (ws : Words) → UpTo size c ws → Named size c (counted c d ws)
-    unfolding countedBy
-    counted-named d ws h =
-        then-named size c c (field _ countForm 1 _ ws) _ (field-named size c _ countForm 1 _ ws h) (λ n ws h.
-        then-named size c c (field _ countForm 1 _ ws) _ (field-named size c _ countForm 1 _ ws h) (λ m ws h.
-        then-named size c c (field _ countForm 1 _ ws) _ (field-named size c _ countForm 1 _ ws h) (λ k ws. body-named d n m k ws)))
+    pub body-named : (full : Bool) (counts : Counts) (ws : Words) → UpTo size c ws → Named size c (body full c counts ws)
+    unfolding bodyBy
+    body-named full counts ws h =
+        let n = counts .states in
+        let m = counts .actions in
+        let k = counts .observations in
+        then-named size c c (startNumbers n ws) _ (start-named n ws h) (λ start ws h.
+        then-named size c c (wholly (statements full c m n k (noCells full) ws)) _ (wholly-named c (statements full c m n k (noCells full) ws)
+        (statements-left full c m n k (noCells full) ws h))
+        (λ cells ws h. h))
 
-    headed-named : (ws : Words) → UpTo size c ws → Named size c (headed c ws)
-    unfolding headedBy
-    headed-named ws h =
+    room-named : (counts : Counts) (ws : Words) → UpTo size c ws → (b : Bool) → Named size c (cond b (body false c counts ws) (refused 3 0))
+    room-named counts ws h true = body-named false counts ws h
+    room-named counts ws h false = record { low = omega arith; high = omega arith; place = omega arith }
+
+    header-named : (ws : Words) → UpTo size c ws → Named size c (header ws)
+    unfolding headerBy
+    header-named ws h =
         then-named size c c (field _ probabilityForm 0 _ ws) _ (field-named size c _ probabilityForm 0 _ ws h) (λ d ws h.
         then-named size c c (named _ ws) _ (keys-named size c _ colon ws h) (λ _ ws h.
-        then-named size c c (key _ ws) _ (keyed size c _ ws h) (λ _ ws. counted-named d ws)))
+        then-named size c c (key _ ws) _ (keyed size c _ ws h) (λ _ ws h.
+        then-named size c c (field _ countForm 1 _ ws) _ (field-named size c _ countForm 1 _ ws h) (λ n ws h.
+        then-named size c c (field _ countForm 1 _ ws) _ (field-named size c _ countForm 1 _ ws h) (λ m ws h.
+        then-named size c c (field _ countForm 1 _ ws) _ (field-named size c _ countForm 1 _ ws h) (λ k ws h. h))))))
+
+    text-named : (r : Room) (ws : Words) → UpTo size c ws → Named size c (textBy forms r c ws)
+    unfolding roomedBy
+    text-named r ws h = then-named size c c (header ws) _ (header-named ws h) (λ counts ws h. room-named counts ws h (roomFor r counts))
 
 -- ---- the totals
 
@@ -210,20 +235,21 @@ says-ended size c (refused n p) h =
           λ l. absurd (omega (arith, h .high));
     }
 
-says-file : (file : List ℕ) (short : Bool) → Says (RefusedAt (length file))
-    (cond short (ended (length file) (headed (length file + 1) (wordsIn between file 0))) (refusedFile 1 0) .verdict)
+says-file : (r : Room) (file : List ℕ) (short : Bool) → Says (RefusedAt (length file))
+    (cond short (ended (length file) (textBy forms r (length file + 1) (wordsIn between file 0))) (refusedFile 1 0) .verdict)
 unfolding wordsIn
-says-file file true =
+says-file r file true =
     let words = words-up between (length file) 0 file (omega arith) in
     let more : UpTo (length file) (length file + 1) (wordsOf between 0 file) = subst (λ (c : ℕ). UpTo (length file) c (wordsOf between 0 file))
     (sym (add-one (length file))) (up-more (length file) (length file) (wordsOf between 0 file) words) in
-    says-ended (length file) (length file + 1) (headed (length file + 1) (wordsOf between 0 file))
-    (headed-named (length file) (length file + 1) (wordsOf between 0 file) more)
-says-file file false = record { low = omega arith; high = omega arith; long = λ e. refl; word = λ l m. absurd (omega arith); total = λ l. absurd (omega arith) }
+    says-ended (length file) (length file + 1) (textBy forms r (length file + 1) (wordsOf between 0 file))
+    (text-named (length file) (length file + 1) r (wordsOf between 0 file) more)
+says-file r file false =
+    record { low = omega arith; high = omega arith; long = λ e. refl; word = λ l m. absurd (omega arith); total = λ l. absurd (omega arith) }
 
--- A word is refused by 2 or 3 where it stands, or at the end if it is missing. A file has no more words than bytes and a statement takes one or more, so that
--- the
--- statements, of which one more than the file has bytes are allowed, never run out. What is left is 1 for the length, and 4, 5 and 6 at the end. Qed.
-pub read-refused : (file : List ℕ) (n p : ℕ) → modelFile file .verdict ≡ Refused n p → RefusedAt (length file) n p
+-- A word is refused by 2 or 3 where it stands, or at the end if it is missing, and slices without room by 3 at 0. A file has no more words than bytes and a
+-- statement takes one or more, so that the statements, of which one more than the file has bytes are allowed, never run out. What is left is 1 for the length,
+-- and 4, 5 and 6 at the end. Qed.
+pub read-refused : (r : Room) (file : List ℕ) (n p : ℕ) → modelFile r file .verdict ≡ Refused n p → RefusedAt (length file) n p
 unfolding modelFileBy
-read-refused file n p e = subst (Says (RefusedAt (length file))) e (says-file file (leb (length file) maxBytes))
+read-refused r file n p e = subst (Says (RefusedAt (length file))) e (says-file r file (leb (length file) maxBytes))

@@ -1,102 +1,72 @@
 -- What a model file is read as: its headers in order, the start numbers, any number of statements, and then the totals.
 use Prim.Native.Nat.{ℕ, _+_, _*_}
-use mathlib.Core.Bool.{cond}
-use mathlib.Core.List.{List, [], _∷_}
+use mathlib.Core.Bool.{Bool, false, cond, _&&_}
+use mathlib.Core.List.{List}
 use lib.Dec.{eqb, leb}
 use lib.ListN.{length, getD, replicate}
 use lib.IntN.{pos}
 use Rattle.integers.specs.Whole.{totalTo}
-use Rattle.tables.specs.declared.Tables.{Tables}
+use Rattle.tables.specs.declared.Counts.{Counts}
+use Rattle.tables.specs.Tables.{Tables}
 use Rattle.tables.specs.declared.Verdict.{Verdict}
 use Rattle.tables.specs.declared.Verdict.the-variants.{Fine, Refused}
-use Rattle.tables.specs.Limits.{maxStates, maxActions, maxObservations, one}
-use Rattle.tables.specs.Storage.{cellIn}
+use Rattle.tables.specs.Limits.{maxStates, maxConverted, maxActions, maxObservations}
+use Rattle.tables.specs.Storage.{cellIn, tablesIn}
 use Rattle.tables.specs.Verdicts.{_before_, unless}
 use Rattle.tables.specs.Judged.{rowsTotal, noTables}
 use Rattle.words.specs.Words.{Words, wordsIn, between}
-use Rattle.drafts.specs.Drafts.{stated}
-use Rattle.numerals.specs.Numeral.{countForm}
-use Rattle.grammar.specs.Grammar.{Answer, got, refused, _then_, key, named, field}
-use Rattle.entries.specs.Entries.{wholly, Forms, forms, startTotal, startNumberBy, row}
+use Rattle.grammar.specs.Grammar.{Answer, got, refused, _then_}
+use Rattle.entries.specs.Entries.{wholly, Forms, forms, startTotal}
 use Rattle.statements.specs.Statements.{Draft, draft, statementsBy}
-use Rattle.modelfile.specs.declared.ModelFile.{ModelFile}
+use Rattle.headers.specs.Headers.{headerBy, startBy}
 
 abbrev pub maxBytes : ℕ
 maxBytes = 32_768
 
--- ---- the words of the headers, in bytes
+-- how many rewards a draft has: by action and state, or where they are stated in full by action, state left, state reached and observation
+abbrev pub rewardCells : Bool → ℕ
+rewardCells full = cond full (maxActions * maxConverted * maxConverted * maxObservations) (maxActions * maxStates)
 
--- "discount"
-abbrev pub discountName : List ℕ
-discountName = 100 ∷ 105 ∷ 115 ∷ 99 ∷ 111 ∷ 117 ∷ 110 ∷ 116 ∷ []
+-- unstated entries are 0
+abbrev pub noCells : Bool → Draft
+noCells full =
+    draft (replicate (maxActions * maxStates * maxStates) 0) (replicate (maxActions * maxStates * maxObservations) 0)
+    (replicate (rewardCells full) (pos 0))
 
--- "values"
-abbrev pub valuesName : List ℕ
-valuesName = 118 ∷ 97 ∷ 108 ∷ 117 ∷ 101 ∷ 115 ∷ []
-
--- "reward"
-abbrev pub rewardWord : List ℕ
-rewardWord = 114 ∷ 101 ∷ 119 ∷ 97 ∷ 114 ∷ 100 ∷ []
-
--- "states"
-abbrev pub statesName : List ℕ
-statesName = 115 ∷ 116 ∷ 97 ∷ 116 ∷ 101 ∷ 115 ∷ []
-
--- "actions"
-abbrev pub actionsName : List ℕ
-actionsName = 97 ∷ 99 ∷ 116 ∷ 105 ∷ 111 ∷ 110 ∷ 115 ∷ []
-
--- "observations"
-abbrev pub observationsName : List ℕ
-observationsName = 111 ∷ 98 ∷ 115 ∷ 101 ∷ 114 ∷ 118 ∷ 97 ∷ 116 ∷ 105 ∷ 111 ∷ 110 ∷ 115 ∷ []
-
--- "start"
-abbrev pub startName : List ℕ
-startName = 115 ∷ 116 ∷ 97 ∷ 114 ∷ 116 ∷ []
-
--- ---- the words of a file, in order, with numbers of the forms f
-
--- the tables and the start numbers, in hundredths
+-- the tables and the start numbers
 pub record Text : Type 0 where
   pub tables : Tables
   pub start : List ℕ
 
-abbrev pub textOf : ℕ → ℕ → ℕ → ℕ → List ℕ → Draft → Text
-textOf d n m k start cells = record {
-  tables = record {
-    states = n;
-    actions = m;
-    observations = k;
-    discount = d;
-    transition = cells .transition;
-    observation = cells .observation;
-    reward = cells .reward;
-  };
-  start = start;
-}
+abbrev pub textOf : Counts → List ℕ → Draft → Text
+textOf c start cells = record { tables = tablesIn c (cells .transition) (cells .observation) (cells .reward); start = start }
 
--- unstated entries are 0
-abbrev pub noCells : Draft
-noCells =
-    draft (replicate (maxActions * maxStates * maxStates) 0) (replicate (maxActions * maxStates * maxObservations) 0)
-    (replicate (maxActions * maxStates) (pos 0))
+-- the start numbers, then the statements
+unfoldable pub bodyBy : Forms → Bool → ℕ → Counts → Words → Answer Text
+bodyBy f full fuel c ws =
+    startBy f (c .states) ws then λ start ws.
+    wholly (statementsBy f full fuel (c .actions) (c .states) (c .observations) (noCells full) ws) then λ cells ws. got (textOf c start cells) ws
 
--- `start:` with n numbers, then the statements
-unfoldable pub bodyBy : Forms → ℕ → ℕ → ℕ → ℕ → ℕ → Words → Answer Text
-bodyBy f fuel d n m k ws =
-    named startName ws then λ _ ws. wholly (row (startNumberBy f) (stated 1 1 n 0 0) 0 n (replicate maxStates 0) ws) then λ start ws.
-    wholly (statementsBy f fuel m n k noCells ws) then λ cells ws. got (textOf d n m k start cells) ws
+-- how long the slices are that are lent for T, O and R
+pub record Room : Type 0 where
+  pub transition : ℕ
+  pub observation : ℕ
+  pub reward : ℕ
 
--- `states:`, `actions:` and `observations:`
-unfoldable pub countedBy : Forms → ℕ → ℕ → Words → Answer Text
-countedBy f fuel d ws =
-    field statesName countForm 1 maxStates ws then λ n ws. field actionsName countForm 1 maxActions ws then λ m ws.
-    field observationsName countForm 1 maxObservations ws then λ k ws. bodyBy f fuel d n m k ws
+abbrev pub room : ℕ → ℕ → ℕ → Room
+room transition observation reward = record { transition = transition; observation = observation; reward = reward }
 
--- `discount:` in thousandths, `values: reward`, and all that follows
-unfoldable pub headedBy : Forms → ℕ → Words → Answer Text
-headedBy f fuel ws =
-    field discountName (f .probability) 0 one ws then λ d ws. named valuesName ws then λ _ ws. key rewardWord ws then λ _ ws. countedBy f fuel d ws
+abbrev pub roomFor : Room → Counts → Bool
+roomFor r c =
+    leb (c .actions * c .states * c .states) (r .transition)
+    && (leb (c .actions * c .states * c .observations) (r .observation) && leb (c .actions * c .states) (r .reward))
+
+-- a slice shorter than its counts need gets 3 at 0, once they are read
+unfoldable pub roomedBy : Forms → Room → ℕ → Counts → Words → Answer Text
+roomedBy f r fuel c ws = cond (roomFor r c) (bodyBy f false fuel c ws) (refused 3 0)
+
+abbrev pub textBy : Forms → Room → ℕ → Words → Answer Text
+textBy f r fuel ws = headerBy f ws then λ c ws. roomedBy f r fuel c ws
 
 -- ---- the totals, after the last statement
 
@@ -113,9 +83,14 @@ sumsVerdict size t =
     before placed size (rowsTotal 5 (m .actions) (m .states) (m .states) (cellIn (m .states) (m .states) (m .transition)))
     before placed size (rowsTotal 6 (m .actions) (m .states) (m .observations) (cellIn (m .states) (m .observations) (m .observation)))
 
--- ---- the file
+-- ---- the file, read into slices of such lengths
 
--- every part 0 but the refusal
+-- what it is refused for, its tables and its start numbers; of a refused file, every part but the refusal is 0
+pub record ModelFile : Type 0 where
+  pub verdict : Verdict
+  pub tables : Tables
+  pub start : List ℕ
+
 abbrev pub refusedFile : ℕ → ℕ → ModelFile
 refusedFile number place = record { verdict = Refused number place; tables = noTables; start = replicate maxStates 0 }
 
@@ -128,20 +103,17 @@ ended size (got t ws) = judgedFile (sumsVerdict size t) t
 ended size (refused number place) = refusedFile number place
 
 -- 1 for a file that is too long
-unfoldable pub modelFileBy : Forms → List ℕ → ModelFile
-modelFileBy f file =
-    cond (leb (length file) maxBytes) (ended (length file) (headedBy f (length file + 1) (wordsIn between file 0))) (refusedFile 1 0)
+unfoldable pub modelFileBy : Forms → Room → List ℕ → ModelFile
+modelFileBy f r file =
+    cond (leb (length file) maxBytes) (ended (length file) (textBy f r (length file + 1) (wordsIn between file 0))) (refusedFile 1 0)
 
 -- ---- the same with the forms that numbers have
 
-abbrev pub body : ℕ → ℕ → ℕ → ℕ → ℕ → Words → Answer Text
+abbrev pub body : Bool → ℕ → Counts → Words → Answer Text
 body = bodyBy forms
 
-abbrev pub counted : ℕ → ℕ → Words → Answer Text
-counted = countedBy forms
+abbrev pub roomed : Room → ℕ → Counts → Words → Answer Text
+roomed = roomedBy forms
 
-abbrev pub headed : ℕ → Words → Answer Text
-headed = headedBy forms
-
-abbrev pub modelFile : List ℕ → ModelFile
+abbrev pub modelFile : Room → List ℕ → ModelFile
 modelFile = modelFileBy forms

@@ -1,9 +1,35 @@
--- What is handed back of a word that was refused. A value is never handed back; proofs/Refused.antt says that no file is answered by number 0.
+-- What the code's answers say.
+use mathlib.Core.List.{List}
+use Prim.Native.Nat.{ℕ}
+use lib.IntN.{ℤ}
+use Rattle.tables.specs.declared.Counts.{Counts}
+use Rattle.tables.specs.declared.Verdict.{Verdict}
+use Rattle.tables.specs.declared.Verdict.the-variants.{Refused}
+use Rattle.tables.specs.Storage.{countsOf, tablesIn}
 use Rattle.grammar.specs.declared.Read.{Read}
-use Rattle.grammar.specs.declared.Read.the-variants.{Value, Refused}
-use Rattle.modelfile.specs.declared.ModelFile.{ModelFile}
-use Rattle.modelfile.specs.ModelFile.{refusedFile}
+use Rattle.grammar.specs.declared.Read.the-variants.{Value}
+use Rattle.grammar.specs.declared.Read.the-variants.{Refused as NotRead}
+use Rattle.modelfile.specs.declared.TablesRead.{TablesRead}
+use Rattle.modelfile.specs.ModelFile.{ModelFile}
 
-abbrev pub handed : Read → ModelFile
-handed (Value v next) = refusedFile 0 0
-handed (Refused number place) = refusedFile number place
+-- what is answered of a file: its refusal and its counts
+abbrev pub told : ModelFile → TablesRead
+told x = record { verdict = x .verdict; counts = countsOf (x .tables) }
+
+-- the file of which an answer and slices are read
+abbrev pub fileIn : TablesRead → List ℕ → List ℕ → List ℤ → List ℕ → ModelFile
+fileIn r transition observation reward start =
+    record { verdict = r .verdict; tables = tablesIn (r .counts) transition observation reward; start = start }
+
+-- ---- refusals
+
+abbrev pub noCounts : Counts
+noCounts = record { states = 0; actions = 0; observations = 0; discount = 0 }
+
+abbrev pub refusing : Verdict → TablesRead
+refusing v = record { verdict = v; counts = noCounts }
+
+-- what is handed back of a word that was refused. A value is never handed back; proofs/Refused.antt says that no file is answered by number 0.
+abbrev pub handed : Read → TablesRead
+handed (Value v next) = refusing (Refused 0 0)
+handed (NotRead number place) = refusing (Refused number place)

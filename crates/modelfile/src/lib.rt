@@ -1,58 +1,53 @@
-// A model file: its tables and start numbers, or the refusal of its first offending word or total.
+// A model file: its counts, with its tables and start numbers in slices, or the refusal of its first offending word or total.
 ghost use mathlib.Core.Path.{_≡_};
-ghost use Prim.Native.Nat.{_+_, _≤_};
-ghost use lib.ListN.{length};
+ghost use mathlib.Core.List.{List};
+ghost use Prim.Native.Nat.{ℕ, _+_, _*_, _≤_};
+ghost use lib.ListN.{length, replicate};
+ghost use lib.IntN.{ℤ, pos};
 ghost use Rattle.words.specs.Words.{wordsIn, between};
 ghost use Rattle.tables.specs.Limits.{maxStates, maxActions, maxObservations};
-ghost use Rattle.modelfile.specs.ModelFile.{body, counted, headed, placed, sumsVerdict, refusedFile, judgedFile, ended, modelFile};
-ghost use Rattle.modelfile.specs.Steps.{handed};
+ghost use Rattle.tables.specs.declared.Verdict.the-variants.{Fine};
+ghost use Rattle.statements.specs.Statements.{draft};
+ghost use Rattle.headers.specs.Headers.{counts};
+ghost use Rattle.headers.specs.Steps.{CountsFit};
+ghost use Rattle.modelfile.specs.ModelFile.{textOf, placed, sumsVerdict, ended, rewardCells, body, room, roomFor, roomed, modelFile};
+ghost use Rattle.modelfile.specs.Steps.{refusing, handed, told, fileIn};
 use grammar::Read;
-use numerals::Form;
-use tables::Tables;
+use headers::Headed;
+use tables::Counts;
 use tables::Verdict;
 use tables::judge;
 
-// What a file is read as; of a refused one, every part but the verdict is 0.
-pub struct ModelFile {
+pub const BYTES: usize = 32_768;
+
+// What a file is refused for, and the counts of its tables; with a refusal all of them are 0.
+pub struct TablesRead {
     pub verdict: Verdict,
-    pub tables: Tables,
-    pub start: Start,
+    pub counts: Counts,
 }
 
-pub type Start = [u16; Tables::STATES]; // in hundredths
-
-// A count is 1 or more.
-const LEAST: u64 = 1;
-
-// The start numbers are a table of one block of one row, its first.
-const ROWS: usize = 1;
-
-const FIRST: usize = 0;
-
-impl ModelFile {
-    pub const BYTES: usize = 32_768;
-
-    pub const START: u64 = 100; // the total of the start numbers
-}
-
-fn refusal(number: u8, place: usize) -> ModelFile
-    ensures { λ r. ⌜ r ≡ refusedFile number place ⌝ }
+// The answer on a file that is refused.
+pub fn refusal(v: Verdict) -> TablesRead
+    ensures { λ r. ⌜ r ≡ refusing v ⌝ }
 {
-    let tables = Tables::none();
-    ModelFile {
-        verdict: Verdict::Refused(number, place),
-        tables: tables,
-        start: [0u16; Tables::STATES],
+    TablesRead {
+        verdict: v,
+        counts: Counts {
+            states: 0,
+            actions: 0,
+            observations: 0,
+            discount: 0,
+        },
     }
 }
 
 // The refusal of a word, handed back.
-fn back(x: Read) -> ModelFile
+fn back(x: Read) -> TablesRead
     ensures { λ r. ⌜ r ≡ handed x ⌝ }
 {
     match x {
-        Read::Refused(number, place) => refusal(number, place),
-        Read::Value(_, _) => refusal(0, 0),
+        Read::Refused(number, place) => refusal(Verdict::Refused(number, place)),
+        Read::Value(_, _) => refusal(Verdict::Refused(0, 0)),
     }
 }
 
@@ -67,158 +62,161 @@ fn placed_at(size: usize, v: Verdict) -> Verdict
 }
 
 // 4, then 5, then 6.
-fn totals_of(size: usize, m: Tables, start: Start) -> Verdict
-    requires { ⌜ (m .actions ≤ maxActions) × ((m .states ≤ maxStates) × (m .observations ≤ maxObservations)) ⌝ }
-    ensures { λ r. ⌜ r ≡ sumsVerdict size (record { tables = m; start = start }) ⌝ }
+pub fn totals_of(
+    size: usize,
+    n: usize,
+    m: usize,
+    k: usize,
+    transition: &[u16],
+    observation: &[u16],
+    start: &[u16],
+) -> Verdict
+    requires { ⌜ (m ≤ maxActions) × ((n ≤ maxStates) × (k ≤ maxObservations)) ⌝ }
+    requires { ⌜ (m * n * n ≤ length (now transition)) × ((m * n * k ≤ length (now observation)) × (n ≤ length (now start))) ⌝ }
+    ensures { λ r. ⌜ ((discount : ℕ) (reward : List ℤ) → r ≡ sumsVerdict size
+        (textOf (counts n m k discount) (now (start .entry)) (draft (now (transition .entry)) (now (observation .entry)) reward))) ⌝ }
 {
-    let n = m.states;
-    let actions = m.actions;
-    let k = m.observations;
-    if judge::row_total(&start, 0, n) != ModelFile::START {
+    if judge::row_total(start, 0, n) != headers::START {
         return Verdict::Refused(4, size);
     }
-    let transitions = judge::rows_total(&m.transition, actions, n, n, 5);
+    let transitions = judge::rows_total(transition, m, n, n, 5);
     let Verdict::Fine = transitions else {
         return placed_at(size, transitions);
     };
-    placed_at(size, judge::rows_total(&m.observation, actions, n, k, 6))
+    placed_at(size, judge::rows_total(observation, m, n, k, 6))
 }
 
-// The file whose words have all been read.
-fn finished(size: usize, m: Tables, start: Start) -> ModelFile
-    requires { ⌜ (m .actions ≤ maxActions) × ((m .states ≤ maxStates) × (m .observations ≤ maxObservations)) ⌝ }
-    ensures { λ r. ⌜ r ≡ judgedFile (sumsVerdict size (record { tables = m; start = start })) (record { tables = m; start = start }) ⌝ }
+// Whether slices of such lengths are long enough for the tables.
+fn has_room(c: Counts, transitions: usize, observations: usize, rewards: usize) -> bool
+    requires { ⌜ CountsFit (c .states) (c .actions) (c .observations) (c .discount) ⌝ }
+    ensures { λ r. ⌜ r ≡ roomFor (room transitions observations rewards) c ⌝ }
 {
-    match totals_of(size, m, start) {
-        Verdict::Fine => ModelFile {
-            verdict: Verdict::Fine,
-            tables: m,
-            start: start,
-        },
-        Verdict::Refused(number, place) => refusal(number, place),
+    let rows = c.actions * c.states;
+    if transitions < rows * c.states {
+        return false;
     }
+    if observations < rows * c.observations {
+        return false;
+    }
+    rows <= rewards
 }
 
-// From `start:` on.
-fn body_at(file: &[u8], at: usize, discount: u64, n: usize, m: usize, k: usize) -> ModelFile
+// What follows the counts: the start numbers, the statements with rewards in full or not, and the totals.
+pub fn body_at(
+    file: &[u8],
+    at: usize,
+    c: Counts,
+    full: bool,
+    transition: &mut [u16],
+    observation: &mut [u16],
+    reward: &mut [i64],
+    start: &mut [u16],
+) -> TablesRead
     requires { ⌜ at ≤ length (now file) ⌝ }
-    requires { ⌜ ((1 ≤ n) × (n ≤ maxStates)) × (((1 ≤ m) × (m ≤ maxActions)) × ((1 ≤ k) × (k ≤ maxObservations))) ⌝ }
-    ensures { λ r. ⌜ r ≡ ended (length (now (file .entry))) (body (length (now (file .entry)) + 1) discount n m k (wordsIn between (now (file .entry)) at)) ⌝ }
+    requires { ⌜ CountsFit (c .states) (c .actions) (c .observations) (c .discount) ⌝ }
+    requires { ⌜ now transition ≡ replicate (maxActions * maxStates * maxStates) 0 ⌝ }
+    requires { ⌜ now observation ≡ replicate (maxActions * maxStates * maxObservations) 0 ⌝ }
+    requires { ⌜ now reward ≡ replicate (rewardCells full) (pos 0) ⌝ }
+    requires { ⌜ now start ≡ replicate maxStates 0 ⌝ }
+    ensures { λ r. ⌜ r ≡ told (ended (length (now (file .entry)))
+        (body full (length (now (file .entry)) + 1) c (wordsIn between (now (file .entry)) at))) ⌝ }
+    ensures { λ r. ⌜ (r .verdict ≡ Fine
+        → fileIn r (now (transition .exit)) (now (observation .exit)) (now (reward .exit)) (now (start .exit)) ≡ ended (length (now (file .entry)))
+        (body full (length (now (file .entry)) + 1) c (wordsIn between (now (file .entry)) at))) ⌝ }
 {
-    let x = grammar::keys_at(file, at, b"start", b":");
+    let n = c.states;
+    let m = c.actions;
+    let k = c.observations;
+    let x = headers::start_at(file, at, start, n);
     let Read::Value(_, p) = x else {
         return back(x);
     };
-    let mut start = [0u16; Tables::STATES];
-    let y = entries::row_at(
-        file,
-        p,
-        &mut start,
-        ROWS,
-        ROWS,
-        n,
-        FIRST,
-        FIRST,
-        Form::START,
-        ModelFile::START,
-    );
-    let Read::Value(_, q) = y else {
+    let y = statements::statements_at(file, p, transition, observation, reward, m, n, k, full);
+    let Read::Value(_, _) = y else {
         return back(y);
     };
-    let mut transition = [0u16; Tables::ACTIONS * Tables::STATES * Tables::STATES];
-    let mut observation = [0u16; Tables::ACTIONS * Tables::STATES * Tables::OBSERVATIONS];
-    let mut reward = [0i64; Tables::ACTIONS * Tables::STATES];
-    let z = statements::statements_at(
-        file,
-        q,
-        &mut transition,
-        &mut observation,
-        &mut reward,
-        m,
-        n,
-        k,
-    );
-    let Read::Value(_, _) = z else {
-        return back(z);
+    let totals = totals_of(file.len(), n, m, k, transition, observation, start);
+    let Verdict::Fine = totals else {
+        return refusal(totals);
     };
-    let tables = Tables {
-        states: n,
-        actions: m,
-        observations: k,
-        discount: discount,
-        transition: transition,
-        observation: observation,
-        reward: reward,
-    };
-    finished(file.len(), tables, start)
-}
-
-// From `states:` on.
-fn counted_at(file: &[u8], at: usize, discount: u64) -> ModelFile
-    requires { ⌜ at ≤ length (now file) ⌝ }
-    ensures { λ r. ⌜ r ≡ ended (length (now (file .entry))) (counted (length (now (file .entry)) + 1) discount (wordsIn between (now (file .entry)) at)) ⌝ }
-{
-    let x = grammar::field_at(
-        file,
-        at,
-        b"states",
-        Form::COUNT,
-        LEAST,
-        Tables::STATES as u64,
-    );
-    let Read::Value(n, p) = x else {
-        return back(x);
-    };
-    let y = grammar::field_at(
-        file,
-        p,
-        b"actions",
-        Form::COUNT,
-        LEAST,
-        Tables::ACTIONS as u64,
-    );
-    let Read::Value(m, q) = y else {
-        return back(y);
-    };
-    let z = grammar::field_at(
-        file,
-        q,
-        b"observations",
-        Form::COUNT,
-        LEAST,
-        Tables::OBSERVATIONS as u64,
-    );
-    let Read::Value(k, next) = z else {
-        return back(z);
-    };
-    body_at(file, next, discount, n as usize, m as usize, k as usize)
-}
-
-// From `discount:` on.
-fn headed_at(file: &[u8]) -> ModelFile
-    ensures { λ r. ⌜ r ≡ ended (length (now (file .entry))) (headed (length (now (file .entry)) + 1) (wordsIn between (now (file .entry)) 0)) ⌝ }
-{
-    let x = grammar::field_at(file, 0, b"discount", Form::PROBABILITY, 0, Tables::ONE);
-    let Read::Value(discount, p) = x else {
-        return back(x);
-    };
-    let y = grammar::keys_at(file, p, b"values", b":");
-    let Read::Value(_, q) = y else {
-        return back(y);
-    };
-    let z = grammar::key_at(file, q, b"reward");
-    let Read::Value(_, next) = z else {
-        return back(z);
-    };
-    counted_at(file, next, discount)
-}
-
-// Reads a file of any content.
-pub fn read(file: &[u8]) -> ModelFile
-    ensures { λ r. ⌜ r ≡ modelFile (now (file .entry)) ⌝ }
-{
-    if file.len() <= ModelFile::BYTES {
-        return headed_at(file);
+    TablesRead {
+        verdict: Verdict::Fine,
+        counts: c,
     }
-    refusal(1, 0)
+}
+
+// What follows the counts, where slices of such lengths have room for it.
+fn roomed_at(
+    file: &[u8],
+    at: usize,
+    c: Counts,
+    transitions: usize,
+    observations: usize,
+    rewards: usize,
+    transition: &mut [u16],
+    observation: &mut [u16],
+    reward: &mut [i64],
+    start: &mut [u16],
+) -> TablesRead
+    requires { ⌜ at ≤ length (now file) ⌝ }
+    requires { ⌜ CountsFit (c .states) (c .actions) (c .observations) (c .discount) ⌝ }
+    requires { ⌜ now transition ≡ replicate (maxActions * maxStates * maxStates) 0 ⌝ }
+    requires { ⌜ now observation ≡ replicate (maxActions * maxStates * maxObservations) 0 ⌝ }
+    requires { ⌜ now reward ≡ replicate (maxActions * maxStates) (pos 0) ⌝ }
+    requires { ⌜ now start ≡ replicate maxStates 0 ⌝ }
+    ensures { λ r. ⌜ r ≡ told (ended (length (now (file .entry)))
+        (roomed (room transitions observations rewards) (length (now (file .entry)) + 1) c (wordsIn between (now (file .entry)) at))) ⌝ }
+    ensures { λ r. ⌜ (r .verdict ≡ Fine
+        → fileIn r (now (transition .exit)) (now (observation .exit)) (now (reward .exit)) (now (start .exit)) ≡ ended (length (now (file .entry)))
+        (roomed (room transitions observations rewards) (length (now (file .entry)) + 1) c (wordsIn between (now (file .entry)) at))) ⌝ }
+{
+    if !has_room(c, transitions, observations, rewards) {
+        return refusal(Verdict::Refused(3, 0));
+    }
+    body_at(file, at, c, false, transition, observation, reward, start)
+}
+
+// Reads a file of any content into cells that are 0, for slices of such lengths.
+pub fn read(
+    file: &[u8],
+    transitions: usize,
+    observations: usize,
+    rewards: usize,
+    transition: &mut [u16],
+    observation: &mut [u16],
+    reward: &mut [i64],
+    start: &mut [u16],
+) -> TablesRead
+    requires { ⌜ now transition ≡ replicate (maxActions * maxStates * maxStates) 0 ⌝ }
+    requires { ⌜ now observation ≡ replicate (maxActions * maxStates * maxObservations) 0 ⌝ }
+    requires { ⌜ now reward ≡ replicate (maxActions * maxStates) (pos 0) ⌝ }
+    requires { ⌜ now start ≡ replicate maxStates 0 ⌝ }
+    ensures { λ r. ⌜ r ≡ told (modelFile (room transitions observations rewards) (now (file .entry))) ⌝ }
+    ensures { λ r. ⌜ (r .verdict ≡ Fine
+        → fileIn r (now (transition .exit)) (now (observation .exit)) (now (reward .exit)) (now (start .exit))
+        ≡ modelFile (room transitions observations rewards) (now (file .entry))) ⌝ }
+{
+    if BYTES < file.len() {
+        return refusal(Verdict::Refused(1, 0));
+    }
+    match headers::header_at(file) {
+        Headed::Refused(number, place) => refusal(Verdict::Refused(number, place)),
+        Headed::Counts(n, m, k, discount, next) => roomed_at(
+            file,
+            next,
+            Counts {
+                states: n,
+                actions: m,
+                observations: k,
+                discount: discount,
+            },
+            transitions,
+            observations,
+            rewards,
+            transition,
+            observation,
+            reward,
+            start,
+        ),
+    }
 }

@@ -9,14 +9,14 @@ use mathlib.Core.List.{List, [], _∷_}
 use native.Mathlib.Omega.{arith}
 use native.Mathlib.Nat.{add-mul, mul-assoc, mul-comm, one-mul, pow-suc, pow-zero, mul-le-mul-right}
 use borrow.Author.Tests.{leb-true}
-use lib.Dec.{eqb, leb}
+use lib.Dec.{leb}
 use lib.ListN.{drop}
 use lib.Pow.{pow-add}
 use Rattle.words.specs.Class.{classOf}
 use Rattle.numerals.specs.declared.Amount.{Amount}
 use Rattle.numerals.specs.declared.Amount.the-variants.{Is, Not}
 use Rattle.numerals.specs.declared.Form.{Form}
-use Rattle.numerals.specs.Numeral.{isDigit, digits, value, fitting, exponentMark, powered, exponent, pointed, enough, decimal, fraction, amountOf}
+use Rattle.numerals.specs.Numeral.{isDigit, digits, value, fitting, exponent, pointed, enough, decimal, fraction, amountOf}
 use Rattle.numerals.proofs.Laws.{digit-byte, power-least, power-some}
 
 -- ---- digits

@@ -2,7 +2,7 @@
 use Rattle.integers.proofs.Kit.{_≡_, _∙_, refl, sym, List, _∷_, ℕ, _≤_, _+_, drop, ℤ}
 use Rattle.integers.specs.Cells.{laidRows}
 use Rattle.integers.proofs.Lists.{laidRows-flat}
-use Rattle.tables.specs.declared.Tables.{Tables}
+use Rattle.tables.specs.Tables.{Tables}
 use Rattle.tables.specs.declared.Verdict.{Verdict}
 use Rattle.tables.specs.declared.Verdict.the-variants.{Fine, Refused}
 use Rattle.tables.specs.Limits.{maxVectors}
@@ -15,7 +15,7 @@ use Rattle.levels.specs.Storage.{Cells, LentLevel, rows, Lent, stateSize, lent,
 use Rattle.levels.specs.Judged.{offerVerdict}
 use Rattle.levels.proofs.Over.{Complete, cells-same, lent-same}
 use Rattle.runs.specs.State.{offered}
-use Rattle.offering.specs.Steps.{Lays, laidBy}
+use Rattle.laying.specs.Steps.{Lays, laidBy}
 
 -- slices that are complete for a level within the limits
 pub lays : (m : Tables) (y : Cells) {vectors points : ℕ} → Valid (modelOf m) → vectors ≤ maxVectors → points ≤ maxPoints

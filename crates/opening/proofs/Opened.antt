@@ -2,7 +2,7 @@
 use Rattle.integers.proofs.Kit.{_≡_, _∙_, ap, sym, true, List, _∷_, ℕ, _*_, arith, drop, ℤ, pos}
 use Rattle.integers.specs.Cells.{laid, laidRows}
 use Rattle.integers.proofs.Lists.{laid-none, laidRows-none}
-use Rattle.tables.specs.declared.Tables.{Tables}
+use Rattle.tables.specs.Tables.{Tables}
 use Rattle.tables.specs.declared.Verdict.{Verdict}
 use Rattle.tables.specs.declared.Verdict.the-variants.{Fine, Refused}
 use Rattle.masks.specs.Masks.{maskOf}

@@ -8,7 +8,7 @@ use Rattle.integers.proofs.Sums.{sum-mono, total-cong, total-mul, total-mul-rig
 use Rattle.integers.proofs.Sizes.{abs-add, abs-times, times-bound, sum-weighed, abs-below, abs-above, multiple-above, multiple-between}
 use Rattle.integers.proofs.Rounding.{floor-≤, floor-range, ceil-≥, ceil-least, ceil-range}
 use Rattle.integers.proofs.Searches.{every-at, largest-in, largest-max, of-in, of-some}
-use Rattle.tables.specs.Limits.{maxStates, one, maxReward, maxEntry, K, maxLevels}
+use Rattle.tables.specs.Limits.{one, maxReward, maxEntry, K, maxLevels}
 use Rattle.tables.specs.Model.{Model, Valid, successor, expectedReward, backup, backedUp}
 use Rattle.plans.specs.Limits.{maxBuilt, range}
 use Rattle.plans.specs.Level.{Level, coversAll, level0, product, drop, gain, ceiling, backupAt, corner-weight, follows, Meets, ShapedUpTo}
@@ -188,14 +188,14 @@ module _ {most : ℕ} (M : Model) (L : Level) (t : ℕ) (T : Valid M) (S : Shape
   module _ (points : ℕ) (weight : ℕ → ℕ → ℕ) (few : points ≤ maxBuilt)
       (total : (i : ℕ) → i < points → IsPoint (M .states) (weight i)) where
     -- The built level has the shape of level t + 1.
-    -- It has a vector for each state and each point, at most maxStates + maxBuilt. An entry is a backup over K, rounded down; a corner or
+    -- It has a vector for each state and each point. An entry is a backup over K, rounded down; a corner or
     -- value is the largest of the backups over K, rounded up. Backups lie within K × range (t + 1) times the total of the weights, which is 1 at a
     -- corner; rounding keeps a range with whole ends. Qed.
-    pub built-shaped : maxStates + maxBuilt ≤ most → ShapedUpTo most M (suc t) (built M L points weight)
+    pub built-shaped : M .states + points ≤ most → ShapedUpTo most M (suc t) (built M L points weight)
     unfolding built
     built-shaped enough = record {
       some-vectors = omega (arith, T .some-states);
-      few-vectors = omega (arith, T .few-states);
+      few-vectors = enough;
       few-points = omega arith;
       action-in = λ v l. action-exists M L _ (T .some-actions);
       entry-in = λ v l s b. entry-range _ _ (action-exists M L _ (T .some-actions)) s b;

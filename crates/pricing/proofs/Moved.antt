@@ -15,7 +15,7 @@ use Rattle.integers.proofs.Lists.{cell-below, length-listed, laid-cong}
 use Rattle.integers.proofs.Sums.{largest-ind, largest-part}
 use Rattle.integers.proofs.Searches.{and-true}
 use Rattle.tables.specs.declared.Counts.{Counts}
-use Rattle.tables.specs.declared.Tables.{Tables}
+use Rattle.tables.specs.Tables.{Tables}
 use Rattle.tables.specs.Model.{Valid}
 use Rattle.tables.specs.Storage.{cellIn, rewardIn, modelIn, modelOf}
 use Rattle.tables.specs.Steps.{Stored}

@@ -12,7 +12,7 @@ use Rattle.integers.specs.Cells.{laid, laidRows}
 use Rattle.integers.proofs.Sums.{largest-ind}
 use Rattle.integers.proofs.Sizes.{abs-sub}
 use Rattle.integers.proofs.Lists.{laidRows-cong}
-use Rattle.tables.specs.declared.Tables.{Tables}
+use Rattle.tables.specs.Tables.{Tables}
 use Rattle.tables.specs.declared.Verdict.{Verdict}
 use Rattle.tables.specs.declared.Verdict.the-variants.{Fine, Refused}
 use Rattle.tables.specs.Limits.{maxReward, maxEntry, maxLevels, maxVectors}

@@ -1,66 +1,14 @@
 // A model file, read into tables and start numbers in slices that the caller lends. A refusal writes nothing.
 ghost use mathlib.Core.Path.{_≡_};
-ghost use Prim.Native.Nat.{_*_, _≤_};
-ghost use Rattle.tables.specs.Limits.{maxStates, maxActions, maxObservations};
-ghost use Rattle.modelfile.specs.ModelFile.{modelFile};
 ghost use Rattle.tables.specs.Verdicts.{left};
-ghost use Rattle.reading.specs.Reading.{roomVerdict, readVerdict, noCounts, readOf, laidTransitions, laidObservations, laidRewards, laidStart};
+ghost use Rattle.reading.specs.Reading.{fileFor, readVerdict, readOf, laidTransitions, laidObservations, laidRewards, laidStart};
 use integers::cells;
-use tables::Counts;
+use modelfile::TablesRead;
+use tables::Tables;
 use tables::Verdict;
 
-// What a file, or the slices lent for it, are refused for, and the counts of its tables; with a refusal all of them are 0.
-pub struct TablesRead {
-    pub verdict: Verdict,
-    pub counts: Counts,
-}
-
-impl TablesRead {
-    pub const SHORT: u8 = 100; // a slice lent for what is read is too short
-}
-
-// The answer on a file that is refused.
-fn refused(v: Verdict) -> TablesRead
-    ensures { λ r. ⌜ r ≡ record { verdict = v; counts = noCounts } ⌝ }
-{
-    TablesRead {
-        verdict: v,
-        counts: Counts {
-            states: 0,
-            actions: 0,
-            observations: 0,
-            discount: 0,
-        },
-    }
-}
-
-// Whether slices of such lengths have room for tables and start numbers: 100, with the length that the first short one needs.
-fn judge_room(
-    n: usize,
-    rows: usize,
-    k: usize,
-    transition: usize,
-    observation: usize,
-    reward: usize,
-    start: usize,
-) -> Verdict
-    requires { ⌜ (n ≤ maxStates) × ((rows ≤ maxActions * maxStates) × (k ≤ maxObservations)) ⌝ }
-    ensures { λ r. ⌜ r ≡ roomVerdict n rows k transition observation reward start ⌝ }
-{
-    if transition < rows * n {
-        return Verdict::Refused(TablesRead::SHORT, rows * n);
-    }
-    if observation < rows * k {
-        return Verdict::Refused(TablesRead::SHORT, rows * k);
-    }
-    if reward < rows {
-        return Verdict::Refused(TablesRead::SHORT, rows);
-    }
-    if start < n {
-        return Verdict::Refused(TablesRead::SHORT, n);
-    }
-    Verdict::Fine
-}
+// The slice lent for the start numbers is too short.
+const SHORT: u8 = 100;
 
 // Reads a model file into tables and start numbers, in hundredths.
 pub fn read(
@@ -70,53 +18,44 @@ pub fn read(
     reward: &mut [i64],
     start: &mut [u16],
 ) -> TablesRead
-    ensures { λ r. ⌜ (let x = modelFile (now (file .entry)) in
-        let v = readVerdict x (now (transition .entry)) (now (observation .entry)) (now (reward .entry)) (now (start .entry)) in
-        r ≡ readOf v x) ⌝ }
-    ensures { λ _. ⌜ (let x = modelFile (now (file .entry)) in
-        let v = readVerdict x (now (transition .entry)) (now (observation .entry)) (now (reward .entry)) (now (start .entry)) in
-        now (transition .exit) ≡ left v (laidTransitions x (now (transition .entry))) (now (transition .entry))) ⌝ }
-    ensures { λ _. ⌜ (let x = modelFile (now (file .entry)) in
-        let v = readVerdict x (now (transition .entry)) (now (observation .entry)) (now (reward .entry)) (now (start .entry)) in
-        now (observation .exit) ≡ left v (laidObservations x (now (observation .entry))) (now (observation .entry))) ⌝ }
-    ensures { λ _. ⌜ (let x = modelFile (now (file .entry)) in
-        let v = readVerdict x (now (transition .entry)) (now (observation .entry)) (now (reward .entry)) (now (start .entry)) in
-        now (reward .exit) ≡ left v (laidRewards x (now (reward .entry))) (now (reward .entry))) ⌝ }
-    ensures { λ _. ⌜ (let x = modelFile (now (file .entry)) in
-        let v = readVerdict x (now (transition .entry)) (now (observation .entry)) (now (reward .entry)) (now (start .entry)) in
-        now (start .exit) ≡ left v (laidStart x (now (start .entry))) (now (start .entry))) ⌝ }
+    ensures { λ r. ⌜ (let x = fileFor (now (file .entry)) (now (transition .entry)) (now (observation .entry)) (now (reward .entry)) in
+        r ≡ readOf (readVerdict x (now (start .entry))) x) ⌝ }
+    ensures { λ _. ⌜ (let x = fileFor (now (file .entry)) (now (transition .entry)) (now (observation .entry)) (now (reward .entry)) in
+        now (transition .exit) ≡ left (readVerdict x (now (start .entry))) (laidTransitions x (now (transition .entry))) (now (transition .entry))) ⌝ }
+    ensures { λ _. ⌜ (let x = fileFor (now (file .entry)) (now (transition .entry)) (now (observation .entry)) (now (reward .entry)) in
+        now (observation .exit) ≡ left (readVerdict x (now (start .entry))) (laidObservations x (now (observation .entry))) (now (observation .entry))) ⌝ }
+    ensures { λ _. ⌜ (let x = fileFor (now (file .entry)) (now (transition .entry)) (now (observation .entry)) (now (reward .entry)) in
+        now (reward .exit) ≡ left (readVerdict x (now (start .entry))) (laidRewards x (now (reward .entry))) (now (reward .entry))) ⌝ }
+    ensures { λ _. ⌜ (let x = fileFor (now (file .entry)) (now (transition .entry)) (now (observation .entry)) (now (reward .entry)) in
+        now (start .exit) ≡ left (readVerdict x (now (start .entry))) (laidStart x (now (start .entry))) (now (start .entry))) ⌝ }
 {
-    let read = modelfile::read(file);
-    let verdict = read.verdict;
-    let Verdict::Fine = verdict else {
-        return refused(verdict);
-    };
-    let m = read.tables;
-    let n = m.states;
-    let rows = m.actions * n;
-    let room = judge_room(
-        n,
-        rows,
-        m.observations,
+    let mut t = [0u16; Tables::ACTIONS * Tables::STATES * Tables::STATES];
+    let mut o = [0u16; Tables::ACTIONS * Tables::STATES * Tables::OBSERVATIONS];
+    let mut r = [0i64; Tables::ACTIONS * Tables::STATES];
+    let mut s = [0u16; Tables::STATES];
+    let read = modelfile::read(
+        file,
         transition.len(),
         observation.len(),
         reward.len(),
-        start.len(),
+        &mut t,
+        &mut o,
+        &mut r,
+        &mut s,
     );
-    let Verdict::Fine = room else {
-        return refused(room);
+    let verdict = read.verdict;
+    let Verdict::Fine = verdict else {
+        return modelfile::refusal(verdict);
     };
-    cells::paste_u16(transition, 0, &m.transition, rows * n);
-    cells::paste_u16(observation, 0, &m.observation, rows * m.observations);
-    cells::paste_i64(reward, 0, &m.reward, rows);
-    cells::paste_u16(start, 0, &read.start, n);
-    TablesRead {
-        verdict: Verdict::Fine,
-        counts: Counts {
-            states: n,
-            actions: m.actions,
-            observations: m.observations,
-            discount: m.discount,
-        },
+    let c = read.counts;
+    let n = c.states;
+    if start.len() < n {
+        return modelfile::refusal(Verdict::Refused(SHORT, n));
     }
+    let rows = c.actions * n;
+    cells::paste_u16(transition, 0, &t, rows * n);
+    cells::paste_u16(observation, 0, &o, rows * c.observations);
+    cells::paste_i64(reward, 0, &r, rows);
+    cells::paste_u16(start, 0, &s, n);
+    read
 }

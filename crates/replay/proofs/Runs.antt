@@ -5,7 +5,7 @@
 use Rattle.integers.proofs.Kit.{_≡_, _∙_, refl, ap, sym, List, [], _∷_, ℕ, _≤_, _+_, arith, add-one, length}
 use mathlib.Core.List.{_++_}
 use native.Mathlib.Nat as NatL
-use Rattle.tables.specs.declared.Tables.{Tables}
+use Rattle.tables.specs.Tables.{Tables}
 use Rattle.tables.specs.declared.Verdict.{Verdict}
 use Rattle.tables.specs.declared.Verdict.the-variants.{Fine, Refused}
 use Rattle.tables.specs.Limits.{maxVectors}

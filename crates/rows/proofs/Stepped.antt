@@ -9,7 +9,7 @@
 use Rattle.integers.proofs.Kit.{_≡_, _∙_, refl, ap, sym, List, ℕ, _≤_, _<_, _+_, _*_, _^_, _/_, _%_, arith, length, getD, paste, ℤ, pos, natAbs, _+ℤ_}
 use native.Mathlib.Nat as NatL
 use Rattle.integers.specs.Whole.{_·_, sumTo, ceilDiv, Below, Within}
-use Rattle.integers.specs.Cells.{padded, laid, laidRows}
+use Rattle.integers.specs.Cells.{padded, laidRows}
 use Rattle.integers.proofs.Order.{·-·}
 use Rattle.integers.proofs.Lists.{padded-at, filled-below, filled-within, laid-at, laid-length, laid-cong, paste-laid}
 use Rattle.integers.proofs.Sizes.{abs-times, times-bound, sum-bound}

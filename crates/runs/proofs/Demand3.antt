@@ -4,7 +4,7 @@ use Rattle.integers.proofs.Kit.{leb-true, lt-ltb, leb, length, drop}
 use mathlib.Core.List.{_++_}
 use native.Mathlib.Nat.{add-assoc}
 use Rattle.integers.proofs.Searches.{and-true, and-is}
-use Rattle.tables.specs.declared.Tables.{Tables}
+use Rattle.tables.specs.Tables.{Tables}
 use Rattle.tables.specs.declared.Verdict.{Verdict}
 use Rattle.tables.specs.declared.Verdict.the-variants.{Fine, Refused}
 use Rattle.tables.specs.Model.{Model}
@@ -286,7 +286,7 @@ module _ {m : Tables} {x₀ : Cells} {t : ℕ} {c : Claim} {x : Lent} (r : Reach
             answer-room = points .answer-room;
             certifier-room = complete-is m (answerFor m count (x .cells))
                 (complete-long m (r .as-lent) (complete-true m (answerFor m count x₀) (points .certifier-room)));
-          }
+          } (omega (arith, r .stands .valid-tables .few-states, points .few))
 
 -- ---- a list after a list
 pub run-append : (y : Certifier) (es fs : List Event) → run y (es ++ fs) ≡ run (run y es) fs

@@ -8,7 +8,7 @@ use Rattle.integers.specs.Search.{every, some, firstLargestOf}
 use Rattle.integers.specs.Cells.{listed, laid, laidRows}
 use Rattle.integers.proofs.Order.{·-zero}
 use Rattle.integers.proofs.Sums.{sum-zero}
-use Rattle.tables.specs.declared.Tables.{Tables}
+use Rattle.tables.specs.Tables.{Tables}
 use Rattle.tables.specs.declared.Verdict.the-variants.{Fine, Refused}
 use Rattle.tables.specs.Limits.{K}
 use Rattle.tables.specs.Model.{Model, successor, expectedReward, backup, backedUp}

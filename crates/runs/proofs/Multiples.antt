@@ -1,7 +1,7 @@
 -- Multiples and sums of mixtures, proved over the definitions that the contracts name. Assumes nothing.
 use Rattle.integers.proofs.Kit.{_≡_, _∙_, refl, sym, true, List, ℕ, _<_, lt-ltb, ltb-true, ℤ}
 use Rattle.integers.proofs.Searches.{some-cong}
-use Rattle.tables.specs.declared.Tables.{Tables}
+use Rattle.tables.specs.Tables.{Tables}
 use Rattle.tables.specs.declared.Verdict.{Verdict}
 use Rattle.tables.specs.declared.Verdict.the-variants.{Fine, Refused}
 use Rattle.tables.specs.Limits.{maxVectors}

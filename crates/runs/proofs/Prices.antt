@@ -6,7 +6,7 @@
 use Rattle.integers.proofs.Kit.{_≡_, _∙_, refl, ap, true, false, Bool, cond, ℕ, _<_, eqb-true, ℤ, pos}
 use Rattle.integers.proofs.Lists.{laid-at, laid-length, laidRows-at, laidRows-length}
 use Rattle.integers.proofs.Searches.{and-true, every-at}
-use Rattle.tables.specs.declared.Tables.{Tables}
+use Rattle.tables.specs.Tables.{Tables}
 use Rattle.tables.specs.declared.Verdict.the-variants.{Fine}
 use Rattle.tables.specs.Limits.{maxVectors}
 use Rattle.tables.specs.Model.{Model, Valid}

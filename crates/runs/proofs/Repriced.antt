@@ -4,7 +4,7 @@ use Rattle.integers.proofs.Kit.{_≡_, refl, List, [], _∷_, ℕ, replicate, �
 use Rattle.integers.specs.Whole.{totalTo, largestTo, lesser}
 use Rattle.integers.specs.Search.{every}
 use Rattle.integers.specs.Cells.{listed, laid, laidRows}
-use Rattle.tables.specs.declared.Tables.{Tables}
+use Rattle.tables.specs.Tables.{Tables}
 use Rattle.tables.specs.declared.Verdict.the-variants.{Fine, Refused}
 use Rattle.tables.specs.Verdicts.{firstOf}
 use Rattle.tables.specs.Judged.{limitsHold, rowsTotal, tablesVerdict}

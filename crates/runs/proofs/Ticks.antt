@@ -3,7 +3,7 @@ use Rattle.integers.proofs.Kit.{_≡_, _∙_, refl, ap, sym, subst, List, [], _
 use Rattle.integers.proofs.Kit.{ℤ, pos, _+ℤ_, _≤ℤ_, _<ℤ_}
 use Rattle.integers.specs.Whole.{_·_, floorDiv}
 use Rattle.integers.proofs.Order.{≤-of, <-≤, ·-zero}
-use Rattle.tables.specs.declared.Tables.{Tables}
+use Rattle.tables.specs.Tables.{Tables}
 use Rattle.tables.specs.declared.Verdict.{Verdict}
 use Rattle.tables.specs.declared.Verdict.the-variants.{Fine, Refused}
 use Rattle.tables.specs.Limits.{maxVectors, K}

@@ -1,9 +1,8 @@
 -- Acceptance of built levels, over the most vectors that a level may have; 32 and 1,000 are two uses. Assumes nothing.
-use Rattle.integers.proofs.Kit.{refl, ℕ, _≤_, _+_, suc, arith, add-one}
-use Rattle.tables.specs.Limits.{maxStates, maxVectors}
+use Rattle.integers.proofs.Kit.{refl, ℕ, suc, add-one}
+use Rattle.tables.specs.Limits.{maxVectors}
 use Rattle.tables.specs.Model.{Model}
 use Rattle.tables.specs.Storage.{modelOf}
-use Rattle.plans.specs.Limits.{maxBuilt}
 use Rattle.plans.specs.Level.{Level}
 use Rattle.plans.specs.Build.{built}
 use Rattle.plans.proofs.Built.{built-shaped, built-meets}
@@ -14,11 +13,11 @@ use Rattle.runs.specs.State.{answerFor, builtFrom}
 use Rattle.runs.specs.Vectors.{BuiltAccepted}
 use Rattle.runs.proofs.Judged.{standing-true, accepts}
 
--- The built level has a vector for each state and each point, so at most maxStates + maxBuilt; it has the shape of the next level and meets its inequalities
+-- The built level has a vector for each state and each point; it has the shape of the next level and meets its inequalities
 -- over the standing one (`built-shaped`, `built-meets`). What is laid of it agrees with it, so it passes every test of an offer. Qed.
-pub built-accepted : (most : ℕ) → maxStates + maxBuilt ≤ most → BuiltAccepted most
+pub built-accepted : (most : ℕ) → BuiltAccepted most
 unfolding built
-built-accepted most enough m x h room some count y points =
+built-accepted most m x h room some count y points enough =
     let held = standing-true most m x h in
     let M : Model = modelOf m in
     let S : Level = levelOf m (standingIn x) in
@@ -38,7 +37,7 @@ built-accepted most enough m x h room some count y points =
     }
 
 pub accepted-32 : BuiltAccepted 32
-accepted-32 = built-accepted 32 (omega arith)
+accepted-32 = built-accepted 32
 
 pub accepted-1000 : BuiltAccepted maxVectors
-accepted-1000 = built-accepted maxVectors (omega arith)
+accepted-1000 = built-accepted maxVectors

@@ -10,7 +10,7 @@ use mathlib.Core.List.{List}
 use lib.IntN.{_+ℤ_}
 use lib.Signed.{_≤ℤ_}
 use Rattle.integers.specs.Whole.{_·_}
-use Rattle.tables.specs.declared.Tables.{Tables}
+use Rattle.tables.specs.Tables.{Tables}
 use Rattle.tables.specs.declared.Verdict.the-variants.{Fine}
 use Rattle.tables.specs.Storage.{weightIn}
 use Rattle.levels.specs.Storage.{Lent}

@@ -8,7 +8,7 @@ use mathlib.Core.Bool.{Bool, cond, _&&_}
 use lib.Dec.{eqb}
 use Rattle.integers.specs.Cells.{laid, laidRows}
 use Rattle.integers.specs.Search.{every}
-use Rattle.tables.specs.declared.Tables.{Tables}
+use Rattle.tables.specs.Tables.{Tables}
 use Rattle.tables.specs.declared.Verdict.{Verdict}
 use Rattle.tables.specs.Model.{Model}
 use Rattle.tables.specs.Storage.{entryIn, modelOf}

@@ -7,7 +7,7 @@ use lib.ListN.{length, drop}
 use lib.IntN.{ℤ, pos, _-ℤ_}
 use Rattle.integers.specs.Whole.{totalTo}
 use Rattle.integers.specs.Search.{every}
-use Rattle.tables.specs.declared.Tables.{Tables}
+use Rattle.tables.specs.Tables.{Tables}
 use Rattle.tables.specs.declared.Verdict.{Verdict}
 use Rattle.tables.specs.declared.Verdict.the-variants.{Fine, Refused}
 use Rattle.tables.specs.Limits.{maxWeight, maxLevels}

@@ -1,12 +1,13 @@
 -- Statements whose numbers fit narrower forms are read alike by wider ones. Assumes nothing.
-use Rattle.integers.proofs.Kit.{_≡_, refl, subst⁻¹, List, ℕ, _+_, suc, zero, ℤ}
+use Rattle.integers.proofs.Kit.{_≡_, refl, subst⁻¹, true, false, Bool, List, ℕ, _+_, suc, zero, ℤ}
 use Rattle.words.specs.Words.{Words, word, end}
 use Rattle.tables.specs.Limits.{one, maxReward}
 use Rattle.drafts.specs.Drafts.{stated, rewarded}
 use Rattle.grammar.specs.Grammar.{Answer, got, refused, choose, key, colon, index}
 use Rattle.grammar.proofs.Alike.{Alike, alike-same, Wider, number-alike, signed-alike}
 use Rattle.entries.specs.Entries.{Outcome, filled, stopped, upon, wholly, Forms, probabilityBy, startTotal, startNumberBy, indexed, row, entryBy, tableBy}
-use Rattle.statements.specs.Statements.{within, further, rewardNumberBy, starred, rewardBy, rewardsBy, Draft, draft, transitionKey}
+use Rattle.statements.specs.Statements.{within, further, rewardNumberBy, starred, rewardBy, rewardsBy, outcomeKept, outcomeBy, outcomesBy}
+use Rattle.statements.specs.Statements.{rewardsOrOutcomesBy, Draft, draft, transitionKey}
 use Rattle.statements.specs.Statements.{observationKey, rewardKey, rewardStatementBy, observationOrRewardBy, oneStatementBy, statementsBy}
 
 -- where the first fills the cells, the second fills them alike
@@ -89,9 +90,22 @@ module _ (f g : Forms) (h : AllWider f g) where
       upon-same cells (indexed m ws) _ _ (λ a ws. upon-same cells (indexed n ws) _ _ (λ s ws.
       upon-same cells (starred ws) _ _ (λ _ ws. upon-same cells (starred ws) _ _ (λ _ ws. reward-alike m n a s cells ws))))
 
-  one-alike : (m n k : ℕ) (d : Draft) (ws : Words) → FilledAlike (oneStatementBy f m n k d ws) (oneStatementBy g m n k d ws)
+  outcomes-alike : (m n k : ℕ) (cells : List ℤ) (ws : Words) → FilledAlike (outcomesBy f m n k cells ws) (outcomesBy g m n k cells ws)
+  unfolding outcomesBy outcomeBy
+  outcomes-alike m n k cells ws =
+      upon-same cells (indexed m ws) _ _ (λ a ws. upon-same cells (indexed n ws) _ _ (λ s ws.
+      upon-same cells (indexed n ws) _ _ (λ s' ws. upon-same cells (indexed k ws) _ _ (λ o ws.
+      upon-alike cells (rewardNumberBy f ws) (rewardNumberBy g ws) (λ r ws. filled (outcomeKept m n k a s s' o r cells) ws)
+      (λ r ws. filled (outcomeKept m n k a s s' o r cells) ws) (signed-alike (f .reward) (g .reward) (h .rewards) maxReward ws) (λ r ws. refl)))))
+
+  either-alike : (full : Bool) (m n k : ℕ) (cells : List ℤ) (ws : Words)
+      → FilledAlike (rewardsOrOutcomesBy f full m n k cells ws) (rewardsOrOutcomesBy g full m n k cells ws)
+  either-alike true m n k cells ws = outcomes-alike m n k cells ws
+  either-alike false m n k cells ws = rewards-alike m n cells ws
+
+  one-alike : (full : Bool) (m n k : ℕ) (d : Draft) (ws : Words) → FilledAlike (oneStatementBy f full m n k d ws) (oneStatementBy g full m n k d ws)
   unfolding oneStatementBy observationOrRewardBy rewardStatementBy
-  one-alike m n k d ws =
+  one-alike full m n k d ws =
       choose-alike (key transitionKey ws) _ _ _ _
       (λ ws. within-alike (λ cells. draft cells (d .observation) (d .reward)) (tableBy f m n n (d .transition) ws) (tableBy g m n n (d .transition) ws)
       (table-alike m n n (d .transition) ws))
@@ -99,14 +113,16 @@ module _ (f g : Forms) (h : AllWider f g) where
       (λ ws. within-alike (λ cells. draft (d .transition) cells (d .reward)) (tableBy f m n k (d .observation) ws) (tableBy g m n k (d .observation) ws)
       (table-alike m n k (d .observation) ws))
       (upon-same d (key rewardKey ws) _ _
-      (λ _ ws. within-alike (λ cells. draft (d .transition) (d .observation) cells) (rewardsBy f m n (d .reward) ws) (rewardsBy g m n (d .reward) ws)
-      (rewards-alike m n (d .reward) ws))))
+      (λ _ ws. within-alike (λ cells. draft (d .transition) (d .observation) cells) (rewardsOrOutcomesBy f full m n k (d .reward) ws)
+      (rewardsOrOutcomesBy g full m n k (d .reward) ws) (either-alike full m n k (d .reward) ws))))
 
-  pub statements-alike : (fuel m n k : ℕ) (d : Draft) (ws : Words) → FilledAlike (statementsBy f fuel m n k d ws) (statementsBy g fuel m n k d ws)
+  pub statements-alike : (full : Bool) (fuel m n k : ℕ) (d : Draft) (ws : Words)
+      → FilledAlike (statementsBy f full fuel m n k d ws) (statementsBy g full fuel m n k d ws)
   unfolding statementsBy
-  statements-alike zero m n k d (end at) = refl
-  statements-alike zero m n k d (word at w rest) = tt
-  statements-alike (suc fuel) m n k d (end at) = refl
-  statements-alike (suc fuel) m n k d (word at w rest) =
-      further-alike (oneStatementBy f m n k d (word at w rest)) (oneStatementBy g m n k d (word at w rest)) (λ d ws. statementsBy f fuel m n k d ws)
-      (λ d ws. statementsBy g fuel m n k d ws) (one-alike m n k d (word at w rest)) (λ d ws. statements-alike fuel m n k d ws)
+  statements-alike full zero m n k d (end at) = refl
+  statements-alike full zero m n k d (word at w rest) = tt
+  statements-alike full (suc fuel) m n k d (end at) = refl
+  statements-alike full (suc fuel) m n k d (word at w rest) =
+      further-alike (oneStatementBy f full m n k d (word at w rest)) (oneStatementBy g full m n k d (word at w rest))
+      (λ d ws. statementsBy f full fuel m n k d ws) (λ d ws. statementsBy g full fuel m n k d ws)
+      (one-alike full m n k d (word at w rest)) (λ d ws. statements-alike full fuel m n k d ws)

@@ -1,5 +1,5 @@
 -- A statement's cells as a part of more, a reward by its sign, and statements one after the other. Assumes nothing.
-use Rattle.integers.proofs.Kit.{_≡_, _∙_, refl, ap, sym, subst, List, ℕ, _≤_, _<_, _+_, suc, _-_, zero, arith, length, drop, take, ℤ}
+use Rattle.integers.proofs.Kit.{_≡_, _∙_, refl, ap, sym, subst, Bool, List, ℕ, _≤_, _<_, _+_, suc, _-_, zero, arith, length, drop, take, ℤ}
 use denote.Enum.Declared.{tagOf}
 use Rattle.words.specs.declared.Word.{Word}
 use Rattle.words.specs.declared.Word.the-variants.{At, End}
@@ -7,7 +7,6 @@ use Rattle.words.specs.Words.{Words, word, end, wordsIn, between, told}
 use Rattle.words.specs.Steps.{Inside, Worded}
 use Rattle.words.proofs.Word as word-type
 use Rattle.tables.specs.Limits.{maxReward}
-use Rattle.drafts.specs.Drafts.{rewarded}
 use Rattle.numerals.specs.Numeral.{rewardForm, signed}
 use Rattle.grammar.specs.declared.Read.{Read}
 use Rattle.grammar.specs.declared.Read.the-variants.{Value, Refused}
@@ -19,9 +18,9 @@ use Rattle.grammar.proofs.Arms.{no-word}
 use Rattle.entries.specs.Entries.{Outcome, filled, stopped, upon}
 use Rattle.entries.specs.Steps.{CellsFit, outcomeOf, Leaves}
 use Rattle.entries.proofs.Laws.{leaves-earlier}
-use Rattle.statements.specs.Statements.{further, within, reward, Draft, oneStatement, statements}
-use Rattle.statements.specs.Statements.{rewardBy, statementsBy}
-use Rattle.statements.specs.Steps.{begin}
+use Rattle.statements.specs.Statements.{further, within, rewardNumber, Draft, oneStatement, statements}
+use Rattle.statements.specs.Statements.{statementsBy}
+use Rattle.statements.specs.Steps.{begin, OutcomesFit, RewardCells}
 
 -- ---- a statement's word and cells
 
@@ -54,6 +53,21 @@ fit-kept r e = record {
   long = omega (arith, r .long, e);
 }
 
+outcomes-kept : {m n k : ℕ} {cells cells' : List ℤ} → OutcomesFit m n k cells → length cells' ≡ length cells → OutcomesFit m n k cells'
+outcomes-kept r e = record {
+  some-actions = r .some-actions;
+  few-actions = r .few-actions;
+  some-states = r .some-states;
+  few-states = r .few-states;
+  some-observations = r .some-observations;
+  few-observations = r .few-observations;
+  long = λ h. omega (arith, r .long h, e);
+}
+
+pub rewards-kept : {full : Bool} {m n k : ℕ} {cells cells' : List ℤ} → RewardCells full m n k cells → length cells' ≡ length cells
+    → RewardCells full m n k cells'
+rewards-kept r e = record { in-full = λ h. outcomes-kept (r .in-full h) e; by-state = λ h. fit-kept (r .by-state h) e }
+
 -- ---- a reward
 
 signed-upon : {C : Type 0} (cells : C) (t : ℕ → ℤ) (a : Answer ℕ) (k : ℤ → Words → Outcome C)
@@ -61,53 +75,56 @@ signed-upon : {C : Type 0} (cells : C) (t : ℕ → ℤ) (a : Answer ℕ) (k : �
 signed-upon cells t (got v ws) k = refl
 signed-upon cells t (refused n p) k = refl
 
-pub reward-by : (m n a s : ℕ) (cells : List ℤ) (ws : Words)
-    → upon cells (magnitude rewardForm maxReward ws) (λ v rest. filled (rewarded m n a s (signed (minus ws) v) cells) rest) ≡ reward m n a s cells ws
-unfolding rewardBy signedNumber
-reward-by m n a s cells ws = signed-upon cells (signed (minus ws)) (magnitude rewardForm maxReward ws) (λ r rest. filled (rewarded m n a s r cells) rest)
+pub reward-by : (put : ℤ → List ℤ) (cells : List ℤ) (ws : Words)
+    → upon cells (magnitude rewardForm maxReward ws) (λ v rest. filled (put (signed (minus ws) v)) rest)
+    ≡ upon cells (rewardNumber ws) (λ r rest. filled (put r) rest)
+unfolding signedNumber
+reward-by put cells ws = signed-upon cells (signed (minus ws)) (magnitude rewardForm maxReward ws) (λ r rest. filled (put r) rest)
 
 -- ---- statements
 
-statements-end : (f m n k : ℕ) (d : Draft) (ws : Words) (p : ℕ) → ws ≡ end p → filled d ws ≡ statements f m n k d ws
+statements-end : (full : Bool) (f m n k : ℕ) (d : Draft) (ws : Words) (p : ℕ) → ws ≡ end p → filled d ws ≡ statements full f m n k d ws
 unfolding statementsBy
-statements-end zero m n k d ws p e = sym (ap (λ (x : Words). unlessEnd x (filled d ws) (stopped 0 0 d)) e)
-statements-end (suc f) m n k d ws p e = sym (ap (λ (x : Words). unlessEnd x (filled d ws)
-    (further (oneStatement m n k d ws) (λ d ws. statements f m n k d ws))) e)
+statements-end full zero m n k d ws p e = sym (ap (λ (x : Words). unlessEnd x (filled d ws) (stopped 0 0 d)) e)
+statements-end full (suc f) m n k d ws p e = sym (ap (λ (x : Words). unlessEnd x (filled d ws)
+    (further (oneStatement full m n k d ws) (λ d ws. statements full f m n k d ws))) e)
 
-statements-more : (f m n k : ℕ) (d : Draft) (ws : Words) (p : ℕ) (w : List ℕ) (rest : Words) → 0 < f → ws ≡ word p w rest
-    → further (oneStatement m n k d ws) (λ d ws. statements (f - 1) m n k d ws) ≡ statements f m n k d ws
+statements-more : (full : Bool) (f m n k : ℕ) (d : Draft) (ws : Words) (p : ℕ) (w : List ℕ) (rest : Words) → 0 < f → ws ≡ word p w rest
+    → further (oneStatement full m n k d ws) (λ d ws. statements full (f - 1) m n k d ws) ≡ statements full f m n k d ws
 unfolding statementsBy
-statements-more zero m n k d ws p w rest h e = absurd (omega arith)
-statements-more (suc f) m n k d ws p w rest h e =
+statements-more full zero m n k d ws p w rest h e = absurd (omega arith)
+statements-more full (suc f) m n k d ws p w rest h e =
     let z : suc f - 1 ≡ f = omega arith in
-    ap (λ (j : ℕ). further (oneStatement m n k d ws) (λ d ws. statements j m n k d ws)) z
-    ∙ sym (ap (λ (x : Words). unlessEnd x (filled d ws) (further (oneStatement m n k d ws) (λ d ws. statements f m n k d ws))) e)
+    ap (λ (j : ℕ). further (oneStatement full m n k d ws) (λ d ws. statements full j m n k d ws)) z
+    ∙ sym (ap (λ (x : Words). unlessEnd x (filled d ws) (further (oneStatement full m n k d ws) (λ d ws. statements full f m n k d ws))) e)
 
-module _ (m n k : ℕ) (file : List ℕ) (from : ℕ) (whole : Draft) where
+module _ (full : Bool) (m n k : ℕ) (file : List ℕ) (from : ℕ) (whole : Draft) where
   -- how far they are read: `fuel` more are enough
   pub record Left (at : ℕ) (d : Draft) : Type 0 where
     pub fuel : ℕ
     pub enough : length file < fuel + at
     pub inside : at ≤ length file
-    pub same : statements fuel m n k d (wordsIn between file at) ≡ statements (length file + 1) m n k whole (wordsIn between file from)
+    pub same : statements full fuel m n k d (wordsIn between file at) ≡ statements full (length file + 1) m n k whole (wordsIn between file from)
 
   pub left-start : from ≤ length file → Left from whole
   left-start h = record { fuel = length file + 1; enough = omega arith; inside = h; same = refl }
 
   module _ {at : ℕ} {d : Draft} (left : Left at d) (w : Word) (worded : Worded file at w) where
     -- no word is left
-    pub left-end : tagOf word-type.the-type w ≡ 1 → filled d (wordsIn between file at) ≡ statements (length file + 1) m n k whole (wordsIn between file from)
-    left-end e = statements-end (left .fuel) m n k d (wordsIn between file at) (length file) (no-word file at w e worded) ∙ left .same
+    pub left-end : tagOf word-type.the-type w ≡ 1
+        → filled d (wordsIn between file at) ≡ statements full (length file + 1) m n k whole (wordsIn between file from)
+    left-end e = statements-end full (left .fuel) m n k d (wordsIn between file at) (length file) (no-word file at w e worded) ∙ left .same
 
-    next-statement : tagOf word-type.the-type w ≡ 0 → further (oneStatement m n k d (wordsIn between file at)) (λ d ws. statements (left .fuel - 1) m n k d ws)
-        ≡ statements (length file + 1) m n k whole (wordsIn between file from)
+    next-statement : tagOf word-type.the-type w ≡ 0
+        → further (oneStatement full m n k d (wordsIn between file at)) (λ d ws. statements full (left .fuel - 1) m n k d ws)
+        ≡ statements full (length file + 1) m n k whole (wordsIn between file from)
     next-statement e = at-word w worded e ∙ left .same
       where
         at-word : (w : Word) → Worded file at w → tagOf word-type.the-type w ≡ 0
-            → further (oneStatement m n k d (wordsIn between file at)) (λ d ws. statements (left .fuel - 1) m n k d ws)
-            ≡ statements (left .fuel) m n k d (wordsIn between file at)
+            → further (oneStatement full m n k d (wordsIn between file at)) (λ d ws. statements full (left .fuel - 1) m n k d ws)
+            ≡ statements full (left .fuel) m n k d (wordsIn between file at)
         at-word (At a b) h e =
-            statements-more (left .fuel) m n k d (wordsIn between file at) a (take (b - a) (drop a file)) (wordsIn between file b)
+            statements-more full (left .fuel) m n k d (wordsIn between file at) a (take (b - a) (drop a file)) (wordsIn between file b)
             (omega (arith, left .enough, left .inside)) (h .is)
         at-word End h e = absurd (omega arith)
 
@@ -117,23 +134,24 @@ module _ (m n k : ℕ) (file : List ℕ) (from : ℕ) (whole : Draft) where
     further-back d' o k (Value v next) e h = absurd (omega arith)
     further-back d' o k (Refused n p) e h = ap (λ (o : Outcome Draft). further o k) h
 
-    whole-statement : {r : Read} {d' : Draft} → tagOf word-type.the-type w ≡ 0 → Leaves file (begin w) r d' (oneStatement m n k d (told file w))
-        → Leaves file at r d' (oneStatement m n k d (wordsIn between file at))
+    whole-statement : {r : Read} {d' : Draft} → tagOf word-type.the-type w ≡ 0 → Leaves file (begin w) r d' (oneStatement full m n k d (told file w))
+        → Leaves file at r d' (oneStatement full m n k d (wordsIn between file at))
     whole-statement {r} {d'} e h = by-word w worded e h
       where
-        by-word : (w : Word) → Worded file at w → tagOf word-type.the-type w ≡ 0 → Leaves file (begin w) r d' (oneStatement m n k d (told file w))
-            → Leaves file at r d' (oneStatement m n k d (wordsIn between file at))
-        by-word (At a b) v e h = leaves-earlier at h (v .lies .0) (ap (oneStatement m n k d) (sym (v .is)))
+        by-word : (w : Word) → Worded file at w → tagOf word-type.the-type w ≡ 0 → Leaves file (begin w) r d' (oneStatement full m n k d (told file w))
+            → Leaves file at r d' (oneStatement full m n k d (wordsIn between file at))
+        by-word (At a b) v e h = leaves-earlier at h (v .lies .0) (ap (oneStatement full m n k d) (sym (v .is)))
         by-word End v e h = absurd (omega arith)
 
-    pub left-back : {r : Read} {d' : Draft} → tagOf word-type.the-type w ≡ 0 → Leaves file (begin w) r d' (oneStatement m n k d (told file w))
-        → tagOf read-type.the-type r ≡ 1 → outcomeOf d' file r ≡ statements (length file + 1) m n k whole (wordsIn between file from)
+    pub left-back : {r : Read} {d' : Draft} → tagOf word-type.the-type w ≡ 0 → Leaves file (begin w) r d' (oneStatement full m n k d (told file w))
+        → tagOf read-type.the-type r ≡ 1 → outcomeOf d' file r ≡ statements full (length file + 1) m n k whole (wordsIn between file from)
     left-back {r} {d'} e h b =
-        further-back d' (oneStatement m n k d (wordsIn between file at)) (λ d ws. statements (left .fuel - 1) m n k d ws) r b (whole-statement e h .is) ∙
-        next-statement e
+        further-back d' (oneStatement full m n k d (wordsIn between file at)) (λ d ws. statements full (left .fuel - 1) m n k d ws) r b
+        (whole-statement e h .is)
+        ∙ next-statement e
 
-    module _ {r : Read} {d' : Draft} (v next : ℕ) (e : tagOf word-type.the-type w ≡ 0) (h : Leaves file (begin w) r d' (oneStatement m n k d (told file w)))
-        (q : r ≡ Value v next) where
+    module _ {r : Read} {d' : Draft} (v next : ℕ) (e : tagOf word-type.the-type w ≡ 0)
+        (h : Leaves file (begin w) r d' (oneStatement full m n k d (told file w))) (q : r ≡ Value v next) where
       pub left-next : (at < next) × (next ≤ length file)
       left-next = subst (Onward file at 0) q (whole-statement e h .onward) .1
 
@@ -142,6 +160,6 @@ module _ (m n k : ℕ) (file : List ℕ) (from : ℕ) (whole : Draft) where
         fuel = left .fuel - 1;
         enough = omega (arith, left .enough, left .inside, left-next);
         inside = left-next .1;
-        same = ap (λ (o : Outcome Draft). further o (λ d ws. statements (left .fuel - 1) m n k d ws))
+        same = ap (λ (o : Outcome Draft). further o (λ d ws. statements full (left .fuel - 1) m n k d ws))
             (sym (ap (outcomeOf d' file) q) ∙ whole-statement e h .is) ∙ next-statement e;
       }

@@ -1,16 +1,17 @@
 -- What is read into cells keeps the limits of its words. Assumes nothing.
-use Rattle.integers.proofs.Kit.{true, false, Bool, List, ℕ, _≤_, _+_, suc, zero, arith, getD, ℤ, pos, natAbs}
+use Rattle.integers.proofs.Kit.{true, false, Bool, cond, List, ℕ, _≤_, _+_, suc, zero, arith, leb, getD, ℤ, pos, natAbs}
 use Rattle.words.specs.Words.{Words, word, end}
-use Rattle.tables.specs.Limits.{one, maxReward}
-use Rattle.drafts.specs.Drafts.{stated, rewarded}
+use Rattle.tables.specs.Limits.{maxConverted, one, maxReward}
+use Rattle.drafts.specs.Drafts.{stated, rewarded, outcomed}
 use Rattle.drafts.proofs.Marks.{marked-all}
 use Rattle.numerals.specs.Numeral.{probabilityForm, rewardForm, signed}
 use Rattle.grammar.specs.Grammar.{Answer, got, refused, choose, key, colon, index, magnitude, minus, signedNumber, unlessEnd}
 use Rattle.grammar.proofs.Gives.{Gives, gives-then, number-gives, magnitude-gives}
 use Rattle.entries.specs.Entries.{Outcome, filled, stopped, upon, wholly, probability, indexed, row, entry, table, entryBy, tableBy}
-use Rattle.statements.specs.Statements.{further, within, rewardNumber, starred, reward, rewards, Draft, draft, transitionKey, observationKey, rewardKey}
-use Rattle.statements.specs.Statements.{rewardStatement, observationOrReward, oneStatement, statements}
-use Rattle.statements.specs.Statements.{observationOrRewardBy, oneStatementBy, rewardBy, rewardStatementBy, rewardsBy, statementsBy}
+use Rattle.statements.specs.Statements.{further, within, rewardNumber, starred, rewards, Draft, draft, transitionKey, observationKey, rewardKey}
+use Rattle.statements.specs.Statements.{outcomeKept, outcomes, rewardsOrOutcomes, rewardStatement, observationOrReward, oneStatement, statements}
+use Rattle.statements.specs.Statements.{observationOrRewardBy, oneStatementBy, rewardBy, rewardStatementBy, rewardsBy, outcomeBy, outcomesBy}
+use Rattle.statements.specs.Statements.{statementsBy}
 
 -- ---- what holds of the cells that are read whole
 
@@ -114,6 +115,27 @@ rewards-small m n cells ws h =
     fills-upon (λ r. natAbs r ≤ maxReward) (WithinMost maxReward) cells (rewardNumber ws) (λ r ws. filled (rewarded m n a s r cells) ws) (reward-gives ws)
     (λ r ws l. marked-all (λ v. natAbs v ≤ maxReward) (pos 0) _ r cells l h)))))
 
+kept-small : (t : Bool) (limit : ℕ) (after cells : List ℤ) → WithinMost limit after → WithinMost limit cells → WithinMost limit (cond t after cells)
+kept-small true limit after cells h g = h
+kept-small false limit after cells h g = g
+
+pub outcomes-small : (m n k : ℕ) (cells : List ℤ) (ws : Words) → WithinMost maxReward cells → Fills (WithinMost maxReward) (outcomes m n k cells ws)
+unfolding outcomesBy outcomeBy outcomed
+outcomes-small m n k cells ws h =
+    fills-after (WithinMost maxReward) cells (indexed m ws) _ (λ a ws.
+    fills-after (WithinMost maxReward) cells (indexed n ws) _ (λ s ws.
+    fills-after (WithinMost maxReward) cells (indexed n ws) _ (λ s' ws.
+    fills-after (WithinMost maxReward) cells (indexed k ws) _ (λ o ws.
+    fills-upon (λ r. natAbs r ≤ maxReward) (WithinMost maxReward) cells (rewardNumber ws) (λ r ws. filled (outcomeKept m n k a s s' o r cells) ws)
+    (reward-gives ws)
+    (λ r ws l. kept-small (leb n maxConverted) maxReward (outcomed m n k a s s' o r cells) cells
+    (marked-all (λ v. natAbs v ≤ maxReward) (pos 0) _ r cells l h) h)))))
+
+either-small : (full : Bool) (m n k : ℕ) (cells : List ℤ) (ws : Words) → WithinMost maxReward cells
+    → Fills (WithinMost maxReward) (rewardsOrOutcomes full m n k cells ws)
+either-small true m n k cells ws h = outcomes-small m n k cells ws h
+either-small false m n k cells ws h = rewards-small m n cells ws h
+
 -- ---- statements
 
 pub record Small (d : Draft) : Type 0 where
@@ -121,31 +143,33 @@ pub record Small (d : Draft) : Type 0 where
   pub observations : AtMost one (d .observation)
   pub rewards : WithinMost maxReward (d .reward)
 
-one-small : (m n k : ℕ) (d : Draft) (ws : Words) → Small d → Fills Small (oneStatement m n k d ws)
+one-small : (full : Bool) (m n k : ℕ) (d : Draft) (ws : Words) → Small d → Fills Small (oneStatement full m n k d ws)
 unfolding oneStatementBy observationOrRewardBy rewardStatementBy
-one-small m n k d ws h =
+one-small full m n k d ws h =
     fills-choose Small (key transitionKey ws) (λ ws. within (λ cells. draft cells (d .observation) (d .reward)) (table m n n (d .transition) ws))
-    (observationOrReward m n k d ws)
+    (observationOrReward full m n k d ws)
     (λ ws. fills-within (AtMost one) Small (λ cells. draft cells (d .observation) (d .reward)) (table m n n (d .transition) ws)
     (table-small m n n (d .transition) ws (h .transitions))
     (λ cells l. record { transitions = l; observations = h .observations; rewards = h .rewards }))
     (fills-choose Small (key observationKey ws) (λ ws. within (λ cells. draft (d .transition) cells (d .reward)) (table m n k (d .observation) ws))
-    (rewardStatement m n d ws)
+    (rewardStatement full m n k d ws)
     (λ ws. fills-within (AtMost one) Small (λ cells. draft (d .transition) cells (d .reward)) (table m n k (d .observation) ws)
     (table-small m n k (d .observation) ws (h .observations))
     (λ cells l. record { transitions = h .transitions; observations = l; rewards = h .rewards }))
-    (fills-after Small d (key rewardKey ws) (λ _ ws. within (λ cells. draft (d .transition) (d .observation) cells) (rewards m n (d .reward) ws)) (λ _ ws.
-    fills-within (WithinMost maxReward) Small (λ cells. draft (d .transition) (d .observation) cells) (rewards m n (d .reward) ws)
-    (rewards-small m n (d .reward) ws (h .rewards))
+    (fills-after Small d (key rewardKey ws)
+    (λ _ ws. within (λ cells. draft (d .transition) (d .observation) cells) (rewardsOrOutcomes full m n k (d .reward) ws)) (λ _ ws.
+    fills-within (WithinMost maxReward) Small (λ cells. draft (d .transition) (d .observation) cells) (rewardsOrOutcomes full m n k (d .reward) ws)
+    (either-small full m n k (d .reward) ws (h .rewards))
     (λ cells l. record { transitions = h .transitions; observations = h .observations; rewards = l }))))
 
 unless-small : (ws : Words) (a b : Outcome Draft) → Fills Small a → Fills Small b → Fills Small (unlessEnd ws a b)
 unless-small (end at) a b g h = g
 unless-small (word at w rest) a b g h = h
 
-pub statements-small : (f m n k : ℕ) (d : Draft) (ws : Words) → Small d → Fills Small (statements f m n k d ws)
+pub statements-small : (full : Bool) (f m n k : ℕ) (d : Draft) (ws : Words) → Small d → Fills Small (statements full f m n k d ws)
 unfolding statementsBy
-statements-small zero m n k d ws h = unless-small ws (filled d ws) (stopped 0 0 d) h tt
-statements-small (suc f) m n k d ws h =
-    unless-small ws (filled d ws) (further (oneStatement m n k d ws) (λ d ws. statements f m n k d ws)) h
-    (fills-further Small Small (oneStatement m n k d ws) (λ d ws. statements f m n k d ws) (one-small m n k d ws h) (λ d ws l. statements-small f m n k d ws l))
+statements-small full zero m n k d ws h = unless-small ws (filled d ws) (stopped 0 0 d) h tt
+statements-small full (suc f) m n k d ws h =
+    unless-small ws (filled d ws) (further (oneStatement full m n k d ws) (λ d ws. statements full f m n k d ws)) h
+    (fills-further Small Small (oneStatement full m n k d ws) (λ d ws. statements full f m n k d ws) (one-small full m n k d ws h)
+    (λ d ws l. statements-small full f m n k d ws l))

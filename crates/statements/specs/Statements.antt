@@ -1,11 +1,13 @@
 -- The statements of a model file over its words, with numbers of the forms f, m actions, n states and k observations. Each changes the cells that the ones
--- before it left.
+-- before it left. In a file whose rewards are `full`, R names the state reached and the observation too; in others both are stars.
 use Prim.Native.Nat.{ℕ, zero, suc}
+use mathlib.Core.Bool.{Bool, cond}
 use mathlib.Core.List.{List, [], _∷_}
+use lib.Dec.{leb}
 use lib.IntN.{ℤ}
 use Rattle.words.specs.Words.{Words}
-use Rattle.tables.specs.Limits.{maxReward}
-use Rattle.drafts.specs.Drafts.{rewarded}
+use Rattle.tables.specs.Limits.{maxConverted, maxReward}
+use Rattle.drafts.specs.Drafts.{rewarded, outcomed}
 use Rattle.grammar.specs.Grammar.{Answer, choose, key, keys, colon, star, signedNumber, unlessEnd}
 use Rattle.entries.specs.Entries.{Outcome, filled, stopped, upon, Forms, forms, indexed, tableBy}
 
@@ -40,7 +42,26 @@ rewardsBy f m n cells ws =
     upon cells (indexed m ws) (λ a ws. upon cells (indexed n ws) (λ s ws. upon cells (starred ws) (λ _ ws. upon cells (starred ws) (λ _ ws.
     rewardBy f m n a s cells ws))))
 
+-- ---- rewards in full
+
+-- a model of more states is refused whatever its rewards are, so none of them is kept
+abbrev pub outcomeKept : ℕ → ℕ → ℕ → ℕ → ℕ → ℕ → ℕ → ℤ → List ℤ → List ℤ
+outcomeKept m n k a s s' o r cells = cond (leb n maxConverted) (outcomed m n k a s s' o r cells) cells
+
+-- `r`
+unfoldable pub outcomeBy : Forms → ℕ → ℕ → ℕ → ℕ → ℕ → ℕ → ℕ → List ℤ → Words → Outcome (List ℤ)
+outcomeBy f m n k a s s' o cells ws = upon cells (rewardNumberBy f ws) (λ r ws. filled (outcomeKept m n k a s s' o r cells) ws)
+
+-- after `R`: `: a : s : s' : o r`
+unfoldable pub outcomesBy : Forms → ℕ → ℕ → ℕ → List ℤ → Words → Outcome (List ℤ)
+outcomesBy f m n k cells ws =
+    upon cells (indexed m ws) (λ a ws. upon cells (indexed n ws) (λ s ws. upon cells (indexed n ws) (λ s' ws. upon cells (indexed k ws) (λ o ws.
+    outcomeBy f m n k a s s' o cells ws))))
+
 -- ---- statements
+
+abbrev pub rewardsOrOutcomesBy : Forms → Bool → ℕ → ℕ → ℕ → List ℤ → Words → Outcome (List ℤ)
+rewardsOrOutcomesBy f full m n k cells ws = cond full (outcomesBy f m n k cells ws) (rewardsBy f m n cells ws)
 
 -- the cells of the three tables
 pub record Draft : Type 0 where
@@ -61,24 +82,25 @@ observationKey = 79 ∷ []
 abbrev pub rewardKey : List ℕ
 rewardKey = 82 ∷ []
 
-unfoldable pub rewardStatementBy : Forms → ℕ → ℕ → Draft → Words → Outcome Draft
-rewardStatementBy f m n d ws =
-    upon d (key rewardKey ws) (λ _ ws. within (λ cells. draft (d .transition) (d .observation) cells) (rewardsBy f m n (d .reward) ws))
+unfoldable pub rewardStatementBy : Forms → Bool → ℕ → ℕ → ℕ → Draft → Words → Outcome Draft
+rewardStatementBy f full m n k d ws =
+    upon d (key rewardKey ws) (λ _ ws. within (λ cells. draft (d .transition) (d .observation) cells) (rewardsOrOutcomesBy f full m n k (d .reward) ws))
 
-unfoldable pub observationOrRewardBy : Forms → ℕ → ℕ → ℕ → Draft → Words → Outcome Draft
-observationOrRewardBy f m n k d ws =
+unfoldable pub observationOrRewardBy : Forms → Bool → ℕ → ℕ → ℕ → Draft → Words → Outcome Draft
+observationOrRewardBy f full m n k d ws =
     choose (key observationKey ws) (λ ws. within (λ cells. draft (d .transition) cells (d .reward)) (tableBy f m n k (d .observation) ws))
-    (rewardStatementBy f m n d ws)
+    (rewardStatementBy f full m n k d ws)
 
-unfoldable pub oneStatementBy : Forms → ℕ → ℕ → ℕ → Draft → Words → Outcome Draft
-oneStatementBy f m n k d ws =
+unfoldable pub oneStatementBy : Forms → Bool → ℕ → ℕ → ℕ → Draft → Words → Outcome Draft
+oneStatementBy f full m n k d ws =
     choose (key transitionKey ws) (λ ws. within (λ cells. draft cells (d .observation) (d .reward)) (tableBy f m n n (d .transition) ws))
-    (observationOrRewardBy f m n k d ws)
+    (observationOrRewardBy f full m n k d ws)
 
 -- any number of them, up to the end of the file; each has a word, so that one more than the file has bytes are enough
-unfoldable pub statementsBy : Forms → ℕ → ℕ → ℕ → ℕ → Draft → Words → Outcome Draft
-statementsBy f zero m n k d ws = unlessEnd ws (filled d ws) (stopped 0 0 d)
-statementsBy f (suc fuel) m n k d ws = unlessEnd ws (filled d ws) (further (oneStatementBy f m n k d ws) (λ d ws. statementsBy f fuel m n k d ws))
+unfoldable pub statementsBy : Forms → Bool → ℕ → ℕ → ℕ → ℕ → Draft → Words → Outcome Draft
+statementsBy f full zero m n k d ws = unlessEnd ws (filled d ws) (stopped 0 0 d)
+statementsBy f full (suc fuel) m n k d ws =
+    unlessEnd ws (filled d ws) (further (oneStatementBy f full m n k d ws) (λ d ws. statementsBy f full fuel m n k d ws))
 
 -- ---- the same with the forms that numbers have
 
@@ -91,14 +113,23 @@ reward = rewardBy forms
 abbrev pub rewards : ℕ → ℕ → List ℤ → Words → Outcome (List ℤ)
 rewards = rewardsBy forms
 
-abbrev pub rewardStatement : ℕ → ℕ → Draft → Words → Outcome Draft
+abbrev pub outcome : ℕ → ℕ → ℕ → ℕ → ℕ → ℕ → ℕ → List ℤ → Words → Outcome (List ℤ)
+outcome = outcomeBy forms
+
+abbrev pub outcomes : ℕ → ℕ → ℕ → List ℤ → Words → Outcome (List ℤ)
+outcomes = outcomesBy forms
+
+abbrev pub rewardsOrOutcomes : Bool → ℕ → ℕ → ℕ → List ℤ → Words → Outcome (List ℤ)
+rewardsOrOutcomes = rewardsOrOutcomesBy forms
+
+abbrev pub rewardStatement : Bool → ℕ → ℕ → ℕ → Draft → Words → Outcome Draft
 rewardStatement = rewardStatementBy forms
 
-abbrev pub observationOrReward : ℕ → ℕ → ℕ → Draft → Words → Outcome Draft
+abbrev pub observationOrReward : Bool → ℕ → ℕ → ℕ → Draft → Words → Outcome Draft
 observationOrReward = observationOrRewardBy forms
 
-abbrev pub oneStatement : ℕ → ℕ → ℕ → Draft → Words → Outcome Draft
+abbrev pub oneStatement : Bool → ℕ → ℕ → ℕ → Draft → Words → Outcome Draft
 oneStatement = oneStatementBy forms
 
-abbrev pub statements : ℕ → ℕ → ℕ → ℕ → Draft → Words → Outcome Draft
+abbrev pub statements : Bool → ℕ → ℕ → ℕ → ℕ → Draft → Words → Outcome Draft
 statements = statementsBy forms

@@ -6,8 +6,9 @@ ghost use lib.ListN.{length};
 ghost use Rattle.words.specs.Words.{wordsIn, between, told};
 ghost use Rattle.words.specs.Steps.{Inside};
 ghost use Rattle.entries.specs.Steps.{CellsFit, outcomeOf, Leaves};
-ghost use Rattle.statements.specs.Statements.{reward, rewards, draft, rewardStatement, observationOrReward, oneStatement, statements};
-ghost use Rattle.statements.specs.Steps.{begin};
+ghost use Rattle.statements.specs.Statements.{reward, rewards, outcomeKept, outcome, outcomes, rewardsOrOutcomes, draft, rewardStatement};
+ghost use Rattle.statements.specs.Statements.{observationOrReward, oneStatement, statements};
+ghost use Rattle.statements.specs.Steps.{begin, OutcomesFit, RewardCells};
 use grammar::Read;
 use numerals::Form;
 use tables::Tables;
@@ -61,16 +62,127 @@ fn rewards_at(file: &[u8], at: usize, cells: &mut [i64], m: usize, n: usize) -> 
     reward_at(file, next, cells, m, n, a as usize, s as usize)
 }
 
-fn reward_statement_at(file: &[u8], w: Word, reward: &mut [i64], m: usize, n: usize) -> Read
-    requires { ⌜ (Inside (now file) 0 w) × (CellsFit m n 1 (now reward)) ⌝ }
+// r is stated in full, where the model has few enough states.
+fn keep_outcome(
+    cells: &mut [i64],
+    m: usize,
+    n: usize,
+    k: usize,
+    a: usize,
+    s: usize,
+    to: usize,
+    o: usize,
+    r: i64,
+)
+    requires { ⌜ OutcomesFit m n k (now cells) ⌝ }
+    requires { ⌜ (a ≤ m) × ((s ≤ n) × ((to ≤ n) × (o ≤ k))) ⌝ }
+    ensures { λ _. ⌜ now (cells .exit) ≡ outcomeKept m n k a s to o r (now (cells .entry)) ⌝ }
+{
+    if n <= Tables::CONVERTED {
+        drafts::state_outcome(cells, m, n, k, a, s, to, o, r);
+    }
+}
+
+// `r` for the rewards that a, s, the state reached `to` and o stand for.
+fn outcome_at(
+    file: &[u8],
+    at: usize,
+    cells: &mut [i64],
+    m: usize,
+    n: usize,
+    k: usize,
+    a: usize,
+    s: usize,
+    to: usize,
+    o: usize,
+) -> Read
+    requires { ⌜ (at ≤ length (now file)) × (OutcomesFit m n k (now cells)) ⌝ }
+    requires { ⌜ (a ≤ m) × ((s ≤ n) × ((to ≤ n) × (o ≤ k))) ⌝ }
+    ensures { λ r. ⌜ Leaves (now (file .entry)) at r (now (cells .exit))
+        (outcome m n k a s to o (now (cells .entry)) (wordsIn between (now (file .entry)) at)) ⌝ }
+{
+    let w = reader::word_from(file, at);
+    let x = grammar::magnitude_of(file, w, Form::REWARD, Tables::REWARD);
+    let Read::Value(v, next) = x else {
+        return x;
+    };
+    let r = numerals::with_sign(grammar::minus_of(file, w), v);
+    keep_outcome(cells, m, n, k, a, s, to, o, r);
+    Read::Value(0, next)
+}
+
+// After `R`, in full.
+fn outcomes_at(file: &[u8], at: usize, cells: &mut [i64], m: usize, n: usize, k: usize) -> Read
+    requires { ⌜ (at ≤ length (now file)) × (OutcomesFit m n k (now cells)) ⌝ }
+    ensures { λ r. ⌜ Leaves (now (file .entry)) at r (now (cells .exit)) (outcomes m n k (now (cells .entry)) (wordsIn between (now (file .entry)) at)) ⌝ }
+{
+    let i = entries::indexed_at(file, at, m);
+    let Read::Value(a, p) = i else {
+        return i;
+    };
+    let j = entries::indexed_at(file, p, n);
+    let Read::Value(s, q) = j else {
+        return j;
+    };
+    let g = entries::indexed_at(file, q, n);
+    let Read::Value(to, t) = g else {
+        return g;
+    };
+    let h = entries::indexed_at(file, t, k);
+    let Read::Value(o, next) = h else {
+        return h;
+    };
+    outcome_at(
+        file,
+        next,
+        cells,
+        m,
+        n,
+        k,
+        a as usize,
+        s as usize,
+        to as usize,
+        o as usize,
+    )
+}
+
+fn rewards_or_outcomes_at(
+    file: &[u8],
+    at: usize,
+    cells: &mut [i64],
+    m: usize,
+    n: usize,
+    k: usize,
+    full: bool,
+) -> Read
+    requires { ⌜ (at ≤ length (now file)) × (RewardCells full m n k (now cells)) ⌝ }
+    ensures { λ r. ⌜ Leaves (now (file .entry)) at r (now (cells .exit))
+        (rewardsOrOutcomes full m n k (now (cells .entry)) (wordsIn between (now (file .entry)) at)) ⌝ }
+{
+    if full {
+        return outcomes_at(file, at, cells, m, n, k);
+    }
+    rewards_at(file, at, cells, m, n)
+}
+
+fn reward_statement_at(
+    file: &[u8],
+    w: Word,
+    reward: &mut [i64],
+    m: usize,
+    n: usize,
+    k: usize,
+    full: bool,
+) -> Read
+    requires { ⌜ (Inside (now file) 0 w) × (RewardCells full m n k (now reward)) ⌝ }
     ensures { λ r. ⌜ ((t o : List ℕ) → Leaves (now (file .entry)) (begin w) r (draft t o (now (reward .exit)))
-        (rewardStatement m n (draft t o (now (reward .entry))) (told (now (file .entry)) w))) ⌝ }
+        (rewardStatement full m n k (draft t o (now (reward .entry))) (told (now (file .entry)) w))) ⌝ }
 {
     let x = grammar::key_of(file, w, b"R");
     let Read::Value(_, next) = x else {
         return x;
     };
-    rewards_at(file, next, reward, m, n)
+    rewards_or_outcomes_at(file, next, reward, m, n, k, full)
 }
 
 fn other_statement_at(
@@ -81,14 +193,15 @@ fn other_statement_at(
     m: usize,
     n: usize,
     k: usize,
+    full: bool,
 ) -> Read
-    requires { ⌜ (Inside (now file) 0 w) × ((CellsFit m n k (now observation)) × (CellsFit m n 1 (now reward))) ⌝ }
+    requires { ⌜ (Inside (now file) 0 w) × ((CellsFit m n k (now observation)) × (RewardCells full m n k (now reward))) ⌝ }
     ensures { λ r. ⌜ ((t : List ℕ) → Leaves (now (file .entry)) (begin w) r (draft t (now (observation .exit)) (now (reward .exit)))
-        (observationOrReward m n k (draft t (now (observation .entry)) (now (reward .entry))) (told (now (file .entry)) w))) ⌝ }
+        (observationOrReward full m n k (draft t (now (observation .entry)) (now (reward .entry))) (told (now (file .entry)) w))) ⌝ }
 {
     let x = grammar::key_of(file, w, b"O");
     let Read::Value(_, next) = x else {
-        return reward_statement_at(file, w, reward, m, n);
+        return reward_statement_at(file, w, reward, m, n, k, full);
     };
     entries::table_at(file, next, observation, m, n, k)
 }
@@ -102,14 +215,16 @@ fn statement_at(
     m: usize,
     n: usize,
     k: usize,
+    full: bool,
 ) -> Read
-    requires { ⌜ (Inside (now file) 0 w) × ((CellsFit m n n (now transition)) × ((CellsFit m n k (now observation)) × (CellsFit m n 1 (now reward)))) ⌝ }
+    requires { ⌜ (Inside (now file) 0 w) × ((CellsFit m n n (now transition)) × ((CellsFit m n k (now observation))
+        × (RewardCells full m n k (now reward)))) ⌝ }
     ensures { λ r. ⌜ Leaves (now (file .entry)) (begin w) r (draft (now (transition .exit)) (now (observation .exit)) (now (reward .exit)))
-        (oneStatement m n k (draft (now (transition .entry)) (now (observation .entry)) (now (reward .entry))) (told (now (file .entry)) w)) ⌝ }
+        (oneStatement full m n k (draft (now (transition .entry)) (now (observation .entry)) (now (reward .entry))) (told (now (file .entry)) w)) ⌝ }
 {
     let x = grammar::key_of(file, w, b"T");
     let Read::Value(_, next) = x else {
-        return other_statement_at(file, w, observation, reward, m, n, k);
+        return other_statement_at(file, w, observation, reward, m, n, k, full);
     };
     entries::table_at(file, next, transition, m, n, n)
 }
@@ -124,10 +239,12 @@ pub fn statements_at(
     m: usize,
     n: usize,
     k: usize,
+    full: bool,
 ) -> Read
-    requires { ⌜ (from ≤ length (now file)) × ((CellsFit m n n (now transition)) × ((CellsFit m n k (now observation)) × (CellsFit m n 1 (now reward)))) ⌝ }
+    requires { ⌜ (from ≤ length (now file)) × ((CellsFit m n n (now transition)) × ((CellsFit m n k (now observation))
+        × (RewardCells full m n k (now reward)))) ⌝ }
     ensures { λ r. ⌜ outcomeOf (draft (now (transition .exit)) (now (observation .exit)) (now (reward .exit))) (now (file .entry)) r ≡ statements
-        (length (now (file .entry)) + 1) m n k (draft (now (transition .entry)) (now (observation .entry)) (now (reward .entry)))
+        full (length (now (file .entry)) + 1) m n k (draft (now (transition .entry)) (now (observation .entry)) (now (reward .entry)))
         (wordsIn between (now (file .entry)) from) ⌝ }
 {
     let mut at = from;
@@ -136,7 +253,7 @@ pub fn statements_at(
         let Word::At(_, _) = w else {
             return Read::Value(0, at);
         };
-        let x = statement_at(file, w, transition, observation, reward, m, n, k);
+        let x = statement_at(file, w, transition, observation, reward, m, n, k, full);
         let Read::Value(_, next) = x else {
             return x;
         };

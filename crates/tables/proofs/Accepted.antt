@@ -3,7 +3,7 @@ use Rattle.integers.proofs.Kit.{_≡_, true, ℕ, _≤_, _<_, arith, le-leb, le
 use Rattle.integers.specs.Whole.{totalTo}
 use Rattle.integers.proofs.Searches.{and-true, and-is, every-at, at-every}
 use Rattle.tables.specs.declared.Verdict.the-variants.{Fine}
-use Rattle.tables.specs.declared.Tables.{Tables}
+use Rattle.tables.specs.Tables.{Tables}
 use Rattle.tables.specs.Limits.{one}
 use Rattle.tables.specs.Model.{Model, Valid}
 use Rattle.tables.specs.Storage.{countsOf, modelOf}

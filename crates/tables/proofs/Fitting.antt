@@ -2,7 +2,7 @@
 use Rattle.integers.proofs.Kit.{_≡_, true, _&&_, ℕ, _≤_, _<_, _+_, _*_, arith, mul-le-mul, mul-le-mul-right, le-leb, leb-true, leb, length}
 use Rattle.integers.proofs.Lists.{cell-below}
 use Rattle.integers.proofs.Searches.{and-true, and-is}
-use Rattle.tables.specs.declared.Tables.{Tables}
+use Rattle.tables.specs.Tables.{Tables}
 use Rattle.tables.specs.Limits.{maxStates, maxActions, maxObservations}
 use Rattle.tables.specs.Model.{Model}
 use Rattle.tables.specs.Storage.{rowPlace, cellPlace, countsOf}
@@ -25,9 +25,9 @@ rows-stored w r rows l long = omega (arith, mul-le-mul-right w (let h : r + 1 �
 pub row-alone : (w x : ℕ) → rowPlace w 0 x ≡ x
 row-alone w x = omega arith
 
--- ---- tables by value, as a model file is read into
+-- ---- tables in full arrays, as a model file is read into
 
--- what the type says of them
+-- how long these are
 pub record Long (m : Tables) : Type 0 where
   pub transition : length (m .transition) ≡ maxActions * maxStates * maxStates
   pub observation : length (m .observation) ≡ maxActions * maxStates * maxObservations

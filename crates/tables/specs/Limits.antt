@@ -2,7 +2,11 @@
 use Prim.Native.Nat.{ℕ, _*_}
 
 abbrev pub maxStates : ℕ
-maxStates = 16
+maxStates = 64
+
+-- the most states of a model that is converted
+abbrev pub maxConverted : ℕ
+maxConverted = 16
 
 abbrev pub maxActions : ℕ
 maxActions = 8

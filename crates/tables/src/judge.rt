@@ -7,7 +7,7 @@ ghost use Rattle.integers.specs.Whole.{totalTo, largestTo};
 ghost use Rattle.tables.specs.Limits.{maxStates, maxActions, maxObservations, one};
 ghost use Rattle.tables.specs.Storage.{cellIn, rewardIn, modelOf, tablesIn};
 ghost use Rattle.tables.specs.Judged.{countWithin, countsWithin, cellsWithin, rewardsWithin, limitsHold, tablesStored, rowsTotal};
-ghost use Rattle.tables.specs.Judged.{tablesVerdict, noTables};
+ghost use Rattle.tables.specs.Judged.{tablesVerdict};
 use super::Action;
 use super::Counts;
 use super::State;
@@ -180,21 +180,4 @@ pub fn judge_tables<'a>(
         return transitions;
     };
     rows_total(observation, c.actions, c.states, c.observations, 6)
-}
-
-impl Tables {
-    // Tables of which every part is 0.
-    pub fn none() -> Tables
-        ensures { λ r. ⌜ r ≡ noTables ⌝ }
-    {
-        Tables {
-            states: 0,
-            actions: 0,
-            observations: 0,
-            discount: 0,
-            transition: [0u16; Tables::ACTIONS * Tables::STATES * Tables::STATES],
-            observation: [0u16; Tables::ACTIONS * Tables::STATES * Tables::OBSERVATIONS],
-            reward: [0i64; Tables::ACTIONS * Tables::STATES],
-        }
-    }
 }

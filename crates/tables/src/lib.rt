@@ -24,16 +24,8 @@ pub struct Counts {
     pub discount: u64,
 }
 
-// A model by value, packed by the counts with the last index fastest: T(s,a,s') by a, s, s'; O(a,s',o) by a, s', o; R(s,a) by a, s.
-pub struct Tables {
-    pub states: usize,
-    pub actions: usize,
-    pub observations: usize,
-    pub discount: u64,
-    pub transition: [u16; Tables::ACTIONS * Tables::STATES * Tables::STATES],
-    pub observation: [u16; Tables::ACTIONS * Tables::STATES * Tables::OBSERVATIONS],
-    pub reward: [i64; Tables::ACTIONS * Tables::STATES],
-}
+// The limits of tables, which lie in slices that are lent: T(s,a,s') by a, s, s'; O(a,s',o) by a, s', o; R(s,a) by a, s, the last index fastest.
+pub struct Tables {}
 
 // What a test answers: nothing to refuse, or document 01's number and place.
 pub enum Verdict {
@@ -42,7 +34,9 @@ pub enum Verdict {
 }
 
 impl Tables {
-    pub const STATES: usize = 16;
+    pub const STATES: usize = 64;
+
+    pub const CONVERTED: usize = 16; // states of a model that is converted
 
     pub const ACTIONS: usize = 8;
 

@@ -1,7 +1,7 @@
 -- What tables and a graph that are not refused have. Assumes nothing.
 use Rattle.integers.proofs.Kit.{_≡_, true, ℕ, leb-true, ltb-true}
 use Rattle.integers.proofs.Searches.{and-true}
-use Rattle.tables.specs.declared.Tables.{Tables}
+use Rattle.tables.specs.Tables.{Tables}
 use Rattle.tables.specs.declared.Verdict.the-variants.{Fine}
 use Rattle.tables.specs.Storage.{countsOf, modelOf}
 use Rattle.tables.specs.Judged.{countWithin}

@@ -326,17 +326,22 @@ impl<'a> Words<'a> {
         word.parse().ok().filter(|&index: &usize| index < count).map(|index| index..index + 1)
     }
 
-    fn statement(&mut self, kind: &str, tables: &mut Tables) -> Option<()> {
-        let n = tables.states;
+    /// A statement; rewards go by outcome where the tables have room for that.
+    fn statement(&mut self, kind: &str, tables: &mut Tables, outcomes: bool) -> Option<()> {
+        let (n, k) = (tables.states, tables.observations);
         let actions = self.indices(tables.actions)?;
         let states = self.indices(n)?;
         let (cells, width) = match kind {
             "T" => (&mut tables.transitions, n),
             "O" => (&mut tables.sights, tables.observations),
-            "R" => (&mut tables.rewards, 1),
+            "R" => (&mut tables.rewards, if outcomes { n * k } else { 1 }),
             _ => return None,
         };
-        let row: Vec<(usize, f64)> = if kind == "R" {
+        let row: Vec<(usize, f64)> = if kind == "R" && outcomes {
+            let (reached, seen) = (self.indices(n)?, self.indices(k)?);
+            let reward = 100.0 * self.number::<f64>()?;
+            reached.flat_map(|s2| seen.clone().map(move |o| (s2 * k + o, reward))).collect()
+        } else if kind == "R" {
             for _ in 0..2 {
                 self.key(":")?;
                 self.key("*")?;
@@ -363,6 +368,35 @@ impl<'a> Words<'a> {
 
 /// Reads a model file.
 pub fn read(file: &[u8]) -> Option<(Tables, Vec<f64>)> {
+    read_as(file, false)
+}
+
+/// Writes a file whose rewards depend on what follows as a model file, with expected rewards.
+pub fn convert(file: &[u8]) -> Option<String> {
+    let (mut tables, start) = read_as(file, true)?;
+    let (n, k) = (tables.states, tables.observations);
+    let outcomes = std::mem::take(&mut tables.rewards);
+    for (row, outcomes) in outcomes.chunks(n * k).enumerate() {
+        let seen = &tables.sights[row / n * n * k..];
+        let reached = &tables.transitions[row * n..(row + 1) * n];
+        let cells = reached.iter().enumerate().flat_map(|(s2, t)| (0..k).map(move |o| (s2 * k + o, t)));
+        tables.rewards.push(cells.map(|(cell, t)| t * seen[cell] * outcomes[cell]).sum());
+    }
+    let numbers = |row: &[f64]| row.iter().map(|number| format!(" {}", number)).collect::<String>();
+    let mut text = format!("discount: {}\nvalues: reward\nstates: {}\n", tables.discount, n);
+    text += &format!("actions: {}\nobservations: {}\nstart:{}\n", tables.actions, k, numbers(&start));
+    for (key, cells, width) in [("T", &tables.transitions, n), ("O", &tables.sights, k)] {
+        for (at, row) in cells.chunks(width).enumerate() {
+            text += &format!("{}: {} : {}{}\n", key, at / n, at % n, numbers(row));
+        }
+    }
+    for (at, reward) in tables.rewards.iter().enumerate() {
+        text += &format!("R: {} : {} : * : * {:.2}\n", at / n, at % n, reward / 100.0);
+    }
+    Some(text)
+}
+
+fn read_as(file: &[u8], outcomes: bool) -> Option<(Tables, Vec<f64>)> {
     let text = std::str::from_utf8(file).ok()?;
     let lines = text.lines().map(|line| line.split('#').next().unwrap_or(""));
     let spaced: String = lines.map(|line| line.replace(':', " : ") + "\n").collect();
@@ -386,10 +420,10 @@ pub fn read(file: &[u8]) -> Option<(Tables, Vec<f64>)> {
         discount,
         transitions: vec![0.0; rows * states],
         sights: vec![0.0; rows * observations],
-        rewards: vec![0.0; rows],
+        rewards: vec![0.0; rows * if outcomes { states * observations } else { 1 }],
     };
     while let Some(kind) = words.words.next() {
-        words.statement(kind, &mut tables)?;
+        words.statement(kind, &mut tables, outcomes)?;
     }
     Some((tables, start))
 }

@@ -53,7 +53,7 @@ fn parted_tables(rng: &mut Rng, counts: Counts) -> Tables {
 }
 
 /// Tables whose actions lead from each state to 2 or 3 others.
-fn sparse_tables(rng: &mut Rng, counts: Counts) -> Tables {
+pub fn sparse_tables(rng: &mut Rng, counts: Counts) -> Tables {
     let mut tables = tables(rng, counts);
     let n = counts.states;
     for cells in tables.transition.chunks_exact_mut(n) {
@@ -229,8 +229,18 @@ pub fn file(tables: &Tables, start: &[u16], longest: usize) -> String {
         text.push_str(&format!(" {}.{:02}", number / 100, number % 100));
     }
     text.push('\n');
+    let entry = |at: usize| {
+        let cell = share(tables.transition[at].into());
+        format!("T: {} : {} : {} {}\n", at / n / n, at / n % n, at % n, cell)
+    };
     for (at, cells) in tables.transition.chunks(n).enumerate() {
-        text.push_str(&format!("T: {} : {} {}\n", at / n, at % n, row(cells)));
+        // A row of many zeros goes by its other entries.
+        if 4 * cells.iter().filter(|&&cell| cell > 0).count() < n {
+            let above = (0..n).filter(|&s| cells[s] > 0);
+            above.for_each(|s| text.push_str(&entry(at * n + s)));
+        } else {
+            text.push_str(&format!("T: {} : {} {}\n", at / n, at % n, row(cells)));
+        }
     }
     for (at, cells) in tables.observation.chunks(tables.observations).enumerate() {
         text.push_str(&format!("O: {} : {} {}\n", at / n, at % n, row(cells)));
@@ -240,8 +250,35 @@ pub fn file(tables: &Tables, start: &[u16], longest: usize) -> String {
         let (units, hundredths) = (reward.abs() / 100, reward.abs() % 100);
         text.push_str(&format!("R: {} : {} : * : * {}{}.{:02}\n", at / n, at % n, sign, units, hundredths));
     }
-    for (at, &cell) in tables.transition.iter().enumerate() {
-        let line = format!("T: {} : {} : {} {}\n", at / n / n, at / n % n, at % n, share(cell.into()));
+    for line in (0..tables.transition.len()).map(entry) {
+        if text.len() + line.len() > longest {
+            break;
+        }
+        text.push_str(&line);
+    }
+    text
+}
+
+/// A file whose rewards are stated by outcome, as many as there is room for: they are whole tens, and rows of T are in hundredths and
+/// those of O in tenths, so that all expected rewards are whole.
+pub fn outcome_file(rng: &mut Rng, counts: Counts, longest: usize) -> String {
+    let Counts { states: n, actions: m, observations: k } = counts;
+    let coarse = |cells: usize, total: usize, rng: &mut Rng| -> Vec<u16> {
+        let parts: Vec<u16> = shares(rng, cells, total);
+        parts.iter().map(|part| part * (1_000 / total) as u16).collect()
+    };
+    let mut tables = Tables { reward: vec![0; m * n], ..tables(rng, counts) };
+    tables.transition = (0..m * n).flat_map(|_| coarse(n, 100, rng)).collect();
+    tables.observation = (0..m * n).flat_map(|_| coarse(k, 10, rng)).collect();
+    let start: Vec<u16> = shares(rng, n, TOTAL as usize);
+    // All that is stated of T, O and R before the outcomes.
+    let mut text = file(&tables, &start, 0);
+    for at in 0..m * n {
+        let line = format!("R: {} : {} : * : {} {}\n", at / n, at % n, k - 1, rng.within(-99, 99) * 10);
+        text.push_str(&line);
+    }
+    for at in 0..m * n * n {
+        let line = format!("R: {} : {} : {} : 0 -10\n", at / n / n, at / n % n, at % n);
         if text.len() + line.len() > longest {
             break;
         }
@@ -294,10 +331,16 @@ mod tests {
         let start: Vec<u16> = shares(&mut rng, 16, 100);
         let text = file(&tables, &start, FILE_BYTES);
         assert!(text.len() > FILE_BYTES - 100 && text.len() <= FILE_BYTES);
-        for read in [plain_file::read(text.as_bytes()), tuned_file::read(text.as_bytes())] {
+        let room = Tables::roomy();
+        for read in [plain_file::read(text.as_bytes(), &room), tuned_file::read(text.as_bytes(), &room)] {
             let read = read.unwrap();
             assert_eq!((&read.tables, &read.start), (&tables, &start));
         }
+        let tables = sparse_tables(&mut rng, Counts { states: 64, actions: 2, observations: 2 });
+        let start: Vec<u16> = shares(&mut rng, 64, 100);
+        let text = file(&tables, &start, FILE_BYTES);
+        let read = tuned_file::read(text.as_bytes(), &room).unwrap();
+        assert_eq!((&read.tables, &read.start), (&tables, &start));
     }
 }
 

@@ -12,8 +12,8 @@ use bench::plain::Plain;
 use bench::tuned::Tuned;
 use bench::{convert, floating, moved};
 use biidhaqun::slices::{
-    self, Adopted, Answers, Certifier, Graph, Level, Offers, Reading, Refusal, Replayed, Tables, Totals, TotalsWithin,
-    Worth,
+    self, Adopted, Answers, Certifier, Conversion, Graph, Level, Offers, Reading, Refusal, Replayed, Tables, Totals,
+    TotalsWithin, Worth,
 };
 use compare::gen::Question;
 use compare::lent::{Call, Library};
@@ -28,8 +28,10 @@ const ROUNDS: usize = 41;
 const SLICE: Duration = Duration::from_millis(1);
 /// The vectors of the smaller rows.
 const FEW: usize = 32;
+/// A quarter of the states that can be, and the other counts at their limits.
+const USUAL: Counts = Counts { states: 16, actions: 8, observations: 8 };
 /// All counts at their limits.
-const LARGEST: Counts = Counts { states: 16, actions: 8, observations: 8 };
+const LARGEST: Counts = Counts { states: 64, actions: 8, observations: 8 };
 
 /// The library as it is linked.
 struct Linked;
@@ -38,6 +40,10 @@ impl Library for Linked {
     fn read(&self, file: &[u8], tables: &mut Tables, start: &mut [u16]) -> Reading {
         let Tables { transition, observation, reward, .. } = tables;
         slices::read(file, transition, observation, reward, start)
+    }
+
+    fn convert(&self, file: &[u8], output: &mut [u8]) -> Conversion {
+        slices::convert(file, output)
     }
 
     fn open(&self, tables: &Tables, certifier: &mut Certifier) -> Refusal {
@@ -143,6 +149,7 @@ impl Form for Lent {
     fn call(&mut self) -> i64 {
         match &mut self.call {
             Call::Read { file, tables, start } => self.by.read(file, tables, start).number as i64,
+            Call::Convert { file, output } => self.by.convert(file, output).length as i64,
             Call::Open { tables, certifier } => self.by.open(tables, certifier).number as i64,
             Call::List { tables, list } => self.by.list(tables, list).number as i64,
             Call::Offer { tables, list, certifier, level } => {
@@ -291,6 +298,16 @@ fn floating_form(call: &Call) -> Result<Box<dyn Form + '_>, String> {
             let standing = floating::open(&read.0).ok_or("the floating form does not open")?;
             Ok(form(standing, false, move |_| floating::read(file).map_or(-1, |read| read.0.rewards[0] as i64)))
         }
+        Call::Convert { file, .. } => {
+            let text = floating::convert(file).ok_or("the floating form does not convert the file")?;
+            let (tables, _) = floating::read(text.as_bytes()).ok_or("the floating form does not read what it wrote")?;
+            if let Call::Convert { output, .. } = after {
+                let (exact, _) = floating::read(&output[..answer[2] as usize]).ok_or("what is written is not read")?;
+                close(exact.rewards[0], tables.rewards[0])?;
+            }
+            let standing = floating::open(&tables).ok_or("the floating form does not open")?;
+            Ok(form(standing, false, move |_| floating::convert(file).map_or(-1, |text| text.len() as i64)))
+        }
         Call::Open { tables, .. } => {
             let float = convert::floating_tables(tables);
             let standing = floating::open(&float).ok_or("the floating form does not open")?;
@@ -424,6 +441,11 @@ fn reading(tables: &Tables) -> Call {
     Call::Read { file, tables: Tables::roomy(), start: vec![0; tables.states] }
 }
 
+fn converting() -> Call {
+    let file = inputs::outcome_file(&mut rng(), USUAL, FILE_BYTES).into_bytes();
+    Call::Convert { file, output: vec![0; FILE_BYTES] }
+}
+
 fn opening(tables: &Tables) -> Call {
     Call::Open {
         tables: tables.clone(),
@@ -506,20 +528,21 @@ fn valuing(counts: Counts, nodes: usize, steps: usize) -> Call {
     Call::Worth { tables: inputs::tables(&mut rng(), counts), graph, asked }
 }
 
-/// Every call at the limits, by name; those on levels with 32 vectors, and with 1,000.
-fn calls() -> [(&'static str, Call); 28] {
-    let (standing, level) = inputs::offer(&mut rng(), LARGEST, FEW, POINTS, false);
-    let (wide, larger) = inputs::offer(&mut rng(), LARGEST, VECTORS, POINTS, false);
-    let pointless = inputs::offer(&mut rng(), LARGEST, VECTORS, 0, false);
-    let (halves, masked) = inputs::halved(&mut rng(), LARGEST, VECTORS);
-    let (sparse, next) = inputs::sparse_offer(&mut rng(), LARGEST, FEW, POINTS);
-    let (broad, many) = inputs::sparse_offer(&mut rng(), LARGEST, VECTORS, POINTS);
+/// Every call, by name; those on levels with 32 vectors, and with 1,000.
+fn calls() -> Vec<(&'static str, Call)> {
+    let (standing, level) = inputs::offer(&mut rng(), USUAL, FEW, POINTS, false);
+    let (wide, larger) = inputs::offer(&mut rng(), USUAL, VECTORS, POINTS, false);
+    let pointless = inputs::offer(&mut rng(), USUAL, VECTORS, 0, false);
+    let (halves, masked) = inputs::halved(&mut rng(), USUAL, VECTORS);
+    let (sparse, next) = inputs::sparse_offer(&mut rng(), USUAL, FEW, POINTS);
+    let (broad, many) = inputs::sparse_offer(&mut rng(), USUAL, VECTORS, POINTS);
     let sparse_offer = offering((sparse.clone(), next));
-    let bare_offer = offering(inputs::sparse_offer(&mut rng(), LARGEST, VECTORS, 0));
+    let bare_offer = offering(inputs::sparse_offer(&mut rng(), USUAL, VECTORS, 0));
     let broad_offer = offering((broad.clone(), many));
     let broad_build = building(broad.clone(), 16);
-    [
+    vec![
         ("reading", reading(&standing.tables)),
+        ("converting", converting()),
         ("opening", opening(&standing.tables)),
         ("an offer, 32 vectors, 32 points", offering((standing.clone(), level.clone()))),
         ("totals", asking(standing.clone())),
@@ -546,6 +569,33 @@ fn calls() -> [(&'static str, Call); 28] {
         ("the same by the list", listed(broad_build)),
         ("new prices upon 32 vectors, 32 points", repricing(sparse)),
         ("new prices upon 1,000 vectors, 32 points", repricing(broad)),
+        ("a plan's worth, 32 nodes, 4 steps", valuing(USUAL, NODES, STEPS)),
+    ]
+}
+
+/// Calls with as many states as can be; the file is of few actions and observations, so that it is no longer than it may be.
+fn wide_calls() -> Vec<(&'static str, Call)> {
+    let narrow = Counts { actions: 2, observations: 2, ..LARGEST };
+    let (standing, level) = inputs::offer(&mut rng(), LARGEST, FEW, POINTS, false);
+    let (sparse, next) = inputs::sparse_offer(&mut rng(), LARGEST, FEW, POINTS);
+    let sparse_offer = offering((sparse.clone(), next));
+    let bare_offer = offering(inputs::sparse_offer(&mut rng(), LARGEST, VECTORS, 0));
+    let sparse_build = building(sparse.clone(), 16);
+    vec![
+        ("reading", reading(&inputs::sparse_tables(&mut rng(), narrow))),
+        ("opening", opening(&standing.tables)),
+        ("an offer, 32 vectors, 32 points", offering((standing.clone(), level))),
+        ("totals", asking(standing.clone())),
+        ("totals within ranges", asking_within(standing.clone())),
+        ("building at 16 points", building(standing, 16)),
+        ("mostly zeros: the list", listing(&sparse.tables)),
+        ("an offer, 32 vectors, 32 points", sparse_offer.clone()),
+        ("the same by the list", listed(sparse_offer)),
+        ("an offer, 1,000 vectors, no points", bare_offer.clone()),
+        ("the same by the list", listed(bare_offer)),
+        ("building at 16 points", sparse_build.clone()),
+        ("the same by the list", listed(sparse_build)),
+        ("new prices upon 32 vectors, 32 points", repricing(sparse)),
         ("a plan's worth, 32 nodes, 4 steps", valuing(LARGEST, NODES, STEPS)),
     ]
 }
@@ -554,28 +604,32 @@ fn run(rounds: usize) -> Result<(), String> {
     println!("the library's time, and over that of the same call in Rust: medians of {} rounds", rounds);
     head("16 states, 8 actions, 8 observations", "");
     for (name, call) in calls() {
-        let name = match &call {
-            Call::Read { file, .. } => format!("{} a file of {} bytes", name, file.len()),
-            _ => name.to_string(),
-        };
-        line(&name, &measure(&call, rounds)?, None);
+        line(&titled(name, &call), &measure(&call, rounds)?, None);
         let first = matches!(&call, Call::Offer { tables, list, level, .. }
             if level.vectors == FEW && list.is_empty() && !tables.transition.contains(&0));
         if first {
-            let steep = offering(inputs::offer(&mut rng(), LARGEST, FEW, POINTS, true));
+            let steep = offering(inputs::offer(&mut rng(), USUAL, FEW, POINTS, true));
             line("the same, no point left early", &measure(&steep, rounds)?, None);
         }
     }
 
+    // These calls take long, so that fewer rounds do.
+    let few = rounds / 2 + 1;
+    head(&format!("64 states, 8 actions, 8 observations: {} rounds", few), "");
+    for (name, call) in wide_calls() {
+        line(&titled(name, &call), &measure(&call, few)?, None);
+    }
+
     let offer = |counts, vectors, points| offering(inputs::offer(&mut rng(), counts, vectors, points, false));
-    growth("an offer by states, 32 vectors, 32 points", rounds, &[2, 4, 8, 16], |states| {
+    let states = [2, 4, 8, 16, 32, 64];
+    growth("an offer by states, 32 vectors, 32 points", few, &states, |states| {
         offer(Counts { states, ..LARGEST }, FEW, POINTS)
     })?;
-    growth("an offer by vectors, no points", rounds, &[1, 10, 100, 1_000], |vectors| offer(LARGEST, vectors, 0))?;
-    growth("an offer by points, 32 vectors", rounds, &[0, 8, 16, 32], |points| offer(LARGEST, FEW, points))?;
-    growth("a worth by steps, 32 nodes", rounds, &[1, 2, 3, 4], |steps| valuing(LARGEST, NODES, steps))?;
-    growth("a worth by nodes, 4 steps", rounds, &[4, 8, 16, 32], |nodes| valuing(LARGEST, nodes, STEPS))?;
-    growth("a worth by states, 32 nodes, 4 steps", rounds, &[2, 4, 8, 16], |states| {
+    growth("an offer by vectors, no points", rounds, &[1, 10, 100, 1_000], |vectors| offer(USUAL, vectors, 0))?;
+    growth("an offer by points, 32 vectors", rounds, &[0, 8, 16, 32], |points| offer(USUAL, FEW, points))?;
+    growth("a worth by steps, 32 nodes", rounds, &[1, 2, 3, 4], |steps| valuing(USUAL, NODES, steps))?;
+    growth("a worth by nodes, 4 steps", rounds, &[4, 8, 16, 32], |nodes| valuing(USUAL, nodes, STEPS))?;
+    growth("a worth by states, 32 nodes, 4 steps", rounds, &states, |states| {
         valuing(Counts { states, ..LARGEST }, NODES, STEPS)
     })?;
 
@@ -584,6 +638,14 @@ fn run(rounds: usize) -> Result<(), String> {
         println!("{:<44} {:>9}", name, stack(number, name)?);
     }
     Ok(())
+}
+
+/// The name of a call; of a reading or a conversion, with the length of its file.
+fn titled(name: &str, call: &Call) -> String {
+    match call {
+        Call::Read { file, .. } | Call::Convert { file, .. } => format!("{} a file of {} bytes", name, file.len()),
+        _ => name.to_string(),
+    }
 }
 
 /// No thread has less, in kilobytes.

@@ -8,7 +8,8 @@ use crate::moved;
 use crate::plain_file;
 use crate::solver_file::{self, adopted};
 use biidhaqun::slices::{
-    Adopted, Answers, Certifier, Graph, Level, Offers, Reading, Refusal, Replayed, Tables, Totals, TotalsWithin, Worth,
+    Adopted, Answers, Certifier, Conversion, Graph, Level, Offers, Reading, Refusal, Replayed, Tables, Totals,
+    TotalsWithin, Worth,
 };
 use compare::gen::Question;
 use compare::lent::Library;
@@ -370,7 +371,11 @@ fn worth(tables: &Tables, graph: &Graph, asked: Question) -> Answer<i64> {
 
 impl Library for Plain {
     fn read(&self, file: &[u8], tables: &mut Tables, start: &mut [u16]) -> Reading {
-        laid(plain_file::read(file), tables, start)
+        laid(plain_file::read(file, tables), tables, start)
+    }
+
+    fn convert(&self, file: &[u8], output: &mut [u8]) -> Conversion {
+        plain_file::convert(file, output)
     }
 
     fn open(&self, tables: &Tables, certifier: &mut Certifier) -> Refusal {

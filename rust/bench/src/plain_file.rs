@@ -1,7 +1,7 @@
 //! Reading a model file the obvious way: all words first, then the grammar over them.
 
 use crate::limits::*;
-use biidhaqun::slices::{Refusal, Tables};
+use biidhaqun::slices::{Conversion, Refusal, Tables};
 
 /// The words of a file with the bytes before each.
 fn words(file: &[u8]) -> Vec<(usize, &[u8])> {
@@ -84,6 +84,8 @@ struct Reader<'a> {
     words: Vec<(usize, &'a [u8])>,
     next: usize,
     length: usize,
+    /// Whether rewards go by outcome.
+    outcomes: bool,
 }
 
 impl<'a> Reader<'a> {
@@ -176,6 +178,15 @@ impl<'a> Reader<'a> {
         let (width, row) = match kind {
             b"T" => (n, self.shares(n)?),
             b"O" => (k, self.shares(k)?),
+            _ if self.outcomes => {
+                self.key(":")?;
+                let reached = self.indices(n)?;
+                self.key(":")?;
+                let seen = self.indices(k)?;
+                let reward = self.reward()?;
+                let cells = reached.flat_map(|s2| seen.clone().map(move |o| (s2 * k + o, reward)));
+                (n * k, cells.collect())
+            }
             _ => {
                 self.keys(&[":", "*", ":", "*"])?;
                 (1, vec![(0, self.reward()?)])
@@ -197,12 +208,78 @@ impl<'a> Reader<'a> {
     }
 }
 
-/// Reads a model file: its tables and start numbers.
-pub fn read(file: &[u8]) -> Answer<Read> {
+/// Reads a model file into slices that are lent: its tables and start numbers.
+pub fn read(file: &[u8], lent: &Tables) -> Answer<Read> {
+    read_as(file, false, |states, actions, observations| zeros(states, actions, observations, lent))
+}
+
+/// Converts a file whose rewards depend on what follows.
+pub fn convert(file: &[u8], output: &mut [u8]) -> Conversion {
+    let zeros = |states, actions, observations| Ok(outcome_zeros(states, actions, observations));
+    converted(
+        output,
+        || read_as(file, true, zeros),
+        |read, output| {
+            let text = text(read, &expected(&read.tables)?);
+            output[..text.len()].copy_from_slice(text.as_bytes());
+            Ok(text.len())
+        },
+    )
+}
+
+/// The expected rewards by action and state; or 26.
+fn expected(tables: &Tables) -> Answer<Vec<i64>> {
+    let Tables { states: n, actions: m, observations: k, .. } = *tables;
+    let mut rewards = Vec::new();
+    for a in 0..m {
+        for s in 0..n {
+            let mut sum = 0;
+            for s2 in 0..n {
+                for o in 0..k {
+                    let t = i64::from(tables.transition[(a * n + s) * n + s2]);
+                    let seen = i64::from(tables.observation[(a * n + s2) * k + o]);
+                    sum += t * seen * tables.reward[((a * n + s) * n + s2) * k + o];
+                }
+            }
+            if sum % (THOUSAND * THOUSAND) != 0 {
+                return refused(26, a * n + s);
+            }
+            rewards.push(sum / (THOUSAND * THOUSAND));
+        }
+    }
+    Ok(rewards)
+}
+
+/// The model file.
+fn text(read: &Read, rewards: &[i64]) -> String {
+    let Tables { states: n, actions, observations, discount, .. } = read.tables;
+    let thousandths = |cell: u64| format!("{}.{:03}", cell / 1_000, cell % 1_000);
+    let row = |cells: &[u16]| cells.iter().map(|&cell| format!(" {}", thousandths(cell.into()))).collect::<String>();
+    let mut text = format!("discount: {}\nvalues: reward\nstates: {}\n", thousandths(discount), n);
+    text += &format!("actions: {}\nobservations: {}\nstart:", actions, observations);
+    for number in &read.start {
+        text += &format!(" {}.{:02}", number / 100, number % 100);
+    }
+    text += "\n";
+    for (at, cells) in read.tables.transition.chunks(n).enumerate() {
+        text += &format!("T: {} : {}{}\n", at / n, at % n, row(cells));
+    }
+    for (at, cells) in read.tables.observation.chunks(observations).enumerate() {
+        text += &format!("O: {} : {}{}\n", at / n, at % n, row(cells));
+    }
+    for (at, &reward) in rewards.iter().enumerate() {
+        let (minus, size) = (if reward < 0 { "-" } else { "" }, reward.abs());
+        text += &format!("R: {} : {} : * : * {}{}.{:02}\n", at / n, at % n, minus, size / 100, size % 100);
+    }
+    text
+}
+
+/// Reads a file, with rewards by action and state or by outcome, into tables that begin as zeros.
+fn read_as(file: &[u8], outcomes: bool, zeros: impl Fn(usize, usize, usize) -> Answer<Tables>) -> Answer<Read> {
     if file.len() > FILE_BYTES {
         return refused(1, 0);
     }
-    let mut reader = Reader { words: words(file), next: 0, length: file.len() };
+    let mut reader = Reader { words: words(file), next: 0, length: file.len(), outcomes };
     reader.keys(&["discount", ":"])?;
     let discount = reader.share(3)?;
     reader.keys(&["values", ":", "reward", "states", ":"])?;
@@ -211,18 +288,9 @@ pub fn read(file: &[u8]) -> Answer<Read> {
     let actions = reader.count(ACTIONS)?;
     reader.keys(&["observations", ":"])?;
     let observations = reader.count(OBSERVATIONS)?;
+    let mut tables = Tables { discount: discount as u64, ..zeros(states, actions, observations)? };
     reader.keys(&["start", ":"])?;
     let start = (0..states).map(|_| reader.share(2).map(|share| share as u16)).collect::<Answer<Vec<u16>>>()?;
-    let rows = actions * states;
-    let mut tables = Tables {
-        states,
-        actions,
-        observations,
-        discount: discount as u64,
-        transition: vec![0; rows * states],
-        observation: vec![0; rows * observations],
-        reward: vec![0; rows],
-    };
     while reader.next < reader.words.len() {
         reader.statement(&mut tables)?;
     }

@@ -9,7 +9,8 @@ use crate::moved;
 use crate::solver_file::{self, adopted};
 use crate::tuned_file;
 use biidhaqun::slices::{
-    Adopted, Answers, Certifier, Graph, Level, Offers, Reading, Refusal, Replayed, Tables, Totals, TotalsWithin, Worth,
+    Adopted, Answers, Certifier, Conversion, Graph, Level, Offers, Reading, Refusal, Replayed, Tables, Totals,
+    TotalsWithin, Worth,
 };
 use compare::gen::Question;
 use compare::lent::Library;
@@ -18,6 +19,7 @@ pub struct Tuned;
 
 /// Room for a number for each state.
 type States = [i64; STATES];
+const QUARTER: usize = STATES / 4;
 /// Room for each point's gain.
 type Gains = [i64; POINTS];
 /// Room for the weights of all points.
@@ -113,10 +115,11 @@ impl<'a> Sawtooth<'a> {
 
     /// The ceiling at q.
     fn ceiling(&self, q: &[i64]) -> i64 {
-        // With the largest number of states, the loops over them have a length that the compiler knows.
-        let drop = match <&[i64; STATES]>::try_from(q) {
-            Ok(q) => largest_drop(self.weights, &self.gains, q, STATES),
-            Err(_) => largest_drop(self.weights, &self.gains, q, q.len()),
+        // With the largest number of states, or a quarter of it, the loops over them have a length that the compiler knows.
+        let drop = match q.len() {
+            STATES => largest_drop(self.weights, &self.gains, q, STATES),
+            QUARTER => largest_drop(self.weights, &self.gains, q, QUARTER),
+            n => largest_drop(self.weights, &self.gains, q, n),
         };
         dot(self.corners, q) - drop
     }
@@ -585,7 +588,11 @@ fn worth(tables: &Tables, graph: &Graph, asked: Question) -> Answer<i64> {
 
 impl Library for Tuned {
     fn read(&self, file: &[u8], tables: &mut Tables, start: &mut [u16]) -> Reading {
-        laid(tuned_file::read(file), tables, start)
+        laid(tuned_file::read(file, tables), tables, start)
+    }
+
+    fn convert(&self, file: &[u8], output: &mut [u8]) -> Conversion {
+        tuned_file::convert(file, output)
     }
 
     fn open(&self, tables: &Tables, certifier: &mut Certifier) -> Refusal {

@@ -1,7 +1,7 @@
 //! Reading a model file as well as we can: word by word, digits as they come, and nothing allocated but the tables.
 
 use crate::limits::*;
-use biidhaqun::slices::{Refusal, Tables};
+use biidhaqun::slices::{Conversion, Refusal, Tables};
 
 /// The file and the offset that was reached.
 struct Reader<'a> {
@@ -184,20 +184,160 @@ impl<'a> Reader<'a> {
         for key in [b":", b"*", b":", b"*"] {
             self.key(key)?;
         }
-        let word = self.word()?;
-        let reward = match word.bytes.strip_prefix(b"-") {
-            Some(digits) => -word.within(amount(digits, 4, 2), 0, REWARD)?,
-            None => word.within(amount(word.bytes, 4, 2), 0, REWARD)?,
-        };
+        let reward = self.reward()?;
         for a in first_action..after_action {
             cells[a * n + first_state..a * n + after_state].fill(reward);
         }
         Ok(())
     }
+
+    /// Rewards by outcome.
+    fn outcomes(&mut self, cells: &mut [i64], n: usize, k: usize, actions: usize) -> Answer<()> {
+        let (first_action, after_action) = self.indices(actions)?;
+        let (first_state, after_state) = self.indices(n)?;
+        let (first_reached, after_reached) = self.indices(n)?;
+        let (first_seen, after_seen) = self.indices(k)?;
+        let reward = self.reward()?;
+        for a in first_action..after_action {
+            for s in first_state..after_state {
+                let row = (a * n + s) * n;
+                for cells in cells[(row + first_reached) * k..(row + after_reached) * k].chunks_exact_mut(k) {
+                    cells[first_seen..after_seen].fill(reward);
+                }
+            }
+        }
+        Ok(())
+    }
+
+    fn reward(&mut self) -> Answer<i64> {
+        let word = self.word()?;
+        match word.bytes.strip_prefix(b"-") {
+            Some(digits) => Ok(-word.within(amount(digits, 4, 2), 0, REWARD)?),
+            None => word.within(amount(word.bytes, 4, 2), 0, REWARD),
+        }
+    }
 }
 
-/// Reads a model file: its tables and start numbers.
-pub fn read(file: &[u8]) -> Answer<Read> {
+/// Reads a model file into slices that are lent: its tables and start numbers.
+pub fn read(file: &[u8], lent: &Tables) -> Answer<Read> {
+    read_as(file, false, |states, actions, observations| zeros(states, actions, observations, lent))
+}
+
+/// Converts a file whose rewards depend on what follows: each partial sum is over the observations of one state reached, and the
+/// text goes straight to the output.
+pub fn convert(file: &[u8], output: &mut [u8]) -> Conversion {
+    let zeros = |states, actions, observations| Ok(outcome_zeros(states, actions, observations));
+    converted(
+        output,
+        || read_as(file, true, zeros),
+        |read, output| {
+            let tables = &read.tables;
+            let Tables { states: n, observations: k, .. } = *tables;
+            let mut rewards = [0; ACTIONS * WRITTEN_STATES];
+            for (row, (reached, outcomes)) in
+                tables.transition.chunks_exact(n).zip(tables.reward.chunks_exact(n * k)).enumerate()
+            {
+                let seen = tables.observation[row / n * n * k..].chunks_exact(k).zip(outcomes.chunks_exact(k));
+                let sum: i64 = reached
+                    .iter()
+                    .zip(seen)
+                    .filter(|(&t, _)| t > 0)
+                    .map(|(&t, (seen, rewards))| {
+                        i64::from(t) * seen.iter().zip(rewards).map(|(&o, r)| i64::from(o) * r).sum::<i64>()
+                    })
+                    .sum();
+                if sum % (THOUSAND * THOUSAND) != 0 {
+                    return refused(26, row);
+                }
+                rewards[row] = sum / (THOUSAND * THOUSAND);
+            }
+            Ok(Writer { output, length: 0 }.file(read, &rewards))
+        },
+    )
+}
+
+/// An output and the bytes that were written.
+struct Writer<'a> {
+    output: &'a mut [u8],
+    length: usize,
+}
+
+impl Writer<'_> {
+    fn put(&mut self, bytes: &[u8]) {
+        self.output[self.length..self.length + bytes.len()].copy_from_slice(bytes);
+        self.length += bytes.len();
+    }
+
+    /// A whole number, with so many digits at least.
+    fn whole(&mut self, number: u64, digits: usize) {
+        let mut reversed = [b'0'; 20];
+        let (mut rest, mut count) = (number, 0);
+        while rest > 0 {
+            reversed[count] += (rest % 10) as u8;
+            rest /= 10;
+            count += 1;
+        }
+        let count = count.max(digits);
+        reversed[..count].reverse();
+        self.put(&reversed[..count]);
+    }
+
+    /// A number counted in its last of so many decimals.
+    fn decimal(&mut self, number: u64, decimals: usize) {
+        let unit = 10_u64.pow(decimals as u32);
+        self.whole(number / unit, 1);
+        self.put(b".");
+        self.whole(number % unit, decimals);
+    }
+
+    fn opening(&mut self, key: &[u8], row: usize, n: usize) {
+        self.put(key);
+        self.put(b": ");
+        self.whole((row / n) as u64, 1);
+        self.put(b" : ");
+        self.whole((row % n) as u64, 1);
+    }
+
+    fn rows(&mut self, key: &[u8], cells: &[u16], width: usize, n: usize) {
+        for (row, cells) in cells.chunks_exact(width).enumerate() {
+            self.opening(key, row, n);
+            for &cell in cells {
+                self.put(b" ");
+                self.decimal(cell.into(), 3);
+            }
+            self.put(b"\n");
+        }
+    }
+
+    /// All of a file; its length.
+    fn file(mut self, read: &Read, rewards: &[i64]) -> usize {
+        let Tables { states: n, actions: m, observations: k, discount, .. } = read.tables;
+        self.put(b"discount: ");
+        self.decimal(discount, 3);
+        for (key, count) in [(&b"\nvalues: reward\nstates: "[..], n), (b"\nactions: ", m), (b"\nobservations: ", k)] {
+            self.put(key);
+            self.whole(count as u64, 1);
+        }
+        self.put(b"\nstart:");
+        for &number in &read.start {
+            self.put(b" ");
+            self.decimal(number.into(), 2);
+        }
+        self.put(b"\n");
+        self.rows(b"T", &read.tables.transition, n, n);
+        self.rows(b"O", &read.tables.observation, k, n);
+        for (row, reward) in rewards[..m * n].iter().enumerate() {
+            self.opening(b"R", row, n);
+            self.put(if *reward < 0 { b" : * : * -" } else { b" : * : * " });
+            self.decimal(reward.unsigned_abs(), 2);
+            self.put(b"\n");
+        }
+        self.length
+    }
+}
+
+/// Reads a file, with rewards by action and state or by outcome, into tables that begin as zeros.
+fn read_as(file: &[u8], outcomes: bool, zeros: impl Fn(usize, usize, usize) -> Answer<Tables>) -> Answer<Read> {
     if file.len() > FILE_BYTES {
         return refused(1, 0);
     }
@@ -212,26 +352,18 @@ pub fn read(file: &[u8]) -> Answer<Read> {
     let actions = reader.count(ACTIONS)?;
     reader.header(b"observations")?;
     let observations = reader.count(OBSERVATIONS)?;
+    let mut tables = Tables { discount: discount.into(), ..zeros(states, actions, observations)? };
     reader.header(b"start")?;
     let mut start = vec![0; states];
     for number in &mut start {
         let word = reader.word()?;
         *number = word.within(amount(word.bytes, 1, 2), 0, TOTAL)? as u16;
     }
-    let rows = actions * states;
-    let mut tables = Tables {
-        states,
-        actions,
-        observations,
-        discount: discount.into(),
-        transition: vec![0; rows * states],
-        observation: vec![0; rows * observations],
-        reward: vec![0; rows],
-    };
     while let Some(word) = reader.next() {
         match word.bytes {
             b"T" => reader.rows(&mut tables.transition, states, states, actions)?,
             b"O" => reader.rows(&mut tables.observation, states, observations, actions)?,
+            b"R" if outcomes => reader.outcomes(&mut tables.reward, states, observations, actions)?,
             b"R" => reader.rewards(&mut tables.reward, states, actions)?,
             _ => return Err(word.refused(2)),
         }

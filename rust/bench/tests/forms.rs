@@ -1,17 +1,18 @@
 //! Both forms in whole numbers against the reference, on slices of any content and length and on damaged files; the floating
 //! form on valid models.
 
-use bench::inputs::Standing;
+use bench::inputs::{self, Counts, Standing};
+use bench::limits::FILE_BYTES;
 use bench::plain::Plain;
 use bench::tuned::Tuned;
 use bench::{convert, floating};
-use biidhaqun::slices::Refusal;
+use biidhaqun::slices::{Refusal, Tables};
 use compare::copied::BY_THE_DOCUMENT;
 use compare::gen;
 use compare::lent::{self, Call, Library};
 use compare::rng::Rng;
 use compare::through::{self, Through};
-use compare::{adopting, bracket, calls, files, many, replaying, single};
+use compare::{adopting, bracket, calls, converting, files, many, replaying, single};
 
 const FORMS: [(&str, &dyn Library); 2] = [("plain", &Plain), ("tuned", &Tuned)];
 
@@ -61,9 +62,35 @@ fn totals_bracket_all_plans() {
 #[test]
 fn files_read_as_by_the_reference() {
     let random = (0..2_000).map(|number| files::random(&mut Rng::for_case(11, "random", number)));
-    for case in files::fixed().into_iter().chain(random) {
+    for case in files::fixed_to_read().into_iter().chain(random) {
         agree(&case.about, &single::reading(&case.file));
     }
+}
+
+#[test]
+fn files_are_converted_as_by_the_reference() {
+    let cases = files::fixed_outcomes();
+    for number in 0..cases.len() {
+        agree(&cases[number].about, &converting::fixed(&cases, number).unwrap());
+    }
+    for number in 0..1_000 {
+        agree(&format!("convert:{}", number), &converting::random(&mut Rng::for_case(11, "convert", number)));
+    }
+}
+
+/// The file that conversions are measured on is converted by all forms, to the same rewards.
+#[test]
+fn the_floating_form_converts() {
+    let counts = Counts { states: 16, actions: 8, observations: 8 };
+    let file = inputs::outcome_file(&mut Rng::for_case(1, "bench", 0), counts, FILE_BYTES).into_bytes();
+    assert!(file.len() > FILE_BYTES - 100);
+    let mut output = vec![0; FILE_BYTES];
+    let ended = Tuned.convert(&file, &mut output);
+    assert_eq!(ended.number, 0);
+    let (exact, _) = floating::read(&output[..ended.length]).unwrap();
+    let (float, _) = floating::read(floating::convert(&file).unwrap().as_bytes()).unwrap();
+    assert!(exact.rewards.iter().any(|&reward| reward != 0.0));
+    assert!(exact.rewards.iter().zip(&float.rewards).all(|(exact, float)| (exact - float).abs() < 1.5));
 }
 
 #[test]
@@ -136,7 +163,7 @@ fn the_floating_form_reads_whole_models() {
     for number in 0..200 {
         let mut rng = Rng::for_case(11, "models", number);
         let file = files::random(&mut rng).file;
-        if let Ok(read) = bench::tuned_file::read(&file) {
+        if let Ok(read) = bench::tuned_file::read(&file, &Tables::roomy()) {
             if let Some((float, _)) = floating::read(&file) {
                 let exact = convert::floating_tables(&read.tables);
                 let close = |left: &[f64], right: &[f64]| left.iter().zip(right).all(|(x, y)| (x - y).abs() < 1e-6);

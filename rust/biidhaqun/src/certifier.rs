@@ -15,7 +15,7 @@ use crate::totals::{Bounds, Totals, TotalsWithin};
 /// It owns a copy of the model and slices with room for every level, so that it can be kept and sent anywhere and no offer
 /// lacks room; the calls are handed these slices as they lie, and nothing is translated or allocated in an offer or in
 /// totals. That room is 1,000 × (8 n + 2 k + 9) bytes and some for the points and rows, with n states and k observations: 30 KB
-/// for the two states and two observations of the tiger, 157 KB for the largest model. Where many small certifiers are kept,
+/// for the two states and two observations of the tiger, 554 KB for the largest model. Where many small certifiers are kept,
 /// the calls on [`slices`](crate::slices) take shorter ones.
 ///
 /// What is proved of one that was opened on a [`Model`] and offered levels of any content: at a mixture where a vector counts,

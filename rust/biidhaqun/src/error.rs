@@ -27,6 +27,8 @@ pub enum Place {
     Part(usize),
     /// The node of a plan graph with this number; or 0 for what else was asked of it.
     Node(usize),
+    /// The expected reward with this number, action × states + state.
+    Reward(usize),
     /// The length that a slice needs.
     Length(usize),
 }
@@ -43,6 +45,7 @@ impl Place {
             | Place::Point(number)
             | Place::Part(number)
             | Place::Node(number)
+            | Place::Reward(number)
             | Place::Length(number) => number,
         }
     }
@@ -93,7 +96,8 @@ impl Refusal {
         let rule = Rule::of(ended.number).unwrap_or(Rule::Certifier);
         let place = match (rule, handed) {
             (Rule::Room, _) => Place::Length(at),
-            (Rule::FileLength, _) => Place::Whole,
+            (Rule::FileLength | Rule::Wide | Rule::Output, _) => Place::Whole,
+            (Rule::ExpectedReward, _) => Place::Reward(at),
             (_, Handed::File) | (Rule::SolverForm, _) => Place::Byte(at),
             (Rule::Range, Handed::Solver) => Place::Vector(at),
             (Rule::TransitionTotal | Rule::ObservationTotal, Handed::Tables(states)) => {
@@ -124,7 +128,9 @@ impl fmt::Display for Refusal {
                 "a count, index, start number, probability, discount or reward is outside its limit: the word after {} bytes",
                 at
             ),
-            (Rule::Limit, _) => write!(f, "a count, probability, reward or the discount is outside its limit"),
+            (Rule::Limit, _) => {
+                write!(f, "a count, probability, reward or the discount is outside its limit, or a slice of the tables is too short")
+            }
             (Rule::StartTotal, _) => write!(f, "the start numbers do not total 1"),
             (Rule::TransitionTotal, Place::Row { action, state, .. }) => {
                 write!(f, "the row of T of action {} from state {} does not total 1", action, state)
@@ -191,7 +197,21 @@ impl fmt::Display for Refusal {
                 write!(f, "the new tables differ in more than rewards: counts, T, O and discount must be the same")
             }
             (Rule::LowHigh, _) => write!(f, "a low is above its high; within a range of weights the low comes first"),
-            (Rule::Room, _) => write!(f, "a slice lent for the answer is too short; it needs {}", at),
+            (Rule::Wide, _) => {
+                write!(
+                    f,
+                    "the model has over 16 states, and no more are converted; state its expected rewards yourself, by \
+                     `R: a : s : * : * r`, and it is read as it is"
+                )
+            }
+            (Rule::ExpectedReward, _) => write!(
+                f,
+                "the expected reward of number {}, counted as action × states + state, is no whole number of ticks \
+                 (hundredths of a unit); round the rewards that make it up, or multiply all rewards by one number",
+                at
+            ),
+            (Rule::Output, _) => write!(f, "an output to write a model file into has at least 32,768 bytes; lend more"),
+            (Rule::Room, _) => write!(f, "the slice lent for the start numbers is too short; it needs {}", at),
         }
     }
 }

@@ -4,11 +4,12 @@
 //! that is lent to be read, keeps no pointer, and answers whatever the content.
 
 use crate::slices::{
-    Adopted, Answers, Certifier, Graph, Level, Offers, Reading, Refusal, Replayed, Tables, Totals, TotalsWithin, Worth,
+    Adopted, Answers, Certifier, Conversion, Graph, Level, Offers, Reading, Refusal, Replayed, Tables, Totals,
+    TotalsWithin, Worth,
 };
 
 mod library {
-    use super::{Adopted, Reading, Refusal, Replayed, Totals, TotalsWithin, Worth};
+    use super::{Adopted, Conversion, Reading, Refusal, Replayed, Totals, TotalsWithin, Worth};
 
     extern "C" {
         pub fn biidhaqun_version() -> u64;
@@ -25,6 +26,13 @@ mod library {
             start: *mut u16,
             start_length: usize,
         ) -> Reading;
+
+        pub fn biidhaqun_convert(
+            file: *const u8,
+            file_length: usize,
+            output: *mut u8,
+            output_length: usize,
+        ) -> Conversion;
 
         pub fn biidhaqun_open(
             states: usize,
@@ -457,7 +465,7 @@ pub fn version() -> u64 {
 }
 
 /// Reads a model file: its counts and discount are answered, its tables and its start numbers in hundredths written; or 1
-/// to 6, or 100.
+/// to 6, with 3 at 0 where a table has no room, or 100 where the start numbers have none.
 pub fn read(
     file: &[u8],
     transition: &mut [u16],
@@ -479,6 +487,11 @@ pub fn read(
             start.len(),
         )
     }
+}
+
+/// Writes a file whose rewards depend on what follows as a model file, at the front of the output; or 27, 1 to 6, 25, 26.
+pub fn convert(file: &[u8], output: &mut [u8]) -> Conversion {
+    unsafe { library::biidhaqun_convert(file.as_ptr(), file.len(), output.as_mut_ptr(), output.len()) }
 }
 
 /// Opens a certifier on tables: level 0 stands, and the rows are zeros; or 3, 5, 6, 9.

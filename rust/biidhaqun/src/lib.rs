@@ -14,6 +14,8 @@
 //! Where most of a model's transitions are 0, a certifier can work from a [`List`] of the others, with the same answers. Rewards
 //! may change while it stands at a level ([`Certifier::reprice`]): its bounds are moved so that they hold for the new ones.
 //!
+//! A file whose rewards depend on what follows is written as a model file by [`convert`].
+//!
 //! The types are handles over [`slices`], the layout that the library takes: a C program lends the same.
 //!
 //! ```
@@ -70,7 +72,7 @@ pub use error::{Error, Length, Place, Refusal};
 pub use ffi::version;
 pub use level::{Level, Point, Vector};
 #[cfg(feature = "linked")]
-pub use model::{Action, Model};
+pub use model::{convert, Action, Model};
 pub use parts::{Graph, List, Mixture, Points};
 pub use rule::Rule;
 pub use shape::Shape;

@@ -180,6 +180,34 @@ impl Model {
     }
 }
 
+/// Writes a file whose rewards depend on what follows, `R: a : s : s' : o r`, as a model file: with the same T, O, discount and
+/// start, and for each action and state the expected reward. Stars stand for all, later statements supersede outcome by outcome,
+/// and outcomes that none names earn 0. Refused with 1 to 6, 25 where there are over 16 states, or 26 where an expected reward is
+/// no whole number of ticks.
+///
+/// What is proved: the bytes are those of the definition, and [`Model::read`] has the same T, O, discount and start of them, and
+/// exactly the expected rewards.
+///
+/// ```
+/// use biidhaqun::{convert, Model};
+///
+/// # fn main() -> Result<(), Box<dyn std::error::Error>> {
+/// let file = std::fs::read("../../examples/outcomes/glazing.pomdp")?;
+/// let written = convert(&file)?;
+/// assert_eq!(written, std::fs::read("../../examples/outcomes/glazing.written")?);
+/// let (model, _) = Model::read(&written)?;
+/// assert_eq!((model.reward(0, 1), model.reward(1, 1)), (-84, 436));
+/// # Ok(())
+/// # }
+/// ```
+pub fn convert(file: &[u8]) -> Result<Vec<u8>, Refusal> {
+    let mut written = vec![0; slices::FILE_BYTES];
+    let ended = slices::convert(file, &mut written);
+    Refusal::unless(slices::Refusal { number: ended.number, place: ended.place }, Handed::File)?;
+    written.truncate(ended.length);
+    Ok(written)
+}
+
 /// Cuts off what lies past the counts.
 fn cut(tables: &mut Tables) {
     let rows = tables.actions * tables.states;

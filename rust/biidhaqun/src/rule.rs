@@ -37,7 +37,7 @@ macro_rules! rules {
 rules! {
     1 FileLength: "a model file has at most 32,768 bytes, each of a solver's files at most 4,194,304",
     2 Form: "each word of a file fits its form, and none is missing",
-    3 Limit: "counts, indices, start numbers, probabilities, discount and rewards are within their limits",
+    3 Limit: "counts, indices, start numbers, probabilities, discount and rewards are within their limits, and tables have room",
     4 StartTotal: "the start numbers total 1",
     5 TransitionTotal: "each row of T totals 1",
     6 ObservationTotal: "each row of O totals 1",
@@ -59,7 +59,10 @@ rules! {
     22 Counting: "some vector counts at a mixture or at the highs, and some covers all states where a level is built",
     23 Prices: "new tables differ in their rewards at most: counts, T, O and discount are the same",
     24 LowHigh: "no low of a range of weights is above its high",
-    100 Room: "the slices that a file is read into have room",
+    25 Wide: "a model that is written as a model file has at most 16 states",
+    26 ExpectedReward: "the expected reward of each action and state is a whole number of ticks",
+    27 Output: "an output to write a model file into has at least 32,768 bytes",
+    100 Room: "the slice that start numbers are read into has room",
 }
 
 impl Rule {

@@ -5,7 +5,7 @@ use crate::slices::Tables;
 /// The counts of a model.
 #[derive(Clone, Copy, Debug, PartialEq, Eq, Hash)]
 pub struct Shape {
-    /// 1 to 16.
+    /// 1 to 64.
     pub states: usize,
     /// 1 to 8.
     pub actions: usize,

@@ -4,8 +4,8 @@
 //! nor written. n stands for the model's states, m for its actions, k for its observations.
 //!
 //! What is handed in may hold anything and have any length. With the feature `linked`, this module has the calls themselves
-//! too: [`version`], [`read`], [`open`], [`list`], [`offer`], [`replay`], [`reprice`], [`totals`], [`each`], [`within`],
-//! [`build`], [`adopt`] and [`worth`]. Each is proved to answer, and to leave in what it is lent, what its definitions say; one that is refused leaves all
+//! too: [`version`], [`read`], [`convert`], [`open`], [`list`], [`offer`], [`replay`], [`reprice`], [`totals`], [`each`],
+//! [`within`], [`build`], [`adopt`] and [`worth`]. Each is proved to answer, and to leave in what it is lent, what its definitions say; one that is refused leaves all
 //! as it was.
 //!
 //! A vector's mask says which states it covers. Its entries elsewhere are unread, and an acceptance stores them as 0, and the
@@ -16,24 +16,26 @@
 //! rising s. A slice of length 0 says that no list is meant; any other must begin with the list of the tables that it is handed
 //! in with, or it is refused by 7.
 //!
-//! A slice that is too short is refused: one of the tables by 3 at 0 where they are opened, listed or new or a worth is asked,
-//! else by 7;
+//! A slice that is too short is refused: one of the tables by 3 at 0 where they are read from a file (once its counts are read),
+//! opened, listed or new or a worth is asked, else by 7;
 //! one of a certifier by 7 for what stands and for the rows (its choices are read by no call, and not asked for), by 9 for
 //! what is to stand;
 //! one of an offered level, of a list of offers, of points, of a level to be built or adopted, of answers, or to write a list of
 //! transitions over by 9; a mixture, or
-//! several, and lows and highs by 17; one of a plan graph by 18; one that a file is read into by 100, and the place is then the length that it
-//! needs.
+//! several, and lows and highs by 17; one of a plan graph by 18; the one that a file's start numbers are read into by 100, at the end, and the
+//! place is then the length that it needs; one that a file is converted into by 27, first, if it has less than 32,768 bytes.
 
 #[cfg(feature = "linked")]
-pub use crate::ffi::{adopt, build, each, list, offer, open, read, replay, reprice, totals, version, within, worth};
+pub use crate::ffi::{
+    adopt, build, convert, each, list, offer, open, read, replay, reprice, totals, version, within, worth,
+};
 
 /// The version of this layout, the C header's too. [`version`] is the linked library's.
-pub const VERSION: u64 = 5;
+pub const VERSION: u64 = 6;
 
 /// Most states, actions, observations, vectors and points of a level, points to build at, nodes and steps of a plan graph,
 /// levels, and bytes of a model file and of each of a solver's files.
-pub const STATES: usize = 16;
+pub const STATES: usize = 64;
 pub const ACTIONS: usize = 8;
 pub const OBSERVATIONS: usize = 8;
 pub const VECTORS: usize = 1_000;
@@ -44,6 +46,9 @@ pub const STEPS: usize = 4;
 pub const LEVELS: usize = 100;
 pub const FILE_BYTES: usize = 32_768;
 pub const SOLVER_BYTES: usize = 4 << 20;
+
+/// Most states of a model that is written as a model file.
+pub const WRITTEN_STATES: usize = 16;
 
 /// Most words of a list of transitions: one for each column and for the end, and one for each cell of T.
 pub const LIST_WORDS: usize = ACTIONS * STATES + 1 + ACTIONS * STATES * STATES;
@@ -56,7 +61,7 @@ pub fn full_mask(states: usize) -> u64 {
 /// Tables: a model in thousandths and ticks.
 #[derive(Clone, Debug, Default, PartialEq, Eq, Hash)]
 pub struct Tables {
-    /// 1 to 16.
+    /// 1 to 64.
     pub states: usize,
     /// 1 to 8.
     pub actions: usize,
@@ -302,6 +307,15 @@ pub struct Reading {
     pub actions: usize,
     pub observations: usize,
     pub discount: u64,
+}
+
+/// How a conversion ended, and how many bytes were written; 0 where it is refused.
+#[repr(C)]
+#[derive(Clone, Copy, Debug, Default, PartialEq, Eq, Hash)]
+pub struct Conversion {
+    pub number: u64,
+    pub place: usize,
+    pub length: usize,
 }
 
 /// How totals ended, and what they are, in ticks times the mixture's total weight; 0 where they are refused.

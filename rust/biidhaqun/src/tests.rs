@@ -519,7 +519,71 @@ fn the_room_of_a_certifier() {
             + bytes(&slices.qmdp)
     };
     assert_eq!(room(2, 3, 2), 29_624);
-    assert_eq!(room(16, 8, 8), 157_480);
+    assert_eq!(room(64, 8, 8), 554_152);
+}
+
+/// What is asked of the slices that a file is read into: the tables' once the counts are read, the start numbers' at the end.
+#[test]
+fn the_room_of_a_file() {
+    let read = |file: &[u8], [t, o, r, start]: [usize; 4]| {
+        let (mut transition, mut observation, mut reward, mut numbers) =
+            (vec![7; t], vec![7; o], vec![7; r], vec![7; start]);
+        let ended = slices::read(file, &mut transition, &mut observation, &mut reward, &mut numbers);
+        let unchanged =
+            transition == vec![7; t] && observation == vec![7; o] && reward == vec![7; r] && numbers == vec![7; start];
+        assert_eq!(unchanged, ended.number != 0);
+        (ended.number, ended.place)
+    };
+    assert_eq!(read(DOUGH, [8, 8, 4, 2]), (0, 0));
+    for short in [[7, 8, 4, 2], [8, 7, 4, 2], [8, 8, 3, 2], [0, 0, 0, 0]] {
+        assert_eq!(read(DOUGH, short), (3, 0));
+    }
+    assert_eq!(read(DOUGH, [8, 8, 4, 1]), (100, 2));
+    let text = String::from_utf8(DOUGH.to_vec()).unwrap();
+    let changed = |from: &str, to: &str| text.replacen(from, to, 1).into_bytes();
+    // Words before the counts come first, the start line and what follows after; 100 after all else.
+    assert_eq!(read(&changed("reward", "cost"), [0, 0, 0, 0]).0, 2);
+    assert_eq!(read(&changed("observations: 2", "observations: 9"), [0, 0, 0, 0]).0, 3);
+    assert_ne!(read(&changed("observations: 2", "observations: 9"), [0, 0, 0, 0]).1, 0);
+    assert_eq!(read(&changed("start: 0.5", "start: x"), [7, 8, 4, 2]), (3, 0));
+    assert_eq!(read(&changed("T: 0 : 1 0 1", "T: 0 : 1 0 0"), [8, 8, 3, 2]), (3, 0));
+    assert_eq!(read(&changed("T: 0 : 1 0 1", "T: 0 : 1 0 0"), [8, 8, 4, 1]), (5, 235));
+}
+
+/// The file of a model with so many states, each of which stays where it is and earns a tick more than the one before.
+fn layers(states: usize) -> Vec<u8> {
+    let mut text = format!("discount: 1 values: reward states: {} actions: 1 observations: 1 start: 1", states);
+    text.push_str(&" 0".repeat(states - 1));
+    text.push_str(" O: 0 : * 1\n");
+    for s in 0..states {
+        text.push_str(&format!("T: 0 : {0} : {0} 1 R: 0 : {0} : * : * {1}.{2:02}\n", s, s / 100, s % 100));
+    }
+    text.into_bytes()
+}
+
+#[test]
+fn sixty_four_states() {
+    let (model, _) = Model::read(&layers(64)).unwrap();
+    assert_eq!((model.shape().states, model.transition(63, 0, 63), model.reward(63, 0)), (64, 1_000, 63));
+    assert_eq!(refusal(Model::read(&layers(65)).map_err(Error::from)), (3, 35));
+    let mut certifier = Certifier::open(&model).unwrap();
+    let points: Vec<Vec<u32>> = (0..16).map(|j| (0..64).map(|s| u32::from(s == j || s == 63)).collect()).collect();
+    let mut last = Mixture::new(&[0; 64]);
+    last.weights[63] = 1;
+    for t in 1..=2 {
+        let level = certifier.build(&Points { weights: points.clone() }).unwrap();
+        assert_eq!((level.vectors().count(), level.points().count()), (80, 16));
+        certifier.offer(&level).unwrap();
+        let at = certifier.totals(&last).unwrap();
+        assert_eq!((at.lower, at.upper), (63 * t, 63 * t));
+    }
+    // A vector that covers the last state alone counts there, and nowhere else.
+    let mut narrow = Certifier::open(&model).unwrap();
+    let mut level = narrow.build(&Points::default()).unwrap();
+    (0..64).for_each(|v| *level.mask_mut(v) = 1 << 63);
+    narrow.offer(&level).unwrap();
+    assert_eq!(narrow.totals(&last).unwrap().lower, 63);
+    assert_eq!(refusal(narrow.totals(&Mixture::new(&[1; 64]))), (22, 0));
 }
 
 /// What is asked of the slices of a list.
@@ -694,13 +758,13 @@ fn wrong_lengths_are_told() {
 
 #[test]
 fn every_refusal_has_a_rule_and_a_sentence() {
-    for number in (1..=24).chain([100]) {
+    for number in (1..=27).chain([100]) {
         let rule = Rule::of(number).unwrap();
         assert_eq!(rule.number(), number);
         let text = Refusal { rule, place: Place::Byte(3) }.to_string();
         assert!(text.starts_with(&format!("refused {} at 3: ", number)));
     }
-    assert_eq!((Rule::of(0), Rule::of(25), Rule::of(101)), (None, None, None));
+    assert_eq!((Rule::of(0), Rule::of(28), Rule::of(101)), (None, None, None));
 }
 
 /// The C header says the same numbers.
@@ -737,6 +801,7 @@ fn the_header_has_the_same_numbers() {
         ("FILE_BYTES", slices::FILE_BYTES),
         ("SOLVER_BYTES", slices::SOLVER_BYTES),
         ("LIST_WORDS", slices::LIST_WORDS),
+        ("WRITTEN_STATES", slices::WRITTEN_STATES),
     ];
     for (name, limit) in limits {
         says(name, limit as u64);
@@ -787,4 +852,37 @@ fn units_are_rounded_outwards() {
     assert_eq!(totals.ceiling(Ceiling::Sawtooth, &one).to_string(), "0.0700");
     assert_eq!(totals.ceiling(totals.speaks(), &one), totals.bracket(&one).ceiling);
     assert_eq!(bracket(i64::MIN, i64::MAX, &[1]), (i64::MIN, i64::MAX));
+}
+
+/// Rewards that depend on what follows: what is written, what is left behind it, and what is refused.
+#[test]
+fn conversions() {
+    let file = include_bytes!("../../../examples/outcomes/glazing.pomdp");
+    let written = include_bytes!("../../../examples/outcomes/glazing.written");
+    assert_eq!(convert(file).unwrap(), written);
+    let (model, start) = Model::read(written).unwrap();
+    assert_eq!((model.reward(0, 0), model.reward(1, 0), start.weights), (-50, -80, vec![70, 30]));
+    // A model file is a file with outcomes, too.
+    let (dough, _, _) = standing(0);
+    assert_eq!(Model::read(&convert(DOUGH).unwrap()).unwrap().0, dough);
+    let mut output = vec![7; slices::FILE_BYTES + 1];
+    let ended = slices::convert(file, &mut output);
+    assert_eq!((ended.number, ended.place, ended.length), (0, 0, written.len()));
+    assert!(output[written.len()..].iter().all(|&byte| byte == 7));
+    let text = String::from_utf8(file.to_vec()).unwrap();
+    let refused = |from: &str, to: &str, length: usize| {
+        let mut output = vec![7; length];
+        let ended = slices::convert(text.replacen(from, to, 1).as_bytes(), &mut output);
+        assert!(ended.number > 0 && ended.length == 0 && output.iter().all(|&byte| byte == 7));
+        (ended.number, ended.place)
+    };
+    assert_eq!(refused("values", "value", slices::FILE_BYTES - 1), (27, 0));
+    assert_eq!(refused("T: 0 : 0 1 0", "T: 0 : 0 1 1", slices::FILE_BYTES), (5, text.len()));
+    assert_eq!(refused("R: 1 : * : 1 : 0 3", "R: 1 : * : 1 : 0 3.01", slices::FILE_BYTES), (26, 2));
+    let refusal = convert(text.replacen("-0.5", "-0.5 R: 0 : 1 : 0 : 0 0.01", 1).as_bytes());
+    assert!(refusal.is_ok());
+    let refusal = convert(&[text.as_bytes(), b"R: 0 : 1 : 0 : 0 0.01"].concat()).unwrap_err();
+    assert_eq!(refusal, Refusal { rule: Rule::ExpectedReward, place: Place::Reward(1) });
+    assert_eq!(convert(&layers(17)).unwrap_err(), Refusal { rule: Rule::Wide, place: Place::Whole });
+    assert!(convert(&layers(16)).is_ok());
 }

@@ -39,9 +39,10 @@ const EXPLANATIONS: &[Explanation] = &[
     Explanation {
         number: 3,
         means: "A count, index, start number, probability, discount or reward fits its form and is outside its limit.",
-        place: "the bytes before the word (0 for tables that a program hands in)",
+        place: "the bytes before the word (0 for tables that a program hands in or lends)",
         causes: &[
-            "More than 16 states, 8 actions or 8 observations.",
+            "More than 64 states, 8 actions or 8 observations.",
+            "A program lent slices that are too short for the counts: place 0.",
             "An index as large as the count: numbers start at 0, so 2 states are 0 and 1.",
             "A probability in percent, or a reward beyond 1000: divide all rewards by one number, and multiply the totals.",
         ],
@@ -236,10 +237,36 @@ const EXPLANATIONS: &[Explanation] = &[
         ],
     },
     Explanation {
+        number: 25,
+        means: "The model has over 16 states, and a file of no more is converted.",
+        place: NONE,
+        causes: &[
+            "A model with layers: state its expected rewards yourself, by `R: a : s : * : *` and a number. Such a file needs no conversion, and up to 64 states are read.",
+        ],
+    },
+    Explanation {
+        number: 26,
+        means: "The expected reward of an action and a state is no whole number of ticks (hundredths of a unit): the rewards of \
+                what follows, weighed by T and O.",
+        place: "action x states + state, the first by action, then by state",
+        causes: &[
+            "Probabilities of three decimals and rewards of two: their products have more than two. Round a reward of what follows, or multiply all rewards by 10 or 100, and divide the totals.",
+            "An outcome that no statement gives: it earns 0.",
+            "`biidhaqun import --round` rounds expected rewards to the nearest tick, and lists what it changed.",
+        ],
+    },
+    Explanation {
+        number: 27,
+        means: "The output that a converted file is written into has less than 32,768 bytes. Only programs that call the library \
+                meet this.",
+        place: NONE,
+        causes: &["32,768 bytes are enough for every file that is written."],
+    },
+    Explanation {
         number: 100,
-        means: "A slice that a file is read into is too short. Only programs that call the library meet this.",
+        means: "The slice that a file's start numbers are read into is too short. Only programs that call the library meet this.",
         place: "the length that it needs",
-        causes: &["include/biidhaqun.h has room that always does."],
+        causes: &["Start numbers are as many as states: 64 always do."],
     },
 ];
 
@@ -261,7 +288,7 @@ pub fn run(number: u64) -> i32 {
             exit::SERVED
         }
         None => {
-            eprintln!("biidhaqun: there is no refusal {}; they are 1 to 24 and 100", number);
+            eprintln!("biidhaqun: there is no refusal {}; they are 1 to 27 and 100", number);
             exit::USAGE
         }
     }
@@ -273,10 +300,10 @@ mod tests {
 
     #[test]
     fn every_refusal_is_explained() {
-        for number in (1..=24).chain([100]) {
+        for number in (1..=27).chain([100]) {
             assert!(text(number).unwrap().starts_with(&format!("{}. ", number)));
         }
         assert_eq!(text(0), None);
-        assert_eq!(text(25), None);
+        assert_eq!(text(28), None);
     }
 }

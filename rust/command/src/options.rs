@@ -97,6 +97,17 @@ pub enum Request {
         #[arg(long, value_name = "FILE.pomdp")]
         out: Option<PathBuf>,
     },
+    /// Turn a file whose rewards depend on what follows into a model file
+    ///
+    /// The file is a model file with rewards in full, `R: a : s : s' : o r`. What is written has the same T, O, discount and start,
+    /// and the expected reward of each action and state, exactly. By the proved library; at most 16 states.
+    Convert {
+        /// A model file with rewards in full
+        file: PathBuf,
+        /// Where to write the model file (standard output if not given)
+        #[arg(long, value_name = "FILE.pomdp")]
+        out: Option<PathBuf>,
+    },
     /// Draw what is certified, as an SVG image
     ///
     /// The floor and both ceilings (the sawtooth and the fast informed bound) over the levels at a mixture; with two states
@@ -110,7 +121,7 @@ pub enum Request {
     },
     /// Explain a refusal
     Explain {
-        /// The number of the refusal, 1 to 24
+        /// The number of the refusal, 1 to 27
         number: u64,
     },
 }
@@ -166,7 +177,7 @@ impl Request {
                 std::iter::once(&built.file).chain(prices).map(PathBuf::as_path).collect()
             }
             Request::Picture { built, .. } => vec![&built.file],
-            Request::Check { file } | Request::Import { file, .. } => vec![file],
+            Request::Check { file } | Request::Import { file, .. } | Request::Convert { file, .. } => vec![file],
             Request::Certify { file, levels, .. } => {
                 std::iter::once(file).chain(levels).map(PathBuf::as_path).collect()
             }
@@ -178,7 +189,7 @@ impl Request {
     pub fn output(&self) -> Option<&Path> {
         match self {
             Request::Picture { out, .. } => Some(out),
-            Request::Import { out, .. } => out.as_deref(),
+            Request::Import { out, .. } | Request::Convert { out, .. } => out.as_deref(),
             _ => None,
         }
     }

@@ -59,7 +59,7 @@ fn on_the_files_of_the_tree() {
 
 #[test]
 fn on_the_fixed_files() {
-    files::fixed().iter().for_each(agree);
+    files::fixed_to_read().iter().for_each(agree);
 }
 
 #[test]

@@ -255,7 +255,7 @@ fn wrong_usage() {
 
 #[test]
 fn files_that_cannot_be_read() {
-    for command in ["levels", "check", "import"] {
+    for command in ["levels", "check", "import", "convert"] {
         assert!(stopped(&[command, "examples/no-such-file"], 3).contains("cannot be read: no such file"));
         assert!(stopped(&[command, "examples"], 3).contains("cannot be read"));
     }
@@ -263,10 +263,46 @@ fn files_that_cannot_be_read() {
 
 #[test]
 fn every_refusal_is_explained() {
-    for number in (1..=22).chain([24]) {
+    for number in (1..=22).chain(24..=27) {
         let out = served(&["explain", &number.to_string()]);
         assert!(out.starts_with(&format!("{}. ", number)) && out.contains("What usually causes it"), "{}", out);
     }
+}
+
+/// Rewards that depend on what follows: the example is written as what is kept beside it, which is read.
+#[test]
+fn conversions() {
+    let example = "examples/outcomes/glazing.pomdp";
+    let written = fs::read_to_string(root().join("examples/outcomes/glazing.written")).unwrap();
+    assert_eq!(served(&["convert", example]), written);
+    let out = Path::new(env!("CARGO_TARGET_TMPDIR")).join("glazing.pomdp");
+    assert_eq!(served(&["convert", example, "--out", out.to_str().unwrap()]), "");
+    assert_eq!(fs::read_to_string(&out).unwrap(), written);
+    assert!(served(&["check", out.to_str().unwrap()]).contains("accepted"));
+    // The file itself is no model file: the explanation says what to do.
+    let err = stopped(&["check", example], 1);
+    assert!(err.contains("let `biidhaqun convert` do it"), "{}", err);
+
+    let text = fs::read_to_string(root().join(example)).unwrap();
+    let refused = |name: &str, from: &str, to: &str| {
+        let path = temporary(name, text.replacen(from, to, 1).as_bytes());
+        let (out, err, status) = run(&["convert", path.to_str().unwrap()]);
+        assert_eq!((&out[..], status), ("", 1), "{}", err);
+        err
+    };
+    let err = refused("unwhole.pomdp", "R: 1 : * : 1 : 0 3", "R: 1 : * : 1 : 0 3.01");
+    assert!(err.contains("error[26]: the expected reward of action glaze at state dull is -0.8392"), "{}", err);
+    assert!(err.contains("refused by 26 of document 02"), "{}", err);
+    let err = refused("row.pomdp", "T: 0 : 0 1 0", "T: 0 : 0 1 1");
+    assert!(err.contains("error[5]") && err.contains("refused by 5 of document 01"), "{}", err);
+    let err = refused("index.pomdp", "R: 1 : * : 1 : 0 3", "R: 1 : * : 1 : 2 3");
+    assert!(err.contains("one of the observations 0 to 1"), "{}", err);
+    let mut wide =
+        format!("discount: 1 values: reward states: 17 actions: 1 observations: 1 start: 1{}", " 0".repeat(16));
+    wide.push_str(" T: 0 : * : 0 1 O: 0 : * 1");
+    let path = temporary("wide.pomdp", wide.as_bytes());
+    let err = stopped(&["convert", path.to_str().unwrap()], 1);
+    assert!(err.contains("error[25]") && err.contains("the model has 17 states"), "{}", err);
 }
 
 #[test]

@@ -30,10 +30,12 @@ fn the_runs_of_the_front_page() {
     // The folder that the front page speaks of: the examples, and a dough model with a wrong row.
     let folder = Path::new(env!("CARGO_TARGET_TMPDIR")).join("front");
     fs::create_dir_all(folder.join("examples/solver")).unwrap();
+    fs::create_dir_all(folder.join("examples/outcomes")).unwrap();
     let models = ["dough.pomdp", "dearer.pomdp", "tempering.pomdp", "tiger.pomdp", "seeding.pomdp", "seeding.json"];
     let models = models.map(|name| format!("examples/{}", name));
     let solver = (1..=3).flat_map(|t| ["alpha", "pg"].map(|kind| format!("examples/solver/tiger.{}{}", kind, t)));
-    for example in models.into_iter().chain(solver) {
+    let outcomes = ["examples/outcomes/glazing.pomdp".to_string()];
+    for example in models.into_iter().chain(solver).chain(outcomes) {
         fs::write(folder.join(&example), text(&example)).unwrap();
     }
     let dough = text("examples/dough.pomdp");
@@ -47,7 +49,7 @@ fn the_runs_of_the_front_page() {
             runs += 1;
         }
     }
-    assert_eq!(runs, 7);
+    assert_eq!(runs, 8);
 }
 
 /// The image in the front page is what the command beside it draws.
@@ -75,7 +77,7 @@ fn the_model_of_the_page_on_model_files() {
 #[test]
 fn the_refusals_of_the_header() {
     let header = text("include/biidhaqun.h");
-    for number in (1..=22).chain([24, 100]) {
+    for number in (1..=27).chain([100]) {
         assert!(header.contains(&format!("\n * {:>4}  ", number)));
         assert!(command::explain::text(number).is_some());
     }

@@ -275,9 +275,9 @@ fn what_is_rounded_is_listed() {
 fn what_does_not_fit_is_said() {
     let rest = "T: * identity O: * uniform";
     assert_eq!(
-        told("discount: 1 states: 60 actions: 9 observations: 2"),
+        told("discount: 1 states: 65 actions: 9 observations: 2"),
         [
-            "the model has 60 states, and 1 to 16 fit into a model file",
+            "the model has 65 states, and 1 to 64 fit into a model file",
             "the model has 9 actions, and 1 to 8 fit into a model file"
         ]
     );

@@ -75,8 +75,15 @@ pub fn random(rng: &mut Rng, number: u64) -> Case {
     match rng.below(8) {
         0 => {
             let mut tables = gen::tables(rng, shape);
-            for _ in 0..rng.below(3) {
-                gen::spoil_tables(rng, &mut tables);
+            if rng.once_in(3) {
+                // Rows of T and of O, so that both have wrong totals now and then.
+                for _ in 0..3 {
+                    gen::spoil_row(rng, &mut tables);
+                }
+            } else {
+                for _ in 0..rng.below(3) {
+                    gen::spoil_tables(rng, &mut tables);
+                }
             }
             Case::Open(tables)
         }
@@ -103,10 +110,10 @@ pub fn random(rng: &mut Rng, number: u64) -> Case {
     }
 }
 
-/// A random case at the ends of all ranges; now and then with all counts at their limits.
+/// A random case at the ends of all ranges; now and then with as many states as can be.
 pub fn at_ends(rng: &mut Rng, number: u64) -> Case {
     let largest = number % 250 == 0 || number % 300 == 5;
-    let shape = if largest { Shape::LARGEST } else { gen::shape(rng) };
+    let shape = if largest { Shape::WIDEST } else { gen::shape(rng) };
     if number % 6 == 5 {
         let mut tables = gen::tables(rng, shape);
         gen::at_ends(rng, &mut tables.rewards, REWARD);

@@ -8,11 +8,13 @@ mod adopting;
 mod replaying;
 
 use crate::gen::{Question, DOCUMENT};
-use crate::lent::{front, narrowed, stored, Cell, Library};
+use crate::lent::{self, front, narrowed, stored, Library};
 use biidhaqun::slices::{
-    Adopted, Answers, Certifier, Graph, Level, Offers, Reading, Refusal, Replayed, Tables, Totals, TotalsWithin, Worth,
+    Adopted, Answers, Certifier, Conversion, Graph, Level, Offers, Reading, Refusal, Replayed, Tables, Totals,
+    TotalsWithin, Worth,
 };
-use reference::{Rules, ACTIONS, BUILT_POINTS, LIST, NODES, OBSERVATIONS, POINTS, ROWS, STATES, VECTORS};
+use reference::{Rules, ACTIONS, BUILT_POINTS, FILE_BYTES, LIST, NODES, OBSERVATIONS, POINTS, ROWS, STATES, VECTORS};
+use std::cell::Cell;
 
 /// Lists the slips with a sentence each: those of any call, and those with many vectors.
 macro_rules! slips {
@@ -57,8 +59,17 @@ slips! {
         RoomFirst: "room for level 0 is asked for before the tables are judged",
         RoomByHundred: "a slice too short for level 0 gets 100",
         NoLength: "100 comes without the length that is needed",
-        LastShortSlice: "100 comes with the length of the last short slice",
-        ReadInParts: "what has room is read although a slice is too short",
+        StartByThree: "start numbers that have no room get 3",
+        StartRoomEarly: "start numbers that have no room get 100 once the counts are read",
+        TablesByHundred: "a table that has no room gets 100 with the length that it needs",
+        TablesRoomLast: "a table that has no room gets 3 after all words are read",
+        TablesRoomPlace: "3 of a table that has no room comes with the length that it needs",
+        TransitionsRoomAlone: "room is asked for T alone",
+        ReadInParts: "the tables are read although the start numbers have no room",
+        OutputByText: "27 asks for as many bytes as are written",
+        OutputOnRefusal: "a conversion that is refused writes all the same",
+        OutputEnded: "a byte 0 is written behind a converted file",
+        RefusedConversion: "a refused conversion carries a length",
         RefusalClears: "a refusal clears what is lent to be written",
         PastCleared: "what lies past what is written is cleared",
         PastCopied: "an accepted level's slices are copied over whole",
@@ -75,7 +86,7 @@ slips! {
         RowsAskedAsRoom: "rows too short for an offer get 9",
         RowsAskedAtOpening: "rows too short for an opening get 7",
         RowsByState: "the rows lie by state and action",
-        RowsBySixteenStates: "the rows are packed by 16 states",
+        RowsByLimit: "the rows are packed by 64 states",
         RowsExchanged: "the informed rows lie where the QMDP rows should, and the other way round",
         CeilingsExchanged: "the sawtooth is shown for the informed ceiling, and the other way round",
         RefusedCeilings: "refused totals show ceilings",
@@ -113,13 +124,15 @@ slips! {
         ListTestedLate: "a list that is handed in is tested after all else",
         NewTablesBySeven: "new tables that are refused get 7",
         NewByOldCounts: "new tables are read by the counts in force",
-        RowsBySixteen: "entries and weights are packed by 16 states",
+        VectorsByLimit: "entries and weights are packed by 64 states",
         StateInOtherOrder: "a state is the levels, the points, the vectors",
     }
     many {
         FirstCopied: "an acceptance copies the first 32 vectors only",
         LengthsOfFirst: "a slice is asked for the cells of 32 vectors at most",
         SmallBlocks: "blocks of over 32 vectors are refused",
+        SixteenStates: "tables of over 16 states are refused",
+        MasksInHalf: "masks are read in 32 bits",
         FirstMoved: "new prices move the first 32 vectors only",
     }
 }
@@ -191,8 +204,8 @@ impl Copied {
     }
 
     pub fn tables(&self, lent: &Tables) -> reference::Tables {
-        let mut tables = reference::Tables::zero();
-        if !lent.counts_fit() {
+        let mut tables = reference::Tables::default();
+        if !lent.counts_fit() || (lent.states > 16 && self.has(Slip::SixteenStates)) {
             return tables;
         }
         tables.states = lent.states as u64;
@@ -201,11 +214,11 @@ impl Copied {
         tables.discount = lent.discount;
         let (t, o, r) = tables.cells_used();
         if !(self.long(&lent.transition, t) && self.long(&lent.observation, o) && self.long(&lent.reward, r)) {
-            return reference::Tables::zero();
+            return reference::Tables::default();
         }
-        tables.transitions = stored(&lent.transition, t, tables.transitions.len());
-        tables.sights = stored(&lent.observation, o, tables.sights.len());
-        tables.rewards = stored(&lent.reward, r, tables.rewards.len());
+        tables.transitions = stored(&lent.transition, t, t);
+        tables.sights = stored(&lent.observation, o, o);
+        tables.rewards = stored(&lent.reward, r, r);
         tables
     }
 
@@ -239,7 +252,10 @@ impl Copied {
             weights: stored(&lent.weights, needed.weights, needed.weights),
             values: stored(&lent.values, needed.points, needed.points),
         };
-        if self.has(Slip::RowsBySixteen) {
+        if self.has(Slip::MasksInHalf) {
+            level.masks.iter_mut().for_each(|mask| *mask &= u64::from(u32::MAX));
+        }
+        if self.has(Slip::VectorsByLimit) {
             for v in 0..lent.vectors {
                 for s in 0..n {
                     level.entries[v * n + s] = lent.entries.get(v * STATES + s).copied().unwrap_or(0);
@@ -258,7 +274,7 @@ impl Copied {
     fn row_cell(&self, tables: &reference::Tables, a: usize, s: usize) -> usize {
         match self.slip {
             Some(Slip::RowsByState) => s * tables.actions as usize + a,
-            Some(Slip::RowsBySixteenStates) => a * STATES + s,
+            Some(Slip::RowsByLimit) => a * STATES + s,
             _ => a * tables.states as usize + s,
         }
     }
@@ -277,7 +293,7 @@ impl Copied {
     fn lay_rows(&self, tables: &reference::Tables, rows: &[i64], slice: &mut [i64]) {
         let n = tables.states as usize;
         let used = tables.actions as usize * n;
-        if matches!(self.slip, Some(Slip::RowsByState | Slip::RowsBySixteenStates)) {
+        if matches!(self.slip, Some(Slip::RowsByState | Slip::RowsByLimit)) {
             for (at, &row) in rows[..used].iter().enumerate() {
                 if let Some(cell) = slice.get_mut(self.row_cell(tables, at / n, at % n)) {
                     *cell = row;
@@ -344,7 +360,7 @@ impl Copied {
     }
 
     /// Writes cells at the front of a slice.
-    fn lay<Of: Cell>(&self, cells: &[Of], slice: &mut [Of]) {
+    fn lay<Of: lent::Cell>(&self, cells: &[Of], slice: &mut [Of]) {
         let (front, past) = slice.split_at_mut(cells.len().min(slice.len()));
         front.copy_from_slice(&cells[..front.len()]);
         if self.has(Slip::PastCleared) {
@@ -601,49 +617,95 @@ impl Copied {
         Ok(())
     }
 
-    /// Asks for room in turn, and writes what was read.
-    fn laid(&self, read: &reference::Reading, lent: &mut Tables, start: &mut [u16]) -> Result<(), Refusal> {
-        let (t, o, r) = read.tables.cells_used();
-        let n = read.tables.states as usize;
-        let short = [
-            (self.long(&lent.transition, t), t),
-            (self.long(&lent.observation, o), o),
-            (self.long(&lent.reward, r), r),
-            (self.long(start, n), n),
-        ];
-        let mut short: Vec<usize> = short.iter().filter(|(long, _)| !long).map(|&(_, needed)| needed).collect();
-        if self.has(Slip::LastShortSlice) {
-            short.reverse();
+    /// Reads a file, and writes what it holds: 3 where a table has no room once the counts are read, and 100 at the end where the
+    /// start numbers have none.
+    fn taken(&self, file: &[u8], lent: &mut Tables, start: &mut [u16]) -> Result<Reading, Refusal> {
+        let short = |tables: &reference::Tables| {
+            let (t, o, r) = tables.cells_used();
+            let others = self.has(Slip::TransitionsRoomAlone);
+            let lengths = [
+                (self.long(&lent.transition, t), t),
+                (others || self.long(&lent.observation, o), o),
+                (others || self.long(&lent.reward, r), r),
+            ];
+            lengths.into_iter().find(|(long, _)| !long).map(|(_, needed)| needed)
+        };
+        let late = matches!(self.slip, Some(Slip::TablesByHundred | Slip::TablesRoomLast));
+        let (table, early) = (Cell::new(None), Cell::new(None));
+        let has_room = |tables: &reference::Tables| {
+            let n = tables.states as usize;
+            table.set(short(tables));
+            early.set((self.has(Slip::StartRoomEarly) && !self.long(start, n)).then_some(n));
+            (late || table.get().is_none()) && early.get().is_none()
+        };
+        let hundred = |place: usize| Refusal { number: 100, place };
+        let read = reference::read_into(file, has_room, &self.rules).map_err(|refusal| {
+            let length = table.get().filter(|_| self.has(Slip::TablesRoomPlace) && refusal.number == 3);
+            let place = length.map_or(refusal.place as usize, |length| length);
+            early.get().map_or(Refusal { number: refusal.number.into(), place }, hundred)
+        })?;
+        match table.get() {
+            Some(length) if self.has(Slip::TablesByHundred) => return Err(hundred(length)),
+            Some(_) => return Err(Refusal { number: 3, place: 0 }),
+            None => {}
         }
-        if short.is_empty() || self.has(Slip::ReadInParts) {
-            self.lay(&narrowed(&read.tables.transitions, t), &mut lent.transition);
-            self.lay(&narrowed(&read.tables.sights, o), &mut lent.observation);
-            self.lay(&read.tables.rewards[..r], &mut lent.reward);
+        let n = read.tables.states as usize;
+        let room = self.long(start, n);
+        if room || self.has(Slip::ReadInParts) {
+            self.lay(&narrowed(&read.tables.transitions, usize::MAX), &mut lent.transition);
+            self.lay(&narrowed(&read.tables.sights, usize::MAX), &mut lent.observation);
+            self.lay(&read.tables.rewards, &mut lent.reward);
             self.lay(&narrowed(&read.start, n), start);
         }
-        match short.first() {
-            None => Ok(()),
-            Some(_) if self.has(Slip::NoLength) => Err(Refusal { number: 100, place: 0 }),
-            Some(&needed) => Err(Refusal { number: 100, place: needed }),
+        match self.slip {
+            _ if room => Ok(Reading {
+                states: n,
+                actions: read.tables.actions as usize,
+                observations: read.tables.observations as usize,
+                discount: read.tables.discount,
+                ..Reading::default()
+            }),
+            Some(Slip::StartByThree) => Err(Refusal { number: 3, place: 0 }),
+            Some(Slip::NoLength) => Err(hundred(0)),
+            _ => Err(hundred(n)),
         }
     }
 }
 
 impl Library for Copied {
     fn read(&self, file: &[u8], lent: &mut Tables, start: &mut [u16]) -> Reading {
-        let read = reference::read(file, &self.rules);
-        let laid = read.as_ref().map_err(|&refusal| refused(refusal)).and_then(|read| self.laid(read, lent, start));
-        let Refusal { number, place } = laid.err().unwrap_or_default();
-        match read {
-            Ok(read) if laid.is_ok() || self.has(Slip::RefusedReading) => Reading {
-                number,
-                place,
-                states: read.tables.states as usize,
-                actions: read.tables.actions as usize,
-                observations: read.tables.observations as usize,
-                discount: read.tables.discount,
-            },
-            _ => Reading { number, place, ..Reading::default() },
+        let left = usize::from(self.has(Slip::RefusedReading));
+        let refused = |Refusal { number, place }| Reading { number, place, states: left, ..Reading::default() };
+        self.taken(file, lent, start).unwrap_or_else(refused)
+    }
+
+    fn convert(&self, file: &[u8], output: &mut [u8]) -> Conversion {
+        // A slip about lengths has its own say on the room.
+        let long = self.long(output, FILE_BYTES) || self.has(Slip::OutputByText);
+        let room = match self.slip {
+            Some(_) if long => FILE_BYTES,
+            Some(_) => 0,
+            None => output.len(),
+        };
+        match reference::convert(file, room, &self.rules) {
+            Ok(text) if text.len() <= output.len() => {
+                self.lay(&text, output);
+                if let (true, Some(end)) = (self.has(Slip::OutputEnded), output.get_mut(text.len())) {
+                    *end = 0;
+                }
+                Conversion { length: text.len(), ..Conversion::default() }
+            }
+            Ok(_) => Conversion { number: 27, ..Conversion::default() },
+            Err(refusal) => {
+                if self.has(Slip::OutputOnRefusal) {
+                    self.lay(b"discount: ", output);
+                }
+                if self.has(Slip::RefusalClears) {
+                    output.fill(0);
+                }
+                let Refusal { number, place } = refused(refusal);
+                Conversion { number, place, length: usize::from(self.has(Slip::RefusedConversion)) }
+            }
         }
     }
 

@@ -73,9 +73,29 @@ O: 0 : 1 : 0 1
 R: * : 0 : * : * -0.5
 ";
 
+/// A small model whose rewards depend on what follows, all of them expected as whole ticks.
+const OUTCOMES: &str = "\
+discount: 0.9
+values: reward
+states: 2
+actions: 2
+observations: 2
+start: 0.5 0.5
+T: 0 : 0 0.5 0.5
+T: 0 : 1 0 1
+T: 1 : * 1 0
+O: 0 : 0 0.8 0.2
+O: 0 : 1 0.3 0.7
+O: 1 : * 0.5 0.5
+R: * : * : * : * -1
+R: 0 : 0 : 1 : 1 6.00
+R: 1 : 1 : 0 : * -10
+R: 1 : * : * : 0 2.5
+";
+
 /// Words that are right in few places and wrong in most.
 const WORDS: &str = "
-    0 1 2 3 7 8 9 10 15 16 17 99 100 256 65536 4294967296 18446744073709551616 00 01 02 08 000 001 016 -0 -1 -2 +0 +1
+    0 1 2 3 7 8 9 10 15 16 17 63 64 65 99 100 256 65536 4294967296 18446744073709551616 00 01 02 08 000 001 016 -0 -1 -2 +0 +1
     0.0 0.5 0.55 0.555 0.5555 0.50000 1. 1.0 1.00 1.000 1.0000 1.001 1.01 .5 . .. 1..0 1.0.0 9.999 10.0 0100 0,5 1e0 0x1
     5e-1 5.e-1 .5e0 .05e1 1.e0 1.e-3 1e-0 1e-3 1e3 0e-3 .0e3 .001e3 .11e1 9e-1 1.25e-1 .125e1 1.5e-3 10e-1 0.5000
     e1 .e1 -. e 1e 1e- 1e4 1e-4 1e00 1e-00 1e+0 1E0 1e0e0 1e.5 .5. 5e-1. -5e-1 -.5e1 -e1 12.5e1 -1e3 1001e0 2e3 1000e-3
@@ -230,30 +250,63 @@ fn each_word(name: &str, lines: &Lines, from: usize) -> Vec<Case> {
     cases
 }
 
-/// A model with as many states, actions and observations as can be, and statements at and past its last indices.
+/// The headers of a model with so many states, which starts in the first of them.
+fn started(states: usize, actions: usize, observations: usize) -> String {
+    let zeros = " 0".repeat(states.saturating_sub(1));
+    let counts = format!("states: {} actions: {} observations: {}", states, actions, observations);
+    format!("discount: 1 values: reward {} start: 1{}\n", counts, zeros)
+}
+
+/// A model with as many states, actions and observations as can be, and statements past its last indices or with totals that are
+/// wrong; and models with as many states as can be or one less or one more.
 fn largest() -> Vec<Case> {
-    let header =
-        "discount: 1 values: reward states: 16 actions: 8 observations: 8 start: 1 0 0 0 0 0 0 0 0 0 0 0 0 0 0 0\n";
-    let rows = "T: * : * : 15 1 O: * : * : 7 1 R: 7 : 15 : * : * 1000\n";
+    let rows = "T: * : * : 63 1 O: * : * : 7 1 R: 7 : 63 : * : * 1000\n";
     let statements = "
-T: 7 : 15 : 15 1
 T: 8 : 0 : 0 1
-T: 7 : 16 : 0 1
-T: 7 : 15 : 16 1
+T: 7 : 64 : 0 1
+T: 7 : 63 : 64 1
 T: 0 : 0 : 0 0.001
-T: 7 : 15 : 14 0.001
-O: 7 : 15 : 7 1
+T: 7 : 63 : 62 0.001
 O: 8 : 0 : 0 1
-O: 7 : 16 : 0 1
-O: 7 : 15 : 8 1
+O: 7 : 64 : 0 1
+O: 7 : 63 : 8 1
 O: 0 : 0 : 6 0.001
-O: 7 : 15 : 0 0.001
+O: 7 : 63 : 0 0.001
 R: 8 : 0 : * : * 1
-R: 0 : 16 : * : * 1";
+R: 0 : 64 : * : * 1";
     let file = |statement: &str| {
-        Case::new(format!("the largest model and {:?}", statement), format!("{}{}{}", header, rows, statement))
+        let text = format!("{}{}{}", started(64, 8, 8), rows, statement);
+        Case::new(format!("the largest model and {:?}", statement), text)
     };
-    statements.lines().map(file).collect()
+    let mut cases: Vec<Case> = statements.lines().skip(1).map(file).collect();
+    for states in [63, 64, 65] {
+        let rows = format!("T: * : * : {} 1 O: * : * : 0 1 R: 0 : 62 : * : * 1000\n", states - 1);
+        cases.push(Case::new(format!("{} states", states), started(states, 1, 1) + &rows));
+    }
+    cases
+}
+
+/// The fixed files, and wide ones whose levels take long to build: to be read alone.
+pub fn fixed_to_read() -> Vec<Case> {
+    fixed().into_iter().chain(wide()).collect()
+}
+
+/// Files with as many states as can be, that read.
+fn wide() -> Vec<Case> {
+    let rows = "T: * : * : 63 1 O: * : * : 7 1 R: 7 : 63 : * : * 1000\n";
+    let last =
+        "T: 7 : 63 : 63 0 T: 07 : 63 : 0 .25 T: 7 : 63 : 62 .75 O: 7 : 63 0 0 0 0 0 0 .5 .5 R: 7 : 62 : * : * -.01\n";
+    let mut cases = vec![
+        Case::new("the largest model", started(64, 8, 8) + rows),
+        Case::new("the largest model and statements for its last cells", started(64, 8, 8) + rows + last),
+    ];
+    for number in 0..20 {
+        let mut rng = Rng::for_case(0, "wide", number);
+        let shape = if number % 2 == 0 { Shape::LARGEST } else { gen::wide_shape(&mut rng) };
+        let lines = starred(&mut rng, shape);
+        cases.push(Case::new(format!("a wide model, {:?}", shape), dressed(&mut rng, &lines)));
+    }
+    cases
 }
 
 /// Files at and past the longest.
@@ -299,8 +352,166 @@ fn lengths() -> Vec<Case> {
 
 /// A random file: about half of them read.
 pub fn random(rng: &mut Rng) -> Case {
-    let shape = file_shape(rng);
-    let mut lines = valid(rng, shape);
+    let (shape, lines) = any_lines(rng);
+    damaged(rng, lines, &format!("a random model, {:?}", shape))
+}
+
+/// A random file whose rewards may depend on what follows: most of them read, and of most of those all expected rewards are whole.
+pub fn outcomes(rng: &mut Rng) -> Case {
+    let mut shape = Shape { n: 1 + rng.index(4), m: 1 + rng.index(3), k: 1 + rng.index(3) };
+    if rng.once_in(8) {
+        let n = rng.pick(&[15, 16, 16, 17, 17, 63, 64]);
+        shape = Shape { n, m: shape.m.min(2), k: shape.k.min(2) };
+    }
+    let coarse = !rng.once_in(3);
+    let mut lines = match coarse {
+        true => coarse_lines(rng, shape),
+        false if shape.n > 20 => starred(rng, shape),
+        false => valid(rng, shape),
+    };
+    let rewards = lines.len() / 3 + rng.index(12);
+    for _ in 0..rewards.min(40) {
+        // Anywhere behind the headers.
+        let at = 6 + rng.index(lines.len() - 5);
+        let line = outcome(rng, shape, coarse);
+        lines.insert(at, line);
+    }
+    let about = format!("a model with outcomes, {:?}", shape);
+    if rng.once_in(2) {
+        return Case { about, file: dressed(rng, &lines) };
+    }
+    damaged(rng, lines, &about)
+}
+
+/// The lines of a file without rewards, with rows in tenths: rewards of whole units are then expected as whole ticks.
+fn coarse_lines(rng: &mut Rng, shape: Shape) -> Lines {
+    let Shape { n, m, k } = shape;
+    let model = Tables { discount: rng.below(THOUSAND + 1), ..Tables::zeros(n as u64, m as u64, k as u64) };
+    let start = gen::shares(rng, n, 100);
+    let mut lines = header(rng, &model, &start);
+    for (name, width) in [("T", n), ("O", k)] {
+        for a in 0..m {
+            for s in 0..n {
+                let row: Vec<u64> = gen::shares(rng, width, 10).iter().map(|tenths| 100 * tenths).collect();
+                let (old, whole) = (vec![0; width], width < 20);
+                if whole {
+                    state_row(rng, &mut lines, name, a, s, &old, &row);
+                } else {
+                    let (action, state) = (index(rng, a), index(rng, s));
+                    for (at, &chance) in row.iter().enumerate().filter(|(_, &chance)| chance > 0) {
+                        let (last, chance) = (index(rng, at), typed(rng, chance, 1, 3));
+                        lines.push(words(&[name, ":", &action, ":", &state, ":", &last, &chance]));
+                    }
+                }
+            }
+        }
+    }
+    lines
+}
+
+/// `R: a : s : s' : o r` with any indices or stars; seldom a word of it is missing. Rewards of coarse models are whole units, seldom
+/// a tick more.
+fn outcome(rng: &mut Rng, shape: Shape, coarse: bool) -> Vec<Vec<u8>> {
+    let mut line = words(&["R"]);
+    for count in [shape.m, shape.n, shape.n, shape.k] {
+        let (_, index) = some_index(rng, count);
+        line.extend(words(&[":", &index]));
+    }
+    let reward = match coarse {
+        true => 100 * rng.within(-1_000, 1_000),
+        false => rng.within(-100_000, 100_000),
+    };
+    let reward = if rng.once_in(60) { (reward + 1).min(100_000) } else { reward };
+    line.extend(words(&[&reward_text(rng, reward)]));
+    if rng.once_in(200) {
+        line.remove(rng.index(line.len()));
+    }
+    line
+}
+
+/// Words and bytes at random.
+pub fn noise(rng: &mut Rng) -> Vec<u8> {
+    let mut file = DOUGH.as_bytes()[..rng.index(DOUGH.len())].to_vec();
+    for _ in 0..rng.index(40) {
+        match rng.below(4) {
+            0 => file.push(rng.next() as u8),
+            1 => file.push(rng.pick(BYTES)),
+            _ => {
+                file.push(b' ');
+                file.extend_from_slice(rng.pick(&wrong_words()));
+            }
+        }
+    }
+    file
+}
+
+/// Files to convert that are the same for every seed.
+pub fn fixed_outcomes() -> Vec<Case> {
+    let mut cases = vec![
+        Case::new("the model of outcomes", OUTCOMES),
+        Case::new("the dough model", DOUGH),
+        Case::new("the dough model as people type it", TYPED),
+        Case::new("a dressed model", DRESSED),
+        Case::new("no rewards", OUTCOMES.split("R:").next().unwrap_or("")),
+        Case::new(
+            "rewards before T and O",
+            OUTCOMES.replace("T: 0 : 0 0.5 0.5\n", "R: 0 : 0 : 0 : 0 1\nT: 0 : 0 0.5 0.5\n"),
+        ),
+        Case::new("T after the rewards", format!("{}T: 0 : * 0 1\n", OUTCOMES)),
+        Case::new("O after the rewards", format!("{}O: 0 : * 1 0\n", OUTCOMES)),
+    ];
+    for length in 0..=OUTCOMES.len() {
+        let about = format!("the model of outcomes cut at {}", length);
+        cases.push(Case::new(about, &OUTCOMES.as_bytes()[..length]));
+    }
+    cases.extend(each_word("the model of outcomes", &split(OUTCOMES), 12));
+    // 26 at each place, alone and with one behind it.
+    for (action, state) in [(0, 0), (0, 1), (1, 0), (1, 1)] {
+        let tick = |action: usize, state: usize| format!("R: {} : {} : * : 0 0.01\n", action, state);
+        let one = format!("{}{}", OUTCOMES, tick(action, state));
+        cases.push(Case::new(format!("26 at {}, {}", action, state), one.clone()));
+        for (other, last) in [(0, 0), (0, 1), (1, 0), (1, 1)] {
+            let both = format!("{}{}", one, tick(other, last));
+            cases.push(Case::new(format!("26 at {}, {} and {}, {}", action, state, other, last), both));
+        }
+    }
+    // 5, 6, 25 and 26 by the number of states.
+    for states in [1, 15, 16, 17, 18, 63, 64, 65] {
+        for (t, o, reward) in
+            [("1", "1", "1"), ("1", "1", "0.01"), ("0.5", "1", "1"), ("1", "0.5", "1"), ("0.5", "0.5", "x")]
+        {
+            let rows = format!("T: * : * : 0 {} O: * : * : 0 {} O: * : 0 : 0 0.5 O: * : 0 : 1 0.5", t, o);
+            let text = format!("{}{} R: 0 : * : 0 : 0 {}", started(states, 1, 2), rows, reward);
+            cases.push(Case::new(format!("{} states, T {}, O {}, reward {}", states, t, o, reward), text));
+        }
+    }
+    // The largest that is written, and every form of number.
+    let largest =
+        "T: * : * 0.063 0.063 0.063 0.063 0.063 0.063 0.063 0.063 0.062 0.062 0.062 0.062 0.062 0.062 0.062 0.062 \
+                   O: * : * : * 0.125 R: * : * : * : * -1000";
+    cases.push(Case::new("the largest model that is written", started(16, 8, 8) + largest));
+    for reward in
+        ["0", "-0", "0.01", "-0.01", "0.1", "-0.99", "1", "-1", "9.99", "10", "99.9", "-100", "999.99", "-1000", "1000"]
+    {
+        let text = format!("{}T: * : * 1 O: * : * 1 R: * : * : * : * {}", started(1, 1, 1), reward);
+        cases.push(Case::new(format!("a reward of {}", reward), text));
+    }
+    for discount in ["0", "1", "0.001", "0.01", "0.1", "0.999", "0.09"] {
+        let text = OUTCOMES.replacen("0.9", discount, 1);
+        cases.push(Case::new(format!("a discount of {}", discount), text));
+    }
+    for length in [FILE_BYTES - 1, FILE_BYTES, FILE_BYTES + 1] {
+        for (name, text) in [("whole", OUTCOMES.to_string()), ("extra word", format!("{}x", OUTCOMES))] {
+            let mut file = text.into_bytes();
+            file.resize(length, b' ');
+            cases.push(Case::new(format!("the model of outcomes ({}) at {} bytes", name, length), file));
+        }
+    }
+    cases
+}
+
+/// The lines in any dress, half of them with something wrong.
+fn damaged(rng: &mut Rng, mut lines: Lines, what: &str) -> Case {
     let how = match rng.below(12) {
         0..=5 => "valid",
         6 | 7 => {
@@ -347,7 +558,7 @@ pub fn random(rng: &mut Rng) -> Case {
         }
     };
     let mut file = dressed(rng, &lines);
-    let mut about = format!("a random model, {:?}, {}", shape, how);
+    let mut about = format!("{}, {}", what, how);
     match rng.below(16) {
         0 => {
             file.truncate(rng.index(file.len() + 1));
@@ -368,12 +579,39 @@ pub fn random(rng: &mut Rng) -> Case {
     Case { about, file }
 }
 
-/// The counts of a random file: mostly small, seldom as large as can be.
-fn file_shape(rng: &mut Rng) -> Shape {
-    if rng.once_in(400) {
-        return Shape::LARGEST;
+/// The lines of a file that reads, if it is not too long: mostly of few states, seldom of as many as can be.
+fn any_lines(rng: &mut Rng) -> (Shape, Lines) {
+    let shape = if rng.once_in(400) { gen::wide_shape(rng) } else { gen::shape(rng) };
+    let lines = if shape.n > 20 && !rng.once_in(4) { starred(rng, shape) } else { valid(rng, shape) };
+    (shape, lines)
+}
+
+/// The lines of a file that reads, by stars and a few rows: short, however many states there are.
+fn starred(rng: &mut Rng, shape: Shape) -> Lines {
+    let Shape { n, m, k } = shape;
+    let model = gen::tables_of(rng, shape, true);
+    let start = gen::shares(rng, n, 100);
+    let mut lines = header(rng, &model, &start);
+    let reached = rng.index(n);
+    lines.push(words(&["T", ":", "*", ":", "*", ":", &index(rng, reached), "1"]));
+    let seen = gen::shares(rng, k, THOUSAND);
+    lines.push(row_line(rng, "O", "*", "*", &seen));
+    for _ in 0..rng.below(10) {
+        let (a, s) = (rng.index(m), rng.index(n));
+        let (t, o) = (model.transition_cell(a, s, 0), model.sight_cell(a, s, 0));
+        state_row(rng, &mut lines, "O", a, s, &seen, &model.sights[o..o + k].to_vec());
+        // Entry by entry: a row may have been stated before, and is then cleared first.
+        lines.push(words(&["T", ":", &index(rng, a), ":", &index(rng, s), ":", "*", "0"]));
+        for (s2, &chance) in model.transitions[t..t + n].iter().enumerate().filter(|(_, &chance)| chance > 0) {
+            let (action, left, reached) = (index(rng, a), index(rng, s), index(rng, s2));
+            lines.push(words(&["T", ":", &action, ":", &left, ":", &reached, &typed(rng, chance, 1, 3)]));
+        }
+        let (_, action) = some_index(rng, m);
+        let (_, state) = some_index(rng, n);
+        let reward = reward_text(rng, model.rewards[model.reward_cell(a, s)]);
+        lines.push(words(&["R", ":", &action, ":", &state, ":", "*", ":", "*", &reward]));
     }
-    gen::shape(rng)
+    lines
 }
 
 /// Lines of words.
@@ -476,8 +714,7 @@ fn valid(rng: &mut Rng, shape: Shape) -> Lines {
     let model = gen::tables(rng, shape);
     let start = gen::shares(rng, shape.n, 100);
     let mut lines = header(rng, &model, &start);
-    let mut stated =
-        Tables { states: model.states, actions: model.actions, observations: model.observations, ..Tables::zero() };
+    let mut stated = Tables::zeros(model.states, model.actions, model.observations);
     for _ in 0..rng.below(8) {
         let line = statement(rng, shape, &mut stated);
         lines.push(line);
@@ -721,8 +958,7 @@ mod tests {
     fn valid_files_read_in_every_dress() {
         for number in 0..400 {
             let mut rng = Rng::for_case(1, "valid", number);
-            let shape = file_shape(&mut rng);
-            let lines = valid(&mut rng, shape);
+            let (_, lines) = any_lines(&mut rng);
             for file in [plain(&lines), dressed(&mut rng, &lines)] {
                 let refused = read(&file, &Rules::default()).err().map(|refusal| refusal.number);
                 let expected = if file.len() > FILE_BYTES { Some(1) } else { None };

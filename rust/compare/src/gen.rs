@@ -1,7 +1,7 @@
 //! Models, levels, points, mixtures, plan graphs and lists of offers, random and repeatable.
 //!
 //! What is valid here is so by the reference with the document's rules; anything may stand past the counts. Levels have up to
-//! some forty vectors: `many` has those of hundreds.
+//! some forty vectors, or one for each state and point: `many` has those of hundreds.
 
 use crate::rng::Rng;
 use num_bigint::BigInt;
@@ -13,8 +13,11 @@ use reference::{
 /// The document.
 pub const DOCUMENT: Rules = Rules { trap: None };
 
-/// The most vectors of a level here.
+/// The most vectors of a level here, where it has no more for its states.
 pub const FEW: usize = 40;
+
+/// More states than most models have here, and fewer than can be.
+const SOME_STATES: usize = 15;
 
 /// The counts of a model.
 #[derive(Clone, Copy, Debug, PartialEq, Eq)]
@@ -27,6 +30,9 @@ pub struct Shape {
 impl Shape {
     /// As many states, actions and observations as can be.
     pub const LARGEST: Shape = Shape { n: STATES, m: ACTIONS, k: OBSERVATIONS };
+
+    /// As many states as can be, and few actions and observations.
+    pub const WIDEST: Shape = Shape { n: STATES, m: 2, k: 2 };
 }
 
 /// Counts so small that all plans of three steps can be listed: at most some thousands.
@@ -35,15 +41,26 @@ pub fn tiny_shape(rng: &mut Rng) -> Shape {
     Shape { n: 1 + rng.index(3), m, k }
 }
 
-/// Counts that are mostly small; now and then one of them is at its limit.
+/// Counts that are mostly small; now and then one of them is at its limit, or there are some more states.
 pub fn shape(rng: &mut Rng) -> Shape {
     let mut count = |small: usize, limit: usize| if rng.once_in(12) { limit } else { 1 + rng.index(small) };
-    let shape = Shape { n: count(4, STATES), m: count(3, ACTIONS), k: count(3, OBSERVATIONS) };
-    if shape.n * shape.n * shape.m * shape.k > 2_000 {
-        Shape { m: shape.m.min(3), k: shape.k.min(2), ..shape }
-    } else {
-        shape
+    let (n, m, k) = (count(4, SOME_STATES), count(3, ACTIONS), count(3, OBSERVATIONS));
+    match n {
+        SOME_STATES if rng.once_in(24) => wide_shape(rng),
+        SOME_STATES => Shape { n: n + rng.index(3), m: m.min(3), k: k.min(2) },
+        _ => Shape { n, m, k },
     }
+}
+
+/// As many states as can be, or one less or half of them, and few actions and observations.
+pub fn wide_shape(rng: &mut Rng) -> Shape {
+    let n = rng.pick(&[STATES / 2, STATES / 2 + 1, STATES - 1, STATES, STATES, STATES]);
+    Shape { n, m: 1 + rng.index(2), k: 1 + rng.index(2) }
+}
+
+/// The most vectors that levels have here, over so many states: built ones have one for each state and point.
+pub fn most_vectors(n: usize) -> usize {
+    FEW.max(n + BUILT_POINTS)
 }
 
 /// Anything: numbers near limits and ends, and plain random ones.
@@ -99,31 +116,43 @@ pub fn shares(rng: &mut Rng, cells: usize, total: u64) -> Vec<u64> {
     row
 }
 
-/// Tables that open.
+/// Whole weights with this total in one cell or two.
+fn few_shares(rng: &mut Rng, cells: usize, total: u64) -> Vec<u64> {
+    let mut row = vec![0; cells];
+    let part = rng.pick(&[total, rng.clone().below(total + 1)]);
+    row[rng.index(cells)] += part;
+    row[rng.index(cells)] += total - part;
+    row
+}
+
+/// Tables that open; of many states, mostly sparse ones.
 pub fn tables(rng: &mut Rng, shape: Shape) -> Tables {
+    let sparse = shape.n > SOME_STATES + 2 && !rng.once_in(8);
+    tables_of(rng, shape, sparse)
+}
+
+/// Tables that open, of which each row of T has one cell above 0 or two if they are sparse.
+pub fn tables_of(rng: &mut Rng, shape: Shape, sparse: bool) -> Tables {
     let Shape { n, m, k } = shape;
     let discount = rng.below(THOUSAND + 1);
     let mut tables = Tables {
-        states: n as u64,
-        actions: m as u64,
-        observations: k as u64,
         discount: rng.pick(&[0, 1, 500, 900, 950, 999, 1_000, discount]),
-        ..Tables::zero()
+        ..Tables::zeros(n as u64, m as u64, k as u64)
     };
     for row in 0..m * n {
-        tables.transitions[row * n..(row + 1) * n].copy_from_slice(&shares(rng, n, THOUSAND));
+        let reached = if sparse { few_shares(rng, n, THOUSAND) } else { shares(rng, n, THOUSAND) };
+        tables.transitions[row * n..(row + 1) * n].copy_from_slice(&reached);
         tables.sights[row * k..(row + 1) * k].copy_from_slice(&shares(rng, k, THOUSAND));
     }
     let most = rng.pick(&[1, 20, 999, 10_000, REWARD]);
     // Now and then costs alone: then 0 is more than any plan earns.
     let highest = if rng.once_in(4) { 0 } else { most };
-    for reward in &mut tables.rewards[..m * n] {
+    for reward in &mut tables.rewards {
         *reward = if rng.once_in(6) { rng.pick(&[-most, 0, highest]) } else { rng.within(-most, highest) };
     }
-    let (transitions, sights, rewards) = tables.cells_used();
-    litter(rng, &mut tables.transitions, transitions, junk);
-    litter(rng, &mut tables.sights, sights, junk);
-    litter(rng, &mut tables.rewards, rewards, signed_junk);
+    trail(rng, &mut tables.transitions, junk);
+    trail(rng, &mut tables.sights, junk);
+    trail(rng, &mut tables.rewards, signed_junk);
     tables
 }
 
@@ -131,25 +160,28 @@ pub fn tables(rng: &mut Rng, shape: Shape) -> Tables {
 pub fn spoil_tables(rng: &mut Rng, tables: &mut Tables) {
     let anything = junk(rng);
     match rng.below(8) {
-        0 => tables.states = rng.pick(&[0, 1, 16, 17, u64::MAX, anything]),
+        0 => tables.states = rng.pick(&[0, 1, 63, 64, 65, u64::MAX, anything]),
         1 => tables.actions = rng.pick(&[0, 1, 8, 9, u64::MAX, anything]),
         2 => tables.observations = rng.pick(&[0, 1, 8, 9, u64::MAX, anything]),
         3 => tables.discount = rng.pick(&[0, 1_000, 1_001, u64::MAX, anything]),
         kind => {
             let used = if tables.counts_fit() { tables.cells_used() } else { (1, 1, 1) };
+            // The counts may want more cells than there are.
+            let Tables { transitions, sights, rewards, .. } = tables;
+            let used = (used.0.min(transitions.len()), used.1.min(sights.len()), used.2.min(rewards.len()));
             let step = |cell: u64| if anything % 2 == 0 { cell.saturating_sub(1) } else { cell.saturating_add(1) };
             match kind {
                 4 | 5 => {
-                    let cell = &mut tables.transitions[rng.index(used.0)];
+                    let cell = &mut transitions[rng.index(used.0)];
                     *cell = rng.pick(&[step(*cell), 1_000, 1_001, u64::MAX]);
                 }
                 6 => {
-                    let cell = &mut tables.sights[rng.index(used.1)];
+                    let cell = &mut sights[rng.index(used.1)];
                     *cell = rng.pick(&[step(*cell), 1_000, 1_001, u64::MAX]);
                 }
                 _ => {
                     let cell = rng.index(used.2);
-                    tables.rewards[cell] =
+                    rewards[cell] =
                         rng.pick(&[REWARD, -REWARD, REWARD + 1, -REWARD - 1, i64::MIN, i64::MAX, anything as i64]);
                 }
             }
@@ -185,7 +217,7 @@ pub fn repriced(rng: &mut Rng, tables: &Tables) -> Tables {
         };
         *reward = (*reward + by).clamp(-REWARD, REWARD);
     }
-    litter(rng, &mut new.rewards, used, signed_junk);
+    trail(rng, &mut new.rewards, signed_junk);
     new
 }
 
@@ -926,7 +958,7 @@ pub fn handed(rng: &mut Rng, shape: Shape) -> (Certifier, Vec<Step>) {
         spoil_tables(rng, &mut certifier.tables);
     }
     if rng.once_in(2) {
-        certifier.tables.transitions.last_mut().into_iter().for_each(|cell| *cell = 7);
+        certifier.tables.transitions.push(7);
     }
     let mut level = offered.clone();
     for _ in 0..rng.index(3) {
@@ -969,13 +1001,13 @@ pub fn at_ends(rng: &mut Rng, cells: &mut [i64], end: i64) {
     }
 }
 
-/// A level for t whose every number is at an end of its range; where all counts are at their limits, it has as many vectors and
-/// points as levels have here.
+/// A level for t whose every number is at an end of its range; where there are as many states as can be, it has as many vectors
+/// and points as levels have here.
 fn level_at_ends(rng: &mut Rng, shape: Shape, t: u64) -> Level {
     let Shape { n, m, k } = shape;
     let ticks = range(t);
     let (vectors, points) = match shape {
-        Shape::LARGEST => (FEW, POINTS),
+        Shape::LARGEST | Shape::WIDEST => (FEW, POINTS),
         _ => (rng.pick(&[1, 2, FEW]), rng.pick(&[0, 1, 2, POINTS])),
     };
     let mut level = Level::zeros(vectors, points, n, k);
@@ -1019,7 +1051,7 @@ pub fn ends(rng: &mut Rng, shape: Shape) -> (Certifier, Vec<Step>) {
     let mut most = vec![WEIGHT; STATES];
     most[rng.index(STATES)] = 0;
     let count = match shape {
-        Shape::LARGEST => BUILT_POINTS,
+        Shape::LARGEST | Shape::WIDEST => BUILT_POINTS,
         _ if n > 4 => 1,
         _ => rng.pick(&[0, 1, 3, BUILT_POINTS]),
     };

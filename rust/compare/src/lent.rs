@@ -4,14 +4,16 @@ use crate::files;
 use crate::gen::Question;
 use crate::rng::Rng;
 use biidhaqun::slices::{
-    Adopted, Answers, Certifier, Graph, Level, Offers, Reading, Refusal, Replayed, Tables, Totals, TotalsWithin, Worth,
+    Adopted, Answers, Certifier, Conversion, Graph, Level, Offers, Reading, Refusal, Replayed, Tables, Totals,
+    TotalsWithin, Worth,
 };
-use reference::{ACTIONS, BUILT_POINTS, NODES, OBSERVATIONS, POINTS, STATES, VECTORS};
+use reference::{ACTIONS, BUILT_POINTS, NODES, OBSERVATIONS, POINTS, VECTORS};
 use std::fmt;
 
 /// The library's calls.
 pub trait Library {
     fn read(&self, file: &[u8], tables: &mut Tables, start: &mut [u16]) -> Reading;
+    fn convert(&self, file: &[u8], output: &mut [u8]) -> Conversion;
     fn open(&self, tables: &Tables, certifier: &mut Certifier) -> Refusal;
     fn list(&self, tables: &Tables, list: &mut [u32]) -> Refusal;
     fn offer(&self, tables: &Tables, list: &[u32], certifier: &mut Certifier, level: &Level) -> Refusal;
@@ -164,7 +166,7 @@ pub fn tables(storage: &reference::Tables) -> Tables {
         discount: storage.discount,
         transition: narrowed(&storage.transitions, t),
         observation: narrowed(&storage.sights, o),
-        reward: storage.rewards[..r].to_vec(),
+        reward: front(&storage.rewards, r).to_vec(),
     }
 }
 
@@ -223,25 +225,25 @@ pub fn graph(storage: &reference::Graph, k: usize) -> Graph {
     }
 }
 
-/// Certifier's slices with room for every level of so many vectors, and anything in it.
-pub fn roomy(rng: &mut Rng, mut certifier: Certifier, vectors: usize) -> Certifier {
+/// Certifier's slices with room for every level of so many states and vectors, and anything in it.
+pub fn roomy(rng: &mut Rng, mut certifier: Certifier, n: usize, vectors: usize) -> Certifier {
     let vectors = vectors.max(certifier.actions.len());
     certifier.state.sized(certifier.state.len().max(3), rng);
     certifier.actions.sized(vectors + rng.index(3), rng);
     certifier.choices.sized(vectors * OBSERVATIONS + rng.index(3), rng);
     certifier.masks.sized(vectors + rng.index(3), rng);
-    certifier.entries.sized(vectors * STATES + rng.index(3), rng);
-    certifier.corners.sized(STATES + rng.index(3), rng);
-    certifier.weights.sized(POINTS * STATES + rng.index(3), rng);
+    certifier.entries.sized(vectors * n + rng.index(3), rng);
+    certifier.corners.sized(n + rng.index(3), rng);
+    certifier.weights.sized(POINTS * n + rng.index(3), rng);
     certifier.values.sized(POINTS + rng.index(3), rng);
-    certifier.informed.sized(ACTIONS * STATES + rng.index(3), rng);
-    certifier.qmdp.sized(ACTIONS * STATES + rng.index(3), rng);
+    certifier.informed.sized(ACTIONS * n + rng.index(3), rng);
+    certifier.qmdp.sized(ACTIONS * n + rng.index(3), rng);
     certifier
 }
 
-/// Slices for a level to be built, with anything in them.
-pub fn roomy_level(rng: &mut Rng) -> Level {
-    let room = roomy(rng, Certifier::default(), STATES + BUILT_POINTS);
+/// Slices for a level of so many states to be built, with anything in them.
+pub fn roomy_level(rng: &mut Rng, n: usize) -> Level {
+    let room = roomy(rng, Certifier::default(), n, n + BUILT_POINTS);
     let Certifier { actions, choices, masks, entries, corners, values, .. } = room;
     Level { actions, choices, masks, entries, corners, values, ..Level::default() }
 }
@@ -256,6 +258,10 @@ pub enum Call {
         file: Vec<u8>,
         tables: Tables,
         start: Vec<u16>,
+    },
+    Convert {
+        file: Vec<u8>,
+        output: Vec<u8>,
     },
     Open {
         tables: Tables,
@@ -341,6 +347,10 @@ impl Call {
                 let Reading { number, place, states, actions, observations, discount } = by.read(file, tables, start);
                 let counts = [place, states, actions, observations].map(|count| count as i128);
                 [&[number.into()][..], &counts, &[discount.into()]].concat()
+            }
+            Call::Convert { file, output } => {
+                let Conversion { number, place, length } = by.convert(file, output);
+                vec![number.into(), place as i128, length as i128]
             }
             Call::Open { tables, certifier } => ended(by.open(tables, certifier)),
             Call::List { tables, list } => ended(by.list(tables, list)),
@@ -452,6 +462,7 @@ impl Call {
                 slices.extend(of_tables(tables));
                 slices.push(("start", start));
             }
+            Call::Convert { output, .. } => slices.push(("output", output)),
             Call::Open { tables, certifier } => {
                 slices.extend(of_tables(tables));
                 slices.extend(standing(certifier, true));
@@ -536,6 +547,10 @@ impl fmt::Display for Call {
             Call::Read { file, tables, start } => {
                 writeln!(f, "  read, file of {} bytes: {}", file.len(), files::escaped(file))?;
                 writeln!(f, "  {:?}\n  start {:?}", tables, start)
+            }
+            Call::Convert { file, output } => {
+                writeln!(f, "  convert, file of {} bytes: {}", file.len(), files::escaped(file))?;
+                writeln!(f, "  output {}", files::escaped(output))
             }
             Call::Open { tables, certifier } => writeln!(f, "  open: {:?}\n  {:?}", tables, certifier),
             Call::List { tables, list } => writeln!(f, "  list: {:?}\n  list {:?}", tables, list),

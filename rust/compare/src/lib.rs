@@ -4,6 +4,7 @@ pub mod adopting;
 pub mod bracket;
 pub mod calls;
 pub mod ceilings;
+pub mod converting;
 pub mod copied;
 pub mod files;
 pub mod gen;

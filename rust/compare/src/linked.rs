@@ -3,8 +3,8 @@
 use crate::gen::Question;
 use crate::lent::{Cell, Library};
 use biidhaqun::slices::{
-    self, Adopted, Answers, Certifier, Graph, Level, Offers, Reading, Refusal, Replayed, Tables, Totals, TotalsWithin,
-    Worth,
+    self, Adopted, Answers, Certifier, Conversion, Graph, Level, Offers, Reading, Refusal, Replayed, Tables, Totals,
+    TotalsWithin, Worth,
 };
 
 /// The number of a call that wrote past the end of a slice: none ends with it.
@@ -100,6 +100,14 @@ impl Library for Linked {
         *tables = Tables { transition, observation, reward, ..*tables };
         start.copy_from_slice(&numbers);
         Reading { number: if all { read.number } else { OUTSIDE }, ..read }
+    }
+
+    fn convert(&self, file: &[u8], output: &mut [u8]) -> Conversion {
+        let mut copy = edged(output);
+        let ended = slices::convert(file, &mut copy);
+        let number = if kept(&mut copy) { ended.number } else { OUTSIDE };
+        output.copy_from_slice(&copy);
+        Conversion { number, ..ended }
     }
 
     fn open(&self, tables: &Tables, certifier: &mut Certifier) -> Refusal {

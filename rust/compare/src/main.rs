@@ -22,6 +22,9 @@
 //! - `lists`: lists of transitions made and turned back, and offers and buildings that are handed a list of any content: with the
 //!   tables' own list they answer and leave the same as without, used likewise,
 //! - `prices`: new tables, accepted and refused, upon certifiers of any content, used likewise,
+//! - `converted`: files to convert that are the same for every seed, used likewise,
+//! - `convert`: random files whose rewards depend on what follows, half of them damaged, into outputs of any length; what is written
+//!   is read back by the reference, used likewise,
 //! - `solved`: the steps that a float solver finds, each adopted and accepted, and what their entries lose.
 //!
 //! From the root of the repository: `rust/target/release/compare target/bin/ladder`; with the feature `library`,

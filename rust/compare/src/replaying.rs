@@ -1,6 +1,6 @@
 //! Lists of offers in blocks, of any content, upon certifiers of any content.
 
-use crate::gen::{self, Shape, Step, DOCUMENT, FEW};
+use crate::gen::{self, Shape, Step, DOCUMENT};
 use crate::lent::{self, Call, Slice};
 use crate::rng::Rng;
 use crate::single;
@@ -36,7 +36,8 @@ pub fn random(rng: &mut Rng) -> Call {
     }
     let (n, k) = (shape.n, shape.k);
     let levels: Vec<Level> = levels.iter().map(|level| lent::level(level, n, k)).collect();
-    let (vectors, points) = largest(&levels);
+    let few = gen::most_vectors(n);
+    let (vectors, points) = largest(&levels, few);
     let block = |rng: &mut Rng, largest: usize, most: usize| match rng.below(24) {
         0 => 0,
         1 => largest.saturating_sub(1),
@@ -45,11 +46,11 @@ pub fn random(rng: &mut Rng) -> Call {
         4..=9 => (largest + 1 + rng.index(4)).min(most),
         _ => largest,
     };
-    let (mut block_vectors, block_points) = (block(rng, vectors, FEW), block(rng, points, POINTS));
+    let (mut block_vectors, block_points) = (block(rng, vectors, few), block(rng, points, POINTS));
     if rng.once_in(200) {
         block_vectors = rng.pick(&[VECTORS, VECTORS + 1]);
     }
-    let whole = levels.iter().find(|level| level.vectors <= FEW && level.points <= POINTS);
+    let whole = levels.iter().find(|level| level.vectors <= few && level.points <= POINTS);
     let mut offers = match whole {
         Some(level) if rng.once_in(8) => split(rng, level, shape),
         _ => packed(rng, &levels, (block_vectors, block_points), shape),
@@ -80,7 +81,7 @@ pub fn served(rng: &mut Rng, shape: Shape, certifier: &Certifier) -> Call {
         reference::offer(&mut climbed, &built, &DOCUMENT).expect("a built level is accepted");
     }
     let levels: Vec<Level> = levels[1..].iter().map(|level| lent::level(level, shape.n, shape.k)).collect();
-    let (vectors, points) = largest(&levels);
+    let (vectors, points) = largest(&levels, gen::most_vectors(shape.n));
     let blocks = (vectors + rng.index(3), points + rng.index(3));
     let offers = packed(rng, &levels, blocks, shape);
     call(rng, shape, certifier, offers, (vectors, points))
@@ -108,11 +109,11 @@ fn offered(certifier: &mut Certifier, steps: &[Step]) -> Vec<reference::Level> {
 }
 
 /// The most vectors and points of levels, those left out that say more than they have here.
-fn largest(levels: &[Level]) -> (usize, usize) {
+fn largest(levels: &[Level], few: usize) -> (usize, usize) {
     let most = |count: fn(&Level) -> usize, limit: usize| {
         levels.iter().map(count).filter(|&count| count <= limit).max().unwrap_or(0)
     };
-    (most(|level| level.vectors, FEW), most(|level| level.points, POINTS))
+    (most(|level| level.vectors, few), most(|level| level.points, POINTS))
 }
 
 /// The levels in blocks, with anything behind each.

@@ -5,15 +5,16 @@ use crate::files;
 use crate::gen::{self, Shape, Step};
 use crate::lent::{self, Call, Slice};
 use crate::rng::Rng;
-use crate::{adopting, listing, pricing, replaying};
+use crate::{adopting, converting, listing, pricing, replaying};
 use biidhaqun::slices::{Answers, Certifier, Level, Tables};
 use reference::{Points, STATES};
+use std::cell::Cell;
 
 /// A call with whole objects. Its slices are as long as they must be and no longer, and anything lies in those that are
 /// only written.
 fn whole(rng: &mut Rng) -> Call {
     let shape = gen::shape(rng);
-    match rng.below(12) {
+    match rng.below(13) {
         0 => reading_exactly(rng),
         1 => {
             let mut tables = gen::tables(rng, shape);
@@ -61,6 +62,7 @@ fn whole(rng: &mut Rng) -> Call {
         }
         7 => listing::random(rng),
         8 => pricing::random(rng),
+        9 => converting::random(rng),
         _ => {
             let (certifier, steps) = gen::handed(rng, shape);
             match rng.pick(&steps) {
@@ -179,15 +181,22 @@ pub fn adoption(
     Call::Adopt { tables, certifier, alpha: alpha.to_vec(), graph: graph.to_vec(), points, count, level }
 }
 
-/// Reads a random file, with slices as long as it needs.
+/// Reads a random file, with slices as long as its counts need.
 fn reading_exactly(rng: &mut Rng) -> Call {
     let file = files::random(rng).file;
-    let needed = reference::read(&file, &gen::DOCUMENT).map(|read| lent::tables(&read.tables)).unwrap_or_default();
+    let needed = Cell::new((0, (0, 0, 0)));
+    let counted = |tables: &reference::Tables| {
+        needed.set((tables.states as usize, tables.cells_used()));
+        true
+    };
+    // Whether the file reads or not.
+    let _ = reference::read_into(&file, counted, &gen::DOCUMENT);
+    let (states, (transitions, sights, rewards)) = needed.get();
     let (mut tables, mut start) = (Tables::default(), Vec::new());
-    tables.transition.sized(needed.transition.len(), rng);
-    tables.observation.sized(needed.observation.len(), rng);
-    tables.reward.sized(needed.reward.len(), rng);
-    start.sized(needed.states, rng);
+    tables.transition.sized(transitions, rng);
+    tables.observation.sized(sights, rng);
+    tables.reward.sized(rewards, rng);
+    start.sized(states, rng);
     Call::Read { file, tables, start }
 }
 
@@ -280,6 +289,7 @@ fn served(rng: &mut Rng, kind: u64) -> Call {
             }
             9 => listing::served(rng, shape),
             10 => pricing::served(rng, &certifier),
+            11 => converting::exactly(rng),
             _ => {
                 let graph = gen::graph(rng, shape);
                 let asked = gen::question(rng, &graph, shape);
@@ -312,6 +322,8 @@ fn if_short(call: &Call, name: &str, length: usize) -> Option<(u64, usize)> {
     let of_tables = matches!(name, "transition" | "observation" | "reward");
     let number = match call {
         _ if length == 0 => return None,
+        Call::Convert { .. } => 27,
+        Call::Read { .. } if of_tables => 3,
         Call::Read { .. } => return Some((100, length)),
         Call::Open { .. } if of_tables => 3,
         Call::Open { .. } => 9,
@@ -347,7 +359,7 @@ fn if_short(call: &Call, name: &str, length: usize) -> Option<(u64, usize)> {
 /// A call that is served, and for each slice the same call with that slice one short, empty, and longer; with how the first
 /// of these ends by the header.
 pub fn lengths(rng: &mut Rng, number: u64) -> Vec<(Call, Option<(u64, usize)>)> {
-    let call = served(rng, number % 12);
+    let call = served(rng, number % 13);
     let mut calls = vec![(call.clone(), Some((0, 0)))];
     let count = call.clone().slices().len();
     for at in 0..count {

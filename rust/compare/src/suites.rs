@@ -5,7 +5,9 @@ use crate::lent::{Call, Library};
 use crate::options::Options;
 use crate::rng::Rng;
 use crate::through::{self, Through};
-use crate::{adopting, bracket, calls, files, listing, many, pricing, replaying, show, single, solved, ticks};
+use crate::{
+    adopting, bracket, calls, converting, files, listing, many, pricing, replaying, show, single, solved, ticks,
+};
 use reference::Trap;
 use std::collections::BTreeMap;
 use std::time::{Duration, Instant};
@@ -23,6 +25,7 @@ const ADOPTIONS: u64 = 5_000;
 const REPLAYS: u64 = 4_000;
 const LISTS: u64 = 4_000;
 const PRICES: u64 = 4_000;
+const CONVERSIONS: u64 = 4_000;
 const SOLVED: u64 = 300;
 
 /// How many random cases a slip or a trap is looked for in.
@@ -31,8 +34,8 @@ const HUNTED: u64 = 3_000;
 /// Does what was asked for; whether all was well.
 pub fn run(options: &Options, library: &dyn Library) -> io::Result<bool> {
     let (tally, losses) = (BTreeMap::new(), solved::Losses::default());
-    let (adopted, many) = (adopting::fixed(), many::fixed());
-    let mut suites = Suites { options, linked: library, tally, losses, adopted, many };
+    let (adopted, many, converted) = (adopting::fixed(), many::fixed(), files::fixed_outcomes());
+    let mut suites = Suites { options, linked: library, tally, losses, adopted, many, converted };
     let well = if options.traps {
         suites.traps()
     } else if let Some(path) = &options.file {
@@ -59,6 +62,8 @@ struct Suites<'a> {
     adopted: Vec<adopting::Case>,
     /// The calls with many vectors and long files.
     many: Vec<many::Case>,
+    /// The fixed files to convert.
+    converted: Vec<files::Case>,
 }
 
 /// A copy with one mistake, and the first case that tells it from the library.
@@ -76,7 +81,7 @@ impl Suites<'_> {
     /// Fixed files, examples, then random cases of all suites in turn.
     fn all(&mut self) -> io::Result<bool> {
         let start = Instant::now();
-        let fixed = files::fixed();
+        let fixed = files::fixed_to_read();
         for (number, case) in fixed.iter().enumerate() {
             if !self.call(&format!("fixed:{}", number), &single::reading(&case.file))? {
                 return Ok(false);
@@ -96,6 +101,13 @@ impl Suites<'_> {
             }
         }
         println!("fixed files of a solver: {}, {} s", fixed, start.elapsed().as_secs());
+        let fixed = self.converted.len() as u64;
+        for number in 0..fixed {
+            if !self.one("converted", number)? {
+                return Ok(false);
+            }
+        }
+        println!("fixed files to convert: {}, {} s", fixed, start.elapsed().as_secs());
         let large = self.many.len() as u64;
         for number in 0..large {
             if !self.one("many", number)? {
@@ -132,6 +144,7 @@ impl Suites<'_> {
             ("replay", REPLAYS),
             ("lists", LISTS),
             ("prices", PRICES),
+            ("convert", CONVERSIONS),
             ("solved", SOLVED),
         ];
         let all: u64 = shares.iter().map(|(_, share)| share).sum();
@@ -166,7 +179,7 @@ impl Suites<'_> {
         let mut rng = self.rng(suite, number);
         match suite {
             "fixed" => {
-                let fixed = files::fixed();
+                let fixed = files::fixed_to_read();
                 let index = usize::try_from(number).unwrap_or(usize::MAX);
                 let case = fixed.get(index).ok_or_else(|| unknown("there is no such fixed file"))?;
                 println!("{}\n{}", case.about, files::escaped(&case.file));
@@ -192,6 +205,12 @@ impl Suites<'_> {
             "replay" => print!("{}", replaying::random(&mut rng)),
             "lists" => print!("{}", listing::random(&mut rng)),
             "prices" => print!("{}", priced(&mut rng, number)),
+            "convert" => print!("{}", converting::random(&mut rng)),
+            "converted" => {
+                let index = usize::try_from(number).unwrap_or(usize::MAX);
+                let case = self.converted.get(index).ok_or_else(|| unknown("there is no such fixed file"))?;
+                println!("{}\n{}", case.about, files::escaped(&case.file));
+            }
             "solved" => print!("{}", solved::random(&mut rng).show()),
             _ => return Err(unknown("there is no such suite")),
         }
@@ -251,6 +270,11 @@ impl Suites<'_> {
                 self.told(&name, listing::difference(&call, self.linked), || call.to_string())
             }
             "prices" => self.call(&name, &priced(&mut rng, number)),
+            "convert" => self.conversion(&name, &converting::random(&mut rng)),
+            "converted" => match converting::fixed(&self.converted, number as usize) {
+                Some(call) => self.conversion(&name, &call),
+                None => Err(unknown("there is no such fixed file")),
+            },
             "solved" => {
                 let climb = solved::random(&mut rng);
                 let losses = solved::check(&climb, &Through(self.linked));
@@ -284,6 +308,12 @@ impl Suites<'_> {
         self.told(name, call.difference(&BY_THE_DOCUMENT, self.linked), || call.to_string())
     }
 
+    /// Whether a file is converted as by the reference, and what is written reads back.
+    fn conversion(&mut self, name: &str, call: &Call) -> io::Result<bool> {
+        *self.tally.entry(call.number(self.linked)).or_insert(0) += 1;
+        self.told(name, converting::difference(call, self.linked), || call.to_string())
+    }
+
     /// Tells a difference, if there is one.
     fn told(&self, name: &str, found: Option<String>, shown: impl Fn() -> String) -> io::Result<bool> {
         let found = match found {
@@ -301,7 +331,7 @@ impl Suites<'_> {
     }
 
     /// Whether the library differs from every copy with one mistake: slips of the interface in single calls, traps of the
-    /// reader in files, traps of a solver's files in adoptions, traps of the judging in calls on storage, both kinds in calls with
+    /// reader in files, those of the converter in conversions, those of a solver's files in adoptions, traps of the judging in calls on storage, both kinds in calls with
     /// many vectors and long files. In each case the library itself is held against the document first.
     fn traps(&self) -> bool {
         let slips = |list: &[Slip]| -> Vec<Hunted> {
@@ -340,7 +370,7 @@ impl Suites<'_> {
             let call = single::random(&mut self.rng("slices", number));
             (format!("slices:{}", number), Box::new(move |one, other| call.difference(one, other)))
         });
-        let fixed = files::fixed();
+        let fixed = files::fixed_to_read();
         let cases = fixed.len() as u64 + HUNTED;
         all &= self.hunt("traps of the reader, by files", cases, traps(Trap::READING), &|number| {
             let (name, file) = match fixed.get(number as usize) {
@@ -348,6 +378,15 @@ impl Suites<'_> {
                 None => (format!("random:{}", number), files::random(&mut self.rng("random", number)).file),
             };
             let call = single::reading(&file);
+            (name, Box::new(move |one, other| call.difference(one, other)))
+        });
+        let cases = self.converted.len() as u64 + HUNTED;
+        all &= self.hunt("traps of the converter, by conversions", cases, traps(Trap::CONVERTING), &|number| {
+            let random = number.saturating_sub(self.converted.len() as u64);
+            let (name, call) = match converting::fixed(&self.converted, number as usize) {
+                Some(call) => (format!("converted:{}", number), call),
+                None => (format!("convert:{}", random), converting::random(&mut self.rng("convert", random))),
+            };
             (name, Box::new(move |one, other| call.difference(one, other)))
         });
         let cases = self.adopted.len() as u64 + HUNTED;
@@ -445,7 +484,8 @@ mod tests {
         let one = [("fixed", 3), ("random", 5), ("calls", 7), ("ends", 1), ("plans", 2), ("slices", 11), ("ticks", 3)];
         let solver =
             [("adopted", 4), ("adopt", 9), ("solved", 2), ("replay", 6), ("many", 3), ("lists", 4), ("prices", 5)];
-        let lengths = (0..12).map(|number| ("lengths", number));
+        let solver = solver.into_iter().chain([("convert", 3), ("converted", 1)]);
+        let lengths = (0..13).map(|number| ("lengths", number));
         for (suite, number) in one.into_iter().chain(solver).chain(lengths) {
             options.only = Some((suite.to_string(), number));
             assert!(run(&options, &BY_THE_DOCUMENT).unwrap(), "{}:{}", suite, number);
@@ -466,7 +506,7 @@ mod tests {
             seen.insert(call.number(&BY_THE_DOCUMENT));
         }
         // 1 and 4 are of files alone, which have tests of their own.
-        let all: BTreeSet<u64> = [0, 2, 3, 21, 22, 23, 24, 100].into_iter().chain(5..=18).collect();
+        let all: BTreeSet<u64> = [0, 2, 3, 100].into_iter().chain(5..=18).chain(21..=27).collect();
         assert!(seen.is_superset(&all), "{:?}", seen);
     }
 

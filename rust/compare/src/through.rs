@@ -1,7 +1,7 @@
 //! Cases on storage, through lent slices.
 
 use crate::calls::{Calls, Case};
-use crate::gen::{List, Question, Step, FEW};
+use crate::gen::{self, List, Question, Step};
 use crate::lent::{self, stored, Call, Library};
 use crate::listing;
 use crate::rng::Rng;
@@ -22,7 +22,7 @@ pub fn difference(case: &Case, one: &dyn Library, other: &dyn Library, rng: &mut
         }
         Case::Handed(certifier, steps) => {
             let (n, k) = lent::counts(&certifier.tables);
-            let standing = lent::roomy(rng, lent::certifier(certifier), FEW);
+            let standing = lent::roomy(rng, lent::certifier(certifier), n, gen::most_vectors(n));
             Walk { tables: lent::tables(&certifier.tables), certifier: standing, n, k, one, other }.all(rng, steps)
         }
         Case::List(List { tables, steps }) => {
@@ -42,7 +42,9 @@ pub fn difference(case: &Case, one: &dyn Library, other: &dyn Library, rng: &mut
 }
 
 fn opening(rng: &mut Rng, tables: &reference::Tables) -> Call {
-    Call::Open { tables: lent::tables(tables), certifier: lent::roomy(rng, Certifier::default(), FEW) }
+    let (n, _) = lent::counts(tables);
+    let certifier = lent::roomy(rng, Certifier::default(), n, gen::most_vectors(n));
+    Call::Open { tables: lent::tables(tables), certifier }
 }
 
 /// Steps that are being made by two.
@@ -121,7 +123,7 @@ impl Walk<'_> {
     fn build(&self, rng: &mut Rng, points: &Points) -> Result<Option<Level>, String> {
         let (count, points) = lent::points(points, self.n);
         let (tables, list, certifier) = (self.tables.clone(), self.list(rng), self.certifier.clone());
-        let call = Call::Build { tables, list, certifier, count, points, level: lent::roomy_level(rng) };
+        let call = Call::Build { tables, list, certifier, count, points, level: lent::roomy_level(rng, self.n) };
         if let Some(found) = call.difference(self.one, self.other) {
             return Err(found);
         }
@@ -178,7 +180,8 @@ fn standing(lent: Certifier, tables: reference::Tables) -> reference::Certifier 
 
 impl Calls for Through<'_> {
     fn open(&self, tables: &reference::Tables) -> Result<reference::Certifier, Refusal> {
-        let mut certifier = lent::roomy(&mut Rng::for_case(0, "room", 0), Certifier::default(), 1);
+        let (n, _) = lent::counts(tables);
+        let mut certifier = lent::roomy(&mut Rng::for_case(0, "room", 0), Certifier::default(), n, 1);
         let ended = self.0.open(&lent::tables(tables), &mut certifier);
         served(ended.number, ended.place)?;
         Ok(standing(certifier, tables.stored()))
@@ -187,7 +190,8 @@ impl Calls for Through<'_> {
     fn offer(&self, certifier: &mut reference::Certifier, level: &reference::Level) -> Result<(), Refusal> {
         let (n, k) = lent::counts(&certifier.tables);
         let level = lent::level(level, n, k);
-        let mut slices = lent::roomy(&mut Rng::for_case(0, "room", 0), lent::certifier(certifier), level.actions.len());
+        let mut rng = Rng::for_case(0, "room", 0);
+        let mut slices = lent::roomy(&mut rng, lent::certifier(certifier), n, level.actions.len());
         let ended = self.0.offer(&lent::tables(&certifier.tables), &[], &mut slices, &level);
         served(ended.number, ended.place)?;
         *certifier = standing(slices, certifier.tables.clone());
@@ -221,7 +225,7 @@ impl Calls for Through<'_> {
         let (n, k) = lent::counts(&certifier.tables);
         let (tables, slices) = (lent::tables(&certifier.tables), lent::certifier(certifier));
         let (count, weights) = lent::points(points, n);
-        let mut level = lent::roomy_level(&mut Rng::for_case(0, "room", 0));
+        let mut level = lent::roomy_level(&mut Rng::for_case(0, "room", 0), n);
         let ended = self.0.build(&tables, &[], &slices, (count, &weights), &mut level);
         served(ended.number, ended.place)?;
         Ok(storage(&Level { vectors: n + count, points: count, weights, ..level }, n, k))

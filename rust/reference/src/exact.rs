@@ -76,10 +76,3 @@ pub fn corner(count: usize, state: usize) -> Vec<BigInt> {
 pub fn stored(value: &BigInt) -> i64 {
     i64::try_from(value).unwrap_or(i64::MAX)
 }
-
-/// What is kept of an array of which the first `used` cells count: those, then zeros.
-pub fn kept<Cell: Copy + Default>(cells: &[Cell], used: usize) -> Vec<Cell> {
-    let mut kept = cells[..used].to_vec();
-    kept.resize(cells.len(), Cell::default());
-    kept
-}

@@ -11,7 +11,7 @@ use num_bigint::BigInt;
 /// A file has at most this many bytes.
 pub const FILE_BYTES: usize = 32_768;
 
-/// What a file that reads holds: its tables, and its start numbers in hundredths, as many as states have room.
+/// What a file that reads holds: its tables, and its start numbers in hundredths, one for each state.
 #[derive(Clone, Debug, PartialEq, Eq)]
 pub struct Reading {
     pub tables: Tables,
@@ -23,6 +23,28 @@ pub struct Reading {
 /// Words are taken in order, and each is tested for its form (2) before its limit (3). Totals (4 to 6) are tested after
 /// the last statement, and their place is the file's length.
 pub fn read(file: &[u8], rules: &Rules) -> Result<Reading, Refusal> {
+    read_into(file, |_| true, rules)
+}
+
+/// The same into slices that may be too short: 3 at 0 where they have no room for tables of the file's counts, once these are
+/// read.
+pub fn read_into(file: &[u8], has_room: impl Fn(&Tables) -> bool, rules: &Rules) -> Result<Reading, Refusal> {
+    Ok(stated(file, has_room, false, rules)?.0)
+}
+
+/// A file whose rewards may depend on the state reached and on the observation: what it holds, with no rewards among its tables,
+/// and the rewards by action, state left, state reached and observation.
+pub fn read_outcomes(file: &[u8], rules: &Rules) -> Result<(Reading, Vec<i64>), Refusal> {
+    stated(file, |_| true, true, rules)
+}
+
+/// What a file states, and its rewards by outcome if these are asked for; or 1 to 6.
+pub fn stated(
+    file: &[u8],
+    has_room: impl Fn(&Tables) -> bool,
+    outcomes: bool,
+    rules: &Rules,
+) -> Result<(Reading, Vec<i64>), Refusal> {
     let too_long = file.len() > FILE_BYTES || (file.len() == FILE_BYTES && rules.has(Trap::LengthOffByOne));
     if too_long {
         return Err(Refusal::at(1, 0));
@@ -32,11 +54,51 @@ pub fn read(file: &[u8], rules: &Rules) -> Result<Reading, Refusal> {
         _ => file.len(),
     };
     let mut reader = Reader { file: &file[..end], offset: 0, rules };
-    let mut stated = reader.header()?;
+    let mut stated = reader.header(has_room)?;
+    if outcomes {
+        stated.outcomes = Some(Outcomes::zeros(&stated.tables));
+    }
     while let Some(word) = reader.next() {
         reader.statement(&word, &mut stated)?;
     }
     stated.finished(end, rules)
+}
+
+/// Rewards by outcome, as they are stated.
+struct Outcomes {
+    /// By action, state left, state reached and observation.
+    rewards: Vec<i64>,
+    /// Which of them were stated, and by action and state what was stated last: only traps ask.
+    stated: Vec<bool>,
+    last: Vec<i64>,
+}
+
+impl Outcomes {
+    fn zeros(tables: &Tables) -> Outcomes {
+        let (_, sights, rewards) = tables.cells_used();
+        let cells = sights * tables.states as usize;
+        Outcomes { rewards: vec![0; cells], stated: vec![false; cells], last: vec![0; rewards] }
+    }
+
+    /// A statement's reward for one outcome: it supersedes what stood there.
+    fn supersede(&mut self, at: usize, reward: i64, rules: &Rules) {
+        if !(self.stated[at] && rules.has(Trap::EarlierRewardWins)) {
+            self.rewards[at] = reward;
+        }
+        self.stated[at] = true;
+    }
+
+    /// The rewards after the last statement.
+    fn finished(self, rules: &Rules) -> Vec<i64> {
+        let Outcomes { mut rewards, stated, last } = self;
+        if rules.has(Trap::UnstatedFromBefore) {
+            let width = rewards.len() / last.len();
+            for (at, reward) in rewards.iter_mut().enumerate().filter(|(at, _)| !stated[*at]) {
+                *reward = last[at / width];
+            }
+        }
+        rewards
+    }
 }
 
 /// What was stated up to some word.
@@ -47,11 +109,13 @@ struct Stated {
     transitions: Vec<bool>,
     sights: Vec<bool>,
     rewards: Vec<bool>,
+    /// The rewards, where they may depend on the outcome.
+    outcomes: Option<Outcomes>,
 }
 
 impl Stated {
     /// The totals, in order: start, the rows of T, the rows of O.
-    fn finished(self, length: usize, rules: &Rules) -> Result<Reading, Refusal> {
+    fn finished(self, length: usize, rules: &Rules) -> Result<(Reading, Vec<i64>), Refusal> {
         start_total(&self.start, length)?;
         let mut tests = [(5, self.tables.wrong_transition_row()), (6, self.tables.wrong_sight_row())];
         if rules.has(Trap::UnstatedRowsPass) {
@@ -67,7 +131,8 @@ impl Stated {
                 return Err(Refusal::at_index(number, place));
             }
         }
-        Ok(Reading { tables: self.tables, start: self.start })
+        let outcomes = self.outcomes.map_or(Vec::new(), |outcomes| outcomes.finished(rules));
+        Ok((Reading { tables: self.tables, start: self.start }, outcomes))
     }
 }
 
@@ -206,7 +271,7 @@ impl<'a> Reader<'a> {
     }
 
     /// The six lines that come first and in order: discount, values, the counts, start.
-    fn header(&mut self) -> Result<Stated, Refusal> {
+    fn header(&mut self, has_room: impl Fn(&Tables) -> bool) -> Result<Stated, Refusal> {
         self.keyword("discount")?;
         self.keyword(":")?;
         let word = self.word()?;
@@ -223,21 +288,25 @@ impl<'a> Reader<'a> {
         self.keyword("observations")?;
         self.keyword(":")?;
         let observations = self.count(OBSERVATIONS)?;
+        let tables = Tables { discount, ..Tables::zeros(states, actions, observations) };
+        if !has_room(&tables) {
+            return Err(Refusal::at(3, 0));
+        }
         self.keyword("start")?;
         self.keyword(":")?;
-        let mut start = vec![0; STATES];
-        for number in start.iter_mut().take(states as usize) {
+        let mut start = vec![0; states as usize];
+        for number in &mut start {
             let word = self.word()?;
             *number = self.up_to_one(&word, START)?;
         }
         if self.rules.has(Trap::StartTotalEarly) {
             start_total(&start, self.file.len())?;
         }
-        let tables = Tables { states, actions, observations, discount, ..Tables::zero() };
         Ok(Stated {
             transitions: vec![false; tables.transitions.len()],
             sights: vec![false; tables.sights.len()],
             rewards: vec![false; tables.rewards.len()],
+            outcomes: None,
             tables,
             start,
         })
@@ -249,6 +318,8 @@ impl<'a> Reader<'a> {
             self.transition(stated)
         } else if is_keyword(first, "O", self.rules) {
             self.sight(stated)
+        } else if is_keyword(first, "R", self.rules) && stated.outcomes.is_some() {
+            self.outcome(stated)
         } else if is_keyword(first, "R", self.rules) {
             self.rewarded(stated)
         } else {
@@ -305,6 +376,30 @@ impl<'a> Reader<'a> {
             for &s in &states {
                 let at = tables.reward_cell(a, s);
                 supersede(&mut tables.rewards, &mut stated.rewards, at, reward, self.rules);
+            }
+        }
+        Ok(())
+    }
+
+    /// `R: a : s : s' : o r`.
+    fn outcome(&mut self, stated: &mut Stated) -> Result<(), Refusal> {
+        let Stated { tables, outcomes, .. } = stated;
+        let (actions, states) = self.action_and_state(tables)?;
+        self.keyword(":")?;
+        let reached = self.indices(tables.states)?;
+        self.keyword(":")?;
+        let seen = self.indices(tables.observations)?;
+        let reward = self.reward()?;
+        if let Some(outcomes) = outcomes {
+            for &a in &actions {
+                for &s in &states {
+                    outcomes.last[tables.reward_cell(a, s)] = reward;
+                    for &s2 in &reached {
+                        for &o in &seen {
+                            outcomes.supersede(tables.outcome_cell(a, s, s2, o), reward, self.rules);
+                        }
+                    }
+                }
             }
         }
         Ok(())

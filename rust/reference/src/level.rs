@@ -491,7 +491,7 @@ pub fn reaches_uncovered(
         Some(Trap::ReachedSeenAtStateLeft) => model.t(s, a, s2) * model.o(a, s, o) > zero(),
         _ => model.t(s, a, s2) * model.o(a, s2, o) > zero(),
     };
-    let loses = |s: usize, s2: usize, o: usize| reached(s, s2, o) && !standing.covered[choices[o]][s2];
+    let loses = |s: usize, s2: usize, o: usize| !standing.covered[choices[o]][s2] && reached(s, s2, o);
     let from = |s: usize| (0..model.n).any(|s2| (0..model.k).any(|o| loses(s, s2, o)));
     match rules.trap {
         Some(Trap::WithoutTwentyOne) => false,

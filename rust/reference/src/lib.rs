@@ -4,8 +4,8 @@
 //! sentence of the document as it stands, without a shortcut. It is slow, and meant to be read next to the document.
 //!
 //! What is handed in is plain storage ([`Tables`], [`Level`], [`Certifier`], [`Points`], [`Graph`]) that may hold
-//! anything. The cells in use come first, packed by the counts, the last index fastest. A level has lists of any length; all
-//! other arrays have their full fixed sizes. Storage is looked into only after its counts have passed.
+//! anything. The cells in use come first, packed by the counts, the last index fastest. Tables and levels have lists of any
+//! length; all other arrays have their full fixed sizes. Storage is looked into only after its counts have passed.
 //!
 //! [`Rules::default`] is the document. A [`Trap`] is one deliberate departure from it, so that a comparison can be shown
 //! to fail.
@@ -14,6 +14,7 @@ mod adopt;
 #[cfg(test)]
 mod adopt_tests;
 mod build;
+mod convert;
 #[cfg(test)]
 mod dough;
 mod exact;
@@ -38,7 +39,8 @@ mod worth;
 
 pub use adopt::{adopt, adopted_vectors, SOLVER_BYTES};
 pub use build::{build, Points, BUILT_POINTS};
-pub use file::{read, Reading, FILE_BYTES};
+pub use convert::{convert, WRITTEN_STATES};
+pub use file::{read, read_into, read_outcomes, Reading, FILE_BYTES};
 pub use ladder::ladder;
 pub use level::{full_mask, offer, open, Certifier, Level, LEVELS, POINTS, POINT_TOTAL, VECTORS};
 pub use lists::{by_list, list, turned_back, LIST};

@@ -55,7 +55,8 @@ pub fn list(tables: &Tables, room: usize, rules: &Rules) -> Result<Vec<u64>, Ref
 /// The tables that a list says in place of these; none, where it is no list with their counts.
 pub fn turned_back(tables: &Tables, list: &[u64]) -> Option<Tables> {
     let (n, m) = (tables.states as usize, tables.actions as usize);
-    let mut turned = Tables { transitions: vec![0; tables.transitions.len()], ..tables.clone() };
+    let mut turned = tables.stored();
+    turned.transitions.fill(0);
     let begins = |column: usize| list.get(column).map(|&word| word as usize);
     for a in 0..m {
         for s2 in 0..n {

@@ -1,12 +1,12 @@
 //! The model: tables as they are handed in, and the model that they state.
 
-use crate::exact::{k, kept, weights};
+use crate::exact::{k, weights};
 use crate::refusal::Refusal;
 use crate::rules::{Rules, Trap};
 use num_bigint::BigInt;
 
 /// At most so many states.
-pub const STATES: usize = 16;
+pub const STATES: usize = 64;
 /// At most so many actions.
 pub const ACTIONS: usize = 8;
 /// At most so many observations.
@@ -16,8 +16,8 @@ pub const THOUSAND: u64 = 1_000;
 /// Rewards lie within this many ticks of 0.
 pub const REWARD: i64 = 100_000;
 
-/// Tables of any content, in storage.
-#[derive(Clone, Debug, PartialEq, Eq)]
+/// Tables of any content, in lists of any length: the cells in use come first.
+#[derive(Clone, Debug, Default, PartialEq, Eq)]
 pub struct Tables {
     pub states: u64,
     pub actions: u64,
@@ -32,17 +32,11 @@ pub struct Tables {
 }
 
 impl Tables {
-    /// Tables of which every part is 0: those of a refused file.
-    pub fn zero() -> Tables {
-        Tables {
-            states: 0,
-            actions: 0,
-            observations: 0,
-            discount: 0,
-            transitions: vec![0; ACTIONS * STATES * STATES],
-            sights: vec![0; ACTIONS * STATES * OBSERVATIONS],
-            rewards: vec![0; ACTIONS * STATES],
-        }
+    /// Tables with these counts, which are within their limits, and zeros.
+    pub fn zeros(states: u64, actions: u64, observations: u64) -> Tables {
+        let counts = Tables { states, actions, observations, ..Tables::default() };
+        let (transitions, sights, rewards) = counts.cells_used();
+        Tables { transitions: vec![0; transitions], sights: vec![0; sights], rewards: vec![0; rewards], ..counts }
     }
 
     /// Where T(s, a, s') lies.
@@ -61,6 +55,11 @@ impl Tables {
         a * self.states as usize + s
     }
 
+    /// Where the reward of an outcome lies: by action, state left, state reached, observation.
+    pub fn outcome_cell(&self, a: usize, s: usize, s2: usize, o: usize) -> usize {
+        self.transition_cell(a, s, s2) * self.observations as usize + o
+    }
+
     /// Whether the counts are within their limits. Nothing else is looked into unless they are.
     pub fn counts_fit(&self) -> bool {
         let fits = |count: u64, limit: usize| count >= 1 && count <= limit as u64;
@@ -73,12 +72,15 @@ impl Tables {
         (m * n * n, m * n * k, m * n)
     }
 
-    /// 3 on tables: counts, discount, probabilities and rewards within their limits.
+    /// 3 on tables: counts, discount, probabilities and rewards within their limits, and no list shorter than the counts need.
     fn within_limits(&self, rules: &Rules) -> bool {
         if !self.counts_fit() || self.discount > THOUSAND {
             return false;
         }
         let (transitions, sights, rewards) = self.cells_used();
+        if self.transitions.len() < transitions || self.sights.len() < sights || self.rewards.len() < rewards {
+            return false;
+        }
         let probability = |&cell: &u64| cell <= THOUSAND || rules.has(Trap::ProbabilityUnlimited);
         self.transitions[..transitions].iter().all(probability)
             && self.sights[..sights].iter().all(probability)
@@ -129,14 +131,14 @@ impl Tables {
         self.first_row(|a, s2| wrong_but_zeros(self.sight_row(a, s2)))
     }
 
-    /// What is stored of tables within the limits: entries past the counts are 0.
+    /// What is kept of tables within the limits: the cells in use.
     pub fn stored(&self) -> Tables {
         let (transitions, sights, rewards) = self.cells_used();
         Tables {
-            transitions: kept(&self.transitions, transitions),
-            sights: kept(&self.sights, sights),
-            rewards: kept(&self.rewards, rewards),
-            ..self.clone()
+            transitions: self.transitions[..transitions].to_vec(),
+            sights: self.sights[..sights].to_vec(),
+            rewards: self.rewards[..rewards].to_vec(),
+            ..*self
         }
     }
 }
@@ -171,7 +173,7 @@ impl Model {
         if !tables.within_limits(rules) {
             return Err(Refusal::at(3, 0));
         }
-        let n = if rules.has(Trap::RowsBySixteen) { STATES } else { tables.states as usize };
+        let n = if rules.has(Trap::RowsByLimit) { STATES } else { tables.states as usize };
         let mut tests = [(5, tables.wrong_transition_row()), (6, tables.wrong_sight_row())];
         if rules.has(Trap::SightRowsFirst) {
             tests.reverse();
@@ -220,9 +222,10 @@ impl Model {
         self.t(s, a, s2) * self.o(a, seen_at, o)
     }
 
-    /// Successor weights: q(s') is the sum over s of p(s) × T(s, a, s') × O(a, s', o).
+    /// Successor weights: q(s') is the sum over s of p(s) × T(s, a, s') × O(a, s', o). States without weight add nothing.
     pub fn successor(&self, p: &[BigInt], a: usize, o: usize) -> Vec<BigInt> {
-        let q = |s2| (0..self.n).map(|s| &p[s] * self.step(s, a, s2, o)).sum();
+        let weighed: Vec<usize> = (0..self.n).filter(|&s| p[s] != BigInt::from(0)).collect();
+        let q = |s2| weighed.iter().map(|&s| &p[s] * self.step(s, a, s2, o)).sum();
         (0..self.n).map(q).collect()
     }
 
@@ -231,10 +234,11 @@ impl Model {
         (0..self.n).map(|s| &p[s] * self.r(s, a)).sum()
     }
 
-    /// K × R(s, a) + g × the sum over s' and o of T × O × (what `next` has for o and s').
+    /// K × R(s, a) + g × the sum over s' and o of T × O × (what `next` has for o and s'). States that are not reached add
+    /// nothing.
     pub fn backup<'a>(&self, s: usize, a: usize, next: impl Fn(usize, usize) -> &'a BigInt) -> BigInt {
         let mut sum = BigInt::from(0);
-        for s2 in 0..self.n {
+        for s2 in (0..self.n).filter(|&s2| *self.t(s, a, s2) != BigInt::from(0)) {
             for o in 0..self.k {
                 sum += self.step(s, a, s2, o) * next(o, s2);
             }

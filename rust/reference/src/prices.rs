@@ -210,6 +210,6 @@ mod tests {
         // One action less is a model of its own, and its rows are its own.
         assert_eq!(refused(&one, &with(&|tables| tables.actions = 1)), Some((23, 0)));
         assert_eq!(refused(&one, &with(&|tables| tables.states = 1)), Some((5, 0)));
-        assert_eq!(refused(&one, &with(&|tables| tables.rewards[4] = i64::MAX)), None);
+        assert_eq!(refused(&one, &with(&|tables| tables.rewards.push(i64::MAX))), None);
     }
 }

@@ -98,7 +98,7 @@ fn totals_come_last_and_in_order() {
 #[test]
 fn counts_and_indices_have_one_or_two_digits() {
     assert_eq!(in_header("2 actions", "02 actions"), None);
-    for count in ["0", "00", "17", "99"] {
+    for count in ["0", "00", "65", "99"] {
         assert_eq!(in_header("2 actions", &format!("{} actions", count)), Some((3, 0)));
     }
     for count in ["002", "100", "-1", "+2", "2.0", "2.", "2e0", "*", "two"] {
@@ -186,8 +186,37 @@ fn tables_that_are_handed_in() {
     assert_eq!(opened(&|tables| tables.rewards[1] = -100_001), three);
     assert_eq!(opened(&|tables| tables.transitions[3] = 1), Err((5, 1)));
     assert_eq!(opened(&|tables| tables.sights[1] = 999), Err((6, 1)));
-    let garbage = opened(&|tables| tables.transitions[4] = u64::MAX).unwrap();
+    let garbage = opened(&|tables| tables.transitions.push(u64::MAX)).unwrap();
     assert_eq!(garbage.tables, tables);
+    // What is too short for its counts.
+    assert_eq!(opened(&|tables| tables.transitions.truncate(3)), three);
+    assert_eq!(opened(&|tables| tables.sights.truncate(1)), three);
+    assert_eq!(opened(&|tables| tables.rewards.truncate(1)), three);
+    assert_eq!(opened(&|tables| tables.states = 64), three);
+    let wide = |states: u64| {
+        let mut tables = Tables::zeros(states, 1, 1);
+        tables.transitions.iter_mut().step_by(states as usize).for_each(|cell| *cell = 1_000);
+        tables.sights.fill(1_000);
+        open(&tables, &Rules::default()).map(|opened| opened.standing.masks).map_err(|refusal| refusal.number)
+    };
+    assert_eq!((wide(63), wide(64), wide(65)), (Ok(vec![u64::MAX >> 1]), Ok(vec![u64::MAX]), Err(3)));
+}
+
+/// A file whose tables have no room is refused once its counts are read: after the words before, and before the start line.
+#[test]
+fn slices_without_room() {
+    let refused = |file: &str| {
+        let answer = read_into(file.as_bytes(), |tables| tables.cells_used() != (4, 2, 2), &Rules::default());
+        answer.err().map(|refusal| (refusal.number, refusal.place))
+    };
+    let whole = format!("{}{}", HEADER, ROWS);
+    assert_eq!(refused(&whole), Some((3, 0)));
+    assert_eq!(refused(&whole.replacen("observations: 1", "observations: 2", 1)), Some((2, whole.len() as u64)));
+    assert_eq!(refused(&whole.replacen("reward", "cost", 1)), Some((2, 22)));
+    assert_eq!(refused(&whole.replacen("observations: 1", "observations: 9", 1)), Some((3, 64)));
+    assert_eq!(refused(&whole.replacen("start", "begin", 1)), Some((3, 0)));
+    assert_eq!(refused(&whole.replacen("0.5 0.5", "0.5 0.4", 1)), Some((3, 0)));
+    assert_eq!(refused(&" ".repeat(FILE_BYTES + 1)), Some((1, 0)));
 }
 
 #[test]

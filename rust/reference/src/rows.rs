@@ -137,7 +137,7 @@ mod tests {
     /// Rounded towards plus infinity on both sides of 0: half a tick each way.
     #[test]
     fn rounded_up() {
-        let mut tables = Tables { states: 1, actions: 1, observations: 1, discount: 500, ..Tables::zero() };
+        let mut tables = Tables { discount: 500, ..Tables::zeros(1, 1, 1) };
         tables.transitions[0] = 1_000;
         tables.sights[0] = 1_000;
         for (reward, second) in [(1, 2), (-1, -1), (-3, -4), (3, 5)] {

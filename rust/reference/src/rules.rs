@@ -2,11 +2,12 @@
 
 use std::fmt;
 
-/// Defines the traps with a sentence each: those of the reader, of a solver's files, of the judging, of large levels, of lists of
-/// transitions, and of lists of events.
+/// Defines the traps with a sentence each: those of the reader, of the converter, of a solver's files, of the judging, of large
+/// levels, of lists of transitions, and of lists of events.
 macro_rules! traps {
     (
         reading { $($word:ident: $word_text:literal,)* }
+        converting { $($outcome:ident: $outcome_text:literal,)* }
         adopting { $($file:ident: $file_text:literal,)* }
         judging { $($name:ident: $text:literal,)* }
         many { $($large:ident: $large_text:literal,)* }
@@ -17,6 +18,7 @@ macro_rules! traps {
         #[derive(Clone, Copy, Debug, PartialEq, Eq)]
         pub enum Trap {
             $(#[doc = $word_text] $word,)*
+            $(#[doc = $outcome_text] $outcome,)*
             $(#[doc = $file_text] $file,)*
             $(#[doc = $text] $name,)*
             $(#[doc = $large_text] $large,)*
@@ -27,6 +29,9 @@ macro_rules! traps {
         impl Trap {
             /// Those that only show in model files.
             pub const READING: &'static [Trap] = &[$(Trap::$word,)*];
+
+            /// Those that only show in conversions.
+            pub const CONVERTING: &'static [Trap] = &[$(Trap::$outcome,)*];
 
             /// Those that only show in a solver's files.
             pub const ADOPTING: &'static [Trap] = &[$(Trap::$file,)*];
@@ -47,6 +52,7 @@ macro_rules! traps {
             pub fn text(self) -> &'static str {
                 match self {
                     $(Trap::$word => $word_text,)*
+                    $(Trap::$outcome => $outcome_text,)*
                     $(Trap::$file => $file_text,)*
                     $(Trap::$name => $text,)*
                     $(Trap::$large => $large_text,)*
@@ -105,6 +111,33 @@ traps! {
         UnstatedRowsPass: "a row of zeros in a file passes",
         RowPlaceInFile: "5 and 6 of a file have a row's place",
     }
+    converting {
+        // What rewards are stated.
+        OutcomesRefused: "a reward's last two words must be stars in a file to convert too",
+        UnstatedFromBefore: "an outcome that no statement names has what was stated last for its action and state",
+        EarlierRewardWins: "an outcome's reward that was stated is not superseded",
+        // What is expected.
+        ExpectedSightAtStateLeft: "expected rewards take O at the state left",
+        ExpectedFirstSight: "expected rewards take the reward of observation 0",
+        ExpectedUnweighed: "an expected reward is the mean over all outcomes",
+        ExpectedRounded: "an expected reward that is no whole number of ticks is rounded down",
+        // The order of the tests.
+        TwentySevenLast: "27 is tested last",
+        TwentySevenAfterOne: "27 is tested after 1",
+        TwentyFiveBeforeSix: "25 is tested before the totals",
+        TwentyFiveAtCounts: "25 is tested once the counts are read",
+        TwentySixFirst: "26 is tested before 25",
+        TwentySixByState: "26 goes first by state, then by action",
+        TwentySixPlace: "the place of 26 is state × actions + action",
+        // The limits.
+        SeventeenWritten: "17 states are written",
+        FifteenWritten: "16 states are not written",
+        OutputShorter: "27 asks for one byte less",
+        // What is written.
+        DecimalsCut: "zeros at the end of decimals are not written",
+        RewardsUnsigned: "a reward between -1 and 0 is written without its minus",
+        ZerosLeftOut: "a reward of 0 is not written",
+    }
     adopting {
         // The order of the tests.
         GraphOfAnyLength: "only the alpha file's length is tested",
@@ -154,7 +187,7 @@ traps! {
         // Tables.
         SightRowsFirst: "6 is tested before 5",
         ProbabilityUnlimited: "probabilities in tables have no limit of their own",
-        RowsBySixteen: "a row's place counts 16 states to an action",
+        RowsByLimit: "a row's place counts 64 states to an action",
         // Levels.
         WithoutThirteen: "vectors are accepted without their inequality",
         WithoutFourteen: "corners are accepted without their inequality",

@@ -1,6 +1,6 @@
 //! The reference prints what is kept beside each model file of the repository.
 
-use reference::{ladder, Rules};
+use reference::{convert, ladder, Rules, FILE_BYTES};
 use std::fs;
 use std::path::Path;
 
@@ -19,4 +19,12 @@ fn each_file_prints_what_is_expected() {
         }
     }
     assert!(count > 4);
+}
+
+#[test]
+fn the_file_with_outcomes_is_converted() {
+    let folder = Path::new(env!("CARGO_MANIFEST_DIR")).join("../../examples/outcomes");
+    let file = fs::read(folder.join("glazing.pomdp")).unwrap();
+    let written = fs::read(folder.join("glazing.written")).unwrap();
+    assert_eq!(convert(&file, FILE_BYTES, &Rules::default()), Ok(written));
 }

@@ -1,15 +1,15 @@
 use Rattle.adopting.proofs.Prelude.{needs, ℕ, _≡_, sym, ap, _∙_, List, Fine}
 use Rattle.integers.proofs.Kit.{refl, arith}
 use mathlib.Core.List.{[]}
-use Rattle.tables.specs.declared.Tables.{Tables}
+use Rattle.tables.specs.Tables.{Tables}
 use Rattle.tables.specs.Storage.{tablesIn}
 use Rattle.levels.specs.Storage.{Cells, Lent, cells, rows, lent, standingAt}
 use Rattle.solver.specs.declared.Judged.{Judged}
 use Rattle.solver.specs.Files.{vectorsIn}
-use Rattle.adopting.specs.Adopt.{adoptVerdict}
-use Rattle.adopting.proofs.Adopting.{verdict-counted, vectors-counted, answered-back, answered-fine, startVerdict, endVerdict, Started, started}
-use Rattle.adopting.proofs.Adopting.{adopt-first, adopt-then, level-asks, level-said, roof-asks, vectors-ask, points-are, level-laid}
-use Rattle.adopting.proofs.Adopting.{adopted-refused, adopted-fine, adopt-demand}
+use Rattle.adoption.specs.Adopt.{adoptVerdict}
+use Rattle.adoption.proofs.Adopting.{verdict-counted, vectors-counted, answered-back, answered-fine, startVerdict, endVerdict, Started, started}
+use Rattle.adoption.proofs.Adopting.{adopt-first, adopt-then, level-asks, level-said, roof-asks, vectors-ask, points-are, level-laid}
+use Rattle.adoption.proofs.Adopting.{adopted-refused, adopted-fine, adopt-demand}
 use Rattle.adopting.proofs.adopt.Statement.{statement}
 use Rattle.adopting.proofs.adopt.Tie as tie
 

@@ -1,6 +1,6 @@
 use Rattle.integers.proofs.Kit.{refl, true, Bool, _&&_, [], _*_, le-leb, lt-leb, not-false, not-true, leb, ltb, length}
 use Rattle.adopting.proofs.Prelude.{needs, ℕ, _≡_, sym, ap, _∙_, List, Fine, unless, breaks, passes}
-use Rattle.tables.specs.declared.Tables.{Tables}
+use Rattle.tables.specs.Tables.{Tables}
 use Rattle.tables.specs.declared.Verdict.{Verdict}
 use Rattle.tables.specs.Limits.{maxVectors, maxLevels}
 use Rattle.tables.specs.Storage.{tablesIn}
@@ -14,7 +14,7 @@ use Rattle.levels.specs.Judged.{holds}
 use Rattle.runs.proofs.Judged.{Held, standing-true}
 use Rattle.solver.specs.declared.Judged.{Judged}
 use Rattle.solver.specs.Files.{maxFile, vectorsIn, filesVerdict, withCount}
-use Rattle.adopting.proofs.Adopting.{verdict-counted, vectors-counted, counted-back}
+use Rattle.adoption.proofs.Adopting.{verdict-counted, vectors-counted, counted-back}
 use Rattle.adopting.proofs.judge_files.Statement.{statement}
 use Rattle.adopting.proofs.judge_files.Tie as tie
 

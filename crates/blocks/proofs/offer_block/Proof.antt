@@ -1,6 +1,6 @@
 use Rattle.integers.proofs.Kit.{_≡_, _∙_, ap, _<_, _*_, arith, mul-le-mul, needs, length, w64}
 use mir.Val.{Fits}
-use Rattle.tables.specs.declared.Tables.{Tables}
+use Rattle.tables.specs.Tables.{Tables}
 use Rattle.tables.specs.Storage.{tablesIn}
 use Rattle.levels.specs.Storage.{LentLevel, Lent, cells, rows, lent}
 use Rattle.levels.specs.Judged.{offerVerdict}

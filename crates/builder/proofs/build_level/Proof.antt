@@ -1,5 +1,5 @@
 use Rattle.integers.proofs.Kit.{_+_, needs}
-use Rattle.tables.specs.declared.Tables.{Tables}
+use Rattle.tables.specs.Tables.{Tables}
 use Rattle.tables.specs.Storage.{tablesIn}
 use Rattle.levels.specs.Storage.{Cells, cells, lentFor}
 use Rattle.levels.proofs.Over.{Complete, complete-true}

@@ -1,5 +1,5 @@
 use Rattle.integers.proofs.Kit.{_≡_, _∙_, ap, sym, true, false≢true, not-false, not-true, List, [], ℕ, arith, needs}
-use Rattle.tables.specs.declared.Tables.{Tables}
+use Rattle.tables.specs.Tables.{Tables}
 use Rattle.tables.specs.declared.Verdict.the-variants.{Fine}
 use Rattle.tables.specs.Storage.{modelOf, tablesIn}
 use Rattle.tables.proofs.Refusals.{breaks, passes}

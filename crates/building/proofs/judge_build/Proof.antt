@@ -1,7 +1,7 @@
 use Rattle.integers.proofs.Kit.{_≡_, _∙_, refl, ap, sym, true, Bool, _&&_, List, [], ℕ, _≤_, _<_, _+_, _*_, arith, needs, le-leb, lt-leb, not-false, not-true}
 use Rattle.integers.proofs.Kit.{lt-ltb, le-ltb, leb, ltb, length}
 use Rattle.integers.proofs.Searches.{and-true, and-is}
-use Rattle.tables.specs.declared.Tables.{Tables}
+use Rattle.tables.specs.Tables.{Tables}
 use Rattle.tables.specs.declared.Verdict.{Verdict}
 use Rattle.tables.specs.Limits.{maxVectors, maxStates, maxLevels}
 use Rattle.tables.specs.Storage.{modelOf, tablesIn}

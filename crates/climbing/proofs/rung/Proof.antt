@@ -1,5 +1,5 @@
 use Rattle.integers.proofs.Kit.{_≡_, _∙_, refl, _+_, _<_, true, List, arith, needs}
-use Rattle.tables.specs.declared.Tables.{Tables}
+use Rattle.tables.specs.Tables.{Tables}
 use Rattle.tables.specs.Limits.{maxLevels}
 use Rattle.tables.specs.Storage.{modelOf, tablesIn}
 use Rattle.plans.specs.Build.{someCoversAll}

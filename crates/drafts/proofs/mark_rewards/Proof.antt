@@ -5,17 +5,17 @@ use Rattle.drafts.proofs.mark_rewards.Statement.{statement}
 use Rattle.drafts.proofs.mark_rewards.Tie as tie
 
 abbrev Inv-loop : tie.InvT-loop
-Inv-loop cells₀ a rows n x count v r₀ cells r =
-    (r ≤ rows) × Marking (λ r i. some count (λ j. eqb i (rowPlace n (a + r) (x + j)))) (toZ w64 v) cells₀ r cells
+Inv-loop cells₀ block y rows w x count v r₀ cells r =
+    (r ≤ rows) × Marking (λ r i. some count (λ j. eqb i (rowPlace w (block + (y + r)) (x + j)))) (toZ w64 v) cells₀ r cells
 
 abbrev μ-loop : tie.MeasureT-loop
-μ-loop cells₀ a rows n x count v r₀ cells r = rows - r
+μ-loop cells₀ block y rows w x count v r₀ cells r = rows - r
 
 mark-i64-requires : tie.Need-mark-i64-requires Inv-loop μ-loop
 mark-i64-requires c κs =
     let a = c .before .before .before .before .args in
     let l = c .before .before .before .loop in
-    rw (c .start .ensures) (omega (arith, l .inv .1 .long, row-below (a .a + l .r) (a .a + a .rows) (a .n) (omega arith)))
+    rw (c .start .ensures) (omega (arith, l .inv .1 .long, row-below (a .block + (a .y + l .r)) (a .block + (a .y + a .rows)) (a .w) (omega arith)))
 
 loop-again : tie.Need-loop-again Inv-loop μ-loop
 loop-again c =
@@ -27,5 +27,5 @@ returns c = rw (toZ-ofZ (c .before .before .fits .v)) at (marking-end (c .before
 
 pub mark-rewards-spec : {M : Type 1} → statement M
 mark-rewards-spec =
-    tie.close (tie.spec Inv-loop μ-loop (λ c. (omega arith, marking-start _ _ _)) (λ c. omega arith) (λ c κs. omega arith) mark-i64-requires
-    (λ c. search needs) (λ c. search needs) loop-again (λ c. c .before .loop .inv .1 .long) returns)
+    tie.close (tie.spec Inv-loop μ-loop (λ c. (omega arith, marking-start _ _ _)) (λ c. omega arith) (λ c. omega arith) (λ c κs. omega arith)
+    mark-i64-requires (λ c. search needs) (λ c. search needs) loop-again (λ c. c .before .loop .inv .1 .long) returns)

@@ -1,5 +1,5 @@
 use Rattle.integers.proofs.Kit.{ap, needs}
-use Rattle.adopting.specs.declared.Adopted.{Adopted}
+use Rattle.adoption.specs.declared.Adopted.{Adopted}
 use Rattle.answers.specs.Calls.{adoptionBy}
 use Rattle.exports_files.proofs.biidhaqun_adopt.Statement.{statement}
 use Rattle.exports_files.proofs.biidhaqun_adopt.Tie as tie

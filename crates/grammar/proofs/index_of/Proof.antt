@@ -1,7 +1,7 @@
 use Rattle.grammar.proofs.Prelude.{_-_, arith, number, needs}
 use Rattle.numerals.specs.Numeral.{countForm}
 use Rattle.words.specs.Words.{told}
-use Rattle.grammar.specs.Grammar.{choose, got, index}
+use Rattle.grammar.specs.Grammar.{got, index}
 use Rattle.grammar.proofs.Laws.{takes-choose, takes-most, takes-on}
 use Rattle.grammar.proofs.index_of.Statement.{statement}
 use Rattle.grammar.proofs.index_of.Tie as tie

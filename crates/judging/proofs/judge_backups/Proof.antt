@@ -1,6 +1,6 @@
 use Rattle.integers.proofs.Kit.{_≡_, needs}
 use Rattle.tables.specs.Limits.{maxVectors}
-use Rattle.tables.specs.declared.Tables.{Tables}
+use Rattle.tables.specs.Tables.{Tables}
 use Rattle.tables.specs.Storage.{tablesIn}
 use Rattle.levels.specs.Storage.{LentLevel, Lent, cells, rows, lent, lentFor, standingAt}
 use Rattle.columns.specs.Steps.{Lists}

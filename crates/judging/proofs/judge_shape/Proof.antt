@@ -1,6 +1,6 @@
 use Rattle.integers.proofs.Kit.{_≡_, _∙_, ap, sym, true, _≤_, _<_, arith, needs, not-false, not-true, lt-ltb, le-ltb, ltb}
 use Rattle.integers.proofs.Searches.{and-is}
-use Rattle.tables.specs.declared.Tables.{Tables}
+use Rattle.tables.specs.Tables.{Tables}
 use Rattle.tables.specs.declared.Verdict.{Verdict}
 use Rattle.tables.specs.Limits.{maxStates, maxObservations, maxVectors, maxLevels}
 use Rattle.tables.specs.Storage.{tablesIn}

@@ -1,13 +1,32 @@
-use borrow.Author.Needs.{needs}
+use Rattle.integers.proofs.Kit.{_∙_, refl, ℕ, _*_, needs, length-replicate, pos}
+use Rattle.tables.specs.Limits.{maxStates, maxActions, maxObservations}
+use Rattle.tables.proofs.Fitting.{Long}
+use Rattle.modelfile.specs.ModelFile.{ModelFile, room}
+use Rattle.modelfile.specs.Steps.{fileIn}
 use Rattle.ladder.proofs.Own.{read-given}
 use Rattle.ladder.proofs.answer.Statement.{statement}
 use Rattle.ladder.proofs.answer.Tie as tie
 
+-- what was read, in the program's arrays
+abbrev drafted : tie.After-read → ModelFile
+drafted c = let l = c .read .last .1 .1 .1 .1 in fileIn (c .read .result) (l .0) (l .1 .0) (l .1 .1 .0) (l .1 .1 .1 .0)
+
+long : (c : tie.After-read) → Long (drafted c .tables)
+long c = let k = c .read .kept .1 .1 .1 .1 in record {
+  transition = k .0 ∙ length-replicate {A = ℕ} (maxActions * maxStates * maxStates) 0;
+  observation = k .1 .0 ∙ length-replicate {A = ℕ} (maxActions * maxStates * maxObservations) 0;
+  reward = k .1 .1 .0 ∙ length-replicate (maxActions * maxStates) (pos 0);
+}
+
 levels-of-requires : tie.Need-levels-of-requires
 levels-of-requires c κs =
-    read-given (c .mixture .result) _ (c .before .before .before .before .read .ensures) (c .before .before .enum-told .given .1) (c .mixture .ensures)
+    let r = c .before .before .before .before .before .before .before .before .before .before in
+    let fine = c .before .before .before .before .enum-told .given .1 in
+    read-given (drafted r) (room (maxActions * maxStates * maxStates) (maxActions * maxStates * maxObservations) (maxActions * maxStates))
+    (c .mixture .result) (r .before .before .before .before .before .before .args .file .now) (r .read .ensures .1 fine) fine (long r) (c .mixture .ensures)
 
 pub answer-spec : {M : Type 1} → statement M
 answer-spec =
-    tie.close (tie.spec (λ c κs. search needs) (λ c. search needs) (λ c κs. search needs) levels-of-requires (λ c. search needs) (λ c κs. search needs)
-    (λ c. search needs) (λ c. search needs))
+    tie.close (tie.spec (λ c. search needs) (λ c. search needs) (λ c. search needs) (λ c. search needs) (λ c. search needs) (λ c. search needs)
+    (λ c κs. (refl, (refl, (refl, refl)))) (λ c. search needs) (λ c. search needs) (λ c. search needs) (λ c. search needs) (λ c κs. search needs)
+    levels-of-requires (λ c. search needs) (λ c κs. search needs) (λ c. search needs) (λ c. search needs))

@@ -1,6 +1,7 @@
 use Rattle.integers.proofs.Kit.{_≡_, _∙_, refl, ap, ℕ, _≤_, _-_, arith, needs, length}
 use Rattle.tables.specs.Limits.{maxStates}
-use Rattle.tables.proofs.Fitting.{Long}
+use Rattle.tables.specs.Tables.{Tables}
+use Rattle.tables.specs.Storage.{tablesIn}
 use Rattle.levels.specs.Storage.{Cells, Lent, cells, rows, lent}
 use Rattle.levels.proofs.Over.{AsLong}
 use Rattle.runs.specs.declared.Bounds.{Bounds}
@@ -16,24 +17,22 @@ abbrev levels : ℕ
 levels = 3
 
 abbrev Inv-loop : tie.InvT-loop
-Inv-loop tables given state₀ actions₀ choices₀ masks₀ entries₀ corners₀ weights₀ values₀ informed₀ qmdp₀ newactions₀ newchoices₀ newmasks₀ newentries₀
-    newcorners₀ newvalues₀ c t₀ state actions choices masks entries corners weights values informed qmdp newactions newchoices newmasks newentries newcorners
-    newvalues t =
+Inv-loop transition observation reward c given state₀ actions₀ choices₀ masks₀ entries₀ corners₀ weights₀ values₀ informed₀ qmdp₀ newactions₀ newchoices₀
+    newmasks₀ newentries₀ newcorners₀ newvalues₀ t₀ state actions choices masks entries corners weights values informed qmdp newactions newchoices newmasks
+    newentries newcorners newvalues t =
     let z = lent state (cells actions choices masks entries corners weights values) (rows informed qmdp) in
     let y = cells newactions newchoices newmasks newentries newcorners given newvalues in
-    (t ≤ levels) × (Climbed t tables z y × (LentSized z × Sized y))
+    (t ≤ levels) × (Climbed t (tablesIn c transition observation reward) z y × (LentSized z × Sized y))
 
 abbrev μ-loop : tie.MeasureT-loop
-μ-loop tables given state₀ actions₀ choices₀ masks₀ entries₀ corners₀ weights₀ values₀ informed₀ qmdp₀ newactions₀ newchoices₀ newmasks₀ newentries₀
-    newcorners₀ newvalues₀ c t₀ state actions choices masks entries corners weights values informed qmdp newactions newchoices newmasks newentries newcorners
-    newvalues t =
+μ-loop transition observation reward c given state₀ actions₀ choices₀ masks₀ entries₀ corners₀ weights₀ values₀ informed₀ qmdp₀ newactions₀ newchoices₀
+    newmasks₀ newentries₀ newcorners₀ newvalues₀ t₀ state actions choices masks entries corners weights values informed qmdp newactions newchoices newmasks
+    newentries newcorners newvalues t =
     levels - t
 
 -- from each place to the one before it
 abbrev start : tie.After-open Inv-loop μ-loop → tie.Start Inv-loop μ-loop
-start c =
-    let d = c .before .before .before .before .before .before .before .before .before .before in
-    d .before .before .before .before .before .before .before .before
+start c = c .before .before .before .before .before .before .before .before .before .before .before .before .before
 
 abbrev of-open : tie.After-qmdp2 Inv-loop μ-loop → tie.After-open Inv-loop μ-loop
 of-open c = c .before .before .before .before .before .before .before .before
@@ -42,7 +41,7 @@ abbrev of-opening : tie.After-served Inv-loop μ-loop → tie.After-open Inv-loo
 of-opening c = of-open (c .before)
 
 abbrev in-state : tie.After-state3 Inv-loop μ-loop → tie.In-loop Inv-loop μ-loop
-in-state c = c .before .before .before .before .before .before .before .before
+in-state c = c .before
 
 abbrev in-entries : tie.After-entries3 Inv-loop μ-loop → tie.In-loop Inv-loop μ-loop
 in-entries c = in-state (c .before .before .before .before)
@@ -63,18 +62,18 @@ abbrev of-rung : tie.After-newvalues2 Inv-loop μ-loop → tie.After-rung Inv-lo
 of-rung c = c .before .before .before .before .before .before .before .before .before .before .before .before .before .before .before .before
 
 -- the tables open in the program's own slices, and each level has room
-long : (s : tie.Start Inv-loop μ-loop) → Long (s .args .t1)
-long s = search (needs, s .good .0)
+abbrev tables : tie.Start Inv-loop μ-loop → Tables
+tables s = tablesIn (s .args .c) (s .args .transition .now) (s .args .observation .now) (s .args .reward .now)
 
-wide : (s : tie.Start Inv-loop μ-loop) → maxStates ≡ length (s .args .t2)
-wide s = search (needs, s .good .1)
+wide : (s : tie.Start Inv-loop μ-loop) → maxStates ≡ length (s .args .t5)
+wide s = search (needs, s .good)
 
-opens : (s : tie.Start Inv-loop μ-loop) → ModelAccepted (s .args .t1) fresh
-opens s = own-open (s .args .t1) (s .pre .0) (long s) fresh fresh-sized
+opens : (s : tie.Start Inv-loop μ-loop) → ModelAccepted (tables s) fresh
+opens s = own-open (tables s) (s .pre .0) (s .pre .1 .0) fresh fresh-sized
 
-points : (s : tie.Start Inv-loop μ-loop) → PointsHold (s .args .t1) fresh 1 (noneYet (s .args .t2))
+points : (s : tie.Start Inv-loop μ-loop) → PointsHold (tables s) fresh 1 (noneYet (s .args .t5))
 points s =
-    own-points (s .args .t1) (s .pre .0) fresh (noneYet (s .args .t2)) fresh-sized (none-sized (s .args .t2) (wide s)) (s .pre .1)
+    own-points (tables s) (s .pre .0) fresh (noneYet (s .args .t5)) fresh-sized (none-sized (s .args .t5) (wide s)) (s .pre .1 .1)
 
 -- as the opening left them, at the loop, and after a turn
 abbrev opened : tie.After-open Inv-loop μ-loop → Lent
@@ -101,7 +100,7 @@ climbed c =
 abbrev built : tie.After-rung Inv-loop μ-loop → Cells
 built c =
     let l = c .rung .last .1 .1 .1 .1 .1 .1 .1 .1 .1 .1 .1 .1 .1 .1 .1 .1 in
-    cells (l .0) (l .1 .0) (l .1 .1 .0) (l .1 .1 .1 .0) (l .1 .1 .1 .1 .0) (start (of-opening (in-turn c .before .before)) .args .t2) (l .1 .1 .1 .1 .1 .0)
+    cells (l .0) (l .1 .0) (l .1 .1 .0) (l .1 .1 .1 .0) (l .1 .1 .1 .1 .0) (start (of-opening (in-turn c .before .before)) .args .t5) (l .1 .1 .1 .1 .1 .0)
 
 climbed-sized : (c : tie.After-rung Inv-loop μ-loop) → LentSized (climbed c)
 climbed-sized c =
@@ -138,7 +137,7 @@ loop-holds : tie.Need-loop-holds Inv-loop μ-loop
 loop-holds c =
     let o = of-opening c in
     let s = start o in
-    (omega arith, (climbed-0 {z = opened o} (opens s) (points s) (o .«open» .ensures .1), (opened-sized o, none-sized (s .args .t2) (wide s))))
+    (omega arith, (climbed-0 {z = opened o} (opens s) (points s) (o .«open» .ensures .1), (opened-sized o, none-sized (s .args .t5) (wide s))))
 
 rung-requires : tie.Need-rung-requires Inv-loop μ-loop
 rung-requires c κs =

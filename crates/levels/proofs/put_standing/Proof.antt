@@ -1,4 +1,4 @@
-use Rattle.integers.proofs.Kit.{_≡_, refl, List, [], _∷_, ℕ, _≤_, suc, arith, needs, length, drop, set}
+use Rattle.integers.proofs.Kit.{_≡_, refl, List, [], _∷_, ℕ, _≤_, arith, needs, length, drop, set}
 use lib.ListN.{length-set}
 use Rattle.levels.specs.Storage.{stateSize}
 use Rattle.levels.proofs.put_standing.Statement.{statement}

@@ -1,5 +1,5 @@
 use Rattle.integers.proofs.Kit.{_≡_, _∙_, ap, sym, true, List, [], ℕ, _<_, _*_, needs, leb-true, not-false, not-true, leb, length}
-use Rattle.tables.specs.declared.Tables.{Tables}
+use Rattle.tables.specs.Tables.{Tables}
 use Rattle.tables.specs.Storage.{tablesIn, rowIn}
 use Rattle.levels.specs.declared.Standing.{Standing}
 use Rattle.levels.specs.Storage.{Lent, cells, rows, lent, standingAt}

@@ -1,21 +1,55 @@
-use Rattle.modelfile.proofs.Prelude.{ℕ, _+_, sym, ap, _∙_, List, needs, length, wordsIn, between, headed}
-use Rattle.integers.proofs.Kit.{Bool, cond, le-leb, lt-leb}
-use Rattle.modelfile.specs.declared.ModelFile.{ModelFile}
-use Rattle.modelfile.specs.ModelFile.{maxBytes, refusedFile, ended, modelFileBy}
+use Rattle.modelfile.proofs.Prelude.{_+_, needs, length}
+use Rattle.integers.proofs.Kit.{le-leb, lt-leb}
+use Rattle.modelfile.specs.ModelFile.{maxBytes, room, roomed}
+use Rattle.modelfile.proofs.Laws.{answers-long, answers-within, answers-unheaded, answers-headed, headed-within}
 use Rattle.modelfile.proofs.read.Statement.{statement}
 use Rattle.modelfile.proofs.read.Tie as tie
 
--- what is answered, by whether the file is short enough
-abbrev chosen : List ℕ → Bool → ModelFile
-chosen file short = cond short (ended (length file) (headed (length file + 1) (wordsIn between file 0))) (refusedFile 1 0)
+-- from each place to the one before it
+abbrev start : tie.Else1 → tie.Start
+start c = c .before .before .before .before .before
+
+abbrev of-header : tie.After-header-at → tie.Else1
+of-header c = c .before
 
 returns : tie.Need-returns
-unfolding modelFileBy
-returns c = c .headed-at .ensures ∙ sym (ap (chosen (c .before .before .before .args .file .now)) (le-leb _ maxBytes (c .before .if1 .taken)))
+returns c =
+    let a = c .before .before .before .before .before .before .args in
+    answers-long _ _ _ _ (room (a .transitions) (a .observations) (a .rewards)) (a .file .now) (lt-leb _ maxBytes (c .before .if1 .taken)) (c .refusal .ensures)
 
 returns-2 : tie.Need-returns-2
-unfolding modelFileBy
-returns-2 c = c .refusal .ensures ∙ sym (ap (chosen (c .before .before .before .args .file .now)) (lt-leb _ maxBytes (c .before .if1 .left)))
+returns-2 c =
+    let h = c .before .before .before .before in
+    let a = start (of-header h) .args in
+    let r = room (a .transitions) (a .observations) (a .rewards) in
+    let size = length (a .file .now) in
+    let g = c .before .before .number .given in
+    answers-within _ _ _ _ r (a .file .now) (le-leb _ maxBytes (of-header h .if1 .left))
+    (answers-unheaded _ _ _ _ size (λ c ws. roomed r (size + 1) c ws) (h .header-at .ensures) (g .0 .0) (g .0 .1 .0) (g .1) (c .refusal2 .ensures))
+
+roomed-at-requires : tie.Need-roomed-at-requires
+roomed-at-requires c κs =
+    let h = c .before .before .before .before .before .before .before in
+    let g = c .before .before .before .before .before .n .given in
+    let n = g .0 .1 .1 in
+    let w = headed-within (start (of-header h) .args .file .now) (g .0 .0) (g .0 .1 .0) (n .0) (n .1 .0) (n .1 .1 .0)
+    (h .header-at .ensures .within) (g .1) in
+    (w .1, (w .0, start (of-header h) .pre))
+
+returns-3 : tie.Need-returns-3
+returns-3 c =
+    let t = c .before .before .before .before .before .before .before in
+    let h = t .before .before .before .before .before .before .before .before in
+    let a = start (of-header h) .args in
+    let r = room (a .transitions) (a .observations) (a .rewards) in
+    let size = length (a .file .now) in
+    let g = t .before .before .before .before .before .before .n .given in
+    let n = g .0 .1 .1 in
+    answers-within _ _ _ _ r (a .file .now) (le-leb _ maxBytes (of-header h .if1 .left))
+    (answers-headed _ _ _ _ size (λ c ws. roomed r (size + 1) c ws) (h .header-at .ensures) (g .0 .0) (g .0 .1 .0) (n .0) (n .1 .0) (n .1 .1 .0) (g .1)
+    (t .roomed-at .ensures))
 
 pub read-spec : {M : Type 1} → statement M
-read-spec = tie.close (tie.spec (λ c κs. search needs) returns (λ c κs. search needs) returns-2)
+read-spec =
+    tie.close (tie.spec (λ c κs. search needs) returns (λ c κs. search needs) (λ c. search needs) (λ c κs. search needs) (λ c. search needs)
+    roomed-at-requires returns-2 (λ c. search needs) (λ c. search needs) (λ c. search needs) (λ c. search needs) returns-3)

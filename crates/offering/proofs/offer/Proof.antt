@@ -1,6 +1,6 @@
 use Rattle.integers.proofs.Kit.{_≡_, _∙_, refl, ap, sym, List, _∷_, ℕ, _+_, arith, needs, drop, ℤ}
 use Rattle.tables.specs.Limits.{maxVectors}
-use Rattle.tables.specs.declared.Tables.{Tables}
+use Rattle.tables.specs.Tables.{Tables}
 use Rattle.tables.specs.declared.Verdict.{Verdict}
 use Rattle.tables.specs.declared.Verdict.the-variants.{Fine}
 use Rattle.tables.specs.Verdicts.{_before_}

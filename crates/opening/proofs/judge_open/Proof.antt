@@ -1,5 +1,5 @@
 use Rattle.integers.proofs.Kit.{_≡_, _∙_, sym, _&&_, _≤_, _*_, arith, mul-le-mul, needs, le-leb, lt-leb, not-false, not-true, leb}
-use Rattle.tables.specs.declared.Tables.{Tables}
+use Rattle.tables.specs.Tables.{Tables}
 use Rattle.tables.specs.declared.Verdict.the-variants.{Fine}
 use Rattle.tables.specs.Limits.{maxStates, maxActions}
 use Rattle.tables.specs.Storage.{tablesIn}

@@ -1,5 +1,5 @@
 use Rattle.integers.proofs.Kit.{_≡_, _∙_, ap, sym, _∷_, _≤_, _<_, _*_, arith, mul-le-mul, needs, length, drop}
-use Rattle.tables.specs.declared.Tables.{Tables}
+use Rattle.tables.specs.Tables.{Tables}
 use Rattle.tables.specs.declared.Verdict.the-variants.{Fine}
 use Rattle.tables.specs.Limits.{maxStates, maxActions, maxObservations}
 use Rattle.tables.specs.Storage.{tablesIn}

@@ -1,5 +1,5 @@
 use Rattle.integers.proofs.Kit.{_≡_, _∙_, sym, List, [], ℕ, _≤_, _*_, arith, mul-le-mul, needs}
-use Rattle.tables.specs.declared.Tables.{Tables}
+use Rattle.tables.specs.Tables.{Tables}
 use Rattle.tables.specs.declared.Verdict.the-variants.{Fine}
 use Rattle.tables.specs.Limits.{maxReward, maxEntry}
 use Rattle.tables.specs.Storage.{tablesIn, modelOf}

@@ -1,4 +1,4 @@
-use Rattle.integers.proofs.Kit.{ℕ, _+_, _*_, _≤_, _-_, _≡_, sym, _∙_, arith, List, length, getD, ℤ, pos, needs, ap, not-false, not-true}
+use Rattle.integers.proofs.Kit.{ℕ, _+_, _*_, _≤_, _-_, _≡_, sym, _∙_, arith, List, length, getD, ℤ, pos, ap, not-false, not-true}
 use Rattle.integers.specs.Whole.{totalTo}
 use Rattle.integers.proofs.Lists.{row-below}
 use Rattle.tables.specs.declared.Verdict.{Verdict}

@@ -1,6 +1,6 @@
 use Rattle.integers.proofs.Kit.{_≡_, _∙_, sym, true, List, ℕ, needs, not-false, not-true}
 use Rattle.tables.specs.Limits.{maxVectors}
-use Rattle.tables.specs.declared.Tables.{Tables}
+use Rattle.tables.specs.Tables.{Tables}
 use Rattle.tables.specs.Storage.{tablesIn}
 use Rattle.tables.proofs.Refusals.{breaks, passes}
 use Rattle.levels.specs.Storage.{Lent, cells, rows, lent}

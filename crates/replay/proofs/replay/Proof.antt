@@ -1,5 +1,5 @@
 use Rattle.integers.proofs.Kit.{_≡_, _∙_, refl, sym, needs}
-use Rattle.tables.specs.declared.Tables.{Tables}
+use Rattle.tables.specs.Tables.{Tables}
 use Rattle.tables.specs.declared.Verdict.the-variants.{Fine}
 use Rattle.tables.specs.Storage.{tablesIn}
 use Rattle.levels.specs.Storage.{Lent, cells, rows, lent}

@@ -1,4 +1,4 @@
-use Rattle.rows.proofs.Prelude.{_*_, _≤_, pos, _≡_, _∙_, arith, needs}
+use Rattle.rows.proofs.Prelude.{_*_, _≤_, pos, _∙_, arith, needs}
 use lib.ListN.{replicate}
 use Rattle.tables.specs.Limits.{maxStates, maxActions}
 use Rattle.rows.proofs.Stepped.{cells-few, rows-pasted}

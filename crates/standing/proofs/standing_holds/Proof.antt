@@ -1,6 +1,6 @@
 use Rattle.integers.proofs.Kit.{_≡_, _∙_, ap, sym, true, Bool, _&&_, List, [], ℕ, _≤_, needs, le-leb, lt-leb, leb-true, not-false, not-true, leb, length}
 use Rattle.integers.proofs.Kit.{getD, ℤ}
-use Rattle.tables.specs.declared.Tables.{Tables}
+use Rattle.tables.specs.Tables.{Tables}
 use Rattle.tables.specs.declared.Verdict.{Verdict}
 use Rattle.tables.specs.declared.Verdict.the-variants.{Fine}
 use Rattle.tables.specs.Limits.{maxStates, maxVectors, maxLevels}

@@ -27,7 +27,7 @@ returns-2 c =
     let a = c .before .before .before .before .before .before .before .before .before .before .before .args in
     let g = c .before .before .before .before .before .x .given in
     chooses-on (λ ws. within (λ cells. draft t cells (a .reward .now)) (table (a .m) (a .n) (a .k) (a .observation .now) ws))
-    (rewardStatement (a .m) (a .n) (draft t (a .observation .now) (a .reward .now)) (told (a .file .now) (a .w))) (g .0 .0) (g .0 .1 .0)
+    (rewardStatement (a .full) (a .m) (a .n) (a .k) (draft t (a .observation .now) (a .reward .now)) (told (a .file .now) (a .w))) (g .0 .0) (g .0 .1 .0)
     (takes-begin (c .before .before .before .before .before .before .before .before .before .before .before .pre .0)
     (c .before .before .before .before .before .before .before .key-of .ensures)) (g .1)
     (leaves-within (λ cells. draft t cells (a .reward .now)) (c .before .before .table-at .ensures))

@@ -9,6 +9,7 @@ use Rattle.grammar.specs.Grammar.{magnitude, minus}
 use Rattle.grammar.proofs.Laws.{takes-reads}
 use Rattle.entries.specs.Entries.{filled}
 use Rattle.entries.proofs.Laws.{leaves-done, leaves-earlier}
+use Rattle.statements.specs.Statements.{rewardBy}
 use Rattle.statements.proofs.Laws.{reward-by}
 use Rattle.statements.proofs.reward_at.Statement.{statement}
 use Rattle.statements.proofs.reward_at.Tie as tie
@@ -17,6 +18,7 @@ magnitude-of-requires : tie.Need-magnitude-of-requires
 magnitude-of-requires c κs = (inside (c .word-from .ensures .within (c .before .before .pre .0 .0)), omega arith)
 
 returns : tie.Need-returns
+unfolding rewardBy
 returns c =
     let a = c .before .before .before .before .before .args in
     let ws = wordsIn between (a .file .now) (a .at) in
@@ -24,7 +26,7 @@ returns c =
     (leaves-back (a .cells .now) (λ v rest. filled (rewarded (a .m) (a .n) (a .a) (a .s) (signed (minus ws) v) (a .cells .now)) rest)
     (takes-reads (magnitude rewardForm maxReward) (c .before .before .before .word-from .ensures .within
     (c .before .before .before .before .before .pre .0 .0)) (c .before .before .magnitude-of .ensures)) (c .before .match .keys2))
-    (omega arith) (reward-by (a .m) (a .n) (a .a) (a .s) (a .cells .now) ws)
+    (omega arith) (reward-by (λ r. rewarded (a .m) (a .n) (a .a) (a .s) r (a .cells .now)) (a .cells .now) ws)
 
 minus-of-requires : tie.Need-minus-of-requires
 minus-of-requires c κs = inside (c .before .before .before .before .word-from .ensures .within (c .before .before .before .before .before .before .pre .0 .0))
@@ -39,6 +41,7 @@ with-sign-requires c κs =
     )
 
 returns-2 : tie.Need-returns-2
+unfolding rewardBy
 returns-2 c =
     let a = c .before .before .before .before .before .before .before .before .before .before .before .args in
     let g = c .before .before .before .before .before .before .x .given in
@@ -52,7 +55,7 @@ returns-2 c =
     (leaves-done (a .cells .now) (λ v. rewarded (a .m) (a .n) (a .a) (a .s) (signed (minus ws) v) (a .cells .now)) (g .0 .0) (g .0 .1 .0)
     (takes-reads (magnitude rewardForm maxReward) w (c .before .before .before .before .before .before .before .before .magnitude-of .ensures)) (g .1)
     (c .before .state-reward .ensures ∙ ap (λ (r : ℤ). rewarded (a .m) (a .n) (a .a) (a .s) r (a .cells .now)) e))
-    (omega arith) (reward-by (a .m) (a .n) (a .a) (a .s) (a .cells .now) ws)
+    (omega arith) (reward-by (λ r. rewarded (a .m) (a .n) (a .a) (a .s) r (a .cells .now)) (a .cells .now) ws)
 
 pub reward-at-spec : {M : Type 1} → statement M
 reward-at-spec =

@@ -1,5 +1,5 @@
 use Rattle.statements.proofs.Prelude.{needs, value-next, draft, within, leaves-back, leaves-on, leaves-within, takes-begin}
-use Rattle.statements.specs.Statements.{rewards, rewardStatementBy}
+use Rattle.statements.specs.Statements.{rewardsOrOutcomes, rewardStatementBy}
 use Rattle.statements.proofs.reward_statement_at.Statement.{statement}
 use Rattle.statements.proofs.reward_statement_at.Tie as tie
 
@@ -8,11 +8,11 @@ unfolding rewardStatementBy
 returns c =
     λ t o.
     let a = c .before .before .before .before .before .args in
-    leaves-back (draft t o (a .reward .now)) (λ _ ws. within (draft t o) (rewards (a .m) (a .n) (a .reward .now) ws))
+    leaves-back (draft t o (a .reward .now)) (λ _ ws. within (draft t o) (rewardsOrOutcomes (a .full) (a .m) (a .n) (a .k) (a .reward .now) ws))
     (takes-begin (c .before .before .before .before .before .pre .0) (c .before .before .key-of .ensures)) (c .before .match .keys2)
 
-rewards-at-requires : tie.Need-rewards-at-requires
-rewards-at-requires c κs = (
+rewards-or-outcomes-at-requires : tie.Need-rewards-or-outcomes-at-requires
+rewards-or-outcomes-at-requires c κs = (
   value-next _ _ (takes-begin (c .before .before .before .before .before .before .before .pre .0)
       (c .before .before .before .before .key-of .ensures)) (c .before .before .x .given .1) .1 .1,
   c .before .before .before .before .before .before .before .pre .1,
@@ -24,12 +24,13 @@ returns-2 c =
     λ t o.
     let a = c .before .before .before .before .before .before .before .before .before .args in
     let g = c .before .before .before .before .x .given in
-    leaves-on (draft t o (a .reward .now)) (g .0 .0) (g .0 .1 .0) (λ _ ws. within (draft t o) (rewards (a .m) (a .n) (a .reward .now) ws))
+    leaves-on (draft t o (a .reward .now)) (g .0 .0) (g .0 .1 .0)
+    (λ _ ws. within (draft t o) (rewardsOrOutcomes (a .full) (a .m) (a .n) (a .k) (a .reward .now) ws))
     (takes-begin (c .before .before .before .before .before .before .before .before .before .pre .0)
     (c .before .before .before .before .before .before .key-of .ensures)) (g .1)
-    (leaves-within (draft t o) (c .before .rewards-at .ensures))
+    (leaves-within (draft t o) (c .before .rewards-or-outcomes-at .ensures))
 
 pub reward-statement-at-spec : {M : Type 1} → statement M
 reward-statement-at-spec =
-    tie.close (tie.spec (λ c. search needs) (λ c κs. search needs) (λ c. search needs) (λ c. search needs) returns rewards-at-requires
+    tie.close (tie.spec (λ c. search needs) (λ c κs. search needs) (λ c. search needs) (λ c. search needs) returns rewards-or-outcomes-at-requires
     (λ c. search needs) returns-2)

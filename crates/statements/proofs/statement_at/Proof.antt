@@ -26,7 +26,7 @@ returns-2 c =
     let a = c .before .before .before .before .before .before .before .before .before .before .before .before .args in
     let g = c .before .before .before .before .before .x .given in
     chooses-on (λ ws. within (λ cells. draft cells (a .observation .now) (a .reward .now)) (table (a .m) (a .n) (a .n) (a .transition .now) ws))
-    (observationOrReward (a .m) (a .n) (a .k) (draft (a .transition .now) (a .observation .now) (a .reward .now)) (told (a .file .now) (a .w)))
+    (observationOrReward (a .full) (a .m) (a .n) (a .k) (draft (a .transition .now) (a .observation .now) (a .reward .now)) (told (a .file .now) (a .w)))
     (g .0 .0) (g .0 .1 .0) (takes-begin (c .before .before .before .before .before .before .before .before .before .before .before .before .pre .0)
     (c .before .before .before .before .before .before .before .key-of .ensures)) (g .1)
     (leaves-within (λ cells. draft cells (a .observation .now) (a .reward .now)) (c .before .before .table-at .ensures))

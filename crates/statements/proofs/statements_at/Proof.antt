@@ -1,26 +1,27 @@
 use Rattle.statements.proofs.Prelude.{ℕ, _∙_, List, arith, needs, ℤ, draft, inside}
-use Rattle.integers.proofs.Kit.{_≡_, refl, _-_, length}
+use Rattle.integers.proofs.Kit.{_≡_, refl, Bool, _-_, length}
 use Rattle.entries.specs.Steps.{CellsFit}
-use Rattle.statements.proofs.Laws.{fit-kept, Left, left-start, left-end, left-back, left-next, left-on}
+use Rattle.statements.specs.Steps.{RewardCells}
+use Rattle.statements.proofs.Laws.{fit-kept, rewards-kept, Left, left-start, left-end, left-back, left-next, left-on}
 use Rattle.statements.proofs.statements_at.Statement.{statement}
 use Rattle.statements.proofs.statements_at.Tie as tie
 
-record Going (file : List ℕ) (from : ℕ) (transition₀ observation₀ : List ℕ) (reward₀ : List ℤ) (m n k : ℕ) (transition observation : List ℕ) (reward : List ℤ)
-    (at : ℕ) : Type 0 where
+record Going (file : List ℕ) (from : ℕ) (transition₀ observation₀ : List ℕ) (reward₀ : List ℤ) (m n k : ℕ) (full : Bool)
+    (transition observation : List ℕ) (reward : List ℤ) (at : ℕ) : Type 0 where
   transition-fits : CellsFit m n n transition
   observation-fits : CellsFit m n k observation
-  reward-fits : CellsFit m n 1 reward
+  reward-fits : RewardCells full m n k reward
   transition-long : length transition ≡ length transition₀
   observation-long : length observation ≡ length observation₀
   reward-long : length reward ≡ length reward₀
-  left : Left m n k file from (draft transition₀ observation₀ reward₀) at (draft transition observation reward)
+  left : Left full m n k file from (draft transition₀ observation₀ reward₀) at (draft transition observation reward)
 
 abbrev Inv-loop : tie.InvT-loop
-Inv-loop file from transition₀ observation₀ reward₀ m n k at₀ transition observation reward at =
-    Going file from transition₀ observation₀ reward₀ m n k transition observation reward at
+Inv-loop file from transition₀ observation₀ reward₀ m n k full at₀ transition observation reward at =
+    Going file from transition₀ observation₀ reward₀ m n k full transition observation reward at
 
 abbrev μ-loop : tie.MeasureT-loop
-μ-loop file from transition₀ observation₀ reward₀ m n k at₀ transition observation reward at = length file - at
+μ-loop file from transition₀ observation₀ reward₀ m n k full at₀ transition observation reward at = length file - at
 
 loop-holds : tie.Need-loop-holds Inv-loop μ-loop
 loop-holds c =
@@ -32,13 +33,13 @@ loop-holds c =
       transition-long = refl;
       observation-long = refl;
       reward-long = refl;
-      left = left-start _ _ _ _ _ _ (c .before .before .before .pre .0);
+      left = left-start _ _ _ _ _ _ _ (c .before .before .before .pre .0);
     }
 
 returns : tie.Need-returns Inv-loop μ-loop
 returns c =
     let i = c .before .before .before .loop .inv .left in
-    left-end _ _ _ _ _ _ i (c .before .before .word-from .result) (c .before .before .word-from .ensures .within (i .inside)) (c .before .match .keys2)
+    left-end _ _ _ _ _ _ _ i (c .before .before .word-from .result) (c .before .before .word-from .ensures .within (i .inside)) (c .before .match .keys2)
 
 statement-at-requires : tie.Need-statement-at-requires Inv-loop μ-loop
 statement-at-requires c κs =
@@ -62,7 +63,7 @@ same-length-6 c = c .before .before .before .before .before .before .before .sta
 returns-2 : tie.Need-returns-2 Inv-loop μ-loop
 returns-2 c =
     let i = c .before .before .before .before .before .before .before .before .before .before .before .before .before .before .loop .inv .left in
-    left-back _ _ _ _ _ _ i (c .before .before .before .before .before .before .before .before .before .before .before .before .before .word-from .result)
+    left-back _ _ _ _ _ _ _ i (c .before .before .before .before .before .before .before .before .before .before .before .before .before .word-from .result)
     (c .before .before .before .before .before .before .before .before .before .before .before .before .before .word-from .ensures .within (i .inside))
     (c .before .before .before .before .before .before .before .before .before .before .before .before .match .keys1)
     (c .before .before .before .before .before .before .before .statement-at .ensures) (c .before .match2 .keys2)
@@ -74,7 +75,7 @@ loop-less c =
     omega (
       arith,
       left-next
-          _ _ _ _ _ _ i (c .before .before .before .before .before .before .before .before .before .before .before .before .before .before .word-from .result)
+          _ _ _ _ _ _ _ i (c .before .before .before .before .before .before .before .before .before .before .before .before .before .before .word-from .result)
           (c .before .before .before .before .before .before .before .before .before .before .before .before .before .before .word-from .ensures .within
           (i .inside)) (g .0 .0)
           (g .0 .1 .0) (c .before .before .before .before .before .before .before .before .before .before .before .before .before .match .keys1)
@@ -89,11 +90,11 @@ loop-again c =
     record {
       transition-fits = fit-kept (i .transition-fits) (s .kept .1 .1 .0);
       observation-fits = fit-kept (i .observation-fits) (s .kept .1 .1 .1 .0);
-      reward-fits = fit-kept (i .reward-fits) (s .kept .1 .1 .1 .1 .0);
+      reward-fits = rewards-kept (i .reward-fits) (s .kept .1 .1 .1 .1 .0);
       transition-long = s .kept .1 .1 .0 ∙ i .transition-long;
       observation-long = s .kept .1 .1 .1 .0 ∙ i .observation-long;
       reward-long = s .kept .1 .1 .1 .1 .0 ∙ i .reward-long;
-      left = left-on _ _ _ _
+      left = left-on _ _ _ _ _
           _ _ (i .left) (c .before .before .before .before .before .before .before .before .before .before .before .before .before .before .word-from .result)
           (c .before .before .before .before .before .before .before .before .before .before .before .before .before .before .word-from .ensures .within
           (i .left .inside)) (g .0 .0)

@@ -2,7 +2,7 @@ use Rattle.worth.proofs.Prelude.{_≡_, sym, _∙_, needs, maxNodes, mo
 use Rattle.integers.proofs.Kit.{arith, true, Bool, _&&_, not-false, not-true}
 use Rattle.integers.proofs.Searches.{and-true}
 use Rattle.tables.specs.declared.Verdict.the-variants.{Fine}
-use Rattle.tables.specs.declared.Tables.{Tables}
+use Rattle.tables.specs.Tables.{Tables}
 use Rattle.tables.specs.Model.{Valid}
 use Rattle.tables.specs.Storage.{tablesIn}
 use Rattle.tables.specs.Judged.{countWithin, tablesVerdict}

@@ -1,6 +1,6 @@
 use Rattle.worth.proofs.Prelude.{_≡_, sym, _∙_, arith, needs, modelOf, worthVerdict}
 use Rattle.integers.proofs.Words.{answer}
-use Rattle.tables.specs.declared.Tables.{Tables}
+use Rattle.tables.specs.Tables.{Tables}
 use Rattle.tables.specs.declared.Verdict.the-variants.{Fine}
 use Rattle.tables.specs.Storage.{tablesIn}
 use Rattle.tables.proofs.Fitting.{rows-stored}

@@ -4,6 +4,7 @@ mod adopting;
 mod building;
 mod certify;
 mod check;
+mod convert;
 mod import;
 mod levels;
 mod picture;
@@ -33,6 +34,7 @@ fn main() {
         },
         Request::Check { file } => check::run(&file),
         Request::Import { file, round, out } => import::run(&file, round, out.as_deref()),
+        Request::Convert { file, out } => convert::run(&file, out.as_deref()),
         Request::Picture { built, out } => picture::run(&built, &out),
     };
     process::exit(match ended {
@@ -51,6 +53,10 @@ fn stopped(stop: &Stop, json: bool) -> i32 {
                 println!("refused {} at {}", refusal.number(), refusal.place.number());
             }
             report::model(path, file, refusal);
+            exit::REFUSED
+        }
+        Stop::Conversion { path, file, refusal } => {
+            report::conversion(path, file, refusal);
             exit::REFUSED
         }
         Stop::Solver { path, file, refusal, told } => {

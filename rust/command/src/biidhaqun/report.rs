@@ -5,7 +5,7 @@ use codespan_reporting::diagnostic::{Diagnostic, Label};
 use codespan_reporting::files::SimpleFile;
 use codespan_reporting::term::termcolor::{ColorChoice, StandardStream};
 use codespan_reporting::term::{self, Config, DisplayStyle};
-use command::model_file;
+use command::model_file::{self, Draft, Trouble};
 use command::told::Told;
 use std::path::Path;
 
@@ -15,10 +15,18 @@ const LONG: usize = 400;
 /// A refused model file, in the shell's words. The library's refusal counts: where the shell finds another one, the
 /// library's own sentence is shown, and that the shell is wrong.
 pub fn model(path: &Path, file: &[u8], refusal: &Refusal) {
-    match model_file::judge(file) {
+    judged(path, file, refusal, model_file::judge(file));
+}
+
+/// A refused file to convert, likewise.
+pub fn conversion(path: &Path, file: &[u8], refusal: &Refusal) {
+    judged(path, file, refusal, model_file::judge_outcomes(file));
+}
+
+fn judged(path: &Path, file: &[u8], refusal: &Refusal, judged: Result<Draft, Trouble>) {
+    match judged {
         Err(trouble) if (trouble.number, trouble.place) == (refusal.number(), refusal.place.number()) => {
-            let more = format!("refused by {} of document 01; `biidhaqun explain {0}` says more", refusal.number());
-            show(path, file, &trouble.told, Some(&refusal.number().to_string()), &[more]);
+            show(path, file, &trouble.told, Some(&refusal.number().to_string()), &[more(refusal)]);
         }
         other => {
             let told = Told { title: refusal.to_string(), marks: Vec::new(), notes: Vec::new() };
@@ -31,9 +39,13 @@ pub fn model(path: &Path, file: &[u8], refusal: &Refusal) {
 
 /// A refused file of a solver, in the shell's words.
 pub fn solver(path: &Path, file: &[u8], refusal: &Refusal, told: &Told) {
+    show(path, file, told, Some(&refusal.number().to_string()), &[more(refusal)]);
+}
+
+/// Where a refusal is from, and where more is said.
+fn more(refusal: &Refusal) -> String {
     let document = if refusal.number() > 18 { "02" } else { "01" };
-    let more = format!("refused by {} of document {}; `biidhaqun explain {0}` says more", refusal.number(), document);
-    show(path, file, told, Some(&refusal.number().to_string()), &[more]);
+    format!("refused by {} of document {}; `biidhaqun explain {0}` says more", refusal.number(), document)
 }
 
 /// A refusal that the shell does not find.

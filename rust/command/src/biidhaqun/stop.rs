@@ -9,6 +9,8 @@ use std::path::PathBuf;
 pub enum Stop {
     /// The library refused a model file. The line that `ladder` prints is printed where it is wanted.
     Model { path: PathBuf, file: Vec<u8>, refusal: Refusal, line: bool },
+    /// The library refused a file to convert.
+    Conversion { path: PathBuf, file: Vec<u8>, refusal: Refusal },
     /// The library refused a solver's files: this one of them, for what is told, if the shell finds the same.
     Solver { path: PathBuf, file: Vec<u8>, refusal: Refusal, told: Option<Told> },
     /// The library refused something else.

@@ -14,7 +14,7 @@ use std::iter::Peekable;
 use std::ops::Range;
 
 /// What a model file has room for.
-const MOST: [(&str, usize); 3] = [("states", 16), ("actions", 8), ("observations", 8)];
+const MOST: [(&str, usize); 3] = [("states", 64), ("actions", 8), ("observations", 8)];
 /// Words that are no names: each opens a header or a statement.
 const KEYS: [&str; 9] = ["discount", "values", "states", "actions", "observations", "start", "T", "O", "R"];
 
@@ -97,7 +97,7 @@ impl Headers {
                 Some(list) if list.count == 0 || list.count > *most => wrong.push(Told {
                     title: format!("the model has {} {}, and 1 to {} fit into a model file", list.count, key, most),
                     marks: vec![Mark::new(list.span.clone(), format!("{} {}", list.count, key))],
-                    notes: vec!["the limits are 16 states, 8 actions and 8 observations".to_string()],
+                    notes: vec!["the limits are 64 states, 8 actions and 8 observations".to_string()],
                 }),
                 Some(_) => {}
             }

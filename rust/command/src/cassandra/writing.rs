@@ -6,6 +6,9 @@ use crate::names::Names;
 use crate::numerals::shown;
 use std::fmt::Write;
 
+/// Rows of more numbers are written entry by entry where that is shorter: a file has at most 32,768 bytes.
+const WIDE: usize = 16;
+
 /// The model file. `name` is what it was imported from.
 pub fn write(fitted: &Fitted, name: &str) -> String {
     let Counts { states, actions, observations } = fitted.counts;
@@ -29,7 +32,13 @@ pub fn write(fitted: &Fitted, name: &str) -> String {
         for (action, rows) in rows.chunks(states).enumerate() {
             heading(&mut text, key, action, &named.actions);
             statements(&mut text, rows, |text, state, row| {
-                line(text, format_args!("{}: {} : {} {}", key, action, state, numbers(row, 3)));
+                let whole = format!("{}: {} : {} {}\n", key, action, state, numbers(row, 3));
+                let entry = |(index, &number): (usize, &i64)| match number {
+                    0 => String::new(),
+                    _ => format!("{}: {} : {} : {} {}\n", key, action, state, index, shown(number, 3)),
+                };
+                let entries: String = row.iter().enumerate().map(entry).collect();
+                text.push_str(if row.len() > WIDE && entries.len() < whole.len() { &entries } else { &whole });
             });
         }
     }
@@ -72,4 +81,20 @@ fn statements<Row: PartialEq>(text: &mut String, rows: &[Row], mut one: impl FnM
 fn numbers(row: &[i64], decimals: u32) -> String {
     let words: Vec<String> = row.iter().map(|&number| shown(number, decimals)).collect();
     words.join(" ")
+}
+
+#[cfg(test)]
+mod tests {
+    use crate::cassandra::{fit, read, write};
+    use reference::Rules;
+
+    #[test]
+    fn sixty_four_states_of_which_each_stays() {
+        let text = "discount: 0.95 values: reward states: 64 actions: 8 observations: 2 T: * identity O: * uniform R: 7 : 63 : * : * 5";
+        let written = write(&fit(&read(text.as_bytes()).unwrap(), false).unwrap(), "a test");
+        let tables = reference::read(written.as_bytes(), &Rules::default()).unwrap().tables;
+        let stays = |a: usize, s: usize| tables.transitions[tables.transition_cell(a, s, s)] == 1_000;
+        assert!((0..8).all(|a| (0..64).all(|s| stays(a, s))));
+        assert_eq!(tables.rewards[tables.reward_cell(7, 63)], 500);
+    }
 }

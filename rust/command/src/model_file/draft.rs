@@ -17,12 +17,13 @@ pub struct Draft {
     pub transitions: Table<i64>,
     /// In thousandths, by action, state reached, observation.
     pub observations: Table<i64>,
-    /// In ticks, by action and state.
+    /// In ticks, by action and state; or by action, state and (state reached) x observations + observation.
     pub rewards: Table<i64>,
 }
 
 impl Draft {
-    pub fn new(counts: Counts, discount: i64, start: Vec<i64>, start_from: Range<usize>) -> Draft {
+    /// Nothing but the headers, with rewards by action and state or by outcome.
+    pub fn new(counts: Counts, discount: i64, start: Vec<i64>, start_from: Range<usize>, outcomes: bool) -> Draft {
         let Counts { states, actions, observations } = counts;
         Draft {
             counts,
@@ -31,7 +32,7 @@ impl Draft {
             start_from,
             transitions: Table::new(actions, states, states, 0),
             observations: Table::new(actions, states, observations, 0),
-            rewards: Table::new(actions, states, 1, 0),
+            rewards: Table::new(actions, states, if outcomes { states * observations } else { 1 }, 0),
         }
     }
 }

@@ -57,6 +57,9 @@ impl Want {
             Want::Word(":") if number || matches!(&text[..], "identity" | "uniform") => {
                 import("write a matrix row by row, as `T: a : s` and its numbers")
             }
+            Want::Word("*") if number => {
+                "write `R: a : s : * : *` and the expected reward, or let `biidhaqun convert` do it".to_string()
+            }
             Want::Word("*") => import("write `R: a : s : * : *` and the expected reward"),
             Want::Count(..) if letters => import("give how many there are, and their names in a comment"),
             Want::Index(..) if letters => import("give the number, which starts at 0, in place of a name"),

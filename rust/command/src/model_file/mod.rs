@@ -8,7 +8,7 @@ mod hints;
 mod reading;
 
 pub use draft::Draft;
-pub use reading::judge;
+pub use reading::{judge, judge_outcomes};
 
 use crate::told::Told;
 

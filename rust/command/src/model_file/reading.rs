@@ -12,9 +12,11 @@ use std::ops::Range;
 
 /// The most bytes of a file.
 const FILE_BYTES: usize = 32_768;
-const STATES: usize = 16;
+const STATES: usize = 64;
 const ACTIONS: usize = 8;
 const OBSERVATIONS: usize = 8;
+/// The most states of a model that is converted.
+const WRITTEN_STATES: usize = 16;
 /// The largest reward, in ticks.
 const TICKS: i64 = 100_000;
 const THOUSAND: i64 = 1_000;
@@ -22,6 +24,31 @@ const HUNDRED: i64 = 100;
 
 /// What a file states, or why it is refused.
 pub fn judge(file: &[u8]) -> Result<Draft, Trouble> {
+    judged(file, false)
+}
+
+/// What a file states whose rewards may depend on what follows, or why it is not converted.
+pub fn judge_outcomes(file: &[u8]) -> Result<Draft, Trouble> {
+    let draft = judged(file, true)?;
+    if draft.counts.states > WRITTEN_STATES {
+        return Err(Trouble {
+            number: 25,
+            place: 0,
+            told: Told {
+                title: format!("the model has {} states, and at most 16 are converted", draft.counts.states),
+                marks: Vec::new(),
+                notes: vec!["wanted: expected rewards, as `R: a : s : * : *` and a number, which need no conversion: \
+                             then up to 64 states are read"
+                    .to_string()],
+            },
+        });
+    }
+    expected(&draft, file)?;
+    Ok(draft)
+}
+
+/// What a file states, with rewards by action and state or by outcome.
+fn judged(file: &[u8], outcomes: bool) -> Result<Draft, Trouble> {
     if file.len() > FILE_BYTES {
         return Err(Trouble {
             number: 1,
@@ -33,7 +60,7 @@ pub fn judge(file: &[u8]) -> Result<Draft, Trouble> {
             },
         });
     }
-    let mut reading = Reading { words: Words::of(file), file };
+    let mut reading = Reading { words: Words::of(file), file, outcomes };
     let mut draft = reading.headers()?;
     while let Some(word) = reading.words.next() {
         reading.statement(&word, &mut draft)?;
@@ -42,9 +69,14 @@ pub fn judge(file: &[u8]) -> Result<Draft, Trouble> {
     Ok(draft)
 }
 
+/// Indices with their numbers.
+type Cells = Vec<(usize, i64)>;
+
 struct Reading<'a> {
     words: Words<'a>,
     file: &'a [u8],
+    /// Whether rewards go by outcome.
+    outcomes: bool,
 }
 
 impl<'a> Reading<'a> {
@@ -116,7 +148,8 @@ impl<'a> Reading<'a> {
             start.push(value(&word, START, 0, HUNDRED, Want::Start)?);
             span.end = word.span().end;
         }
-        Ok(Draft::new(Counts { states, actions, observations }, discount, start, span))
+        let counts = Counts { states, actions, observations };
+        Ok(Draft::new(counts, discount, start, span, self.outcomes))
     }
 
     /// A statement, of which the first word was taken.
@@ -132,50 +165,67 @@ impl<'a> Reading<'a> {
         let actions = self.indices("action", actions)?;
         self.fixed(":")?;
         let lefts = self.indices(left, states)?;
-        let (indices, numbers, end) = match key.bytes {
+        let (cells, end) = match key.bytes {
             b"T" => self.single_or_row("state", states)?,
             b"O" => self.single_or_row("observation", observations)?,
+            _ if self.outcomes => self.outcome(states, observations)?,
             _ => self.reward()?,
         };
         let span = key.place..end;
         for action in actions {
             for state in lefts.clone() {
-                for index in indices.clone() {
-                    table.state(action, state, index, numbers[index], &span);
+                for &(index, number) in &cells {
+                    table.state(action, state, index, number, &span);
                 }
             }
         }
         Ok(())
     }
 
-    /// A colon, an index and one number, or a number for each index: the indices stated, numbers by index, and the end.
-    fn single_or_row(&mut self, kind: &'static str, count: usize) -> Result<(Range<usize>, Vec<i64>, usize), Trouble> {
+    /// A colon, an index and one number, or a number for each index: the indices stated with their numbers, and the end.
+    fn single_or_row(&mut self, kind: &'static str, count: usize) -> Result<(Cells, usize), Trouble> {
         let mut word = self.word(Want::Probability)?;
         if word.is(":") {
             let indices = self.indices(kind, count)?;
             let word = self.word(Want::Probability)?;
             let number = value(&word, PROBABILITY, 0, THOUSAND, Want::Probability)?;
-            return Ok((indices, vec![number; count], word.span().end));
+            return Ok((indices.map(|index| (index, number)).collect(), word.span().end));
         }
         let mut numbers = Vec::new();
         loop {
             numbers.push(value(&word, PROBABILITY, 0, THOUSAND, Want::Probability)?);
             if numbers.len() == count {
-                return Ok((0..count, numbers, word.span().end));
+                return Ok((numbers.into_iter().enumerate().collect(), word.span().end));
             }
             word = self.word(Want::Probability)?;
         }
     }
 
     /// `: * : * r`.
-    fn reward(&mut self) -> Result<(Range<usize>, Vec<i64>, usize), Trouble> {
+    fn reward(&mut self) -> Result<(Cells, usize), Trouble> {
         for _ in 0..2 {
             self.fixed(":")?;
             self.fixed("*")?;
         }
+        let (ticks, end) = self.ticks()?;
+        Ok((vec![(0, ticks)], end))
+    }
+
+    /// `: s' : o r`.
+    fn outcome(&mut self, states: usize, observations: usize) -> Result<(Cells, usize), Trouble> {
+        self.fixed(":")?;
+        let reached = self.indices("state", states)?;
+        self.fixed(":")?;
+        let seen = self.indices("observation", observations)?;
+        let (ticks, end) = self.ticks()?;
+        let cells = reached.flat_map(|state| seen.clone().map(move |seen| (state * observations + seen, ticks)));
+        Ok((cells.collect(), end))
+    }
+
+    /// A reward, and the end.
+    fn ticks(&mut self) -> Result<(i64, usize), Trouble> {
         let word = self.word(Want::Reward)?;
-        let ticks = value(&word, REWARD, -TICKS, TICKS, Want::Reward)?;
-        Ok((0..1, vec![ticks], word.span().end))
+        Ok((value(&word, REWARD, -TICKS, TICKS, Want::Reward)?, word.span().end))
     }
 }
 
@@ -247,6 +297,49 @@ fn totals(draft: &Draft, file: &[u8]) -> Result<(), Trouble> {
     row(6, &draft.observations, &|action, state| {
         format!("O of action {} at state {}", named.actions.or_number(action), named.states.or_number(state))
     })
+}
+
+/// Expected rewards that are no whole ticks: 26.
+fn expected(draft: &Draft, file: &[u8]) -> Result<(), Trouble> {
+    let Counts { states, actions, observations } = draft.counts;
+    for action in 0..actions {
+        for state in 0..states {
+            let reached = draft.transitions.numbers(action, state).iter().enumerate();
+            let sum: i64 = reached
+                .map(|(to, chance)| {
+                    let seen = draft.observations.numbers(action, to);
+                    let rewards = &draft.rewards.numbers(action, state)[to * observations..];
+                    chance * seen.iter().zip(rewards).map(|(seen, reward)| seen * reward).sum::<i64>()
+                })
+                .sum();
+            if sum % (THOUSAND * THOUSAND) != 0 {
+                return Err(unwhole(draft, action, state, sum, file));
+            }
+        }
+    }
+    Ok(())
+}
+
+/// An expected reward that is no whole number of ticks.
+fn unwhole(draft: &Draft, action: usize, state: usize, sum: i64, file: &[u8]) -> Trouble {
+    let Counts { states, actions, observations } = draft.counts;
+    let named = Named::of(file, states, actions, observations);
+    let of = (named.actions.or_number(action), named.states.or_number(state));
+    let statements = draft.rewards.statements(action, state).into_iter().rev();
+    let marks = statements.map(|span| Mark { span, text: "rewards that make it up come from here".to_string() });
+    Trouble {
+        number: 26,
+        place: action * states + state,
+        told: Told {
+            title: format!("the expected reward of action {} at state {} is {}", of.0, of.1, shown(sum, 8)),
+            marks: marks.collect(),
+            notes: vec![
+                "wanted: at most two decimals; the reward of each outcome counts by T x O, and what is not stated \
+                         earns 0. `biidhaqun import --round` rounds"
+                    .to_string(),
+            ],
+        },
+    }
 }
 
 /// A row whose total is not 1: 5 or 6.

@@ -1,4 +1,4 @@
-use Rattle.levels.proofs.Prelude.{ℕ, _+_, _*_, _≤_, _-_, _≡_, refl, sym, _∙_, arith, lt-ltb, le-ltb, true, List, ltb, length, getD, rows-stored}
+use Rattle.levels.proofs.Prelude.{ℕ, _≤_, _-_, _≡_, refl, sym, _∙_, arith, lt-ltb, le-ltb, true, List, ltb, length, getD, rows-stored}
 use Rattle.levels.proofs.Prelude.{Verdict, Fine, unless, firstOf, first-none, first-more, first-here, passed, failed}
 use Rattle.tables.specs.Verdicts.{_before_}
 use Rattle.tables.proofs.Refusals.{refused-before}

@@ -1,7 +1,7 @@
 use Rattle.tables.proofs.Prelude.{_≡_, sym, _∙_, true, arith, not-true, not-false, limitsHold, modelOf, Few, needs}
 use mathlib.Core.Bool.{_&&_}
 use Rattle.integers.proofs.Searches.{and-true}
-use Rattle.tables.specs.declared.Tables.{Tables}
+use Rattle.tables.specs.Tables.{Tables}
 use Rattle.tables.specs.Steps.{Stored}
 use Rattle.tables.specs.Storage.{tablesIn}
 use Rattle.tables.specs.Judged.{tablesStored, tablesVerdict}

@@ -1,6 +1,6 @@
 use Rattle.tables.proofs.Prelude.{_≡_, sym, _∙_, true, le-leb, lt-leb, not-true, not-false, limitsHold, modelOf, Few, one, arith, needs}
 use Rattle.integers.proofs.Searches.{and-false, and-true-right}
-use Rattle.tables.specs.declared.Tables.{Tables}
+use Rattle.tables.specs.Tables.{Tables}
 use Rattle.tables.specs.Steps.{Stored}
 use Rattle.tables.specs.Storage.{tablesIn}
 use Rattle.tables.specs.Judged.{countsWithin, tablesStored}

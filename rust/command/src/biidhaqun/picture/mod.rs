@@ -107,6 +107,15 @@ fn sampled(building: &Building, certifier: &Certifier) -> Result<Vec<(Mixture, S
     mixtures.into_iter().map(one).collect()
 }
 
+/// Weights for a title: the first ones, where there are more than it has room for.
+fn shortened(weights: &[u32]) -> String {
+    const ROOM: usize = 16;
+    match weights.get(..ROOM) {
+        Some(first) if weights.len() > ROOM => format!("{},..", joined(first)),
+        _ => joined(weights),
+    }
+}
+
 fn draw(
     image: &mut String,
     building: &Building,
@@ -118,7 +127,7 @@ fn draw(
     let root = SVGBackend::with_string(image, (WIDTH * panels, HEIGHT)).into_drawing_area();
     root.fill(&WHITE)?;
     let (left, right) = root.split_horizontally(WIDTH);
-    levels::draw(&left, &format!("at {}", joined(&mixture.weights)), over_levels, &building.named)?;
+    levels::draw(&left, &format!("at {}", shortened(&mixture.weights)), over_levels, &building.named)?;
     let title = format!("level {}, all mixtures", building.levels);
     match building.model.shape().states {
         2 => line::draw(&right, &title, over_mixtures, &building.named)?,

@@ -1,0 +1,72 @@
+use Rattle.integers.proofs.Kit.{_≡_, _∙_, refl, subst, needs, le-leb, lt-leb, length}
+use Rattle.tables.specs.declared.Verdict.{Verdict}
+use Rattle.tables.specs.Verdicts.{_before_}
+use Rattle.modelfile.specs.ModelFile.{maxBytes, ModelFile}
+use Rattle.modelfile.proofs.Laws.{headed-within}
+use Rattle.written.specs.Text.{maxText}
+use Rattle.converting.specs.Convert.{said, expectVerdict, convertVerdict, converted}
+use Rattle.converting.specs.Steps.{Answers, AnswersFile}
+use Rattle.converting.proofs.Converting.{answers-refused, short-output, long-file, short-file, unheaded, headed}
+use Rattle.converting.proofs.Claim.{convert-answers}
+use Rattle.converting.proofs.convert.Statement.{statement}
+use Rattle.converting.proofs.convert.Tie as tie
+
+-- from each place to the one before it
+abbrev start : tie.Else2 → tie.Start
+start c = c .before .before .before .before
+
+abbrev of-header : tie.After-header-at → tie.Else2
+of-header c = c .before
+
+-- the verdict is that on what the file says
+judged : (c : tie.Else2) → let a = start c .args in
+    (said (a .file .now) .verdict before expectVerdict (said (a .file .now))) ≡ convertVerdict (length (a .out .now)) (a .file .now)
+judged c =
+    let a = start c .args in
+    short-file (length (a .out .now)) (a .file .now) (le-leb maxText _ (c .before .if1 .left)) (le-leb _ maxBytes (c .if2 .left))
+
+returns : tie.Need-returns
+returns c =
+    let a = c .before .before .before .before .args in
+    convert-answers (a .file .now) (a .out .now) (answers-refused (converted (a .file .now)) (a .out .now)
+    (short-output _ (a .file .now) (lt-leb maxText _ (c .before .if1 .taken))) (c .refusal .ensures) refl)
+
+returns-2 : tie.Need-returns-2
+returns-2 c =
+    let a = c .before .before .before .before .before .args in
+    convert-answers (a .file .now) (a .out .now) (answers-refused (converted (a .file .now)) (a .out .now)
+    (long-file _ (a .file .now) (le-leb maxText _ (c .before .before .if1 .left)) (lt-leb _ maxBytes (c .before .if2 .taken))) (c .refusal2 .ensures) refl)
+
+from-counts-requires : tie.Need-from-counts-requires
+from-counts-requires c κs =
+    let h = c .before .before .before .before in
+    let g = c .before .before .n .given in
+    let n = g .0 .1 .1 in
+    let w = headed-within (start (of-header h) .args .file .now) (g .0 .0) (g .0 .1 .0) (n .0) (n .1 .0) (n .1 .1 .0) (h .header-at .ensures .within) (g .1) in
+    (w .1, (w .0, of-header h .before .if1 .left))
+
+returns-3 : tie.Need-returns-3
+returns-3 c =
+    let h = c .before .before .before .before in
+    let a = start (of-header h) .args in
+    let g = c .before .before .number .given in
+    convert-answers (a .file .now) (a .out .now) (answers-refused (converted (a .file .now)) (a .out .now)
+    (unheaded (a .file .now) (h .header-at .ensures) (g .0 .0) (g .0 .1 .0) (g .1) ∙ judged (of-header h)) (c .refusal3 .ensures) refl)
+
+returns-4 : tie.Need-returns-4
+returns-4 c =
+    let f = c .before .before in
+    let h = f .before .before .before .before .before in
+    let a = start (of-header h) .args in
+    let g = f .before .before .before .n .given in
+    let n = g .0 .1 .1 in
+    let r = f .from-counts .result in
+    let after = f .from-counts .last .1 .1 .1 .0 in
+    convert-answers (a .file .now) (a .out .now) (subst (λ (v : Verdict). Answers v (converted (a .file .now)) (a .out .now) r after) (judged (of-header h))
+    (subst (λ (x : ModelFile). AnswersFile x (a .out .now) r after)
+    (headed (a .file .now) (h .header-at .ensures) (g .0 .0) (g .0 .1 .0) (n .0) (n .1 .0) (n .1 .1 .0) (g .1)) (f .from-counts .ensures)))
+
+pub convert-spec : {M : Type 1} → statement M
+convert-spec =
+    tie.close (tie.spec (λ c κs. search needs) returns (λ c κs. search needs) returns-2 (λ c κs. search needs) (λ c. search needs) (λ c κs. search needs)
+    (λ c. search needs) from-counts-requires returns-3 (λ c. search needs) returns-4)

@@ -1,0 +1,53 @@
+use Rattle.digits.proofs.Prelude.{_≡_, ℕ, List, _∷_, _++_, _≤_, _<_, _/_, _%_, _^_, arith, needs, subst, subst⁻¹, lastDigits, whole, fixed}
+use Rattle.digits.proofs.Prelude.{Room, Wrote, room-first, room-then, wrote-then}
+use native.Mathlib.Nat.{pow-le-pow-right, pow-zero}
+use Rattle.digits.proofs.put_fixed.Statement.{statement}
+use Rattle.digits.proofs.put_fixed.Tie as tie
+
+-- the point and the decimals, behind the whole part
+abbrev decimals : tie.Start → List ℕ
+decimals c = lastDigits (c .args .places) (c .args .v % c .args .unit)
+
+abbrev parts : tie.Start → List ℕ
+parts c = whole (c .args .v / c .args .unit) ++ (46 ∷ decimals c)
+
+same-parts : (c : tie.Start) → fixed (c .args .places) (c .args .v) ≡ parts c
+unfolding fixed
+same-parts c = rw (c .pre .0)
+
+some-unit : (c : tie.Start) → 0 < c .args .unit
+some-unit c =
+    let p = c .args .places in
+    let least : 10 ^ 0 ≤ 10 ^ p = pow-le-pow-right {n = 10} (omega arith) {i = 0} {j = p} (omega arith) in
+    omega (arith, c .pre .0, pow-zero 10, least)
+
+-- room for each
+room : (c : tie.Start) → Room (c .args .at) (parts c) (c .args .out .now)
+room c = subst (λ (t : List ℕ). Room (c .args .at) t (c .args .out .now)) (same-parts c) (c .pre .1)
+
+abbrev start : tie.After-put-whole → tie.Start
+start c = c .before .before .before
+
+room-point : (c : tie.After-put-whole) → Room (c .put-whole .result) (46 ∷ decimals (start c)) (c .put-whole .last .0)
+room-point c = room-then (room (start c)) (c .put-whole .ensures)
+
+abbrev wholly : tie.After-put → tie.After-put-whole
+wholly c = c .before .before .before .before .before
+
+room-decimals : (c : tie.After-put) → Room (c .put .result) (decimals (start (wholly c))) (c .put .last .0)
+room-decimals c = room-then (room-point (wholly c)) (c .put .ensures)
+
+returns : tie.Need-returns
+returns c =
+    let last = c .before .before in
+    let pointed = last .before .before .before .before in
+    let s = start (wholly pointed) in
+    subst⁻¹ (λ (t : List ℕ). Wrote (s .args .at) t (s .args .out .now) (last .put-last-digits .result) (last .put-last-digits .last .0)) (same-parts s)
+    (wrote-then (room s) (wholly pointed .put-whole .ensures)
+    (wrote-then (room-point (wholly pointed)) (pointed .put .ensures) (last .put-last-digits .ensures)))
+
+pub put-fixed-spec : {M : Type 1} → statement M
+put-fixed-spec =
+    tie.close (tie.spec (λ c. some-unit (c .before .before)) (λ c κs. room-first (46 ∷ decimals (c .before .before)) (room (c .before .before)))
+    (λ c. search needs) (λ c κs. room-first (decimals (start (c .before .before .before .before))) (room-point (c .before .before .before .before)))
+    (λ c. some-unit (start (wholly (c .before .before .before)))) (λ c κs. room-decimals (c .before .before .before)) (λ c. search needs) returns)

@@ -1,0 +1,3 @@
+-- Laws of expected rewards.
+pub mod Expected
+pub mod Prelude

@@ -1,0 +1,2 @@
+-- Laws of the backup inequalities of vectors.
+pub mod Floors

@@ -1,0 +1,3 @@
+-- Headers and start numbers.
+pub mod Headers
+pub mod Steps

@@ -1,0 +1,2 @@
+-- A model file that was written, read again.
+pub mod Rereading

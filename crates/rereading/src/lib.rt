@@ -1,0 +1,1 @@
+// What is written as a model file reads back: laws only, no code.

@@ -1,0 +1,3 @@
+-- Laws of the backup inequalities of the ceiling.
+pub mod Covering
+pub mod Prelude

@@ -1,0 +1,3 @@
+-- A model as a model file.
+pub mod Text
+pub mod Steps
