@@ -13,6 +13,7 @@ ghost use Rattle.converting.specs.Convert.{convertVerdict, converted, co
 ghost use Rattle.converting.specs.Claim.{ConvertHolds};
 ghost use Rattle.converting.specs.Steps.{fileOf, Sound, Long, nothing, AnswersFile};
 use headers::Headed;
+use modelfile::TablesRead;
 use tables::Counts;
 use tables::Tables;
 use tables::Verdict;
@@ -104,7 +105,7 @@ pub fn convert(file: &[u8], out: &mut [u8]) -> Converted
     if out.len() < Written::LENGTH {
         return refusal(Verdict::Refused(27, 0));
     }
-    if modelfile::BYTES < file.len() {
+    if TablesRead::BYTES < file.len() {
         return refusal(Verdict::Refused(1, 0));
     }
     match headers::header_at(file) {

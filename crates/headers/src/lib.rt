@@ -17,7 +17,9 @@ pub enum Headed {
     Refused(u8, usize),
 }
 
-pub const START: u64 = 100; // the total of the start numbers
+impl Headed {
+    pub const START: u64 = 100; // the total of the start numbers
+}
 
 // A count is 1 or more.
 const LEAST: u64 = 1;
@@ -117,6 +119,6 @@ pub fn start_at(file: &[u8], at: usize, start: &mut [u16], n: usize) -> Read
         FIRST,
         FIRST,
         Form::START,
-        START,
+        Headed::START,
     )
 }

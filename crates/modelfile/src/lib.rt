@@ -18,12 +18,14 @@ use tables::Counts;
 use tables::Verdict;
 use tables::judge;
 
-pub const BYTES: usize = 32_768;
-
 // What a file is refused for, and the counts of its tables; with a refusal all of them are 0.
 pub struct TablesRead {
     pub verdict: Verdict,
     pub counts: Counts,
+}
+
+impl TablesRead {
+    pub const BYTES: usize = 32_768; // of a file
 }
 
 // The answer on a file that is refused.
@@ -76,7 +78,7 @@ pub fn totals_of(
     ensures { λ r. ⌜ ((discount : ℕ) (reward : List ℤ) → r ≡ sumsVerdict size
         (textOf (counts n m k discount) (now (start .entry)) (draft (now (transition .entry)) (now (observation .entry)) reward))) ⌝ }
 {
-    if judge::row_total(start, 0, n) != headers::START {
+    if judge::row_total(start, 0, n) != Headed::START {
         return Verdict::Refused(4, size);
     }
     let transitions = judge::rows_total(transition, m, n, n, 5);
@@ -196,7 +198,7 @@ pub fn read(
         → fileIn r (now (transition .exit)) (now (observation .exit)) (now (reward .exit)) (now (start .exit))
         ≡ modelFile (room transitions observations rewards) (now (file .entry))) ⌝ }
 {
-    if BYTES < file.len() {
+    if TablesRead::BYTES < file.len() {
         return refusal(Verdict::Refused(1, 0));
     }
     match headers::header_at(file) {
