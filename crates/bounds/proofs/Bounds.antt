@@ -32,7 +32,7 @@ use Rattle.plans.specs.Totals.{someCounts, best, lower, upper, advice}
 use Rattle.plans.proofs.Agreement.{product-cong, ceiling-weights, best-exists}
 use Rattle.plans.proofs.Rows.{highest-cong, bestRow-range}
 use Rattle.plans.proofs.Built.{ceiling-range, range-limit, shaped-mono}
-use Rattle.levels.specs.Storage.{Lent, levelOf, pointIn, numberIn, standingIn, informedIn}
+use Rattle.levels.specs.Storage.{Lent, levelOf, pointIn, standingIn, informedIn}
 use Rattle.levels.specs.Judged.{holds}
 use Rattle.sawtooth.specs.Steps.{positive, gainIn, ceilingIn}
 use Rattle.sawtooth.proofs.Joined.{ceiling-is}
@@ -42,7 +42,8 @@ use Rattle.backups.proofs.Roofs.{corners-fit, points-fit, gains-below}
 use Rattle.runs.specs.declared.Bounds.{Bounds}
 use Rattle.runs.specs.State.{mixtureHolds, totalsVerdict, boundsBy, totalsOf}
 use Rattle.runs.proofs.Judged.{Held, standing-true}
-use Rattle.bounds.specs.Steps.{standingVerdict, noBounds, supportIn, bestIn, lowerIn, rowIn, upperIn, boundsIn, widened, answeredIf, answerIn, Asked}
+use Rattle.runs.specs.State.{standingVerdict}
+use Rattle.bounds.specs.Steps.{noBounds, supportIn, bestIn, lowerIn, rowIn, upperIn, boundsIn, widened, answeredIf, answerIn, Asked}
 
 product-range : (n r : ℕ) (q : ℕ → ℕ) (e : ℕ → ℤ) → ((s : ℕ) → s < n → natAbs (e s) ≤ r) → natAbs (product n q e) ≤ totalTo n q * r
 unfolding product
@@ -307,10 +308,6 @@ module _ (m : Tables) (x : Lent) (h : holds m x ≡ true) where
         )
 
 -- ---- each way out of totals
-before-assoc : (u v w : Verdict) → ((u before v) before w) ≡ (u before (v before w))
-before-assoc Fine v w = refl
-before-assoc (Refused k i) v w = refl
-
 module _ (m : Tables) (x : Lent) where
   pub standing-holds : standingVerdict m x ≡ Fine → holds m x ≡ true
   unfolding standingVerdict
@@ -320,22 +317,17 @@ module _ (m : Tables) (x : Lent) where
     abbrev some-counts : Bool
     some-counts = someCounts (modelOf m) (levelOf m (standingIn x)) (weightIn b)
 
-    totals-verdict : totalsVerdict m x b ≡ (standingVerdict m x before (unless (mixtureHolds (m .states) b) 17 0 before unless some-counts 22 0))
-    unfolding totalsVerdict standingVerdict
-    totals-verdict =
-        sym (before-assoc (unless (holds m x) 7 0) (unless (ltb 0 (numberIn x)) 16 0) (unless (mixtureHolds (m .states) b) 17 0 before unless some-counts 22 0))
-
     pub refused : {v : Verdict} {k i : ℕ} → v ≡ standingVerdict m x → v ≡ Refused k i → noBounds v ≡ totalsOf m x b
-    unfolding totalsOf
-    refused e f = rw (totals-verdict, sym e ∙ f, f)
+    unfolding totalsOf totalsVerdict
+    refused e f = rw (sym e ∙ f, f)
 
     -- 17, 22, or the totals
     at-mixture : (held : Bool) → mixtureHolds (m .states) b ≡ held → (some : Bool) → some-counts ≡ some → standingVerdict m x ≡ Fine
         → answeredIf held 17 (answeredIf some 22 (boundsBy Fine (modelOf m) (levelOf m (standingIn x)) (informedIn m x) (weightIn b))) ≡ totalsOf m x b
-    unfolding totalsOf
-    at-mixture true f true g s = rw (totals-verdict, s, f, g)
-    at-mixture true f false g s = rw (totals-verdict, s, f, g)
-    at-mixture false f some g s = rw (totals-verdict, s, f)
+    unfolding totalsOf totalsVerdict
+    at-mixture true f true g s = rw (s, f, g)
+    at-mixture true f false g s = rw (s, f, g)
+    at-mixture false f some g s = rw (s, f)
 
     pub answered : {gains : List ℕ} → standingVerdict m x ≡ Fine → Gained m x gains
         → answerIn (m .states) (m .actions) (standingIn x .vectors) (standingIn x .points) (x .cells .actions) (x .cells .masks) (x .cells .entries)

@@ -8,26 +8,19 @@ use lib.IntN.{ℤ, pos, natAbs, _-ℤ_}
 use Rattle.integers.specs.Whole.{lesser, Below}
 use Rattle.integers.specs.Search.{firstLargestOf}
 use Rattle.integers.specs.Cells.{padded}
-use Rattle.tables.specs.Tables.{Tables}
 use Rattle.tables.specs.declared.Verdict.{Verdict}
 use Rattle.tables.specs.declared.Verdict.the-variants.{Fine, Refused}
 use Rattle.tables.specs.Limits.{maxStates, maxActions, maxWeight}
 use Rattle.tables.specs.Storage.{weightIn, entryIn}
-use Rattle.tables.specs.Verdicts.{_before_, unless}
 use Rattle.tables.specs.Steps.{EntriesFit}
 use Rattle.masks.specs.Masks.{maskOf, maskedIn}
 use Rattle.masks.specs.Steps.{includes, someIncludes, MaskedFit}
 use Rattle.plans.specs.Level.{product}
 use Rattle.plans.specs.Rows.{highest}
-use Rattle.levels.specs.Storage.{Lent, pointIn, numberIn}
-use Rattle.levels.specs.Judged.{holds}
+use Rattle.levels.specs.Storage.{pointIn}
 use Rattle.sawtooth.specs.Steps.{ceilingIn, CornersFit, PointsFit, maxGain}
 use Rattle.runs.specs.declared.Bounds.{Bounds}
 use Rattle.runs.specs.State.{mixtureHolds}
-
--- 7 and 16: the certifier by itself
-unfoldable pub standingVerdict : Tables → Lent → Verdict
-standingVerdict m x = unless (holds m x) 7 0 before unless (ltb 0 (numberIn x)) 16 0
 
 -- a refusal of which every other part is 0
 abbrev pub noBounds : Verdict → Bounds

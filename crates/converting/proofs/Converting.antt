@@ -21,7 +21,8 @@ use Rattle.modelfile.specs.ModelFile.{maxBytes, ModelFile, body, ended}
 use Rattle.modelfile.specs.Steps.{told}
 use Rattle.modelfile.proofs.Opens.{Fits, BodyHolds, header-fits, body-holds}
 use Rattle.expected.specs.Expected.{expectedVerdict}
-use Rattle.digits.specs.Steps.{over, Wrote}
+use Rattle.digits.specs.Digits.{textOver}
+use Rattle.digits.specs.Steps.{Wrote}
 use Rattle.written.specs.Text.{maxText}
 use Rattle.converting.specs.declared.Converted.{Converted}
 use Rattle.converting.specs.Convert.{said, expectVerdict, convertVerdict, convertAnswer}
@@ -33,7 +34,7 @@ module _ {v : Verdict} (text out : List ℕ) {r : Converted} {after : List ℕ} 
   pub answers-refused : {number place : ℕ} → Refused number place ≡ v → r ≡ nothing (Refused number place) → after ≡ out → Answers v text out r after
   answers-refused e q f = record {
     is = q ∙ ap (λ (v : Verdict). convertAnswer v (length text)) e;
-    leaves = f ∙ ap (λ (v : Verdict). left v (over 0 text out) out) e;
+    leaves = f ∙ ap (λ (v : Verdict). left v (textOver 0 text out) out) e;
   }
 
 pub answers-written : {v : Verdict} (text out : List ℕ) {size : ℕ} {after : List ℕ} → Fine ≡ v → Wrote 0 text out size after
@@ -42,7 +43,7 @@ answers-written text out {size} {after} e w =
     let l : size ≡ length text = omega (arith, w .place) in
     record {
       is = ap (λ (n : ℕ). convertAnswer Fine n) l ∙ ap (λ (v : Verdict). convertAnswer v (length text)) e;
-      leaves = w .same ∙ ap (λ (v : Verdict). left v (over 0 text out) out) e;
+      leaves = w .same ∙ ap (λ (v : Verdict). left v (textOver 0 text out) out) e;
     }
 
 -- ---- what a file that is not refused by 2 to 6 says

@@ -15,7 +15,7 @@ use Rattle.grammar.specs.Grammar.{Answer, _then_}
 use Rattle.headers.specs.Headers.{header}
 use Rattle.modelfile.specs.ModelFile.{maxBytes, ModelFile, Text, body, ended}
 use Rattle.expected.specs.Expected.{laidExpected, expectedVerdict}
-use Rattle.digits.specs.Steps.{over}
+use Rattle.digits.specs.Digits.{textOver}
 use Rattle.written.specs.Text.{maxText, fileText}
 use Rattle.converting.specs.declared.Converted.{Converted}
 
@@ -61,4 +61,4 @@ convertAnswer (Refused number place) size = record { verdict = Refused number pl
 
 -- the output as the call leaves it: what lies past the bytes written stays
 abbrev pub convertedOver : List ℕ → List ℕ → List ℕ
-convertedOver file out = left (convertVerdict (length out) file) (over 0 (converted file) out) out
+convertedOver file out = left (convertVerdict (length out) file) (textOver 0 (converted file) out) out

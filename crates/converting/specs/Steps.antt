@@ -14,7 +14,7 @@ use Rattle.tables.specs.Storage.{modelOf, tablesIn}
 use Rattle.tables.specs.Verdicts.{_before_, left}
 use Rattle.entries.specs.Entries.{startTotal}
 use Rattle.modelfile.specs.ModelFile.{ModelFile}
-use Rattle.digits.specs.Steps.{over}
+use Rattle.digits.specs.Digits.{textOver}
 use Rattle.converting.specs.declared.Converted.{Converted}
 use Rattle.converting.specs.Convert.{expectVerdict, expectedText, convertAnswer}
 
@@ -43,7 +43,7 @@ nothing v = record { verdict = v; length = 0 }
 -- the answer of a verdict and a text, and what they leave of the output
 pub record Answers (v : Verdict) (text out : List ℕ) (r : Converted) (after : List ℕ) : Type 0 where
   pub is : r ≡ convertAnswer v (length text)
-  pub leaves : after ≡ left v (over 0 text out) out
+  pub leaves : after ≡ left v (textOver 0 text out) out
 
 -- the same of a file that was read
 abbrev pub AnswersFile : ModelFile → List ℕ → Converted → List ℕ → Type 0

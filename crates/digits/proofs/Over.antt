@@ -4,8 +4,8 @@ use Rattle.integers.proofs.Kit.{length, drop, set, take, paste, drop-drop}
 use mathlib.Core.List.{_++_, append-assoc, append-nil}
 use lib.ListN.{length-append, length-drop, take-append-drop}
 use lib.Seq.{take-length, take-at, drop-at, drop-append-add, set-split, take-set-le, append-snoc, length-take-le}
-use Rattle.digits.specs.Digits.{partsTo, lastDigits}
-use Rattle.digits.specs.Steps.{over, Room, Wrote}
+use Rattle.digits.specs.Digits.{textOver, partsTo, lastDigits}
+use Rattle.digits.specs.Steps.{Room, Wrote}
 
 -- ---- one text
 
@@ -13,21 +13,21 @@ use Rattle.digits.specs.Steps.{over, Room, Wrote}
 head-length : (at : ℕ) (t xs : List ℕ) → at + length t ≤ length xs → length (take at xs ++ t) ≡ at + length t
 head-length at t xs h = length-append (take at xs) t ∙ omega (arith, length-take-le at xs (omega arith))
 
-pub over-length : (at : ℕ) (t xs : List ℕ) → at + length t ≤ length xs → length (over at t xs) ≡ length xs
-unfolding over
+pub over-length : (at : ℕ) (t xs : List ℕ) → at + length t ≤ length xs → length (textOver at t xs) ≡ length xs
+unfolding textOver
 over-length at t xs h =
     length-append (take at xs ++ t) (drop (at + length t) xs) ∙ omega (arith, head-length at t xs h, length-drop (at + length t) xs)
 
-pub over-none : (at : ℕ) (xs : List ℕ) → over at [] xs ≡ xs
-unfolding over
+pub over-none : (at : ℕ) (xs : List ℕ) → textOver at [] xs ≡ xs
+unfolding textOver
 over-none at xs =
     ap (λ (p : List ℕ). p ++ drop (at + 0) xs) (append-nil (take at xs))
     ∙ ap (λ (k : ℕ). take at xs ++ drop k xs) (add-zero at)
     ∙ take-append-drop at xs
 
 -- a text behind another
-pub over-then : (at : ℕ) (t u xs : List ℕ) → at + length t ≤ length xs → over (at + length t) u (over at t xs) ≡ over at (t ++ u) xs
-unfolding over
+pub over-then : (at : ℕ) (t u xs : List ℕ) → at + length t ≤ length xs → textOver (at + length t) u (textOver at t xs) ≡ textOver at (t ++ u) xs
+unfolding textOver
 over-then at t u xs h =
     let k = at + length t in
     let p = take at xs ++ t in
@@ -39,8 +39,8 @@ over-then at t u xs h =
     ∙ ap (λ (j : ℕ). take at xs ++ (t ++ u) ++ drop j xs) e
 
 -- the last byte of a text, written before the rest of it
-pub over-set : (at : ℕ) (t : List ℕ) (b : ℕ) (xs : List ℕ) → at + length t < length xs → over at (t ++ (b ∷ [])) xs ≡ over at t (set xs (at + length t) b)
-unfolding over
+pub over-set : (at : ℕ) (t : List ℕ) (b : ℕ) (xs : List ℕ) → at + length t < length xs → textOver at (t ++ (b ∷ [])) xs ≡ textOver at t (set xs (at + length t) b)
+unfolding textOver
 over-set at t b xs h =
     let k = at + length t in
     let e : at + length (t ++ (b ∷ [])) ≡ suc k = omega (arith, length-append t (b ∷ [])) in
@@ -53,8 +53,8 @@ over-set at t b xs h =
     ∙ ap (λ (q : List ℕ). take at (set xs k b) ++ t ++ q)
     (sym (ap (drop k) (set-split xs k b h) ∙ drop-at (take k xs) rest k (length-take-le k xs (omega arith))))
 
-pub over-paste : (at : ℕ) (t xs : List ℕ) → paste xs at t (length t) ≡ over at t xs
-unfolding over
+pub over-paste : (at : ℕ) (t xs : List ℕ) → paste xs at t (length t) ≡ textOver at t xs
+unfolding textOver
 over-paste at t xs = ap (λ (q : List ℕ). take at xs ++ q ++ drop (at + length t) xs) (take-length t)
 
 -- ---- what functions that write one behind the other leave
@@ -74,8 +74,8 @@ wrote-then {at} {n} {m} {t} {u} {xs} {ys} {zs} h w v = record {
   place = omega (arith, length-append t u, w .place, v .place);
   same =
       v .same
-      ∙ ap (λ (k : ℕ). over k u ys) (w .place)
-      ∙ ap (over (at + length t) u) (w .same)
+      ∙ ap (λ (k : ℕ). textOver k u ys) (w .place)
+      ∙ ap (textOver (at + length t) u) (w .same)
       ∙ over-then at t u xs (room-first {t = t} u h .fits);
 }
 
@@ -124,9 +124,9 @@ digits-length (suc c) v =
     length-append (lastDigits c (v / 10)) ((48 + v % 10) ∷ []) ∙ omega (arith, digits-length c (v / 10))
 
 pub digits-turn : (at left rest : ℕ) (xs : List ℕ) {b : ℕ} → at + left < length xs → b ≡ 48 + rest % 10
-    → over at (lastDigits (left + 1) rest) xs ≡ over at (lastDigits left (rest / 10)) (set xs (at + left) b)
+    → textOver at (lastDigits (left + 1) rest) xs ≡ textOver at (lastDigits left (rest / 10)) (set xs (at + left) b)
 unfolding lastDigits
 digits-turn at left rest xs h e =
     rw (add-one left, e)
     (over-set at (lastDigits left (rest / 10)) (48 + rest % 10) xs (rw (digits-length left (rest / 10)) h)
-    ∙ ap (λ (k : ℕ). over at (lastDigits left (rest / 10)) (set xs (at + k) (48 + rest % 10))) (digits-length left (rest / 10)))
+    ∙ ap (λ (k : ℕ). textOver at (lastDigits left (rest / 10)) (set xs (at + k) (48 + rest % 10))) (digits-length left (rest / 10)))

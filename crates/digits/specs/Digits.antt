@@ -6,10 +6,12 @@
 --   signedFixed places v   with a minus for a number below 0
 --   line name w            "name: w" and a new line
 --   opening key a s        "K: a : s"
+--   textOver at text xs    a text over what was there, from a place on
 use Prim.Native.Nat.{ℕ, zero, suc, _+_, _/_, _%_, _^_}
 use mathlib.Core.Bool.{cond}
 use mathlib.Core.List.{List, [], _∷_, _++_}
 use lib.Dec.{ltb}
+use lib.ListN.{length, take, drop}
 use lib.IntN.{ℤ, pos, negsuc}
 
 -- ---- parts one after the other
@@ -59,3 +61,9 @@ line name w = name ++ (58 ∷ spaced w ++ newline)
 -- "K: a : s", of a statement with the key K
 unfoldable pub opening : ℕ → ℕ → ℕ → List ℕ
 opening key a s = key ∷ 58 ∷ spaced (whole a) ++ (32 ∷ 58 ∷ spaced (whole s))
+
+-- ---- written
+
+-- a text over what was there, from a place on: the rest stays
+unfoldable pub textOver : ℕ → List ℕ → List ℕ → List ℕ
+textOver at text xs = take at xs ++ text ++ drop (at + length text) xs

@@ -19,7 +19,8 @@ use Rattle.levels.specs.Storage.{Lent, levelOf, standingIn, numberIn}
 use Rattle.levels.specs.Judged.{holds}
 use Rattle.backups.proofs.Lent.{entries-lent}
 use Rattle.backups.proofs.Roofs.{corners-fit}
-use Rattle.bounds.specs.Steps.{standingVerdict, supportIn, widened}
+use Rattle.runs.specs.State.{standingVerdict}
+use Rattle.bounds.specs.Steps.{supportIn, widened}
 use Rattle.bounds.proofs.Bounds.{counts-weights, some-counts-weights, Mixed, mixed, widened-at, widened-below}
 use Rattle.bounds.proofs.Bounds.{stands, roofed, counts-is, some-is, standing-holds}
 use Rattle.intervals.specs.declared.Within.{Within}

@@ -12,7 +12,7 @@ use Rattle.levels.proofs.Laws.{passed, fine-before}
 use Rattle.runs.specs.Demand3.{ModelAccepted, Event, Certifier, Claim, certifier, after, steps, claim}
 use Rattle.runs.proofs.Judged.{standing-is}
 use Rattle.runs.proofs.Demand3.{Reached, reached, some-vectors}
-use Rattle.bounds.specs.Steps.{standingVerdict}
+use Rattle.runs.specs.State.{standingVerdict}
 use Rattle.intervals.specs.declared.Within.{Within}
 use Rattle.intervals.specs.Intervals.{withinVerdict, withinOf}
 use Rattle.intervals.specs.Claim.{RangesHold, WithinHolds, WithinClaim}

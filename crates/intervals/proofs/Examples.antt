@@ -13,7 +13,7 @@ use Rattle.plans.specs.Intervals.{leastOf, mostOf, leastProduct, mostProduct, s
 use Rattle.levels.specs.Storage.{Lent}
 use Rattle.levels.specs.Judged.{rowsWithin, valuesWithin, rangesVerdict, weightsVerdict, holdsUpTo}
 use Rattle.runs.proofs.Dough.{dough, slices, rowsAt, fresh}
-use Rattle.bounds.specs.Steps.{standingVerdict}
+use Rattle.runs.specs.State.{standingVerdict}
 use Rattle.intervals.specs.declared.Within.{Within}
 use Rattle.intervals.specs.Intervals.{withinVerdict, withinOf}
 

@@ -17,7 +17,7 @@ use Rattle.plans.specs.Totals.{someCounts}
 use Rattle.plans.specs.Intervals.{lowerWithin, upperWithin}
 use Rattle.levels.specs.Storage.{Lent, levelOf, standingIn}
 use Rattle.runs.specs.State.{mixtureHolds}
-use Rattle.bounds.specs.Steps.{standingVerdict}
+use Rattle.runs.specs.State.{standingVerdict}
 use Rattle.intervals.specs.declared.Within.{Within}
 
 -- 24: a low exceeds its high; a weight that is missing is 0 here

@@ -11,7 +11,7 @@ use Rattle.tables.proofs.Refusals.{stops, goes, breaks, passes}
 use Rattle.levels.specs.Storage.{Lent}
 use Rattle.runs.specs.declared.Bounds.{Bounds}
 use Rattle.runs.specs.State.{totalsOf}
-use Rattle.bounds.specs.Steps.{standingVerdict}
+use Rattle.runs.specs.State.{standingVerdict}
 use Rattle.tables.specs.Storage.{rowIn}
 use Rattle.mixtures.specs.Each.{Answers, answers, roomFor, refusalIn, written, eachVerdict, eachOf}
 

@@ -20,9 +20,9 @@ use Rattle.headers.specs.declared.Headed.the-variants.{Refused as NotHeaded}
 use Rattle.headers.specs.Headers.{counts}
 use Rattle.headers.specs.Steps.{CountsFit, headedOf, Within, Heads}
 use Rattle.modelfile.specs.declared.TablesRead.{TablesRead}
-use Rattle.modelfile.specs.ModelFile.{maxBytes, textBy, modelFile, modelFileBy}
+use Rattle.modelfile.specs.ModelFile.{maxBytes, textBy, modelFile, modelFileBy, refusing}
 use Rattle.modelfile.specs.ModelFile.{Text, textOf, sumsVerdict, ModelFile, refusedFile, judgedFile, ended, Room, roomFor, roomed, bodyBy, roomedBy}
-use Rattle.modelfile.specs.Steps.{told, fileIn, refusing, handed}
+use Rattle.modelfile.specs.Steps.{told, fileIn, handed}
 
 -- a value hands back nothing
 pub hands-none : (r : Read) → tagOf read-type.the-type r ≡ 0 → refusing (Refused 0 0) ≡ handed r

@@ -19,6 +19,7 @@ use Rattle.grammar.specs.Grammar.{Answer, got, refused, _then_}
 use Rattle.entries.specs.Entries.{wholly, Forms, forms, startTotal}
 use Rattle.statements.specs.Statements.{Draft, draft, statementsBy}
 use Rattle.headers.specs.Headers.{headerBy, startBy}
+use Rattle.modelfile.specs.declared.TablesRead.{TablesRead}
 
 abbrev pub maxBytes : ℕ
 maxBytes = 32_768
@@ -117,3 +118,8 @@ roomed = roomedBy forms
 
 abbrev pub modelFile : Room → List ℕ → ModelFile
 modelFile = modelFileBy forms
+
+-- ---- what is answered of a refused file: its counts are 0
+
+abbrev pub refusing : Verdict → TablesRead
+refusing v = record { verdict = v; counts = record { states = 0; actions = 0; observations = 0; discount = 0 } }

@@ -2,15 +2,13 @@
 use mathlib.Core.List.{List}
 use Prim.Native.Nat.{ℕ}
 use lib.IntN.{ℤ}
-use Rattle.tables.specs.declared.Counts.{Counts}
-use Rattle.tables.specs.declared.Verdict.{Verdict}
 use Rattle.tables.specs.declared.Verdict.the-variants.{Refused}
 use Rattle.tables.specs.Storage.{countsOf, tablesIn}
 use Rattle.grammar.specs.declared.Read.{Read}
 use Rattle.grammar.specs.declared.Read.the-variants.{Value}
 use Rattle.grammar.specs.declared.Read.the-variants.{Refused as NotRead}
 use Rattle.modelfile.specs.declared.TablesRead.{TablesRead}
-use Rattle.modelfile.specs.ModelFile.{ModelFile}
+use Rattle.modelfile.specs.ModelFile.{ModelFile, refusing}
 
 -- what is answered of a file: its refusal and its counts
 abbrev pub told : ModelFile → TablesRead
@@ -20,14 +18,6 @@ told x = record { verdict = x .verdict; counts = countsOf (x .tables) }
 abbrev pub fileIn : TablesRead → List ℕ → List ℕ → List ℤ → List ℕ → ModelFile
 fileIn r transition observation reward start =
     record { verdict = r .verdict; tables = tablesIn (r .counts) transition observation reward; start = start }
-
--- ---- refusals
-
-abbrev pub noCounts : Counts
-noCounts = record { states = 0; actions = 0; observations = 0; discount = 0 }
-
-abbrev pub refusing : Verdict → TablesRead
-refusing v = record { verdict = v; counts = noCounts }
 
 -- what is handed back of a word that was refused. A value is never handed back; proofs/Refused.antt says that no file is answered by number 0.
 abbrev pub handed : Read → TablesRead

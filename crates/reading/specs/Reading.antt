@@ -10,8 +10,7 @@ use Rattle.tables.specs.declared.Verdict.the-variants.{Fine, Refused}
 use Rattle.tables.specs.Storage.{countsOf}
 use Rattle.tables.specs.Verdicts.{_before_, unless}
 use Rattle.modelfile.specs.declared.TablesRead.{TablesRead}
-use Rattle.modelfile.specs.ModelFile.{ModelFile, room, modelFile}
-use Rattle.modelfile.specs.Steps.{refusing}
+use Rattle.modelfile.specs.ModelFile.{ModelFile, room, modelFile, refusing}
 
 -- the file, read for slices that are lent for T, O and R
 abbrev pub fileFor : List ℕ → List ℕ → List ℕ → List ℤ → ModelFile

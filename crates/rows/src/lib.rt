@@ -1,4 +1,4 @@
-// Upper bounds by rows, one for each action: a step of the fast informed bound and of QMDP. A row lies as a vector's entries do.
+// Upper bounds by rows, one for each action: a step of the fast informed bound and of QMDP. Rows lie as R does, by action and state.
 ghost use mathlib.Core.Path.{_≡_};
 ghost use mathlib.Core.List.{List};
 ghost use Prim.Native.Nat.{ℕ, _*_, _≤_, _<_};
@@ -19,7 +19,6 @@ use tables::Foreseen;
 use tables::Observation;
 use tables::State;
 use tables::Tables;
-use tables::Vector;
 use tables::Weights;
 use tables::read;
 
@@ -116,13 +115,13 @@ pub fn step_informed<'a>(
 
 // The largest of the rows' entries at a state.
 fn highest_at(rows: &[i64], n: usize, m: usize, s: State) -> i64
-    requires { ⌜ (n ≤ maxStates) × ((s .0 < n) × (0 < m)) ⌝ }
+    requires { ⌜ (n ≤ maxStates) × ((s .0 < n) × ((0 < m) × (m ≤ maxActions))) ⌝ }
     requires { ⌜ EntriesFit n m (now rows) ⌝ }
     ensures { λ r. ⌜ r ≡ highest m (λ a. entryIn n (now (rows .entry)) a (s .0)) ⌝ }
 {
-    let mut most = read::entry_at(rows, n, Vector(0), s);
+    let mut most = read::reward_at(rows, n, s, Action(0));
     for a in 1..m {
-        let here = read::entry_at(rows, n, Vector(a), s);
+        let here = read::reward_at(rows, n, s, Action(a));
         if most < here {
             most = here;
         }
@@ -132,7 +131,7 @@ fn highest_at(rows: &[i64], n: usize, m: usize, s: State) -> i64
 
 // 1,000 times it, at each state.
 fn tops(rows: &[i64], n: usize, m: usize) -> Foreseen
-    requires { ⌜ (n ≤ maxStates) × (0 < m) ⌝ }
+    requires { ⌜ (n ≤ maxStates) × ((0 < m) × (m ≤ maxActions)) ⌝ }
     requires { ⌜ EntriesFit n m (now rows) ⌝ }
     ensures { λ r. ⌜ r ≡ padded (pos 0) maxStates n (topIn n m (now (rows .entry))) ⌝ }
 {

@@ -34,7 +34,7 @@ use Rattle.levels.proofs.Over.{over-agree, over-long, over-same}
 use Rattle.levels.proofs.Over.{informed-over, qmdp-over, informed-long, qmdp-long}
 use Rattle.runs.specs.declared.Bounds.{Bounds}
 use Rattle.tables.specs.Verdicts.{left}
-use Rattle.runs.specs.State.{at, openVerdict, opened, verdictOn, raised, offered, mixtureHolds, totalsVerdict, totalsOf}
+use Rattle.runs.specs.State.{at, openVerdict, opened, verdictOn, raised, offered, mixtureHolds, standingVerdict, totalsVerdict, totalsOf}
 use Rattle.runs.specs.State.{answerFor, buildVerdict, builtFrom, builtOf}
 use Rattle.runs.specs.Prices.{pricesVerdict, moved, pricedOf}
 use Rattle.runs.specs.Demand3.{ModelAccepted, Event, offer, prices, offers, Certifier, certifier, handed, run, tally, counted, acceptances}
@@ -236,10 +236,10 @@ module _ {m : Tables} {x₀ : Cells} {t : ℕ} {c : Claim} {x : Lent} (r : Reach
     counts-is = some-counts-agree (modelOf m) (c .level) (levelOf m (standingIn x)) (r .agrees) (weightIn b)
 
     totals-fine : 0 < t → mixtureHolds (m .states) b ≡ true → someCounts (modelOf m) (c .level) (weightIn b) ≡ true → totalsVerdict m x b ≡ Fine
-    unfolding totalsVerdict
+    unfolding totalsVerdict standingVerdict
     totals-fine h e counted =
-        fine-before (passed 7 0 holds-true) (fine-before (passed 16 0 (lt-ltb 0 (numberIn x) (omega (arith, r .number))))
-        (fine-before (passed 17 0 e) (passed 22 0 (counts-is ∙ counted))))
+        fine-before (fine-before (passed 7 0 holds-true) (passed 16 0 (lt-ltb 0 (numberIn x) (omega (arith, r .number)))))
+        (fine-before (passed 17 0 e) (passed 22 0 (counts-is ∙ counted)))
 
     lower-is : lower (modelOf m) (levelOf m (standingIn x)) (weightIn b) ≡ lower (modelOf m) (c .level) (weightIn b)
     lower-is = lower-agree (modelOf m) (c .level) (levelOf m (standingIn x)) (r .agrees) some-vectors (weightIn b)

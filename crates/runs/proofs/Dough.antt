@@ -26,7 +26,7 @@ use Rattle.levels.specs.Storage.{Cells, LentLevel, Rows, rows, Lent, levelOf, c
 use Rattle.levels.specs.Judged.{rowsWithin, valuesWithin, rangesVerdict, weightsVerdict, holdsUpTo, numbersIn, floorsVerdict, cornersVerdict, pointsVerdict}
 use Rattle.levels.specs.Judged.{masksVerdict, levelVerdict, shapeUpTo, backupsVerdict, offerUpTo, offerVerdict}
 use Rattle.runs.specs.declared.Bounds.{Bounds}
-use Rattle.runs.specs.State.{openVerdict, opened, offered, totalsVerdict, totalsOf, buildVerdict, builtOf}
+use Rattle.runs.specs.State.{openVerdict, opened, offered, standingVerdict, totalsVerdict, totalsOf, buildVerdict, builtOf}
 
 -- T by a, s, s'; O by a, s', o; R by a, s
 unfoldable pub dough : Tables
@@ -265,7 +265,7 @@ record Table : Type 0 where
 table : Table
 unfolding dough slices rowsAt blank fresh half one two three level standing alone changed mixture pair
     openVerdict opened offered offerUpTo shapeUpTo levelVerdict backupsVerdict masksVerdict floorsVerdict cornersVerdict pointsVerdict numbersIn holdsUpTo over
-    level0 totalsOf totalsVerdict best lower upper advice builtOf buildVerdict tablesVerdict limitsHold rowsTotal
+    level0 totalsOf totalsVerdict standingVerdict best lower upper advice builtOf buildVerdict tablesVerdict limitsHold rowsTotal
     firstOf every totalTo rangesVerdict rowsWithin valuesWithin weightsVerdict range built seed bestAction chosen entryFor leastValue leastFor firstLargestOf
     product successor sumTo backedUp backup follows floorDiv ceilDiv backupAt expectedReward ceiling largestTo drop gain smallest joined orNone
     coversAll counts some covered maskOf corner-weight laid laidRows listed lesser highest bestRow informedBackup informedNext informed

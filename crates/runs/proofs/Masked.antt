@@ -17,7 +17,7 @@ use Rattle.plans.specs.Totals.{best, lower, upper, advice}
 use Rattle.levels.specs.Storage.{LentLevel, Lent, lentFor, over}
 use Rattle.levels.specs.Judged.{rowsWithin, valuesWithin, rangesVerdict, weightsVerdict, holdsUpTo, numbersIn, floorsVerdict, cornersVerdict, pointsVerdict}
 use Rattle.levels.specs.Judged.{masksVerdict, levelVerdict, shapeUpTo, backupsVerdict, offerUpTo, offerVerdict}
-use Rattle.runs.specs.State.{offered, totalsVerdict, totalsOf, buildVerdict}
+use Rattle.runs.specs.State.{offered, standingVerdict, totalsVerdict, totalsOf, buildVerdict}
 use Rattle.runs.proofs.Dough.{dough, slices, rowsAt, fresh, given, half}
 
 -- the mask of the second state, and one with a state that there is not
@@ -90,7 +90,7 @@ record Table : Type 0 where
 table : Table
 unfolding dough slices rowsAt fresh half offer baked stands next
     offered offerUpTo shapeUpTo levelVerdict backupsVerdict masksVerdict floorsVerdict cornersVerdict pointsVerdict numbersIn holdsUpTo over
-    totalsOf totalsVerdict best lower upper advice buildVerdict tablesVerdict limitsHold rowsTotal
+    totalsOf totalsVerdict standingVerdict best lower upper advice buildVerdict tablesVerdict limitsHold rowsTotal
     firstOf every totalTo rangesVerdict rowsWithin valuesWithin weightsVerdict range firstLargestOf
     product successor sumTo backup follows floorDiv ceilDiv backupAt expectedReward ceiling largestTo drop gain smallest joined orNone
     coversAll counts some covered maskOf corner-weight laid laidRows listed lesser highest bestRow informedBackup informedNext qmdpBackup qmdpNext _·_ K

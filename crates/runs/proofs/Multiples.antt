@@ -15,7 +15,7 @@ use Rattle.plans.proofs.Multiples.{counts-times, lower-times, upper-times, lowe
 use Rattle.levels.specs.Storage.{Lent, levelOf, numberIn, standingIn, informedIn}
 use Rattle.levels.specs.Judged.{holds}
 use Rattle.levels.proofs.Laws.{passed, fine-before}
-use Rattle.runs.specs.State.{mixtureHolds, totalsVerdict, boundsBy, totalsOf}
+use Rattle.runs.specs.State.{mixtureHolds, standingVerdict, totalsVerdict, boundsBy, totalsOf}
 use Rattle.runs.specs.Multiples.{Times, Given, Multiples}
 use Rattle.runs.proofs.Judged.{Held, standing-true}
 
@@ -38,16 +38,16 @@ module _ (m : Tables) (x : Lent) where
     counted : someCounts M L (weightIn b) ≡ true
 
   passes : (b : List ℕ) → Given m x b → Passed b
-  unfolding totalsOf totalsVerdict
+  unfolding totalsOf totalsVerdict standingVerdict
   passes b g =
       let e : totalsVerdict m x b ≡ Fine = sym (verdict-of (totalsVerdict m x b) M L (informedIn m x) (weightIn b)) ∙ g in
-      let e7 = before-fine _ _ e in
-      let e16 = before-fine _ _ (e7 .1) in
-      let e17 = before-fine (unless (mixtureHolds (m .states) b) 17 0) (unless (someCounts M L (weightIn b)) 22 0) (e16 .1) in
+      let asked = before-fine (standingVerdict m x) _ e in
+      let stood = before-fine _ _ (asked .0) in
+      let e17 = before-fine (unless (mixtureHolds (m .states) b) 17 0) (unless (someCounts M L (weightIn b)) 22 0) (asked .1) in
       record {
         fine = e;
-        held = unless-fine _ 7 0 (e7 .0);
-        above = ltb-true _ _ (unless-fine _ 16 0 (e16 .0));
+        held = unless-fine _ 7 0 (stood .0);
+        above = ltb-true _ _ (unless-fine _ 16 0 (stood .1));
         counted = unless-fine _ 22 0 (e17 .1);
       }
 
@@ -57,10 +57,10 @@ module _ (m : Tables) (x : Lent) where
   -- At c times the weights the same vectors count, so totals are given there too. The rest is `lower-times` and `upper-times`. Qed.
   module _ (c : ℕ) (some : 0 < c) (b b' : List ℕ) (same : Times (m .states) c b b') where
     still : Passed b → mixtureHolds (m .states) b' ≡ true → totalsVerdict m x b' ≡ Fine
-    unfolding totalsVerdict
+    unfolding totalsVerdict standingVerdict
     still p h =
-        fine-before (passed 7 0 (p .held)) (fine-before (passed 16 0 (lt-ltb _ _ (p .above))) (fine-before (passed 17 0 h)
-        (passed 22 0 (some-cong (L .vectors) _ _ (λ v l. counts-times (m .states) c (weightIn b) (weightIn b') same some L v) ∙ p .counted))))
+        fine-before (fine-before (passed 7 0 (p .held)) (passed 16 0 (lt-ltb _ _ (p .above)))) (fine-before (passed 17 0 h)
+        (passed 22 0 (some-cong (L .vectors) _ _ (λ v l. counts-times (m .states) c (weightIn b) (weightIn b') same some L v) ∙ p .counted)))
 
   -- Multiplying all weights by a whole number multiplies the lower total by it and the upper total by at most it; the lower total at a sum is at most the
   -- sum of the lower totals. Qed.

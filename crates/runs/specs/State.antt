@@ -62,6 +62,10 @@ offered m x l = left (verdictOn m x l) (raised m x (levelOf m l)) x
 
 -- ---- totals
 
+-- 7 and 16, which every call for totals tests first: of the certifier by itself
+unfoldable pub standingVerdict : Tables → Lent → Verdict
+standingVerdict m x = unless (holds m x) 7 0 before unless (ltb 0 (numberIn x)) 16 0
+
 -- 17: a weight exceeds 1,000,000 or all are 0; or there are fewer weights than states
 abbrev pub mixtureHolds : ℕ → List ℕ → Bool
 mixtureHolds n b = leb n (length b) && (every n (λ s. leb (weightIn b s) maxWeight) && ltb 0 (totalTo n (weightIn b)))
@@ -69,8 +73,7 @@ mixtureHolds n b = leb n (length b) && (every n (λ s. leb (weightIn b s) maxWei
 -- 22: no vector counts at the mixture
 unfoldable pub totalsVerdict : Tables → Lent → List ℕ → Verdict
 totalsVerdict m x b =
-    unless (holds m x) 7 0
-    before unless (ltb 0 (numberIn x)) 16 0
+    standingVerdict m x
     before unless (mixtureHolds (m .states) b) 17 0
     before unless (someCounts (modelOf m) (levelOf m (standingIn x)) (weightIn b)) 22 0
 

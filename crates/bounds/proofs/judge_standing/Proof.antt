@@ -4,7 +4,7 @@ use Rattle.integers.proofs.Kit.{lt-ltb, ltb}
 use Rattle.tables.proofs.Refusals.{breaks, passes}
 use Rattle.levels.specs.declared.Standing.{Standing}
 use Rattle.levels.specs.Judged.{holds}
-use Rattle.bounds.specs.Steps.{standingVerdict}
+use Rattle.runs.specs.State.{standingVerdict}
 use Rattle.bounds.proofs.judge_standing.Statement.{statement}
 use Rattle.bounds.proofs.judge_standing.Tie as tie
 

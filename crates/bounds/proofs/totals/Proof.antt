@@ -4,7 +4,7 @@ use Rattle.backups.proofs.Roofs.{corners-fit, points-fit, values-fit}
 use Rattle.runs.specs.declared.Bounds.{Bounds}
 use Rattle.runs.specs.State.{totalsOf}
 use Rattle.runs.proofs.Demand3.{totals-demand}
-use Rattle.bounds.specs.Steps.{standingVerdict}
+use Rattle.runs.specs.State.{standingVerdict}
 use Rattle.bounds.proofs.Bounds.{Gained, roofed, asked, gains-long, standing-holds, refused, answered}
 use Rattle.bounds.proofs.totals.Statement.{statement}
 use Rattle.bounds.proofs.totals.Tie as tie

@@ -2,14 +2,14 @@ use Rattle.digits.proofs.Prelude.{_≡_, _∙_, refl, sym, ap, ℕ, _�
 use lib.ListN.{length-set}
 use Rattle.digits.proofs.Over.{over-none, digits-turn, digits-length}
 use Rattle.digits.proofs.Prelude.{lastDigits}
-use Rattle.digits.specs.Steps.{over}
+use Rattle.digits.specs.Digits.{textOver}
 use Rattle.digits.proofs.put_last_digits.Statement.{statement}
 use Rattle.digits.proofs.put_last_digits.Tie as tie
 
 -- what is left to be written makes the whole of it
 abbrev Inv-loop : tie.InvT-loop
 Inv-loop out₀ at count v rest₀ left₀ out rest left =
-    (left ≤ count) × ((over at (lastDigits left rest) out ≡ over at (lastDigits count v) out₀) × (length out ≡ length out₀))
+    (left ≤ count) × ((textOver at (lastDigits left rest) out ≡ textOver at (lastDigits count v) out₀) × (length out ≡ length out₀))
 
 abbrev μ-loop : tie.MeasureT-loop
 μ-loop out₀ at count v rest₀ left₀ out rest left = left
@@ -33,7 +33,7 @@ loop-again c =
       omega (arith, turn .loop .inv .0),
       (
         sym (digits-turn (a .at) left (turn .loop .rest) (turn .loop .out) inside (c .digit .ensures))
-            ∙ ap (λ (k : ℕ). over (a .at) (lastDigits k (turn .loop .rest)) (turn .loop .out)) one-less
+            ∙ ap (λ (k : ℕ). textOver (a .at) (lastDigits k (turn .loop .rest)) (turn .loop .out)) one-less
             ∙ turn .loop .inv .1 .0,
         length-set (turn .loop .out) _ _ ∙ turn .loop .inv .1 .1,
       ),
@@ -49,7 +49,7 @@ returns c =
       place = omega (arith, digits-length (a .count) (a .v));
       same =
           sym (over-none (a .at) (turn .loop .out))
-          ∙ ap (λ (k : ℕ). over (a .at) (lastDigits k (turn .loop .rest)) (turn .loop .out)) (sym none)
+          ∙ ap (λ (k : ℕ). textOver (a .at) (lastDigits k (turn .loop .rest)) (turn .loop .out)) (sym none)
           ∙ turn .loop .inv .1 .0;
     }
 

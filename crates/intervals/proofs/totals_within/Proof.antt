@@ -3,7 +3,7 @@ use Rattle.tables.specs.Tables.{Tables}
 use Rattle.tables.specs.declared.Verdict.the-variants.{Fine}
 use Rattle.tables.specs.Storage.{tablesIn}
 use Rattle.levels.specs.Storage.{Lent, cells, rows, lent, standingAt}
-use Rattle.bounds.specs.Steps.{standingVerdict}
+use Rattle.runs.specs.State.{standingVerdict}
 use Rattle.bounds.proofs.Bounds.{stands, standing-holds}
 use Rattle.intervals.specs.declared.Within.{Within}
 use Rattle.intervals.specs.Intervals.{withinOf}

@@ -7,7 +7,8 @@ use Rattle.backups.proofs.Roofs.{corners-fit, points-fit, values-fit}
 use Rattle.tables.specs.declared.Verdict.{Verdict}
 use Rattle.tables.specs.declared.Verdict.the-variants.{Fine, Refused}
 use Rattle.levels.specs.Judged.{holds}
-use Rattle.bounds.specs.Steps.{answerIn, standingVerdict}
+use Rattle.runs.specs.State.{standingVerdict}
+use Rattle.bounds.specs.Steps.{answerIn}
 use Rattle.mixtures.specs.Each.{Answers, answers, roomFor, eachVerdict}
 use Rattle.runs.specs.declared.Bounds.{Bounds}
 use Rattle.runs.specs.State.{totalsOf}

@@ -7,8 +7,8 @@ use Rattle.tables.specs.Steps.{Stored}
 use Rattle.tables.specs.Model.{Valid}
 use Rattle.tables.proofs.Fitting.{Long, Sizes, sizes, stored-true}
 use Rattle.modelfile.specs.declared.TablesRead.{TablesRead}
-use Rattle.modelfile.specs.ModelFile.{ModelFile, Room, room}
-use Rattle.modelfile.specs.Steps.{fileIn, refusing}
+use Rattle.modelfile.specs.ModelFile.{ModelFile, Room, room, refusing}
+use Rattle.modelfile.specs.Steps.{fileIn}
 use Rattle.modelfile.proofs.Opens.{opens, read-valid}
 use Rattle.reading.specs.Reading.{fileFor}
 use Rattle.reading.proofs.Room.{refused-file, short-start, long-start}

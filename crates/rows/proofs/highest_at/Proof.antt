@@ -13,23 +13,23 @@ Inv-loop rows n m s most₀ a₀ most a = ((1 ≤ a) × (a ≤ m)) × (toZ w64 m
 abbrev μ-loop : tie.MeasureT-loop
 μ-loop rows n m s most₀ a₀ most a = m - a
 
-entry-at-requires : tie.Need-entry-at-requires Inv-loop μ-loop
-entry-at-requires c κs =
+reward-at-requires : tie.Need-reward-at-requires Inv-loop μ-loop
+reward-at-requires c κs =
     let p = c .pre in
-    ((p .0 .0, omega arith), (p .0 .1 .0, rows-stored _ 0 _ (p .0 .1 .1) (p .1 .stored)))
+    ((p .0 .0, omega arith), (p .0 .1 .0, rows-stored _ 0 _ (p .0 .1 .1 .0) (p .1 .stored)))
 
 loop-holds : tie.Need-loop-holds Inv-loop μ-loop
-loop-holds c = ((omega arith, omega arith), answer (c .entry-at .ok) (c .entry-at .ensures) ∙ highest-first _)
+loop-holds c = ((omega arith, omega arith), answer (c .reward-at .ok) (c .reward-at .ensures) ∙ highest-first _)
 
-entry-at-requires-2 : tie.Need-entry-at-requires-2 Inv-loop μ-loop
-entry-at-requires-2 c κs =
+reward-at-requires-2 : tie.Need-reward-at-requires-2 Inv-loop μ-loop
+reward-at-requires-2 c κs =
     let p = c .before .before .before .pre in
-    ((p .0 .0, omega (arith, p .1 .few)), (p .0 .1 .0, rows-stored _ _ _ (c .loop-test .taken) (p .1 .stored)))
+    ((p .0 .0, omega (arith, p .0 .1 .1 .1)), (p .0 .1 .0, rows-stored _ _ _ (c .loop-test .taken) (p .1 .stored)))
 
 loop-again : tie.Need-loop-again Inv-loop μ-loop
 loop-again c =
     let so-far = c .before .before .before .loop .inv .1 in
-    let met = answer (c .before .entry-at2 .ok) (c .before .entry-at2 .ensures) in (
+    let met = answer (c .before .reward-at2 .ok) (c .before .reward-at2 .ensures) in (
       (omega arith, omega arith),
       ⊎-elim
           (λ w. ap (toZ w64) (w .1) ∙ highest-later _ _ so-far met (w .0 .taken))
@@ -44,4 +44,4 @@ returns c =
 
 pub highest-at-spec : {M : Type 1} → statement M
 highest-at-spec =
-    tie.close (tie.spec Inv-loop μ-loop entry-at-requires loop-holds entry-at-requires-2 (λ c. omega arith) (λ c. omega arith) loop-again returns)
+    tie.close (tie.spec Inv-loop μ-loop reward-at-requires loop-holds reward-at-requires-2 (λ c. omega arith) (λ c. omega arith) loop-again returns)

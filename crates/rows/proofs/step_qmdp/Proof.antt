@@ -22,7 +22,7 @@ abbrev μ-loop : tie.MeasureT-loop
 μ-loop T R c rows next₀ n cells f i₀ next i = c .actions * c .states - i
 
 tops-requires : tie.Need-tops-requires Inv-loop μ-loop
-tops-requires c κs = let h = c .before .before .pre .0 in ((h .few-states, h .some-actions), h .rows-fit)
+tops-requires c κs = let h = c .before .before .pre .0 in ((h .few-states, (h .some-actions, h .few-actions)), h .rows-fit)
 
 loop-holds : tie.Need-loop-holds Inv-loop μ-loop
 loop-holds c = (omega arith, λ O. sym (laid-none _ _))

@@ -28,7 +28,7 @@ met c = answer (c .highest-at .ok) (c .highest-at .ensures)
 scaled-requires : tie.Need-scaled-requires Inv-loop μ-loop
 scaled-requires c κs =
     let p = c .before .before .before .pre in
-    (lit< tt, rw (met c) (omega (arith, highest-limit (p .1) (p .0 .1) (c .before .before .loop .s) (c .before .loop-test .taken))))
+    (lit< tt, rw (met c) (omega (arith, highest-limit (p .1) (p .0 .1 .0) (c .before .before .loop .s) (c .before .loop-test .taken))))
 
 loop-again : tie.Need-loop-again Inv-loop μ-loop
 loop-again c = (
