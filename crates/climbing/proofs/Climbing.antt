@@ -133,7 +133,7 @@ module _ {t : ℕ} {m : Tables} {z : Lent} {y : Cells} (k : Climbed t m z y) whe
       left = ap (certifier m) f ∙ ap (λ (z : Certifier). handed z next) (k .left) ∙ sym (run-more begun (k .events) next);
       accepted = acceptances-more begun (k .events) next ∙ ap (λ (n : ℕ). steps (k .on) (k .first) (k .events) + n) next-counts
           ∙ ap (λ (n : ℕ). n + 1) (k .accepted);
-      covers = ap (λ (c : Claim). someCoversAll (modelOf m) (c .level)) (claimed-more 0 begun (claim0 (modelOf (k .on))) (k .events) next)
+      covers = ap (λ (c : Claim). someCoversAll (modelOf m) (c .level)) (claimed-more 0 begun claim0 (k .events) next)
           ∙ ap (λ (L : Level). someCoversAll (modelOf m) L) (next-claimed (0 + steps (k .on) (k .first) (k .events)) (claim (k .on) (k .first) (k .events)))
           ∙ built-covers;
       points = record {

@@ -7,7 +7,6 @@ use Rattle.tables.specs.declared.Verdict.{Verdict}
 use Rattle.tables.specs.declared.Verdict.the-variants.{Fine, Refused}
 use Rattle.masks.specs.Masks.{maskOf}
 use Rattle.plans.specs.Level.{level0}
-use Rattle.plans.specs.Rows.{informed, qmdp}
 use Rattle.levels.specs.Storage.{rows, Lent, stateSize, cells, lent, over}
 use Rattle.levels.proofs.Over.{cells-same, lent-same}
 use Rattle.runs.specs.State.{openVerdict, opened}
@@ -34,7 +33,7 @@ module _ (m : Tables) (x : Lent) where
       → f ≡ laid (m .actions * m .states) (λ i. pos 0) (x .rows .informed)
       → q ≡ laid (m .actions * m .states) (λ i. pos 0) (x .rows .qmdp)
       → lent state (cells actions choices masks entries corners (x .cells .weights) (x .cells .values)) (rows f q) ≡ opened m x
-  unfolding opened over level0 informed qmdp laidRows
+  unfolding opened over level0 laidRows
   opened-fine e fine s a b k c d f q =
       rw (sym e ∙ fine)
       (lent-same s (cells-same a (b ∙ row-alone 0 (m .observations) (x .cells .choices)) k (c ∙ row-alone (pos 0) (m .states) (x .cells .entries)) d

@@ -2,7 +2,7 @@
 -- and only entries below the counts are read. Assumes nothing.
 --
 --   highest-.., best-of                 the largest as a loop takes it; some row has the best product
---   rows-0, rows-next, rows-certified   what no plan passes, level by level
+--   rows-0, rows-next                   what no plan passes, level by level
 --   rows-roof                           the same at weights: the best row's product
 --   informed-range, qmdp-range, ..      the ranges of the levels
 --   bestRow-cong, informed-cong, ..     rows that agree below the counts
@@ -25,7 +25,7 @@ use Rattle.tables.specs.Model.{Model, Valid}
 use Rattle.plans.specs.Limits.{range}
 use Rattle.plans.specs.Plan.{Plan, stop, step, Fits, Opens, earns, earnsAt}
 use Rattle.plans.specs.Level.{product}
-use Rattle.plans.specs.Rows.{highest, bestRow, informedBackup, informedNext, informed, qmdpBackup, qmdpNext, qmdp}
+use Rattle.plans.specs.Rows.{highest, bestRow, rows0, informedBackup, informedNext, qmdpBackup, qmdpNext}
 use Rattle.plans.proofs.Certified.{RowsCertified}
 use Rattle.plans.proofs.Floor.{pow-·}
 use Rattle.plans.proofs.Agreement.{product-cong}
@@ -101,8 +101,8 @@ rows-roof {M} {t} {F} some c π f b =
     (·-mono (K ^ t) (highest-above (M .actions) (λ a. product (M .states) b (F a)) (first π) (first-exists M some π f)))
 
 -- at level 0 rows of zeros are what the plan of no steps earns
-pub rows-0 : (M : Model) → RowsCertified M 0 (informed M 0) (qmdp M 0)
-unfolding earns informed qmdp
+pub rows-0 : (M : Model) → RowsCertified M 0 rows0 rows0
+unfolding earns
 rows-0 M = record { row = row; below = λ a l s ls. ≤-refl (pos 0) }
   where
     row : (π : Plan 0) → Fits M π → (a : ℕ) → Opens π a → (s : ℕ) → s < M .states → earns M π s ≤ℤ (K ^ 0) · pos 0
@@ -167,12 +167,6 @@ module _ {M : Model} {t : ℕ} {F Q : ℕ → ℕ → ℤ} (T : Valid M) (c : Ro
   pub rows-next : RowsCertified M (suc t) (informedNext M F) (qmdpNext M Q)
   rows-next = record { row = row-next; below = below-next }
 
--- what the levels of rows have, from level 0 on
-pub rows-certified : {M : Model} → Valid M → (t : ℕ) → RowsCertified M t (informed M t) (qmdp M t)
-unfolding informed qmdp
-rows-certified {M} T zero = rows-0 M
-rows-certified {M} T (suc t) = rows-next T (rows-certified T t)
-
 -- ---- ranges
 -- entries below the counts lie within a range
 abbrev pub RowsWithin : Model → ℕ → (ℕ → ℕ → ℤ) → Type 0
@@ -212,17 +206,6 @@ module _ {M : Model} (T : Valid M) (t : ℕ) (F : ℕ → ℕ → ℤ) (h : Rows
       rounded-range a la s ls _ _ (sum-weighed (M .states) (range t) (λ s'. M .transition s a s' * one) _ (λ s' l. times-bound _ _ (NatL.le-refl _)
       (highest-ind (λ x. natAbs x ≤ range t) (M .actions) (λ a'. F a' s') (T .some-actions) (λ a' l'. h a' l' s' l))))
       (total-mul-right (M .states) one (M .transition s a) ∙ ap (λ (x : ℕ). x * one) (T .transition-row a la s ls))
-
--- so each level's rows lie within its range
-pub informed-within : {M : Model} → Valid M → (t : ℕ) → RowsWithin M (range t) (informed M t)
-unfolding informed
-informed-within {M} T zero = λ a la s ls. omega arith
-informed-within {M} T (suc t) = informed-range T t (informed M t) (informed-within T t)
-
-pub qmdp-within : {M : Model} → Valid M → (t : ℕ) → RowsWithin M (range t) (qmdp M t)
-unfolding qmdp
-qmdp-within {M} T zero = λ a la s ls. omega arith
-qmdp-within {M} T (suc t) = qmdp-range T t (qmdp M t) (qmdp-within T t)
 
 -- ---- rows that agree
 -- Sums run over states and observations, the largest is taken over actions: only entries below the counts are read. Qed.

@@ -15,7 +15,7 @@ use Rattle.tables.proofs.Accepted.{tables-valid, tables-stored}
 use Rattle.tables.specs.Limits.{maxVectors, maxLevels}
 use Rattle.plans.specs.Level.{level0, Agree, ceiling}
 use Rattle.plans.specs.Build.{someCoversAll}
-use Rattle.plans.specs.Rows.{bestRow, informed, qmdp, informedNext, qmdpNext}
+use Rattle.plans.specs.Rows.{bestRow, rows0, informedNext, qmdpNext}
 use Rattle.plans.specs.Prices.{change, repriced, raisedRows}
 use Rattle.plans.specs.Totals.{someCounts, lower, upper, advice}
 use Rattle.plans.proofs.Certified.{Certified, RowsCertified}
@@ -75,13 +75,11 @@ module _ (m : Tables) (x : Lent) (o : ModelAccepted m x) where
       let rows = and-true _ _ (k .1) in
       (leb-true _ _ (h .0), (complete-true m l (k .0), (leb-true _ _ (rows .0), leb-true _ _ (rows .1))))
 
-  pub reached-open : Reached m (x .cells) 0 (claim0 (modelOf m)) (opened m x)
-  unfolding opened level0 informed qmdp
+  pub reached-open : Reached m (x .cells) 0 claim0 (opened m x)
+  unfolding opened level0
   reached-open =
       let room = room-for-level-0 .1 .0 in
       let v = tables-valid m fine-tables in
-      let F = informed (modelOf m) 0 in
-      let Q = qmdp (modelOf m) 0 in
       let agree = over-agree m level0 (x .cells) (covers-elsewhere (m .states) level0 (λ v s. refl)) in
       rw o record {
         number = refl;
@@ -96,17 +94,17 @@ module _ (m : Tables) (x : Lent) (o : ModelAccepted m x) where
           read = complete-long m (over-long m level0 (x .cells) room) room .read;
           shaped = shaped-agree (modelOf m) level0 _ agree 0 (level0-shaped (modelOf m) v);
           informed = record {
-            long = informed-long m F Q (x .rows) (room-for-level-0 .1 .1 .0);
-            entry = λ a h s b. rw (informed-over m F Q (x .rows) a h s b) (omega arith);
+            long = informed-long m rows0 rows0 (x .rows) (room-for-level-0 .1 .1 .0);
+            entry = λ a h s b. rw (informed-over m rows0 rows0 (x .rows) a h s b) (omega arith);
           };
           qmdp = record {
-            long = qmdp-long m F Q (x .rows) (room-for-level-0 .1 .1 .1);
-            entry = λ a h s b. rw (qmdp-over m F Q (x .rows) a h s b) (omega arith);
+            long = qmdp-long m rows0 rows0 (x .rows) (room-for-level-0 .1 .1 .1);
+            entry = λ a h s b. rw (qmdp-over m rows0 rows0 (x .rows) a h s b) (omega arith);
           };
         };
         as-lent = over-long m level0 (x .cells) room;
-        informed-is = informed-over m F Q (x .rows);
-        qmdp-is = qmdp-over m F Q (x .rows);
+        informed-is = informed-over m rows0 rows0 (x .rows);
+        qmdp-is = qmdp-over m rows0 rows0 (x .rows);
       }
 
 -- ---- one event
@@ -330,7 +328,7 @@ reached-run x₀ (e ∷ es) t c y r =
 
 pub reached : (m : Tables) (x : Lent) → ModelAccepted m x → (es : List Event)
     → Reached (after m x es .tables) (x .cells) (steps m x es) (claim m x es) (after m x es .lent)
-reached m x o es = rw (zero-add (steps m x es)) at (reached-run (x .cells) es 0 (claim0 (modelOf m)) (certifier m (opened m x)) (reached-open m x o))
+reached m x o es = rw (zero-add (steps m x es)) at (reached-run (x .cells) es 0 claim0 (certifier m (opened m x)) (reached-open m x o))
 
 -- ---- what holds then
 module _ (x : Lent) {m : Tables} {z : Lent} {t : ℕ} {c : Claim} (r : Reached m (x .cells) t c z) where

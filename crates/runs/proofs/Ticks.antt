@@ -53,7 +53,7 @@ record Stacked (m : Tables) (x₀ : Cells) (below : List Level) (c : Claim) (x :
   strict : 0 < length below → (v : ℕ) → v < c .level .vectors → (s : ℕ) → s < m .states
       → earns (modelOf m) (named below v) s <ℤ (K ^ length below) · (c .level .entry v s +ℤ pos (length below))
 
-stacked-open : (m : Tables) (x : Lent) → ModelAccepted m x → Stacked m (x .cells) [] (claim0 (modelOf m)) (opened m x)
+stacked-open : (m : Tables) (x : Lent) → ModelAccepted m x → Stacked m (x .cells) [] claim0 (opened m x)
 unfolding named earns level0
 stacked-open m x o = record {
   reached = reached-open m x o;
@@ -151,7 +151,7 @@ ticks m x o ps = record { number = number; entry = λ h v l s b. (all .low v l s
     es = offers (made m x ps)
 
     all : Stacked m (x .cells) (levels m x (made m x ps)) (claim m x es) (after m x es .lent)
-    all = stacked-run m (tables-valid m (fine-tables m x o)) (x .cells) ps [] (claim0 (modelOf m)) (opened m x) (stacked-open m x o)
+    all = stacked-run m (tables-valid m (fine-tables m x o)) (x .cells) ps [] claim0 (opened m x) (stacked-open m x o)
 
     number : length (levels m x (made m x ps)) ≡ steps m x es
     number = sym (all .reached .number) ∙ demand3 m x o es .state .number

@@ -22,7 +22,7 @@ use Rattle.tables.specs.Limits.{maxLevels, K}
 use Rattle.plans.specs.Limits.{maxBuilt}
 use Rattle.plans.specs.Plan.{Plan, Fits, earnsAt}
 use Rattle.plans.specs.Level.{Level, Agree, level0, IsPoint, ceiling}
-use Rattle.plans.specs.Rows.{bestRow, informedNext, informed, qmdpNext, qmdp}
+use Rattle.plans.specs.Rows.{bestRow, rows0, informedNext, qmdpNext}
 use Rattle.plans.specs.Prices.{change, repriced, raisedRows}
 use Rattle.plans.specs.Build.{someCoversAll}
 use Rattle.plans.specs.Totals.{someCounts, lower, upper, advice, Bracket}
@@ -115,11 +115,11 @@ abbrev pub steps : Tables → Lent → List Event → ℕ
 steps m x es = acceptances (certifier m (opened m x)) es
 
 -- level 0, and its rows
-abbrev pub claim0 : Model → Claim
-claim0 M = claims level0 (informed M 0) (qmdp M 0)
+abbrev pub claim0 : Claim
+claim0 = claims level0 rows0 rows0
 
 abbrev pub claim : Tables → Lent → List Event → Claim
-claim m x es = claimed 0 (certifier m (opened m x)) (claim0 (modelOf m)) es
+claim m x es = claimed 0 (certifier m (opened m x)) claim0 es
 
 -- ---- what holds of slices x under tables m, at level t with claim c
 

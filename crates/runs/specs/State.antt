@@ -17,7 +17,7 @@ use Rattle.tables.specs.Verdicts.{_before_, unless, left}
 use Rattle.tables.specs.Judged.{tablesVerdict}
 use Rattle.plans.specs.Limits.{maxBuilt}
 use Rattle.plans.specs.Level.{Level, level0, ceiling}
-use Rattle.plans.specs.Rows.{bestRow, informedNext, informed, qmdpNext, qmdp}
+use Rattle.plans.specs.Rows.{bestRow, rows0, informedNext, qmdpNext}
 use Rattle.plans.specs.Totals.{someCounts, lower, upper, advice}
 use Rattle.plans.specs.Build.{someCoversAll, built}
 use Rattle.levels.specs.Storage.{Cells, LentLevel, Lent, stateSize, levelOf, pointIn, complete, over, longRows, overRows, numberIn, standingIn, lentFor}
@@ -43,7 +43,7 @@ openVerdict m x =
     && longRows (m .actions) (m .states) (length (x .rows .informed)) (length (x .rows .qmdp)))) 9 0
 
 unfoldable pub opened : Tables → Lent → Lent
-opened m x = left (openVerdict m x) (at m 0 level0 (informed (modelOf m) 0) (qmdp (modelOf m) 0) x) x
+opened m x = left (openVerdict m x) (at m 0 level0 rows0 rows0 x) x
 
 -- ---- offering
 
