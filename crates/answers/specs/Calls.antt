@@ -30,8 +30,8 @@ abbrev pub layoutVersion : ℕ
 layoutVersion = 6
 
 -- tables that are handed in: states, actions, observations, discount, T, O, R
-abbrev pub model : ℕ → ℕ → ℕ → ℕ → List ℕ → List ℕ → List ℤ → Tables
-model n m k g transition observation reward = record {
+abbrev pub tablesBy : ℕ → ℕ → ℕ → ℕ → List ℕ → List ℕ → List ℤ → Tables
+tablesBy n m k g transition observation reward = record {
   states = n;
   actions = m;
   observations = k;

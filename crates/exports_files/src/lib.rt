@@ -12,7 +12,7 @@ ghost use Rattle.adoption.specs.Adopt.{adoptVerdict, adopted, adoptAnswer};
 ghost use Rattle.adoption.specs.Claim.{AdoptHolds};
 ghost use Rattle.converting.specs.Convert.{convertVerdict, converted, convertAnswer, convertedOver};
 ghost use Rattle.converting.specs.Claim.{ConvertHolds};
-ghost use Rattle.answers.specs.Calls.{model, readingBy, adoptionBy, conversionBy};
+ghost use Rattle.answers.specs.Calls.{tablesBy, readingBy, adoptionBy, conversionBy};
 use answers::Adoption;
 use answers::Conversion;
 use answers::Reading;
@@ -101,14 +101,14 @@ pub extern "C" fn biidhaqun_adopt<'a, 'b, 'c>(
     newvalues: &mut [i64],
 ) -> Adoption
     ensures { λ r. ⌜ ((choices : List ℕ) →
-        let tables = model n m k g (now (transition .entry)) (now (observation .entry)) (now (reward .entry)) in
+        let tables = tablesBy n m k g (now (transition .entry)) (now (observation .entry)) (now (reward .entry)) in
         let standing = lent (now (state .entry)) (cells (now (actions .entry)) choices (now (masks .entry)) (now (entries .entry)) (now (corners .entry))
         (now (weights .entry)) (now (values .entry))) (rows (now (informed .entry)) (now (qmdp .entry))) in
         let y = cells (now (newactions .entry)) (now (newchoices .entry)) (now (newmasks .entry)) (now (newentries .entry)) (now (newcorners .entry))
         (now (given .entry)) (now (newvalues .entry)) in
         r ≡ adoptionBy (adoptAnswer (adoptVerdict tables standing (now (alpha .entry)) (now (graph .entry)) count y) (vectorsIn n (now (alpha .entry))))) ⌝ }
     ensures { λ _. ⌜ ((choices : List ℕ) →
-        let tables = model n m k g (now (transition .entry)) (now (observation .entry)) (now (reward .entry)) in
+        let tables = tablesBy n m k g (now (transition .entry)) (now (observation .entry)) (now (reward .entry)) in
         let standing = lent (now (state .entry)) (cells (now (actions .entry)) choices (now (masks .entry)) (now (entries .entry)) (now (corners .entry))
         (now (weights .entry)) (now (values .entry))) (rows (now (informed .entry)) (now (qmdp .entry))) in
         let y = cells (now (newactions .entry)) (now (newchoices .entry)) (now (newmasks .entry)) (now (newentries .entry)) (now (newcorners .entry))
@@ -117,7 +117,7 @@ pub extern "C" fn biidhaqun_adopt<'a, 'b, 'c>(
         (now (given .entry)) (now (newvalues .exit)) in
         laid ≡ adopted tables standing (now (alpha .entry)) (now (graph .entry)) count y) ⌝ }
     ensures { λ _. ⌜ ((choices : List ℕ) →
-        let tables = model n m k g (now (transition .entry)) (now (observation .entry)) (now (reward .entry)) in
+        let tables = tablesBy n m k g (now (transition .entry)) (now (observation .entry)) (now (reward .entry)) in
         let standing = lent (now (state .entry)) (cells (now (actions .entry)) choices (now (masks .entry)) (now (entries .entry)) (now (corners .entry))
         (now (weights .entry)) (now (values .entry))) (rows (now (informed .entry)) (now (qmdp .entry))) in
         let y = cells (now (newactions .entry)) (now (newchoices .entry)) (now (newmasks .entry)) (now (newentries .entry)) (now (newcorners .entry))

@@ -5,7 +5,7 @@ ghost use Prim.Native.Nat.{ℕ};
 ghost use Rattle.columns.specs.Columns.{listVerdict, listedOf};
 ghost use Rattle.levels.specs.Storage.{cells, rows, lent};
 ghost use Rattle.runs.specs.Prices.{pricesVerdict, pricedOf};
-ghost use Rattle.answers.specs.Calls.{model, refusalOf};
+ghost use Rattle.answers.specs.Calls.{tablesBy, refusalOf};
 use answers::Refusal;
 use tables::Counts;
 
@@ -21,10 +21,10 @@ pub extern "C" fn biidhaqun_list<'a>(
     reward: &'a [i64],
     list: &mut [u32],
 ) -> Refusal
-    ensures { λ r. ⌜ r ≡ refusalOf (listVerdict (model n m k g (now (transition .entry)) (now (observation .entry)) (now (reward .entry)))
+    ensures { λ r. ⌜ r ≡ refusalOf (listVerdict (tablesBy n m k g (now (transition .entry)) (now (observation .entry)) (now (reward .entry)))
         (now (list .entry))) ⌝ }
     ensures { λ _. ⌜ now (list .exit)
-        ≡ listedOf (model n m k g (now (transition .entry)) (now (observation .entry)) (now (reward .entry))) (now (list .entry)) ⌝ }
+        ≡ listedOf (tablesBy n m k g (now (transition .entry)) (now (observation .entry)) (now (reward .entry))) (now (list .entry)) ⌝ }
 {
     let c = Counts {
         states: n,
@@ -64,14 +64,14 @@ pub extern "C" fn biidhaqun_reprice<'a, 'n, 'b>(
     qmdp: &mut [i64],
 ) -> Refusal
     ensures { λ r. ⌜ ((choices : List ℕ) →
-        let tables = model n m k g (now (transition .entry)) (now (observation .entry)) (now (reward .entry)) in
-        let next = model newn newm newk newg (now (newtransition .entry)) (now (newobservation .entry)) (now (newreward .entry)) in
+        let tables = tablesBy n m k g (now (transition .entry)) (now (observation .entry)) (now (reward .entry)) in
+        let next = tablesBy newn newm newk newg (now (newtransition .entry)) (now (newobservation .entry)) (now (newreward .entry)) in
         let standing = lent (now (state .entry)) (cells (now (actions .entry)) choices (now (masks .entry)) (now (entries .entry)) (now (corners .entry))
         (now (weights .entry)) (now (values .entry))) (rows (now (informed .entry)) (now (qmdp .entry))) in
         r ≡ refusalOf (pricesVerdict tables standing next)) ⌝ }
     ensures { λ _. ⌜ ((choices : List ℕ) →
-        let tables = model n m k g (now (transition .entry)) (now (observation .entry)) (now (reward .entry)) in
-        let next = model newn newm newk newg (now (newtransition .entry)) (now (newobservation .entry)) (now (newreward .entry)) in
+        let tables = tablesBy n m k g (now (transition .entry)) (now (observation .entry)) (now (reward .entry)) in
+        let next = tablesBy newn newm newk newg (now (newtransition .entry)) (now (newobservation .entry)) (now (newreward .entry)) in
         let standing = lent (now (state .entry)) (cells (now (actions .entry)) choices (now (masks .entry)) (now (entries .entry)) (now (corners .entry))
         (now (weights .entry)) (now (values .entry))) (rows (now (informed .entry)) (now (qmdp .entry))) in
         lent (now (state .entry)) (cells (now (actions .entry)) choices (now (masks .entry)) (now (entries .exit)) (now (corners .exit))

@@ -12,7 +12,7 @@ ghost use Rattle.intervals.specs.Intervals.{withinOf};
 ghost use Rattle.intervals.specs.Claim.{RangesHold};
 ghost use Rattle.worths.specs.Storage.{lentGraph};
 ghost use Rattle.worth.specs.Judged.{worthAnswer};
-ghost use Rattle.answers.specs.Calls.{model, refusalOf, totalsBy, totalsWithinBy, worthBy, Brackets, Encloses};
+ghost use Rattle.answers.specs.Calls.{tablesBy, refusalOf, totalsBy, totalsWithinBy, worthBy, Brackets, Encloses};
 use answers::Refusal;
 use answers::Totals;
 use answers::TotalsWithin;
@@ -43,12 +43,12 @@ pub extern "C" fn biidhaqun_totals<'a, 'b>(
     mixture: &[u32],
 ) -> Totals
     ensures { λ r. ⌜ ((choices : List ℕ) →
-        let tables = model n m k g (now (transition .entry)) (now (observation .entry)) (now (reward .entry)) in
+        let tables = tablesBy n m k g (now (transition .entry)) (now (observation .entry)) (now (reward .entry)) in
         let standing = lent (now (state .entry)) (cells (now (actions .entry)) choices (now (masks .entry)) (now (entries .entry)) (now (corners .entry))
         (now (weights .entry)) (now (values .entry))) (rows (now (informed .entry)) (now (qmdp .entry))) in
         r ≡ totalsBy (totalsOf tables standing (now (mixture .entry)))) ⌝ }
     ensures { λ r. ⌜ ((choices : List ℕ) (m₀ : Tables) (x : Lent) (es : List Event) →
-        let tables = model n m k g (now (transition .entry)) (now (observation .entry)) (now (reward .entry)) in
+        let tables = tablesBy n m k g (now (transition .entry)) (now (observation .entry)) (now (reward .entry)) in
         let standing = lent (now (state .entry)) (cells (now (actions .entry)) choices (now (masks .entry)) (now (entries .entry)) (now (corners .entry))
         (now (weights .entry)) (now (values .entry))) (rows (now (informed .entry)) (now (qmdp .entry))) in
         ModelAccepted m₀ x → certifier tables standing ≡ after m₀ x es → 0 < steps m₀ x es → MixtureHolds tables (claim m₀ x es) (now (mixture .entry)) →
@@ -118,13 +118,13 @@ pub extern "C" fn biidhaqun_each<'a, 'b>(
     advice: &mut [u8],
 ) -> Refusal
     ensures { λ r. ⌜ ((choices : List ℕ) →
-        let tables = model n m k g (now (transition .entry)) (now (observation .entry)) (now (reward .entry)) in
+        let tables = tablesBy n m k g (now (transition .entry)) (now (observation .entry)) (now (reward .entry)) in
         let standing = lent (now (state .entry)) (cells (now (actions .entry)) choices (now (masks .entry)) (now (entries .entry)) (now (corners .entry))
         (now (weights .entry)) (now (values .entry))) (rows (now (informed .entry)) (now (qmdp .entry))) in
         r ≡ refusalOf (eachVerdict tables standing (now (mixtures .entry)) count
         (answers (now (verdicts .entry)) (now (lower .entry)) (now (upper .entry)) (now (advice .entry))))) ⌝ }
     ensures { λ _. ⌜ ((choices : List ℕ) →
-        let tables = model n m k g (now (transition .entry)) (now (observation .entry)) (now (reward .entry)) in
+        let tables = tablesBy n m k g (now (transition .entry)) (now (observation .entry)) (now (reward .entry)) in
         let standing = lent (now (state .entry)) (cells (now (actions .entry)) choices (now (masks .entry)) (now (entries .entry)) (now (corners .entry))
         (now (weights .entry)) (now (values .entry))) (rows (now (informed .entry)) (now (qmdp .entry))) in
         answers (now (verdicts .exit)) (now (lower .exit)) (now (upper .exit)) (now (advice .exit))
@@ -184,12 +184,12 @@ pub extern "C" fn biidhaqun_within<'a, 'b, 'c>(
     highs: &'c [u32],
 ) -> TotalsWithin
     ensures { λ r. ⌜ ((choices : List ℕ) →
-        let tables = model n m k g (now (transition .entry)) (now (observation .entry)) (now (reward .entry)) in
+        let tables = tablesBy n m k g (now (transition .entry)) (now (observation .entry)) (now (reward .entry)) in
         let standing = lent (now (state .entry)) (cells (now (actions .entry)) choices (now (masks .entry)) (now (entries .entry)) (now (corners .entry))
         (now (weights .entry)) (now (values .entry))) (rows (now (informed .entry)) (now (qmdp .entry))) in
         r ≡ totalsWithinBy (withinOf tables standing (now (lows .entry)) (now (highs .entry)))) ⌝ }
     ensures { λ r. ⌜ ((choices : List ℕ) (m₀ : Tables) (x : Lent) (es : List Event) →
-        let tables = model n m k g (now (transition .entry)) (now (observation .entry)) (now (reward .entry)) in
+        let tables = tablesBy n m k g (now (transition .entry)) (now (observation .entry)) (now (reward .entry)) in
         let standing = lent (now (state .entry)) (cells (now (actions .entry)) choices (now (masks .entry)) (now (entries .entry)) (now (corners .entry))
         (now (weights .entry)) (now (values .entry))) (rows (now (informed .entry)) (now (qmdp .entry))) in
         ModelAccepted m₀ x → certifier tables standing ≡ after m₀ x es → 0 < steps m₀ x es →
@@ -246,7 +246,7 @@ pub extern "C" fn biidhaqun_worth<'a, 'b>(
     state: usize,
     steps: usize,
 ) -> Worth
-    ensures { λ r. ⌜ (let tables = model n m k g (now (transition .entry)) (now (observation .entry)) (now (reward .entry)) in
+    ensures { λ r. ⌜ (let tables = tablesBy n m k g (now (transition .entry)) (now (observation .entry)) (now (reward .entry)) in
         r ≡ worthBy (worthAnswer tables (lentGraph nodes (now (actions .entry)) (now (next .entry))) node state steps)) ⌝ }
 {
     let c = Counts {
