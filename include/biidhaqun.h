@@ -11,7 +11,8 @@
  *     cc -std=c99 -Iinclude program.c target/staticlib/libbiidhaqun.a -o program
  *
  * examples/ladder.c is a whole program. The library is for x86-64. It keeps nothing between calls, allocates nothing, and
- * may be called from any thread, as long as no two calls at once are lent the same memory and one of them writes it.
+ * may be called from any thread that has the stack for it (which stands behind the calls), as long as no two calls at once are
+ * lent the same memory and one of them writes it.
  *
  * What is proved: whatever it is lent, a call ends without fault, answers, and leaves in every slice what the definitions say
  * (specs/ of crates/columns, runs, mixtures, intervals, worths, worth, headers, modelfile, reading, expected, written,
@@ -556,8 +557,17 @@ struct biidhaqun_value biidhaqun_worth(
     const uint16_t *next, size_t next_length, size_t node, size_t state, size_t steps);
 
 /*
- * The stack that a thread needs: 88 kilobytes for reading a file, 212 for converting one, 60 for a plan's worth; every other
- * call does with 16, the least that a thread has on Linux.
+ * The stack that a call takes at most, whatever it is lent, in kilobytes of 1,024 bytes:
+ *
+ *     biidhaqun_convert   208          biidhaqun_build      12          biidhaqun_within      4
+ *     biidhaqun_read       80          biidhaqun_adopt      12          biidhaqun_reprice     4
+ *     biidhaqun_worth      56          biidhaqun_each        4          biidhaqun_open        4
+ *     biidhaqun_replay     16          biidhaqun_totals      4          biidhaqun_list        4
+ *     biidhaqun_offer      16
+ *
+ * A thread needs that beside what its own functions and the C library take: glibc on Linux nearly 8, for the thread itself and
+ * where memcpy and memset are bound at their first use. So 16, the least that a thread has on Linux, are too few for an offer;
+ * 32 do for every call but biidhaqun_convert, biidhaqun_read and biidhaqun_worth, and 256 for all.
  */
 
 /* ---- the same over structs of pointers */
