@@ -105,8 +105,9 @@
  *    4  BIIDHAQUN_START_TOTAL         the file's length
  *    5  BIIDHAQUN_TRANSITION_TOTAL    in a file its length; on tables action x n + state left
  *    6  BIIDHAQUN_OBSERVATION_TOTAL   in a file its length; on tables action x n + state reached
- *    7  BIIDHAQUN_CERTIFIER           0; a slice is too short for the tables, for the level that stands (its choices, which
- *                                     no call reads, are not asked for), or for the rows; a list that is not the table's
+ *    7  BIIDHAQUN_CERTIFIER           0; a slice is too short for the tables, for the level that stands, or for the rows; a
+ *                                     list that is not the table's. The slice of the choices that stand may be too short: no
+ *                                     call reads them
  *    8  BIIDHAQUN_LEVELS              0
  *    9  BIIDHAQUN_LEVEL_SIZE          0; a slice is too short for the level offered, to be built or adopted, for a list of
  *                                     offers, for the points, for level 0 and its rows in biidhaqun_open, for answers, or for
@@ -503,9 +504,9 @@ struct biidhaqun_between biidhaqun_within(
 /*
  * Builds a level upon the one that stands, with a vector at each corner and then at each of `count` points; it would be
  * accepted. It has n + count vectors and count points, and its weights are the points: they are not written anew. Its vectors
- * cover all states, and go on with standing vectors that do. If the t levels so far were all built, with no price change, each
- * entry is less than t ticks below what the plan earns that its vector names. Tests: 7, 8, 9, 12, 22. A list is as in
- * biidhaqun_offer.
+ * cover all states, and go on with standing vectors that do. If this level, number t, and those from 1 to t - 1 were all built,
+ * with no price change between, each entry is less than t ticks below what the plan earns that its vector names. Tests: 7, 8, 9,
+ * 12, 22. A list is as in biidhaqun_offer.
  */
 struct biidhaqun_refusal biidhaqun_build(
     size_t states, size_t actions, size_t observations, uint64_t discount,
@@ -827,9 +828,9 @@ static inline struct biidhaqun_refusal biidhaqun_offer_listed(const struct biidh
         x ? x->list_length : 0, t->observation, t->observation_length, t->reward, t->reward_length, c->state, 3,
         c->actions, c->actions_length, c->choices, c->choices_length, c->masks, c->masks_length, c->entries,
         c->entries_length, c->corners, c->corners_length, c->weights, c->weights_length, c->values, c->values_length,
-        c->informed, c->informed_length, c->qmdp, c->qmdp_length, l->vectors, l->points, l->actions, l->actions_length, l->choices, l->choices_length, l->masks,
-        l->masks_length, l->entries, l->entries_length, l->corners, l->corners_length, l->weights, l->weights_length,
-        l->values, l->values_length);
+        c->informed, c->informed_length, c->qmdp, c->qmdp_length, l->vectors, l->points, l->actions, l->actions_length,
+        l->choices, l->choices_length, l->masks, l->masks_length, l->entries, l->entries_length, l->corners,
+        l->corners_length, l->weights, l->weights_length, l->values, l->values_length);
 }
 
 /* biidhaqun_offer, by the table */
@@ -926,8 +927,9 @@ static inline struct biidhaqun_refusal biidhaqun_build_listed(const struct biidh
         x ? x->list_length : 0, t->observation, t->observation_length, t->reward, t->reward_length, c->state, 3,
         c->actions, c->actions_length, c->masks, c->masks_length, c->entries, c->entries_length, c->corners,
         c->corners_length, c->weights, c->weights_length, c->values, c->values_length, c->informed, c->informed_length,
-        c->qmdp, c->qmdp_length, count, points, points_length, l->actions, l->actions_length, l->choices, l->choices_length, l->masks, l->masks_length,
-        l->entries, l->entries_length, l->corners, l->corners_length, l->values, l->values_length);
+        c->qmdp, c->qmdp_length, count, points, points_length, l->actions, l->actions_length, l->choices,
+        l->choices_length, l->masks, l->masks_length, l->entries, l->entries_length, l->corners, l->corners_length,
+        l->values, l->values_length);
     if (refusal.number == BIIDHAQUN_SERVED) {
         l->vectors = t->states + count;
         l->points = count;
