@@ -11,7 +11,8 @@
  *     cc -std=c99 -Iinclude program.c target/staticlib/libbiidhaqun.a -o program
  *
  * examples/ladder.c is a whole program. The library is for x86-64. It keeps nothing between calls, allocates nothing, and
- * may be called from any thread, as long as no two calls at once are lent the same memory and one of them writes it.
+ * may be called from any thread that has the stack for it (which stands behind the calls), as long as no two calls at once are
+ * lent the same memory and one of them writes it.
  *
  * What is proved: whatever it is lent, a call ends without fault, answers, and leaves in every slice what the definitions say
  * (specs/ of crates/columns, runs, mixtures, intervals, worths, worth, headers, modelfile, reading, expected, written,
@@ -104,8 +105,9 @@
  *    4  BIIDHAQUN_START_TOTAL         the file's length
  *    5  BIIDHAQUN_TRANSITION_TOTAL    in a file its length; on tables action x n + state left
  *    6  BIIDHAQUN_OBSERVATION_TOTAL   in a file its length; on tables action x n + state reached
- *    7  BIIDHAQUN_CERTIFIER           0; a slice is too short for the tables, for the level that stands (its choices, which
- *                                     no call reads, are not asked for), or for the rows; a list that is not the table's
+ *    7  BIIDHAQUN_CERTIFIER           0; a slice is too short for the tables, for the level that stands, or for the rows; a
+ *                                     list that is not the table's. The slice of the choices that stand may be too short: no
+ *                                     call reads them
  *    8  BIIDHAQUN_LEVELS              0
  *    9  BIIDHAQUN_LEVEL_SIZE          0; a slice is too short for the level offered, to be built or adopted, for a list of
  *                                     offers, for the points, for level 0 and its rows in biidhaqun_open, for answers, or for
@@ -502,9 +504,9 @@ struct biidhaqun_between biidhaqun_within(
 /*
  * Builds a level upon the one that stands, with a vector at each corner and then at each of `count` points; it would be
  * accepted. It has n + count vectors and count points, and its weights are the points: they are not written anew. Its vectors
- * cover all states, and go on with standing vectors that do. If the t levels so far were all built, with no price change, each
- * entry is less than t ticks below what the plan earns that its vector names. Tests: 7, 8, 9, 12, 22. A list is as in
- * biidhaqun_offer.
+ * cover all states, and go on with standing vectors that do. If this level, number t, and those from 1 to t - 1 were all built,
+ * with no price change between, each entry is less than t ticks below what the plan earns that its vector names. Tests: 7, 8, 9,
+ * 12, 22. A list is as in biidhaqun_offer.
  */
 struct biidhaqun_refusal biidhaqun_build(
     size_t states, size_t actions, size_t observations, uint64_t discount,
@@ -556,8 +558,17 @@ struct biidhaqun_value biidhaqun_worth(
     const uint16_t *next, size_t next_length, size_t node, size_t state, size_t steps);
 
 /*
- * The stack that a thread needs: 88 kilobytes for reading a file, 212 for converting one, 60 for a plan's worth; every other
- * call does with 16, the least that a thread has on Linux.
+ * The stack that a call takes at most, whatever it is lent, in kilobytes of 1,024 bytes:
+ *
+ *     biidhaqun_convert   208          biidhaqun_build      12          biidhaqun_within      4
+ *     biidhaqun_read       80          biidhaqun_adopt      12          biidhaqun_reprice     4
+ *     biidhaqun_worth      56          biidhaqun_each        4          biidhaqun_open        4
+ *     biidhaqun_replay     16          biidhaqun_totals      4          biidhaqun_list        4
+ *     biidhaqun_offer      16
+ *
+ * A thread needs that beside what its own functions and the C library take: glibc on Linux nearly 8, for the thread itself and
+ * where memcpy and memset are bound at their first use. So 16, the least that a thread has on Linux, are too few for an offer;
+ * 32 do for every call but biidhaqun_convert, biidhaqun_read and biidhaqun_worth, and 256 for all.
  */
 
 /* ---- the same over structs of pointers */
@@ -817,9 +828,9 @@ static inline struct biidhaqun_refusal biidhaqun_offer_listed(const struct biidh
         x ? x->list_length : 0, t->observation, t->observation_length, t->reward, t->reward_length, c->state, 3,
         c->actions, c->actions_length, c->choices, c->choices_length, c->masks, c->masks_length, c->entries,
         c->entries_length, c->corners, c->corners_length, c->weights, c->weights_length, c->values, c->values_length,
-        c->informed, c->informed_length, c->qmdp, c->qmdp_length, l->vectors, l->points, l->actions, l->actions_length, l->choices, l->choices_length, l->masks,
-        l->masks_length, l->entries, l->entries_length, l->corners, l->corners_length, l->weights, l->weights_length,
-        l->values, l->values_length);
+        c->informed, c->informed_length, c->qmdp, c->qmdp_length, l->vectors, l->points, l->actions, l->actions_length,
+        l->choices, l->choices_length, l->masks, l->masks_length, l->entries, l->entries_length, l->corners,
+        l->corners_length, l->weights, l->weights_length, l->values, l->values_length);
 }
 
 /* biidhaqun_offer, by the table */
@@ -916,8 +927,9 @@ static inline struct biidhaqun_refusal biidhaqun_build_listed(const struct biidh
         x ? x->list_length : 0, t->observation, t->observation_length, t->reward, t->reward_length, c->state, 3,
         c->actions, c->actions_length, c->masks, c->masks_length, c->entries, c->entries_length, c->corners,
         c->corners_length, c->weights, c->weights_length, c->values, c->values_length, c->informed, c->informed_length,
-        c->qmdp, c->qmdp_length, count, points, points_length, l->actions, l->actions_length, l->choices, l->choices_length, l->masks, l->masks_length,
-        l->entries, l->entries_length, l->corners, l->corners_length, l->values, l->values_length);
+        c->qmdp, c->qmdp_length, count, points, points_length, l->actions, l->actions_length, l->choices,
+        l->choices_length, l->masks, l->masks_length, l->entries, l->entries_length, l->corners, l->corners_length,
+        l->values, l->values_length);
     if (refusal.number == BIIDHAQUN_SERVED) {
         l->vectors = t->states + count;
         l->points = count;

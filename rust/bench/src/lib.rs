@@ -1,5 +1,6 @@
 //! The same calls in other forms, to hold the library against: whole numbers in the obvious form ([`plain`]), whole
-//! numbers as well as we can ([`tuned`]), and the form of floating solvers ([`floating`]).
+//! numbers as well as we can ([`tuned`]), and the form of floating solvers ([`floating`]). [`stack`] measures what stack a call
+//! takes.
 
 pub mod convert;
 pub mod floating;
@@ -9,5 +10,6 @@ pub mod moved;
 pub mod plain;
 pub mod plain_file;
 pub mod solver_file;
+pub mod stack;
 pub mod tuned;
 pub mod tuned_file;

@@ -1,4 +1,4 @@
-//! What all forms in whole numbers share: document 01's limits, lent slices cut to their counts, and how a call ends.
+//! What all forms in whole numbers share: the limits, lent slices cut to their counts, and how a call ends.
 
 pub use biidhaqun::slices::{
     full_mask, ACTIONS, BUILT_POINTS, FILE_BYTES, LEVELS, NODES, OBSERVATIONS, POINTS, SOLVER_BYTES, STATES, STEPS,

@@ -4,13 +4,14 @@
 //! that the library takes less time. Each is the median over rounds in which all forms take turns. The library and the forms
 //! in whole numbers are lent the same slices, test all that they are handed in each call, and write the same; the floating
 //! form keeps structures of its own, trusts its tables and tests no range. Where the forms in whole numbers do not answer
-//! alike, or leave something else in a slice, the command ends with 1.
+//! alike, or leave something else in a slice, the command ends with 1. So it does where a call takes more stack than the C
+//! header says; `bench --stack` tests that alone.
 
 use bench::inputs::{self, Counts, Standing};
-use bench::limits::{self, FILE_BYTES, NODES, POINTS, STEPS, TOTAL, VECTORS};
+use bench::limits::{self, BUILT_POINTS, FILE_BYTES, NODES, POINTS, STEPS, TOTAL, VECTORS};
 use bench::plain::Plain;
 use bench::tuned::Tuned;
-use bench::{convert, floating, moved};
+use bench::{convert, floating, moved, stack};
 use biidhaqun::slices::{
     self, Adopted, Answers, Certifier, Conversion, Graph, Level, Offers, Reading, Refusal, Replayed, Tables, Totals,
     TotalsWithin, Worth,
@@ -18,9 +19,10 @@ use biidhaqun::slices::{
 use compare::gen::Question;
 use compare::lent::{Call, Library};
 use compare::rng::Rng;
-use std::process::{Command, ExitCode, Stdio};
+use std::collections::BTreeMap;
+use std::env;
+use std::process::ExitCode;
 use std::time::{Duration, Instant};
-use std::{env, thread};
 
 /// As many rounds as are run if no number is given.
 const ROUNDS: usize = 41;
@@ -147,29 +149,32 @@ impl Form for Lent {
     }
 
     fn call(&mut self) -> i64 {
-        match &mut self.call {
-            Call::Read { file, tables, start } => self.by.read(file, tables, start).number as i64,
-            Call::Convert { file, output } => self.by.convert(file, output).length as i64,
-            Call::Open { tables, certifier } => self.by.open(tables, certifier).number as i64,
-            Call::List { tables, list } => self.by.list(tables, list).number as i64,
-            Call::Offer { tables, list, certifier, level } => {
-                self.by.offer(tables, list, certifier, level).number as i64
-            }
-            Call::Reprice { tables, new, certifier } => self.by.reprice(tables, new, certifier).number as i64,
-            Call::Replay { tables, certifier, offers } => self.by.replay(tables, certifier, offers).accepted as i64,
-            Call::Totals { tables, certifier, mixture } => self.by.totals(tables, certifier, mixture).gap,
-            Call::Each { tables, certifier, mixtures, count, answers } => {
-                self.by.each(tables, certifier, mixtures, *count, answers).number as i64
-            }
-            Call::Within { tables, certifier, lows, highs } => self.by.within(tables, certifier, lows, highs).lower,
-            Call::Build { tables, list, certifier, count, points, level } => {
-                self.by.build(tables, list, certifier, (*count, points), level).number as i64
-            }
-            Call::Adopt { tables, certifier, alpha, graph, points, count, level } => {
-                self.by.adopt(tables, certifier, (alpha, graph), (points, *count), level).number as i64
-            }
-            Call::Worth { tables, graph, asked } => self.by.worth(tables, graph, *asked).ticks,
+        made(self.by, &mut self.call)
+    }
+}
+
+/// Makes a call of the library, or of a form in whole numbers.
+fn made(by: &dyn Library, call: &mut Call) -> i64 {
+    match call {
+        Call::Read { file, tables, start } => by.read(file, tables, start).number as i64,
+        Call::Convert { file, output } => by.convert(file, output).length as i64,
+        Call::Open { tables, certifier } => by.open(tables, certifier).number as i64,
+        Call::List { tables, list } => by.list(tables, list).number as i64,
+        Call::Offer { tables, list, certifier, level } => by.offer(tables, list, certifier, level).number as i64,
+        Call::Reprice { tables, new, certifier } => by.reprice(tables, new, certifier).number as i64,
+        Call::Replay { tables, certifier, offers } => by.replay(tables, certifier, offers).accepted as i64,
+        Call::Totals { tables, certifier, mixture } => by.totals(tables, certifier, mixture).gap,
+        Call::Each { tables, certifier, mixtures, count, answers } => {
+            by.each(tables, certifier, mixtures, *count, answers).number as i64
         }
+        Call::Within { tables, certifier, lows, highs } => by.within(tables, certifier, lows, highs).lower,
+        Call::Build { tables, list, certifier, count, points, level } => {
+            by.build(tables, list, certifier, (*count, points), level).number as i64
+        }
+        Call::Adopt { tables, certifier, alpha, graph, points, count, level } => {
+            by.adopt(tables, certifier, (alpha, graph), (points, *count), level).number as i64
+        }
+        Call::Worth { tables, graph, asked } => by.worth(tables, graph, *asked).ticks,
     }
 }
 
@@ -633,11 +638,7 @@ fn run(rounds: usize) -> Result<(), String> {
         valuing(Counts { states, ..LARGEST }, NODES, STEPS)
     })?;
 
-    println!("\nthe stack that a thread needs for a call, in kilobytes; none has less than {}", LEAST_STACK);
-    for (number, (name, _)) in calls().iter().enumerate() {
-        println!("{:<44} {:>9}", name, stack(number, name)?);
-    }
-    Ok(())
+    stacks()
 }
 
 /// The name of a call; of a reading or a conversion, with the length of its file.
@@ -648,44 +649,81 @@ fn titled(name: &str, call: &Call) -> String {
     }
 }
 
-/// No thread has less, in kilobytes.
-const LEAST_STACK: usize = 16;
-/// The option by which this command calls itself to make one call on a small stack.
-const ON_STACK: &str = "--on-stack";
-
-/// The least stack on which a call ends, in kilobytes: tried in a process of its own, which a stack that is too small ends.
-fn stack(number: usize, name: &str) -> Result<usize, String> {
-    let program = env::current_exe().map_err(|error| error.to_string())?;
-    let ends = |kilobytes: usize| -> Result<bool, String> {
-        let mut command = Command::new(&program);
-        let child = command
-            .args([ON_STACK, &number.to_string(), &kilobytes.to_string()])
-            .stdout(Stdio::null())
-            .stderr(Stdio::null());
-        child.status().map(|status| status.success()).map_err(|error| error.to_string())
-    };
-    let (mut few, mut enough) = (0, 4_096);
-    if !ends(enough)? {
-        return Err(format!("{} does not end on a stack of {} kilobytes", name, enough));
+/// The name of a call in the C header.
+fn header_name(call: &Call) -> &'static str {
+    match call {
+        Call::Read { .. } => "biidhaqun_read",
+        Call::Convert { .. } => "biidhaqun_convert",
+        Call::Open { .. } => "biidhaqun_open",
+        Call::List { .. } => "biidhaqun_list",
+        Call::Offer { .. } => "biidhaqun_offer",
+        Call::Reprice { .. } => "biidhaqun_reprice",
+        Call::Replay { .. } => "biidhaqun_replay",
+        Call::Totals { .. } => "biidhaqun_totals",
+        Call::Each { .. } => "biidhaqun_each",
+        Call::Within { .. } => "biidhaqun_within",
+        Call::Build { .. } => "biidhaqun_build",
+        Call::Adopt { .. } => "biidhaqun_adopt",
+        Call::Worth { .. } => "biidhaqun_worth",
     }
-    while enough - few > 4 {
-        let middle = (few + enough) / 2;
-        if ends(middle)? {
-            enough = middle;
-        } else {
-            few = middle;
-        }
-    }
-    Ok(enough.max(LEAST_STACK))
 }
 
-/// Makes one call of the library in a thread with so large a stack.
-fn on_stack(number: &str, kilobytes: usize) -> Result<(), String> {
-    let number: usize = number.parse().map_err(|_| "no such call".to_string())?;
-    let (_, call) = calls().into_iter().nth(number).ok_or("no such call")?;
-    let thread = thread::Builder::new().stack_size(kilobytes << 10);
-    let thread = thread.spawn(move || Lent::new(&Linked, &call).call()).map_err(|error| error.to_string())?;
-    thread.join().map(|_| ()).map_err(|_| "the thread did not end".to_string())
+/// The level offered in one block.
+fn replaying((Standing { tables, certifier }, level): (Standing, Level)) -> Call {
+    let mut offers = Offers { block_vectors: level.vectors, block_points: level.points, ..Offers::default() };
+    offers.push(&level, tables.states, tables.observations);
+    Call::Replay { tables, certifier, offers }
+}
+
+/// Every call upon a model with so many states, actions and observations, and levels of so many vectors and points.
+fn every_call(counts: Counts, vectors: usize, points: usize) -> Vec<Call> {
+    let (standing, level) = inputs::offer(&mut rng(), counts, vectors, points, false);
+    let offer = offering((standing.clone(), level.clone()));
+    let build = building(standing.clone(), points.min(BUILT_POINTS));
+    vec![
+        opening(&standing.tables),
+        listing(&standing.tables),
+        listed(offer.clone()),
+        offer,
+        replaying((standing.clone(), level.clone())),
+        repricing(standing.clone()),
+        asking(standing.clone()),
+        asking_at(standing.clone(), 10),
+        asking_within(standing.clone()),
+        listed(build.clone()),
+        build,
+        adopting((standing, level), points.min(BUILT_POINTS)),
+        valuing(counts, NODES, STEPS),
+    ]
+}
+
+/// The most stack that each call takes, of small models and levels, of those that are timed, and of the largest; and what the
+/// header says, which must be no less.
+fn stacks() -> Result<(), String> {
+    let small = Counts { states: 2, actions: 2, observations: 2 };
+    let timed = calls().into_iter().chain(wide_calls()).map(|(_, call)| call);
+    let others = [(small, 1, 0), (small, FEW, POINTS), (LARGEST, 1, 0), (LARGEST, VECTORS, POINTS)];
+    let others = others.iter().flat_map(|&(counts, vectors, points)| every_call(counts, vectors, points));
+    let mut most: BTreeMap<&str, usize> = BTreeMap::new();
+    for mut call in timed.chain(others) {
+        if call.number(&Linked) != 0 {
+            return Err(format!("the library refuses by {}", call.number(&Linked)));
+        }
+        let taken = stack::taken(|| {
+            made(&Linked, &mut call);
+        })?;
+        let most = most.entry(header_name(&call)).or_default();
+        *most = taken.max(*most);
+    }
+    println!("\n{:<44} {:>10} {:>19}", "the stack that a call takes, in bytes", "most", "by the header");
+    for (name, taken) in most {
+        let stated = stack::stated(name).ok_or_else(|| format!("the header does not say what stack {} takes", name))?;
+        println!("{:<44} {:>10} {:>19}", name, taken, stated);
+        if taken > stated {
+            return Err(format!("{} takes more stack than the header says", name));
+        }
+    }
+    Ok(())
 }
 
 fn main() -> ExitCode {
@@ -694,9 +732,9 @@ fn main() -> ExitCode {
     let done = match (&words[..], words.last().map(|word| word.parse())) {
         ([], _) => run(ROUNDS),
         ([_], Some(Ok(rounds))) if rounds > 0 => run(rounds),
-        ([ON_STACK, call, _], Some(Ok(kilobytes))) => on_stack(call, kilobytes),
+        (["--stack"], _) => stacks(),
         _ => {
-            eprintln!("usage: bench [ROUNDS]");
+            eprintln!("usage: bench [ROUNDS | --stack]");
             return ExitCode::from(2);
         }
     };
