@@ -11,7 +11,8 @@ use Rattle.levels.specs.Storage.{Cells, Lent, levelOf, numberIn, standingIn}
 use Rattle.levels.proofs.Laws.{passed, fine-before}
 use Rattle.runs.specs.Demand3.{ModelAccepted, Event, Certifier, Claim, certifier, after, steps, claim}
 use Rattle.runs.proofs.Judged.{standing-is}
-use Rattle.runs.proofs.Demand3.{Reached, reached, some-vectors}
+use Rattle.runs.proofs.Reached.{Reached, some-vectors}
+use Rattle.runs.proofs.Demand3.{reached}
 use Rattle.runs.specs.State.{standingVerdict}
 use Rattle.intervals.specs.declared.Within.{Within}
 use Rattle.intervals.specs.Intervals.{withinVerdict, withinOf}

@@ -6,5 +6,6 @@ pub mod Vectors
 pub mod Multiples
 pub mod Prices
 pub mod Repriced
+pub mod Reached
 pub mod Demand3
 pub mod Ticks

@@ -25,7 +25,8 @@ use Rattle.runs.specs.Demand3.{ModelAccepted, Event, offer, offers, cert
 use Rattle.runs.specs.Demand3.{Claim, stepped, claimedBy, claimed, claim0, claim}
 use Rattle.runs.specs.Ticks.{Points, builtLevel, unlessRefused, madeFrom, made, stacked, levelsOf, levels, Ticks}
 use Rattle.runs.proofs.Judged.{accepted}
-use Rattle.runs.proofs.Demand3.{Reached, fine-tables, reached-open, reached-next, some-vectors, level-built, demand3}
+use Rattle.runs.proofs.Reached.{Reached, fine-tables, reached-open, reached-next, some-vectors, level-built}
+use Rattle.runs.proofs.Demand3.{demand3}
 
 -- ---- a level that agrees with a built one
 -- The entries that agree are backups, rounded down, of the entries chosen; action and choices agree where a backup reads them. Qed.

@@ -8,7 +8,7 @@ use Rattle.plans.specs.Level.{level0}
 use Rattle.levels.specs.declared.Standing.{Standing}
 use Rattle.levels.specs.Storage.{Lent, stateSize, cells, rows, lent}
 use Rattle.runs.specs.State.{openVerdict}
-use Rattle.runs.proofs.Demand3.{fine-tables, room-for-level-0}
+use Rattle.runs.proofs.Reached.{fine-tables, room-for-level-0}
 use Rattle.opening.proofs.Opened.{opened-refused, opened-fine}
 use Rattle.opening.proofs.open.Statement.{statement}
 use Rattle.opening.proofs.open.Tie as tie
