@@ -1,6 +1,7 @@
 //! `explain`: what a refusal means, and what usually causes it.
 
 use crate::options::exit;
+use crate::streams;
 
 /// A refusal as a person is told of it.
 struct Explanation {
@@ -281,15 +282,12 @@ pub fn text(number: u64) -> Option<String> {
 }
 
 /// Prints it; the exit status.
-pub fn run(number: u64) -> i32 {
+pub fn run(number: u64) -> Result<i32, String> {
     match text(number) {
-        Some(text) => {
-            print!("{}", text);
-            exit::SERVED
-        }
+        Some(text) => streams::put(&text).map(|()| exit::SERVED),
         None => {
-            eprintln!("biidhaqun: there is no refusal {}; they are 1 to 27 and 100", number);
-            exit::USAGE
+            streams::tell(&format!("biidhaqun: there is no refusal {}; they are 1 to 27 and 100\n", number))?;
+            Ok(exit::USAGE)
         }
     }
 }

@@ -1,6 +1,8 @@
 //! The command line.
 
+use crate::streams;
 use clap::{Parser, Subcommand};
+use std::io::{self, Write};
 use std::path::{Path, PathBuf};
 
 /// How the command ends.
@@ -11,7 +13,7 @@ pub mod exit {
     pub const REFUSED: i32 = 1;
     /// The command line does not fit.
     pub const USAGE: i32 = 2;
-    /// A file cannot be read or written.
+    /// A file, or an output, cannot be read or written.
     pub const FILE: i32 = 3;
 }
 
@@ -140,6 +142,24 @@ pub struct Built {
     /// A mixture to ask at, beside the points: a weight for each state, up to 1000000
     #[arg(long = "at", value_name = "W,W,..", value_parser = weights)]
     pub mixtures: Vec<Weights>,
+}
+
+/// Serves the command line, and gives the exit status. A line that does not fit is told, help that it asks for is printed; an
+/// output that cannot be written is the end of it.
+pub fn ended(serve: impl FnOnce(Request) -> Result<i32, String>) -> i32 {
+    let ended = match Options::try_parse() {
+        Ok(options) => serve(options.request),
+        Err(error) => {
+            let (stream, status) =
+                if error.use_stderr() { ("standard error", exit::USAGE) } else { ("standard output", exit::SERVED) };
+            streams::shown(stream, error.print().and_then(|()| io::stdout().flush())).map(|()| status)
+        }
+    };
+    ended.unwrap_or_else(|message| {
+        // Where standard error cannot be written either, the exit status is left to say so.
+        let _ = streams::tell(&format!("biidhaqun: {}\n", message));
+        exit::FILE
+    })
 }
 
 /// How many levels are built where nothing is said.

@@ -1,7 +1,10 @@
 //! The command as a user meets it: what it prints, and its exit status.
 
+use assert_cmd::cargo::cargo_bin;
 use assert_cmd::Command;
+use std::io::Write;
 use std::path::{Path, PathBuf};
+use std::process::{self, Stdio};
 use std::{fs, str};
 
 /// The root of the repository.
@@ -196,14 +199,140 @@ fn levels_from_a_file() {
     assert!(vector.contains("refused 13 at 0") && vector.contains("entry of state 0 is -50"), "{}", vector);
     assert!(vector.contains("1 tick above its backup; -51 would pass"), "{}", vector);
     let action = changed(&|level| level["vectors"][0]["action"] = 7.into());
-    assert!(action.contains("refused 10 at 0"), "{}", action);
+    assert!(
+        action.contains("refused 10 at 0") && action.contains("it has action 7, and the last one is 1"),
+        "{}",
+        action
+    );
+    let action = changed(&|level| level["vectors"][0]["action"] = 300.into());
+    assert!(action.contains("vector 0: it has action 255 or more"), "{}", action);
+    let choice = changed(&|level| level["vectors"][1]["choices"][1] = 9.into());
+    let told = "vector 1: with observation 1 it goes on with vector 9, and the last one of the level below is 2";
+    assert!(choice.contains("refused 10 at 1") && choice.contains(told), "{}", choice);
+    let entry = changed(&|level| level["vectors"][0]["entries"][1] = 200_001.into());
+    assert!(entry.contains("vector 0: the entry of state 1 is 200001, further than 200000 from 0"), "{}", entry);
+    let corner = changed(&|level| level["corners"][0] = (-200_001).into());
+    assert!(corner.contains("refused 11 at 0") && corner.contains("corner 0 is -200001, further"), "{}", corner);
+    let value = changed(&|level| level["points"][0]["value"] = 20_000_001.into());
+    assert!(value.contains("refused 11 at 0"), "{}", value);
+    assert!(value.contains("point 0: its value is 20000001, further than 20000000 from 0"), "{}", value);
+    let weights = changed(&|level| level["points"][0]["weights"] = serde_json::json!([50, 51]));
+    assert!(weights.contains("refused 12 at 0") && weights.contains("its weights total 101"), "{}", weights);
+    let none = changed(&|level| level["vectors"] = serde_json::json!([]));
+    assert!(none.contains("refused 9 at 0") && none.contains("it has 0 vectors and 1 point\n"), "{}", none);
     let short = changed(&|level| level["corners"] = serde_json::json!([0]));
     assert!(short.contains("the corners of the level are 1, and the model wants 2"), "{}", short);
     let form = changed(&|level| level["corners"][0] = "x".into());
-    assert!(form.contains("level 2 is not of the form"), "{}", form);
-    for content in ["", "[]", "{\"levels\": 1}"] {
+    assert!(form.contains("level 2: corners[0] is \"x\", no whole number"), "{}", form);
+    let form = changed(&|level| level["vectors"][1]["entries"] = 5.into());
+    assert!(form.contains("level 2: vectors[1].entries is 5, no list"), "{}", form);
+    let form = changed(&|level| level["points"][0]["value"] = 1.5.into());
+    assert!(form.contains("level 2: points[0].value is 1.5, no whole number"), "{}", form);
+    let form = changed(&|level| level["vectors"][0]["action"] = serde_json::Value::Null);
+    assert!(form.contains("level 2: vectors[0].action is null, no whole number"), "{}", form);
+    let far = printed.replacen("\"value\": -", "\"value\": -1180591620717411303424", 1);
+    let far = temporary("far.json", far.as_bytes());
+    let far = stopped(&["certify", "examples/dough.pomdp", far.to_str().unwrap()], 1);
+    assert!(far.contains("level 1: points[0].value is") && far.contains(", beyond every limit"), "{}", far);
+    let wrong = |content: &str| {
         let path = temporary("wrong.json", content.as_bytes());
-        stopped(&["certify", "examples/dough.pomdp", path.to_str().unwrap()], 1);
+        stopped(&["certify", "examples/dough.pomdp", path.to_str().unwrap()], 1)
+    };
+    for content in ["", "[]", "{\"levels\": 1}"] {
+        let told = wrong(content);
+        assert!(told.contains("one file alone is read as levels in JSON; a solver's files come in pairs"), "{}", told);
+    }
+    assert!(wrong("{\"levels\": []}").contains("it has no level"));
+    assert!(wrong("{\"levels\": [{}]}").contains("level 1: vectors is missing"));
+}
+
+/// Levels that are accepted before one is refused are printed, and the refusal is the last line.
+#[test]
+fn levels_before_a_refusal() {
+    let mut object: serde_json::Value =
+        serde_json::from_str(&served(&["levels", "examples/dough.pomdp", "--json"])).unwrap();
+    object["levels"][2]["corners"][0] = (-900).into();
+    let path = temporary("refused.json", object.to_string().as_bytes());
+    let certify = ["certify", "examples/dough.pomdp", path.to_str().unwrap()];
+    let (out, err, status) = run(&certify);
+    assert_eq!((&out[..], status), ("1 -10000 -10000 0 0\n2 10000 12500 2500 0\nrefused 14 at 0\n", 1));
+    assert!(err.contains("level 3 is not accepted; corner 0: -900 is"), "{}", err);
+    let (out, _, status) = run(&[&certify[..], &["--json"]].concat());
+    let refused: serde_json::Value = serde_json::from_str(&out).unwrap();
+    assert_eq!((refused["refused"]["number"].as_u64(), status), (Some(14), 1));
+}
+
+/// A file that is longer than its kind may be is refused, and never cut; levels in JSON have room for what is printed of them.
+#[test]
+fn long_files() {
+    let long = |name: &str, blanks: usize, rest: &str| {
+        let path = temporary(name, &[b' '].repeat(blanks));
+        fs::OpenOptions::new().append(true).open(&path).unwrap().write_all(rest.as_bytes()).unwrap();
+        path
+    };
+    let tiger = fs::read_to_string(root().join("examples/cassandra/tiger.POMDP")).unwrap();
+    let room = long("room.POMDP", (64 << 20) - tiger.len(), &tiger);
+    let (out, _, status) = run(&["import", room.to_str().unwrap()]);
+    assert!(status == 0 && out.contains("R: 0 : * : * : * -1\n"), "{}", out);
+    let over = long("room.POMDP", (64 << 20) + 1 - tiger.len(), &tiger);
+    assert!(stopped(&["import", over.to_str().unwrap()], 3).contains("cannot be read: it has more than 64 MiB"));
+    fs::remove_file(over).unwrap();
+    let printed = served(&["levels", "examples/dough.pomdp", "--json"]);
+    let levels = long("room.json", 17 << 20, &printed);
+    let certified = served(&["certify", "examples/dough.pomdp", levels.to_str().unwrap()]);
+    assert_eq!(certified, served(&["levels", "examples/dough.pomdp"]));
+    fs::remove_file(levels).unwrap();
+    // The library's own limit is refused by the library.
+    let dough = fs::read_to_string(root().join("examples/dough.pomdp")).unwrap();
+    let fitting = long("room.pomdp", 32_768 - dough.len(), &dough);
+    assert!(served(&["check", fitting.to_str().unwrap()]).contains("accepted"));
+    let over = long("room.pomdp", 32_769 - dough.len(), &dough);
+    assert_eq!(run(&["levels", over.to_str().unwrap()]).0, "refused 1 at 0\n");
+    assert_eq!(run(&["levels", "/dev/zero"]).0, "refused 1 at 0\n");
+}
+
+/// The first look leaves a pipe as it is.
+#[test]
+fn a_file_from_a_pipe() {
+    let [first, whole] = ["biidhaqun-usage", "biidhaqun"].map(cargo_bin);
+    let both = "cat examples/dough.pomdp | { \"$0\" check /dev/stdin; test $? = 100 && \"$1\" check /dev/stdin; }";
+    let output = process::Command::new("sh").current_dir(root()).arg("-c").arg(both).args([first, whole]).output();
+    let output = output.unwrap();
+    assert!(str::from_utf8(&output.stdout).unwrap().starts_with("/dev/stdin: accepted\n"), "{:?}", output);
+}
+
+/// An output that is full or closed ends the command with 3.
+#[test]
+fn outputs_that_cannot_be_written() {
+    let full = || Stdio::from(fs::OpenOptions::new().write(true).open("/dev/full").unwrap());
+    // What nobody reads any more.
+    let closed = || {
+        let mut gone = process::Command::new("true").stdin(Stdio::piped()).spawn().unwrap();
+        let pipe = gone.stdin.take().unwrap();
+        gone.wait().unwrap();
+        Stdio::from(pipe)
+    };
+    let ended = |name: &str, arguments: &[&str], out: Stdio, err: Stdio| {
+        let mut command = process::Command::new(cargo_bin(name));
+        let output = command.current_dir(root()).args(arguments).stdout(out).stderr(err).spawn().unwrap();
+        let output = output.wait_with_output().unwrap();
+        (output.status.code(), String::from_utf8(output.stderr).unwrap())
+    };
+    let served = [&["explain", "5"][..], &["--help"], &["check", "examples/dough.pomdp"], &["levels", "/dev/null"]];
+    for arguments in served {
+        let (status, err) = ended("biidhaqun", arguments, full(), Stdio::piped());
+        assert_eq!(
+            (status, &err[..]),
+            (Some(3), "biidhaqun: standard output cannot be written: no space left on device\n")
+        );
+        let (status, err) = ended("biidhaqun", arguments, closed(), Stdio::piped());
+        assert_eq!((status, &err[..]), (Some(3), "biidhaqun: standard output cannot be written: broken pipe\n"));
+    }
+    for arguments in [&["check", "nofile"][..], &["check", "/dev/null"], &["levels", "/dev/null"], &["level"]] {
+        assert_eq!(ended("biidhaqun", arguments, Stdio::null(), full()).0, Some(3), "{:?}", arguments);
+    }
+    for arguments in [&["explain", "5"][..], &["--help"]] {
+        assert_eq!(ended("biidhaqun-usage", arguments, closed(), Stdio::null()).0, Some(3));
     }
 }
 

@@ -5,10 +5,15 @@ use biidhaqun::{Model, Rule};
 use command::cassandra::{self, Fitted};
 use command::files;
 use command::model_file::Counts;
+use command::streams;
 use std::path::Path;
 
+/// The most of a file in Cassandra's format. The largest model has 8 x 64 x 64 x 8 = 262,144 rewards; each stated by itself, with
+/// names, takes some 100 bytes.
+const MEBIBYTES: usize = 64;
+
 pub fn run(path: &Path, round: bool, out: Option<&Path>) -> Result<(), Stop> {
-    let file = files::read(path).map_err(Stop::File)?;
+    let file = files::whole(path, MEBIBYTES).map_err(Stop::File)?;
     let fitted = match cassandra::read(&file).and_then(|source| cassandra::fit(&source, round)) {
         Ok(fitted) => fitted,
         Err(told) => return Err(Stop::Source { path: path.to_path_buf(), file, told }),
@@ -21,14 +26,15 @@ pub fn run(path: &Path, round: bool, out: Option<&Path>) -> Result<(), Stop> {
         None => put(&text)?,
     }
     let Counts { states, actions, observations } = fitted.counts;
-    eprintln!("{}: {} states, {} actions, {} observations", path.display(), states, actions, observations);
+    let mut told =
+        format!("{}: {} states, {} actions, {} observations\n", path.display(), states, actions, observations);
     if fitted.changes.is_empty() {
-        eprintln!("  nothing was rounded");
+        told.push_str("  nothing was rounded\n");
     }
     for change in &fitted.changes {
-        eprintln!("  {}", change);
+        told.push_str(&format!("  {}\n", change));
     }
-    Ok(())
+    streams::tell(&told).map_err(Stop::File)
 }
 
 /// What was written is read by the library, with the same numbers.
@@ -38,7 +44,7 @@ fn tested(fitted: &Fitted, text: &str) -> Result<(), Stop> {
             Rule::FileLength => format!("the model file would have {} bytes; shorter names help", text.len()),
             _ => "the importer wrote a file that is not read, which is an error of ours: please report it".to_string(),
         };
-        Stop::Refused { refusal, note }
+        Stop::Refused { refusal, note, line: false }
     })?;
     let Counts { states, actions, observations } = fitted.counts;
     let mut same = start.weights.iter().map(|&weight| i64::from(weight)).eq(fitted.start.iter().copied());

@@ -46,10 +46,11 @@ pub fn run(built: &Built, within: &[Ranges], prices: Option<&Path>, json: bool) 
     let prices = match prices {
         None => None,
         Some(path) => {
-            let (new, ..) = building::read(path, !json)?;
+            let new = building::read(path, !json)?.model;
             certifier.reprice(&new).map_err(|refusal| Stop::Refused {
                 refusal,
                 note: format!("{} and {} may differ in their rewards alone", built.file.display(), path.display()),
+                line: false,
             })?;
             let at = building.mixtures.iter().map(|mixture| building.totals(&certifier, mixture).map(Some));
             let inside = ranges.iter().map(|known| known.totals(&certifier));
@@ -262,4 +263,44 @@ pub fn refused(refusal: &Refusal) -> String {
         "refused": { "number": refusal.number(), "place": refusal.place.number(), "text": refusal.to_string() },
     });
     format!("{:#}\n", object)
+}
+
+#[cfg(test)]
+mod tests {
+    use super::*;
+    use crate::certify::MEBIBYTES;
+    use biidhaqun::Shape;
+
+    /// A hundred levels with the longest numbers, asked at some mixtures, are printed in fewer bytes than are read.
+    #[test]
+    fn the_largest_levels_are_read_again() {
+        let file = format!(
+            "discount: 1 values: reward states: 64 actions: 8 observations: 8 start: 1{} T: * : * : 0 1 O: * : * : 0 1",
+            " 0".repeat(63)
+        );
+        let (model, _) = Model::read(file.as_bytes()).unwrap();
+        let mut level = Level::new(Shape { states: 64, actions: 8, observations: 8 });
+        for _ in 0..1_000 {
+            level.add_vector(7, &[999; 8], &[-10_000_000; 64]).unwrap();
+        }
+        level.set_corners(&[-10_000_000; 64]).unwrap();
+        for _ in 0..32 {
+            level.add_point(&[100; 64], -1_000_000_000).unwrap();
+        }
+        let far = -640_000_000_000_000;
+        let totals = Totals { lower: far, upper: far, gap: -far, action: 7, sawtooth: far, informed: far };
+        let mixtures = vec![Mixture::new(&[1_000_000; 64]); 100];
+        let certified = Certified {
+            model: &model,
+            named: &Named::default(),
+            mixtures: &mixtures,
+            lines: &[vec![Some(totals); mixtures.len()]],
+            ranges: &[],
+            inside: &[Vec::new()],
+            levels: &[level],
+            prices: None,
+        };
+        let printed = object(&certified).len();
+        assert!(100 * printed < MEBIBYTES << 20, "{}", printed);
+    }
 }
