@@ -150,7 +150,8 @@ impl fmt::Display for Refusal {
             (Rule::Levels, _) => write!(f, "100 levels already stand, and no more are accepted"),
             (Rule::LevelSize, _) => write!(
                 f,
-                "a level has 1 to 1,000 vectors and at most 32 points, and the builder is given at most 16 points"
+                "a level has 1 to 1,000 vectors and at most 32 points, the builder is given at most 16 points, and slices have \
+                 room for the level, the list of transitions or the answers"
             ),
             (Rule::Numbers, _) => write!(f, "vector {} names an action or a chosen vector that does not exist", at),
             (Rule::Range, Place::Vector(_)) => write!(f, "an entry of vector {} is outside its level's range", at),
@@ -201,7 +202,7 @@ impl fmt::Display for Refusal {
                 write!(
                     f,
                     "the model has over 16 states, and no more are converted; state its expected rewards yourself, by \
-                     `R: a : s : * : * r`, and it is read as it is"
+                     `R: a : s : * : * r`, or let `biidhaqun import` work them out, and up to 64 states are read"
                 )
             }
             (Rule::ExpectedReward, _) => write!(

@@ -123,7 +123,7 @@ pub enum Request {
     },
     /// Explain a refusal
     Explain {
-        /// The number of the refusal, 1 to 27
+        /// The number of the refusal: 1 to 27, or 100
         number: u64,
     },
 }

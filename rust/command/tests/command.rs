@@ -392,7 +392,7 @@ fn files_that_cannot_be_read() {
 
 #[test]
 fn every_refusal_is_explained() {
-    for number in (1..=22).chain(24..=27) {
+    for number in (1..=27).chain([100]) {
         let out = served(&["explain", &number.to_string()]);
         assert!(out.starts_with(&format!("{}. ", number)) && out.contains("What usually causes it"), "{}", out);
     }
@@ -432,6 +432,8 @@ fn conversions() {
     let path = temporary("wide.pomdp", wide.as_bytes());
     let err = stopped(&["convert", path.to_str().unwrap()], 1);
     assert!(err.contains("error[25]") && err.contains("the model has 17 states"), "{}", err);
+    assert!(err.contains("help: `biidhaqun import` works them out for up to 64 states"), "{}", err);
+    assert_eq!(run(&["import", path.to_str().unwrap()]).2, 0);
 }
 
 #[test]
