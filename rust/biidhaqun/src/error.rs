@@ -53,7 +53,7 @@ impl Place {
 
 /// A refusal: the rule that was broken, and where.
 ///
-/// What is proved: the rule is the first of document 01's that does not hold, in the order of its tests, and the place is
+/// What is proved: the rule is the first of docs/RULES.md that does not hold, in the order of its tests, and the place is
 /// the first where it does not; nothing that was lent has changed.
 ///
 /// ```
@@ -81,7 +81,7 @@ pub(crate) enum Handed {
 }
 
 impl Refusal {
-    /// The rule's number among document 01's.
+    /// The rule's number in docs/RULES.md.
     pub fn number(&self) -> u64 {
         self.rule.number()
     }

@@ -188,7 +188,7 @@ fn levels_from_a_file() {
         let path = temporary("changed.json", object.to_string().as_bytes());
         stopped(&["certify", "examples/dough.pomdp", path.to_str().unwrap()], 1)
     };
-    // The built level 2 has the corner -32, which is the least that passes (D5, D6).
+    // The built level 2 has the corner -32, which is the least that passes.
     let corner = changed(&|level| level["corners"][0] = (-40).into());
     assert!(corner.contains("refused 14 at 0") && corner.contains("level 2 is not accepted"), "{}", corner);
     assert!(corner.contains("corner 0: -40 is 8 ticks below the backup of action 0; -32 would pass"), "{}", corner);
@@ -421,9 +421,9 @@ fn conversions() {
     };
     let err = refused("unwhole.pomdp", "R: 1 : * : 1 : 0 3", "R: 1 : * : 1 : 0 3.01");
     assert!(err.contains("error[26]: the expected reward of action glaze at state dull is -0.8392"), "{}", err);
-    assert!(err.contains("refused by 26 of document 02"), "{}", err);
+    assert!(err.contains("refusal 26 of docs/RULES.md;"), "{}", err);
     let err = refused("row.pomdp", "T: 0 : 0 1 0", "T: 0 : 0 1 1");
-    assert!(err.contains("error[5]") && err.contains("refused by 5 of document 01"), "{}", err);
+    assert!(err.contains("error[5]") && err.contains("refusal 5 of docs/RULES.md;"), "{}", err);
     let err = refused("index.pomdp", "R: 1 : * : 1 : 0 3", "R: 1 : * : 1 : 2 3");
     assert!(err.contains("one of the observations 0 to 1"), "{}", err);
     let mut wide =

@@ -46,8 +46,7 @@ pub fn solver(path: &Path, file: &[u8], refusal: &Refusal, told: &Told) -> Resul
 
 /// Where a refusal is from, and where more is said.
 fn more(refusal: &Refusal) -> String {
-    let document = if refusal.number() > 18 { "02" } else { "01" };
-    format!("refused by {} of document {}; `biidhaqun explain {0}` says more", refusal.number(), document)
+    format!("refusal {0} of docs/RULES.md; `biidhaqun explain {0}` says more", refusal.number())
 }
 
 /// A refusal that the shell does not find.
