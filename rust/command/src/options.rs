@@ -106,7 +106,8 @@ pub enum Request {
     Convert {
         /// A model file with rewards in full
         file: PathBuf,
-        /// Where to write the model file (standard output if not given)
+        /// Where to write the model file, with the comments in front that name states, actions and observations (if not given:
+        /// standard output, without them)
         #[arg(long, value_name = "FILE.pomdp")]
         out: Option<PathBuf>,
     },

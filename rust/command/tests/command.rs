@@ -2,6 +2,7 @@
 
 use assert_cmd::cargo::cargo_bin;
 use assert_cmd::Command;
+use biidhaqun::Model;
 use std::io::Write;
 use std::path::{Path, PathBuf};
 use std::process::{self, Stdio};
@@ -406,8 +407,24 @@ fn conversions() {
     assert_eq!(served(&["convert", example]), written);
     let out = Path::new(env!("CARGO_TARGET_TMPDIR")).join("glazing.pomdp");
     assert_eq!(served(&["convert", example, "--out", out.to_str().unwrap()]), "");
-    assert_eq!(fs::read_to_string(&out).unwrap(), written);
-    assert!(served(&["check", out.to_str().unwrap()]).contains("accepted"));
+    // The names in the comments are kept, and the model is the same.
+    let names = "# states: dull glossy\n# actions: wait glaze\n# observations: matt shine\n";
+    let named = fs::read_to_string(&out).unwrap();
+    assert_eq!(named, format!("{}{}", names, written));
+    assert_eq!(Model::read(named.as_bytes()), Model::read(written.as_bytes()));
+    assert!(served(&["check", out.to_str().unwrap()]).contains("accepted\n  2 states: dull, glossy\n"));
+    assert!(run(&["import", out.to_str().unwrap()]).0.contains(names));
+    // Names that would make the file too long are left out.
+    let long: String = (0..16).map(|state| format!(" {}{}", "s".repeat(900), state)).collect();
+    let source = format!(
+        "# states:{}\ndiscount: 1 values: reward states: 16 actions: 8 observations: 8 start: 1{} T: * : * : 0 1 O: * : * : 0 1",
+        long,
+        " 0".repeat(15)
+    );
+    let source = temporary("long-names.pomdp", source.as_bytes());
+    let source = source.to_str().unwrap();
+    assert_eq!(served(&["convert", source, "--out", out.to_str().unwrap()]), "");
+    assert_eq!(fs::read_to_string(&out).unwrap(), served(&["convert", source]));
     // The file itself is no model file: the explanation says what to do.
     let err = stopped(&["check", example], 1);
     assert!(err.contains("let `biidhaqun convert` do it"), "{}", err);
