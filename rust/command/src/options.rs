@@ -40,6 +40,10 @@ pub enum Request {
     Levels {
         #[command(flatten)]
         built: Built,
+        /// A mixture to ask at, beside the points that are given: a weight for each state, up to 1000000 [default: the start
+        /// mixture, where no point is given]
+        #[arg(long = "at", value_name = "W,W,..", value_parser = weights)]
+        at: Vec<Weights>,
         /// Ranges of weights to ask within: a low and a high for each state, of all mixtures inside
         #[arg(long = "within", value_name = "L..H,L..H,..", value_parser = ranges)]
         within: Vec<Ranges>,
@@ -54,11 +58,11 @@ pub enum Request {
     /// Offer levels from a solver's files, or from a JSON file, in turn, and print what is certified
     ///
     /// A POMDP solver saves an alpha file and a policy graph for each step: given in turn, ALPHA GRAPH ALPHA GRAPH .., they are
-    /// made into levels with the start mixture as their only point, and offered. For each a line is printed, as `levels` does;
-    /// a refusal is the last line.
+    /// made into levels, with the start mixture as their only point where no other is given, and offered. For each a line is
+    /// printed, as `levels` does; a refusal is the last line.
     ///
     /// One file alone is a JSON object as `levels --json` prints it: of each level its vectors, corners and points are read. A
-    /// level that is refused is shown with the state or action at fault and the ticks that are missing.
+    /// level that is refused is shown with the part at fault, the state or action, and the ticks that are missing.
     Certify {
         /// A model file
         file: PathBuf,
@@ -118,6 +122,9 @@ pub enum Request {
     Picture {
         #[command(flatten)]
         built: Built,
+        /// The mixture at which the levels are drawn: a weight for each state, up to 1000000 [default: the start mixture]
+        #[arg(long = "at", value_name = "W,W,..", value_parser = weights)]
+        at: Option<Weights>,
         /// Where to write the image
         #[arg(long, value_name = "FILE.svg")]
         out: PathBuf,
@@ -140,9 +147,6 @@ pub struct Built {
     /// A point to build at: a weight for each state, 1 to 100 in total; up to 16 times [default: the start mixture]
     #[arg(long = "point", value_name = "W,W,..", value_parser = weights)]
     pub points: Vec<Weights>,
-    /// A mixture to ask at, beside the points: a weight for each state, up to 1000000
-    #[arg(long = "at", value_name = "W,W,..", value_parser = weights)]
-    pub mixtures: Vec<Weights>,
 }
 
 /// Serves the command line, and gives the exit status. A line that does not fit is told, help that it asks for is printed; an
@@ -175,7 +179,14 @@ fn weights(text: &str) -> Result<Weights, String> {
 }
 
 fn weight(word: &str) -> Result<u32, String> {
-    word.trim().parse().map_err(|_| format!("`{}` is no whole number below 2^32", word))
+    let word = word.trim();
+    let wrong = |what: &str| format!("`{}` is {}: weights are whole numbers from 0 to 1000000", word, what);
+    word.parse().map_err(|_| match (word, word.parse::<i128>()) {
+        ("", _) => "a weight is missing".to_string(),
+        (_, Ok(number)) if number < 0 => wrong("below 0"),
+        (_, Ok(_)) => wrong("too large"),
+        (_, Err(_)) => wrong("no weight"),
+    })
 }
 
 /// A low and a high for each state.

@@ -376,11 +376,24 @@ fn wrong_usage() {
         &["levels", "examples/dough.pomdp", "--point", "half,half"],
         &["levels", "examples/dough.pomdp", "--point", "30,30,40"],
         &["levels", "examples/dough.pomdp", "--at", "1"],
+        &["picture", "examples/dough.pomdp", "--at", "1", "--out", "drawn.svg"],
         &["explain", "0"],
         &["explain", "one"],
     ] {
         assert!(!stopped(arguments, 2).is_empty());
     }
+    let at = |weights: &str| stopped(&["levels", "examples/dough.pomdp", &format!("--at={}", weights)], 2);
+    for (weights, told) in [
+        ("1,", "a weight is missing"),
+        ("-1,1", "`-1` is below 0"),
+        ("0.5,1", "`0.5` is no weight"),
+        ("1,4294967296", "`4294967296` is too large"),
+        ("1", "--at 1 has 1 weight, and the model has 2 states"),
+    ] {
+        assert!(at(weights).contains(told), "{}", at(weights));
+    }
+    let range = stopped(&["levels", "examples/dough.pomdp", "--within", "1..2"], 2);
+    assert!(range.contains("--within 1..2 has 1 range, and the model has 2 states"), "{}", range);
 }
 
 #[test]

@@ -81,11 +81,11 @@ pub fn read(path: &Path, line: bool) -> Result<Read, Stop> {
 impl Building {
     /// Reads the file. Levels are built at the points asked for; totals are asked there, and at the mixtures asked for. Where
     /// nothing is said, the start mixture serves.
-    pub fn of(built: &Built, line: bool) -> Result<Building, Stop> {
+    pub fn of(built: &Built, at: &[Weights], line: bool) -> Result<Building, Stop> {
         let Read { model, start, named } = read(&built.file, line)?;
         let states = model.shape().states;
         let points = fitting("--point", &built.points, states)?;
-        let asked = fitting("--at", &built.mixtures, states)?;
+        let asked = fitting("--at", at, states)?;
         let mixtures = or_start([&points[..], &asked[..]].concat(), &start);
         let points = or_start(points, &start);
         Ok(Building { model, named, start, points, mixtures, levels: built.levels.unwrap_or(LEVELS) })

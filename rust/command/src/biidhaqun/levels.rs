@@ -1,10 +1,11 @@
 //! `levels`: what is certified at points and mixtures and within ranges, level by level.
 
 use crate::building::{self, joined, Building, Known};
+use crate::offering::Asked;
 use crate::stop::{put, Stop};
 use biidhaqun::{Level, Mixture, Model, Refusal, Rule, Totals, TotalsWithin};
 use command::names::{Named, Names};
-use command::options::{Built, Ranges};
+use command::options::Built;
 use serde_json::{json, Value};
 use std::path::Path;
 
@@ -32,9 +33,9 @@ pub struct Prices {
     inside: Vec<Option<TotalsWithin>>,
 }
 
-pub fn run(built: &Built, within: &[Ranges], prices: Option<&Path>, json: bool) -> Result<(), Stop> {
-    let building = Building::of(built, !json)?;
-    let ranges = Known::all(within, building.model.shape().states)?;
+pub fn run(built: &Built, asked: &Asked, prices: Option<&Path>, json: bool) -> Result<(), Stop> {
+    let building = Building::of(built, asked.at, !json)?;
+    let ranges = Known::all(asked.within, building.model.shape().states)?;
     let (mut lines, mut inside, mut levels) = (Vec::new(), Vec::new(), Vec::new());
     let mut certifier = building.climb(|certifier| {
         let totals = building.mixtures.iter().map(|mixture| building.totals(certifier, mixture).map(Some));
@@ -59,8 +60,7 @@ pub fn run(built: &Built, within: &[Ranges], prices: Option<&Path>, json: bool) 
         }
     };
     let Building { model, named, mixtures, .. } = &building;
-    let asked = built.levels.is_some() || !built.points.is_empty() || !built.mixtures.is_empty() || !within.is_empty();
-    let plain = !asked && prices.is_none();
+    let plain = built.levels.is_none() && built.points.is_empty() && asked.is_empty() && prices.is_none();
     let (lines, ranges, inside, levels, prices) = (&lines, &ranges, &inside, &levels, prices.as_ref());
     put(&text(&Certified { model, named, mixtures, lines, ranges, inside, levels, prices }, json, plain))
 }

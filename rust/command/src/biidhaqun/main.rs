@@ -29,7 +29,9 @@ fn serve(request: Request) -> Result<i32, String> {
     let json = matches!(request, Request::Levels { json: true, .. } | Request::Certify { json: true, .. });
     let ended = match request {
         Request::Explain { number } => return explain::run(number),
-        Request::Levels { built, within, prices, json } => levels::run(&built, &within, prices.as_deref(), json),
+        Request::Levels { built, at, within, prices, json } => {
+            levels::run(&built, &Asked { at: &at, within: &within }, prices.as_deref(), json)
+        }
         Request::Certify { file, levels, points, at, within, json } => match &levels[..] {
             [levels] if points.is_empty() => certify::run(&file, levels, &Asked { at: &at, within: &within }, json),
             [_] => {
@@ -40,7 +42,7 @@ fn serve(request: Request) -> Result<i32, String> {
         Request::Check { file } => check::run(&file),
         Request::Import { file, round, out } => import::run(&file, round, out.as_deref()),
         Request::Convert { file, out } => convert::run(&file, out.as_deref()),
-        Request::Picture { built, out } => picture::run(&built, &out),
+        Request::Picture { built, at, out } => picture::run(&built, at.as_ref(), &out),
     };
     match ended {
         Ok(()) => Ok(exit::SERVED),

@@ -12,6 +12,13 @@ pub struct Asked<'a> {
     pub within: &'a [Ranges],
 }
 
+impl Asked<'_> {
+    /// Whether nothing is asked but what is so by default.
+    pub fn is_empty(&self) -> bool {
+        self.at.is_empty() && self.within.is_empty()
+    }
+}
+
 /// What is certified at mixtures and within ranges; none where no vector counts.
 type Answers = (Vec<Option<Totals>>, Vec<Option<TotalsWithin>>);
 
@@ -50,7 +57,7 @@ pub fn run(
     let (lines, inside, levels, prices) = (&lines, &inside, &levels, None);
     let certified = Certified { model, named, mixtures, lines, ranges, inside, levels, prices };
     if ended.is_ok() || !(json || lines.is_empty()) {
-        put(&levels::text(&certified, json, asked.at.is_empty() && asked.within.is_empty()))?;
+        put(&levels::text(&certified, json, asked.is_empty()))?;
     }
     ended?;
     match uncounted(&certified) {
