@@ -107,6 +107,15 @@ fn check_tells_the_place_as_compilers_do() {
     assert!(form.contains("behind the e stands an optional minus and one digit from 0 to 3"), "{}", form);
     let unit = told("unit.pomdp", ["start: 0.5", "start: 5e-3"]);
     assert!(unit.contains("FILE:6:8\n") && unit.contains("it is no whole number of hundredths"), "{}", unit);
+    let count = told("count.pomdp", ["states: 2", "states: 002"]);
+    assert!(count.contains("it has 3 digits, and at most 2 fit"), "{}", count);
+    // What the importer refuses too is not handed to it.
+    let import = "`biidhaqun import` reads decimals";
+    assert!(told("decimals.pomdp", ["0.8 0.2", "0.8000 0.2"]).contains(import));
+    for reward in ["12345678901234567890123", "1000.001"] {
+        let far = told("far.pomdp", ["R: 1 : 1 : * : * 6", &format!("R: 1 : 1 : * : * {}", reward)]);
+        assert!(far.contains("wanted: a reward") && !far.contains(import), "{}", far);
+    }
     let names = told("names.pomdp", ["states: 2", "states: wet dry"]);
     assert!(names.contains("FILE:3:9\n") && names.contains("`biidhaqun import`"), "{}", names);
 }
@@ -402,6 +411,14 @@ fn files_that_cannot_be_read() {
         assert!(stopped(&[command, "examples/no-such-file"], 3).contains("cannot be read: no such file"));
         assert!(stopped(&[command, "examples"], 3).contains("cannot be read"));
     }
+}
+
+/// The program's own script looks for the file before it proves anything.
+#[test]
+fn the_script_of_ladder() {
+    let output = Command::new("scripts/ladder").current_dir(root()).arg("examples/no-such-file").output().unwrap();
+    let told = str::from_utf8(&output.stderr).unwrap();
+    assert_eq!((output.status.code(), told), (Some(3), "scripts/ladder: examples/no-such-file cannot be read\n"));
 }
 
 #[test]

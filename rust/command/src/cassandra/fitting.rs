@@ -48,9 +48,8 @@ pub fn fit(source: &Source, round: bool) -> Result<Fitted, Vec<Told>> {
 
     let mut start = Rows::new("start", "hundredths", HUNDRED);
     let from = source.start_from.iter().cloned().collect();
-    let start_row = start.fit(&source.start, "the start numbers", from, &mut wrong, |state| {
-        format!("state {}", named.states.or_number(state))
-    });
+    let start_row = start
+        .fit(&source.start, "the start", from, &mut wrong, |state| format!("state {}", named.states.or_number(state)));
     changes.extend(start.changes());
     if source.start_from.is_none() {
         changes.push("start: not stated, so all states are equally likely".to_string());
