@@ -17,7 +17,8 @@ pub mod exit {
     pub const FILE: i32 = 3;
 }
 
-const ENDS: &str = "Exit status: 0 served, 1 refused, 2 wrong usage, 3 a file that cannot be read or written.";
+const ENDS: &str =
+    "Exit status: 0 served, 1 refused, 2 wrong usage, 3 a file or an output that cannot be read or written.";
 
 /// Certified floors and ceilings for plans over hidden states.
 ///

@@ -86,8 +86,8 @@ fn answers(certifier: &Certifier, mixtures: &[Mixture], ranges: &[Known]) -> Res
 
 /// The first level and place at which no vector counts.
 fn uncounted(certified: &Certified) -> Option<(usize, String)> {
-    let levels = certified.lines.iter().zip(certified.inside).enumerate();
-    levels.into_iter().find_map(|(number, (totals, within))| {
+    let mut levels = certified.lines.iter().zip(certified.inside).enumerate();
+    levels.find_map(|(number, (totals, within))| {
         let mixture = totals.iter().position(Option::is_none);
         let range = within.iter().position(Option::is_none);
         let at = mixture.map(|at| format!("at {}", joined(&certified.mixtures[at].weights)));

@@ -338,6 +338,40 @@ mod tests {
         assert!(tried > 100);
     }
 
+    /// So it is for ranges: what is told to be outside is refused by 11, and at the end of its range it is not.
+    #[test]
+    fn what_is_outside_is_outside() {
+        for file in MODELS {
+            let (model, start) = Model::read(file).unwrap();
+            let mut certifier = Certifier::open(&model).unwrap();
+            for t in 1..=3 {
+                let built = certifier.build(&Points { weights: vec![start.weights.clone(), vec![1, 2]] }).unwrap();
+                let standing = certifier.standing();
+                let far = TICKS as i64 * t;
+                let told = |level: &Level| {
+                    let offer = Offer { model: &model, standing: &standing, level };
+                    offer.outside(far.into(), &Named::default())
+                };
+                let each = |about: &str, end: i64, set: &dyn Fn(&mut Level, i64)| {
+                    for sign in [1, -1] {
+                        let mut level = built.clone();
+                        set(&mut level, sign * (end + 1));
+                        assert_eq!(refused(&certifier, &level), Some((11, 1)));
+                        let wanted = format!("{} is {}, further than {} from 0", about, sign * (end + 1), end);
+                        assert_eq!(told(&level), Some(wanted));
+                        set(&mut level, sign * end);
+                        assert_ne!(refused(&certifier, &level), Some((11, 1)));
+                        assert_eq!(told(&level), None);
+                    }
+                };
+                each("vector 1: the entry of state 1", far, &|level, value| level.entries_mut(1)[1] = value);
+                each("corner 1", far, &|level, value| level.corners_mut()[1] = value);
+                each("point 1: its value", 3 * far, &|level, value| *level.value_mut(1) = value);
+                certifier.offer(&built).unwrap();
+            }
+        }
+    }
+
     /// The library is the judge here, too: a vector without the state that is told passes, or loses another one.
     #[test]
     fn what_is_lost_is_what_is_lost() {

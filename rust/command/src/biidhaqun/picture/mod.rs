@@ -63,7 +63,7 @@ impl Sample {
 
 pub fn run(built: &Built, at: Option<&Weights>, out: &Path) -> Result<(), Stop> {
     let building = Building::of(built, &[], false)?;
-    let asked = fitting("--at", at.map_or(&[], slice::from_ref), building.model.shape().states)?;
+    let asked = fitting("--at", at.map(slice::from_ref).unwrap_or_default(), building.model.shape().states)?;
     let mixture = asked.first().unwrap_or(&building.start);
     let mut over_levels = Vec::new();
     let certifier = building.climb(|certifier| {
