@@ -143,7 +143,8 @@ impl Certifier {
     }
 
     /// Offers a level: it is accepted, and stands, exactly if it is within the limits and meets every backup inequality
-    /// upon the level that stands; the rows are then stepped, whatever it has. Refused with 8 to 15, and then nothing changes.
+    /// upon the level that stands; the rows are then stepped, whatever it has. Refused with 8 to 15 or 21, and then nothing
+    /// changes.
     pub fn offer(&mut self, level: &Level) -> Result<(), Error> {
         let shape = self.model.shape();
         Length::test("states of the level", None, level.states, shape.states)?;
@@ -300,9 +301,10 @@ impl Certifier {
         Ok(TotalsWithin { lower: at.lower, upper: at.upper })
     }
 
-    /// Builds a level upon the standing one, at every corner and at these points; it will be accepted. If all t levels so
-    /// far were built, each entry is less than t ticks below what the plan earns that its vector names. It goes on with
-    /// standing vectors that cover all states, and covers all itself. Refused with 8, 9, 12, or 22 where there is none.
+    /// Builds a level upon the standing one, at every corner and at these points; it will be accepted. If it is level t, and all
+    /// levels below were built too, with no new prices among them, each of its entries is less than t ticks below what the plan
+    /// earns that its vector names. It goes on with standing vectors that cover all states, and covers all itself. Refused with 8,
+    /// 9, 12, or 22 where there is none.
     pub fn build(&self, points: &Points) -> Result<Level, Error> {
         let Shape { states, observations, .. } = self.model.shape();
         let count = points.weights.len();

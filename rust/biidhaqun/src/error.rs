@@ -53,7 +53,7 @@ impl Place {
 
 /// A refusal: the rule that was broken, and where.
 ///
-/// What is proved: the rule is the first of document 01's that does not hold, in the order of its tests, and the place is
+/// What is proved: the rule is the first of docs/RULES.md that does not hold, in the order of its tests, and the place is
 /// the first where it does not; nothing that was lent has changed.
 ///
 /// ```
@@ -81,7 +81,7 @@ pub(crate) enum Handed {
 }
 
 impl Refusal {
-    /// The rule's number among document 01's.
+    /// The rule's number in docs/RULES.md.
     pub fn number(&self) -> u64 {
         self.rule.number()
     }
@@ -150,7 +150,8 @@ impl fmt::Display for Refusal {
             (Rule::Levels, _) => write!(f, "100 levels already stand, and no more are accepted"),
             (Rule::LevelSize, _) => write!(
                 f,
-                "a level has 1 to 1,000 vectors and at most 32 points, and the builder is given at most 16 points"
+                "a level has 1 to 1,000 vectors and at most 32 points, the builder is given at most 16 points, and slices have \
+                 room for the level, the list of transitions or the answers"
             ),
             (Rule::Numbers, _) => write!(f, "vector {} names an action or a chosen vector that does not exist", at),
             (Rule::Range, Place::Vector(_)) => write!(f, "an entry of vector {} is outside its level's range", at),
@@ -201,7 +202,7 @@ impl fmt::Display for Refusal {
                 write!(
                     f,
                     "the model has over 16 states, and no more are converted; state its expected rewards yourself, by \
-                     `R: a : s : * : * r`, and it is read as it is"
+                     `R: a : s : * : * r`, or let `biidhaqun import` work them out, and up to 64 states are read"
                 )
             }
             (Rule::ExpectedReward, _) => write!(

@@ -50,7 +50,7 @@ pub struct Vector<'a> {
     pub choices: &'a [u16],
     /// The states that it covers: bit s is 1 where state s is.
     pub mask: u64,
-    /// For each state, the floor in ticks (hundredths of a reward unit); read where the state is covered.
+    /// For each state, the floor in ticks (hundredths of a reward unit); it counts where the state is covered.
     pub entries: &'a [i64],
 }
 
@@ -118,8 +118,8 @@ impl Level {
         self.add_masked_vector(action, choices, slices::full_mask(self.states), entries)
     }
 
-    /// Adds one that covers the states whose bit in the mask is 1. Its other entries are unread, and stored as 0 where the level
-    /// is accepted.
+    /// Adds one that covers the states whose bit in the mask is 1. Its other entries bear on no answer, and are stored as 0 where
+    /// the level is accepted.
     pub fn add_masked_vector(&mut self, action: u8, choices: &[u16], mask: u64, entries: &[i64]) -> Result<(), Length> {
         let number = Some(self.slices.vectors);
         Length::test("choices of vector", number, choices.len(), self.observations)?;

@@ -171,7 +171,7 @@ impl Model {
     /// What a plan graph earns at least, in ticks, if it is entered at this node and state with so many steps left (0 to
     /// 4), rounded down at each step. Refused with 18.
     ///
-    /// What is proved: it is document 01's equation, with its rounding.
+    /// What is proved: it is the equation of docs/RULES.md, with its rounding.
     pub fn worth(&self, graph: &Graph, node: usize, state: usize, steps: usize) -> Result<i64, Error> {
         Length::test("observations of the plan graph", None, graph.observations, self.tables.observations)?;
         let worth = slices::worth(&self.tables, &graph.slices, node, state, steps);

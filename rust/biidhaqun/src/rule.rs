@@ -1,12 +1,11 @@
-//! Document 01's refusals by name.
+//! The refusals of docs/RULES.md by name.
 
 use std::fmt;
 
 /// Lists the rules: the number of the refusal, the name, and what it says.
 macro_rules! rules {
     ($($number:literal $name:ident: $text:literal,)*) => {
-        /// The rule that a refusal is about: what holds where it is not refused. [`Rule::number`] is its number among document
-        /// 01's.
+        /// The rule that a refusal is about: what holds where it is not refused. [`Rule::number`] is its number in docs/RULES.md.
         #[derive(Clone, Copy, Debug, PartialEq, Eq, PartialOrd, Ord, Hash)]
         #[non_exhaustive]
         pub enum Rule {

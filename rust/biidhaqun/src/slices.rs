@@ -8,8 +8,8 @@
 //! [`within`], [`build`], [`adopt`] and [`worth`]. Each is proved to answer, and to leave in what it is lent, what its definitions say; one that is refused leaves all
 //! as it was.
 //!
-//! A vector's mask says which states it covers. Its entries elsewhere are unread, and an acceptance stores them as 0, and the
-//! mask's bits past the states too.
+//! A vector's mask says which states it covers. Its entries elsewhere bear on no answer, nor do the mask's bits past the states;
+//! an acceptance stores both as 0.
 //!
 //! A list of transitions is m × n + 1 words that say at which word of it the cells of each column begin, the last one where they
 //! end, and then the cells: for each T(s, a, s') above 0 the word s × 65,536 + T(s, a, s'), in column a × n + s', each column by
@@ -108,7 +108,7 @@ pub struct Certifier {
     pub choices: Vec<u16>,
     /// The states that a vector covers, by vector.
     pub masks: Vec<u64>,
-    /// In ticks, by vector and state; read where the state is covered.
+    /// In ticks, by vector and state; they count where the state is covered.
     pub entries: Vec<i64>,
     /// In ticks, by state.
     pub corners: Vec<i64>,
@@ -152,7 +152,7 @@ pub struct Level {
     pub actions: Vec<u8>,
     /// Vectors of the level below, by vector and observation.
     pub choices: Vec<u16>,
-    /// The states that a vector covers, by vector: bit s is 1 where state s is. Bits past the states are not read.
+    /// The states that a vector covers, by vector: bit s is 1 where state s is. Bits past the states bear on no answer.
     pub masks: Vec<u64>,
     /// In ticks, by vector and state; read where the state is covered.
     pub entries: Vec<i64>,

@@ -1,6 +1,7 @@
 //! `explain`: what a refusal means, and what usually causes it.
 
 use crate::options::exit;
+use crate::streams;
 
 /// A refusal as a person is told of it.
 struct Explanation {
@@ -30,6 +31,7 @@ const EXPLANATIONS: &[Explanation] = &[
         place: WORD,
         causes: &[
             "Names for states, actions or observations, matrices, `identity`, `uniform`, costs: `biidhaqun import` reads them.",
+            "Rewards in full, `R: a : s : s' : o r`, by the state reached or by what is observed: `biidhaqun convert` writes the expected ones.",
             "Too many decimals: probabilities and the discount have at most three, start numbers and rewards two.",
             "An exponent beyond e-3 to e3, with a plus or a capital E, or one that leaves no whole number of the smallest unit: 5e-1 is read, 5E-1 and 5e-4 are not.",
             "A row with a number too few: then the next statement's key stands where a number was wanted.",
@@ -78,10 +80,12 @@ const EXPLANATIONS: &[Explanation] = &[
     Explanation {
         number: 7,
         means: "The certifier that was handed in breaks a limit: its tables, its standing level, its rows (an entry of the fast \
-                informed bound or of QMDP beyond 100,000 ticks x the level), or its number above 100.",
+                informed bound or of QMDP beyond 100,000 ticks x the level), or its number above 100. Or a list of transitions \
+                that was handed in with it is not that of its table.",
         place: NONE,
         causes: &[
             "A program changed the words of a certifier, or cut them short. This command never does.",
+            "A list of transitions that was made of another model, or cut short: make it anew. A slice of no words says that none is meant.",
             "Rows that were not opened with the certifier, or not handed on from call to call: each acceptance steps them, and at level 0 they are 0.",
         ],
     },
@@ -93,9 +97,15 @@ const EXPLANATIONS: &[Explanation] = &[
     },
     Explanation {
         number: 9,
-        means: "A level has no vector, over 1,000 vectors or over 32 points, or the builder is given over 16 points.",
+        means: "A level has no vector, over 1,000 vectors or over 32 points, or the builder is given over 16 points. Or a slice that \
+                a program lent is too short: for a level, for a list of offers or of points, for answers, or for the words of a \
+                list of transitions.",
         place: NONE,
-        causes: &["`--point` more than 16 times.", "A level from a solver that was not pruned."],
+        causes: &[
+            "`--point` more than 16 times.",
+            "A level from a solver that was not pruned.",
+            "A program lent slices that are shorter than the counts of the level say, or a list with fewer words than states x actions + 1 and one for each T above 0.",
+        ],
     },
     Explanation {
         number: 10,
@@ -162,6 +172,7 @@ const EXPLANATIONS: &[Explanation] = &[
         place: NONE,
         causes: &[
             "Only the proportions of the weights matter: divide them all by one number.",
+            "Weights that were rounded to whole numbers and are all 0 now: multiply them first.",
             "A program handed in fewer weights, lows or highs than there are states.",
         ],
     },
@@ -241,6 +252,7 @@ const EXPLANATIONS: &[Explanation] = &[
         means: "The model has over 16 states, and a file of no more is converted.",
         place: NONE,
         causes: &[
+            "A larger model: `biidhaqun import` writes its expected rewards for up to 64 states. It is not proved, and says what it had to round.",
             "A model with layers: state its expected rewards yourself, by `R: a : s : * : *` and a number. Such a file needs no conversion, and up to 64 states are read.",
         ],
     },
@@ -281,15 +293,12 @@ pub fn text(number: u64) -> Option<String> {
 }
 
 /// Prints it; the exit status.
-pub fn run(number: u64) -> i32 {
+pub fn run(number: u64) -> Result<i32, String> {
     match text(number) {
-        Some(text) => {
-            print!("{}", text);
-            exit::SERVED
-        }
+        Some(text) => streams::put(&text).map(|()| exit::SERVED),
         None => {
-            eprintln!("biidhaqun: there is no refusal {}; they are 1 to 27 and 100", number);
-            exit::USAGE
+            streams::tell(&format!("biidhaqun: there is no refusal {}; they are 1 to 27 and 100\n", number))?;
+            Ok(exit::USAGE)
         }
     }
 }

@@ -12,6 +12,7 @@ pub mod names;
 pub mod numerals;
 pub mod options;
 pub mod solver_files;
+pub mod streams;
 pub mod table;
 pub mod told;
 pub mod words;

@@ -37,6 +37,23 @@ pub struct Named {
 }
 
 impl Named {
+    /// These names, and of kinds that have none those of others.
+    pub fn or(self, others: Named) -> Named {
+        let or = |names: Names, other: Names| if names.all().is_empty() { other } else { names };
+        Named {
+            states: or(self.states, others.states),
+            actions: or(self.actions, others.actions),
+            observations: or(self.observations, others.observations),
+        }
+    }
+
+    /// Comments that give the names, a line for each kind that has some.
+    pub fn comments(&self) -> String {
+        let kinds = [("states", &self.states), ("actions", &self.actions), ("observations", &self.observations)];
+        let named = kinds.iter().filter(|(_, names)| !names.all().is_empty());
+        named.map(|(kind, names)| format!("# {}: {}\n", kind, names.all().join(" "))).collect()
+    }
+
     /// The names that a file's comments give. Names of one kind count where there are as many as numbers.
     pub fn of(file: &[u8], states: usize, actions: usize, observations: usize) -> Named {
         let text = String::from_utf8_lossy(file);
@@ -76,5 +93,10 @@ mod tests {
         assert_eq!(named.actions, Names::default());
         assert_eq!(named.observations.or_number(1), "1");
         assert_eq!(named.states.or_number(2), "2");
+        assert_eq!(named.comments(), "# states: left right\n");
+        let others = Named::of(b"# states: wet dry\n# actions: go\n", 2, 1, 2);
+        let both = named.or(others);
+        assert_eq!(both.comments(), "# states: left right\n# actions: go\n");
+        assert_eq!(Named::of(both.comments().as_bytes(), 2, 1, 2), both);
     }
 }

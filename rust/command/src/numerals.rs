@@ -1,5 +1,7 @@
 //! Numbers as a model file has them: so many digits, so many decimals, an exponent; and their way back to text.
 
+use crate::told::counted;
+
 /// A form of numbers: the most digits before and behind the point, and whether a minus may stand in front. With decimals
 /// one of the two parts may be missing, and an exponent may follow.
 #[derive(Clone, Copy, Debug)]
@@ -66,7 +68,8 @@ impl Form {
     /// No more digits before the point than fit.
     fn few(&self, whole: &[u8]) -> Result<(), String> {
         if whole.len() > self.digits {
-            return Err(format!("it has {} before the point, and at most {} fit", counted(whole.len()), self.digits));
+            let place = if self.decimals == 0 { "" } else { " before the point" };
+            return Err(format!("it has {}{}, and at most {} fit", counted(whole.len(), "digit"), place, self.digits));
         }
         Ok(())
     }
@@ -103,13 +106,6 @@ fn power(exponent: &[u8]) -> Result<(bool, i64), String> {
 /// The number that digits write.
 fn number(digits: &[u8]) -> i64 {
     digits.iter().fold(0, |value, digit| 10 * value + i64::from(digit - b'0'))
-}
-
-fn counted(digits: usize) -> String {
-    match digits {
-        1 => "1 digit".to_string(),
-        _ => format!("{} digits", digits),
-    }
 }
 
 /// A number of 10^-decimals as text, without zeros at its end: 900 thousandths are 0.9.

@@ -1,6 +1,8 @@
 //! The command line.
 
+use crate::streams;
 use clap::{Parser, Subcommand};
+use std::io::{self, Write};
 use std::path::{Path, PathBuf};
 
 /// How the command ends.
@@ -11,11 +13,12 @@ pub mod exit {
     pub const REFUSED: i32 = 1;
     /// The command line does not fit.
     pub const USAGE: i32 = 2;
-    /// A file cannot be read or written.
+    /// A file, or an output, cannot be read or written.
     pub const FILE: i32 = 3;
 }
 
-const ENDS: &str = "Exit status: 0 served, 1 refused, 2 wrong usage, 3 a file that cannot be read or written.";
+const ENDS: &str =
+    "Exit status: 0 served, 1 refused, 2 wrong usage, 3 a file or an output that cannot be read or written.";
 
 /// Certified floors and ceilings for plans over hidden states.
 ///
@@ -38,6 +41,10 @@ pub enum Request {
     Levels {
         #[command(flatten)]
         built: Built,
+        /// A mixture to ask at, beside the points that are given: a weight for each state, up to 1000000 [default: the start
+        /// mixture, where no point is given]
+        #[arg(long = "at", value_name = "W,W,..", value_parser = weights)]
+        at: Vec<Weights>,
         /// Ranges of weights to ask within: a low and a high for each state, of all mixtures inside
         #[arg(long = "within", value_name = "L..H,L..H,..", value_parser = ranges)]
         within: Vec<Ranges>,
@@ -52,11 +59,11 @@ pub enum Request {
     /// Offer levels from a solver's files, or from a JSON file, in turn, and print what is certified
     ///
     /// A POMDP solver saves an alpha file and a policy graph for each step: given in turn, ALPHA GRAPH ALPHA GRAPH .., they are
-    /// made into levels with the start mixture as their only point, and offered. For each a line is printed, as `levels` does;
-    /// a refusal is the last line.
+    /// made into levels, with the start mixture as their only point where no other is given, and offered. For each a line is
+    /// printed, as `levels` does; a refusal is the last line.
     ///
     /// One file alone is a JSON object as `levels --json` prints it: of each level its vectors, corners and points are read. A
-    /// level that is refused is shown with the state or action at fault and the ticks that are missing.
+    /// level that is refused is shown with the part at fault, the state or action, and the ticks that are missing.
     Certify {
         /// A model file
         file: PathBuf,
@@ -104,7 +111,8 @@ pub enum Request {
     Convert {
         /// A model file with rewards in full
         file: PathBuf,
-        /// Where to write the model file (standard output if not given)
+        /// Where to write the model file, with the comments in front that name states, actions and observations (if not given:
+        /// standard output, without them)
         #[arg(long, value_name = "FILE.pomdp")]
         out: Option<PathBuf>,
     },
@@ -115,13 +123,16 @@ pub enum Request {
     Picture {
         #[command(flatten)]
         built: Built,
+        /// The mixture at which the levels are drawn: a weight for each state, up to 1000000 [default: the start mixture]
+        #[arg(long = "at", value_name = "W,W,..", value_parser = weights)]
+        at: Option<Weights>,
         /// Where to write the image
         #[arg(long, value_name = "FILE.svg")]
         out: PathBuf,
     },
     /// Explain a refusal
     Explain {
-        /// The number of the refusal, 1 to 27
+        /// The number of the refusal: 1 to 27, or 100
         number: u64,
     },
 }
@@ -137,9 +148,24 @@ pub struct Built {
     /// A point to build at: a weight for each state, 1 to 100 in total; up to 16 times [default: the start mixture]
     #[arg(long = "point", value_name = "W,W,..", value_parser = weights)]
     pub points: Vec<Weights>,
-    /// A mixture to ask at, beside the points: a weight for each state, up to 1000000
-    #[arg(long = "at", value_name = "W,W,..", value_parser = weights)]
-    pub mixtures: Vec<Weights>,
+}
+
+/// Serves the command line, and gives the exit status. A line that does not fit is told, help that it asks for is printed; an
+/// output that cannot be written is the end of it.
+pub fn ended(serve: impl FnOnce(Request) -> Result<i32, String>) -> i32 {
+    let ended = match Options::try_parse() {
+        Ok(options) => serve(options.request),
+        Err(error) => {
+            let (stream, status) =
+                if error.use_stderr() { ("standard error", exit::USAGE) } else { ("standard output", exit::SERVED) };
+            streams::shown(stream, error.print().and_then(|()| io::stdout().flush())).map(|()| status)
+        }
+    };
+    ended.unwrap_or_else(|message| {
+        // Where standard error cannot be written either, the exit status is left to say so.
+        let _ = streams::tell(&format!("biidhaqun: {}\n", message));
+        exit::FILE
+    })
 }
 
 /// How many levels are built where nothing is said.
@@ -154,7 +180,14 @@ fn weights(text: &str) -> Result<Weights, String> {
 }
 
 fn weight(word: &str) -> Result<u32, String> {
-    word.trim().parse().map_err(|_| format!("`{}` is no whole number below 2^32", word))
+    let word = word.trim();
+    let wrong = |what: &str| format!("`{}` is {}: weights are whole numbers from 0 to 1000000", word, what);
+    word.parse().map_err(|_| match (word, word.parse::<i128>()) {
+        ("", _) => "a weight is missing".to_string(),
+        (_, Ok(number)) if number < 0 => wrong("below 0"),
+        (_, Ok(_)) => wrong("too large"),
+        (_, Err(_)) => wrong("no weight"),
+    })
 }
 
 /// A low and a high for each state.

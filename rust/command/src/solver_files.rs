@@ -3,7 +3,7 @@
 //! The proved reader decides; this one only explains its refusals 1, 19, 20, 9, 10 and 11, and a test holds it against the
 //! reference over the comparison's damaged files (`tests/solver_files.rs`).
 
-use crate::told::{Mark, Told};
+use crate::told::{counted, Mark, Told};
 use crate::words::{Word, Words};
 use std::ops::Range;
 
@@ -62,7 +62,7 @@ struct Node<'a> {
 pub fn judge(step: &Step) -> Result<(), Trouble> {
     for (which, file) in [(Which::Alpha, step.alpha), (Which::Graph, step.graph)] {
         if file.len() > SOLVER_BYTES {
-            let title = format!("the file has {} bytes, more than 4,194,304", file.len());
+            let title = "the file has more than 4,194,304 bytes".to_string();
             let notes = vec!["leave out comments, and digits behind the point that say nothing".to_string()];
             return Err(Trouble { number: 1, place: 0, which, told: Told { title, marks: Vec::new(), notes } });
         }
@@ -315,10 +315,6 @@ fn in_range(step: &Step, alphas: &[Alpha]) -> Result<(), Trouble> {
 fn end(file: &[u8]) -> Range<usize> {
     let last = Words::of(file).last().map_or(0, |word| word.span().end);
     last..last
-}
-
-fn counted(count: usize, what: &str) -> String {
-    format!("{} {}{}", count, what, if count == 1 { "" } else { "s" })
 }
 
 #[cfg(test)]

@@ -1,5 +1,6 @@
 //! What a person is told about a file.
 
+use std::fmt;
 use std::ops::Range;
 
 /// What is wrong with a file, without a verdict.
@@ -24,4 +25,9 @@ impl Mark {
     pub fn new(span: Range<usize>, text: impl Into<String>) -> Mark {
         Mark { span, text: text.into() }
     }
+}
+
+/// `1 vector`, `2 vectors`.
+pub fn counted<Count: fmt::Display + From<u8> + PartialEq>(count: Count, what: &str) -> String {
+    format!("{} {}{}", count, what, if count == Count::from(1) { "" } else { "s" })
 }

@@ -1,8 +1,7 @@
 //! `biidhaqun-usage`: the first look at a command line, before anything is proved or built. Serves what needs no library,
 //! tells a wrong option or path, and ends with 100 where the whole command is needed.
 
-use clap::Parser;
-use command::options::{exit, Options, Request};
+use command::options::{self, Request};
 use command::{explain, files};
 use std::process;
 
@@ -10,15 +9,8 @@ use std::process;
 const GO_ON: i32 = 100;
 
 fn main() {
-    let options = Options::parse();
-    process::exit(match options.request {
+    process::exit(options::ended(|request| match request {
         Request::Explain { number } => explain::run(number),
-        request => match files::early(&request) {
-            Ok(()) => GO_ON,
-            Err(message) => {
-                eprintln!("biidhaqun: {}", message);
-                exit::FILE
-            }
-        },
-    });
+        request => files::early(&request).map(|()| GO_ON),
+    }));
 }

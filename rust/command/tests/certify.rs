@@ -123,10 +123,13 @@ fn points_that_are_refused() {
         assert_eq!(status, 1);
         (out, err)
     };
+    // They are told as `levels` tells them, and no file is blamed.
     let (out, err) = refused(&["--point", "50,51"]);
-    assert!(out == "refused 12 at 0\n" && err.contains("point 0 is 50,51, which total 101"), "{}", err);
+    assert!(out == "refused 12 at 0\n" && err.contains("\n  point 0 is 50,51, which total 101\n"), "{}", err);
+    assert!(err.starts_with("biidhaqun: refused 12 at 0: ") && !err.contains("alpha1"), "{}", err);
     let (out, err) = refused(&["--point", "50,50"].repeat(17));
-    assert!(out == "refused 9 at 0\n" && err.contains("there are 17 points"), "{}", err);
+    assert!(out == "refused 9 at 0\n" && err.contains("\n  there are 17 points, and"), "{}", err);
+    assert!(!err.contains("alpha1"), "{}", err);
     let (out, _) = refused(&["--json", "--point", "0,0"]);
     assert!(out.contains("\"number\": 12"), "{}", out);
 }
@@ -154,9 +157,9 @@ fn vectors_that_cover_part_of_the_states() {
     let (_, err, status) = seeding(["\"mask\": 1, ", ""], &[]);
     assert!(status == 1 && err.contains("level 1 is not accepted; vector 0: the entry of state fine is 0"), "{}", err);
     let (_, err, status) = seeding(["\"mask\": 1", "\"mask\": -1"], &[]);
-    assert!(status == 1 && err.contains("level 1 is not of the form"), "{}", err);
+    assert!(status == 1 && err.contains("level 1: vectors[0].mask is -1, below 0"), "{}", err);
     let (out, err, status) = seeding(["\"choices\": [0, 1]", "\"choices\": [1, 1]"], &[]);
-    assert_eq!((&out[..], status), ("", 1));
+    assert_eq!((&out[..], status), ("1 -5000 -5000 0 0\nrefused 21 at 0\n", 1));
     let lost =
         "state melted is covered, from which action stir leads to state melted with observation runs; vector 1, chosen";
     assert!(err.starts_with("biidhaqun: refused 21 at 0: ") && err.contains(lost), "{}", err);

@@ -1,7 +1,11 @@
 //! The command as a user meets it: what it prints, and its exit status.
 
+use assert_cmd::cargo::cargo_bin;
 use assert_cmd::Command;
+use biidhaqun::Model;
+use std::io::Write;
 use std::path::{Path, PathBuf};
+use std::process::{self, Stdio};
 use std::{fs, str};
 
 /// The root of the repository.
@@ -103,6 +107,15 @@ fn check_tells_the_place_as_compilers_do() {
     assert!(form.contains("behind the e stands an optional minus and one digit from 0 to 3"), "{}", form);
     let unit = told("unit.pomdp", ["start: 0.5", "start: 5e-3"]);
     assert!(unit.contains("FILE:6:8\n") && unit.contains("it is no whole number of hundredths"), "{}", unit);
+    let count = told("count.pomdp", ["states: 2", "states: 002"]);
+    assert!(count.contains("it has 3 digits, and at most 2 fit"), "{}", count);
+    // What the importer refuses too is not handed to it.
+    let import = "`biidhaqun import` reads decimals";
+    assert!(told("decimals.pomdp", ["0.8 0.2", "0.8000 0.2"]).contains(import));
+    for reward in ["12345678901234567890123", "1000.001"] {
+        let far = told("far.pomdp", ["R: 1 : 1 : * : * 6", &format!("R: 1 : 1 : * : * {}", reward)]);
+        assert!(far.contains("wanted: a reward") && !far.contains(import), "{}", far);
+    }
     let names = told("names.pomdp", ["states: 2", "states: wet dry"]);
     assert!(names.contains("FILE:3:9\n") && names.contains("`biidhaqun import`"), "{}", names);
 }
@@ -185,7 +198,7 @@ fn levels_from_a_file() {
         let path = temporary("changed.json", object.to_string().as_bytes());
         stopped(&["certify", "examples/dough.pomdp", path.to_str().unwrap()], 1)
     };
-    // The built level 2 has the corner -32, which is the least that passes (D5, D6).
+    // The built level 2 has the corner -32, which is the least that passes.
     let corner = changed(&|level| level["corners"][0] = (-40).into());
     assert!(corner.contains("refused 14 at 0") && corner.contains("level 2 is not accepted"), "{}", corner);
     assert!(corner.contains("corner 0: -40 is 8 ticks below the backup of action 0; -32 would pass"), "{}", corner);
@@ -196,14 +209,140 @@ fn levels_from_a_file() {
     assert!(vector.contains("refused 13 at 0") && vector.contains("entry of state 0 is -50"), "{}", vector);
     assert!(vector.contains("1 tick above its backup; -51 would pass"), "{}", vector);
     let action = changed(&|level| level["vectors"][0]["action"] = 7.into());
-    assert!(action.contains("refused 10 at 0"), "{}", action);
+    assert!(
+        action.contains("refused 10 at 0") && action.contains("it has action 7, and the last one is 1"),
+        "{}",
+        action
+    );
+    let action = changed(&|level| level["vectors"][0]["action"] = 300.into());
+    assert!(action.contains("vector 0: it has action 255 or more"), "{}", action);
+    let choice = changed(&|level| level["vectors"][1]["choices"][1] = 9.into());
+    let told = "vector 1: with observation 1 it goes on with vector 9, and the last one of the level below is 2";
+    assert!(choice.contains("refused 10 at 1") && choice.contains(told), "{}", choice);
+    let entry = changed(&|level| level["vectors"][0]["entries"][1] = 200_001.into());
+    assert!(entry.contains("vector 0: the entry of state 1 is 200001, further than 200000 from 0"), "{}", entry);
+    let corner = changed(&|level| level["corners"][0] = (-200_001).into());
+    assert!(corner.contains("refused 11 at 0") && corner.contains("corner 0 is -200001, further"), "{}", corner);
+    let value = changed(&|level| level["points"][0]["value"] = 20_000_001.into());
+    assert!(value.contains("refused 11 at 0"), "{}", value);
+    assert!(value.contains("point 0: its value is 20000001, further than 20000000 from 0"), "{}", value);
+    let weights = changed(&|level| level["points"][0]["weights"] = serde_json::json!([50, 51]));
+    assert!(weights.contains("refused 12 at 0") && weights.contains("its weights total 101"), "{}", weights);
+    let none = changed(&|level| level["vectors"] = serde_json::json!([]));
+    assert!(none.contains("refused 9 at 0") && none.contains("it has 0 vectors and 1 point\n"), "{}", none);
     let short = changed(&|level| level["corners"] = serde_json::json!([0]));
     assert!(short.contains("the corners of the level are 1, and the model wants 2"), "{}", short);
     let form = changed(&|level| level["corners"][0] = "x".into());
-    assert!(form.contains("level 2 is not of the form"), "{}", form);
-    for content in ["", "[]", "{\"levels\": 1}"] {
+    assert!(form.contains("level 2: corners[0] is \"x\", no whole number"), "{}", form);
+    let form = changed(&|level| level["vectors"][1]["entries"] = 5.into());
+    assert!(form.contains("level 2: vectors[1].entries is 5, no list"), "{}", form);
+    let form = changed(&|level| level["points"][0]["value"] = 1.5.into());
+    assert!(form.contains("level 2: points[0].value is 1.5, no whole number"), "{}", form);
+    let form = changed(&|level| level["vectors"][0]["action"] = serde_json::Value::Null);
+    assert!(form.contains("level 2: vectors[0].action is null, no whole number"), "{}", form);
+    let far = printed.replacen("\"value\": -", "\"value\": -1180591620717411303424", 1);
+    let far = temporary("far.json", far.as_bytes());
+    let far = stopped(&["certify", "examples/dough.pomdp", far.to_str().unwrap()], 1);
+    assert!(far.contains("level 1: points[0].value is") && far.contains(", beyond every limit"), "{}", far);
+    let wrong = |content: &str| {
         let path = temporary("wrong.json", content.as_bytes());
-        stopped(&["certify", "examples/dough.pomdp", path.to_str().unwrap()], 1);
+        stopped(&["certify", "examples/dough.pomdp", path.to_str().unwrap()], 1)
+    };
+    for content in ["", "[]", "{\"levels\": 1}"] {
+        let told = wrong(content);
+        assert!(told.contains("one file alone is read as levels in JSON; a solver's files come in pairs"), "{}", told);
+    }
+    assert!(wrong("{\"levels\": []}").contains("it has no level"));
+    assert!(wrong("{\"levels\": [{}]}").contains("level 1: vectors is missing"));
+}
+
+/// Levels that are accepted before one is refused are printed, and the refusal is the last line.
+#[test]
+fn levels_before_a_refusal() {
+    let mut object: serde_json::Value =
+        serde_json::from_str(&served(&["levels", "examples/dough.pomdp", "--json"])).unwrap();
+    object["levels"][2]["corners"][0] = (-900).into();
+    let path = temporary("refused.json", object.to_string().as_bytes());
+    let certify = ["certify", "examples/dough.pomdp", path.to_str().unwrap()];
+    let (out, err, status) = run(&certify);
+    assert_eq!((&out[..], status), ("1 -10000 -10000 0 0\n2 10000 12500 2500 0\nrefused 14 at 0\n", 1));
+    assert!(err.contains("level 3 is not accepted; corner 0: -900 is"), "{}", err);
+    let (out, _, status) = run(&[&certify[..], &["--json"]].concat());
+    let refused: serde_json::Value = serde_json::from_str(&out).unwrap();
+    assert_eq!((refused["refused"]["number"].as_u64(), status), (Some(14), 1));
+}
+
+/// A file that is longer than its kind may be is refused, and never cut; levels in JSON have room for what is printed of them.
+#[test]
+fn long_files() {
+    let long = |name: &str, blanks: usize, rest: &str| {
+        let path = temporary(name, &[b' '].repeat(blanks));
+        fs::OpenOptions::new().append(true).open(&path).unwrap().write_all(rest.as_bytes()).unwrap();
+        path
+    };
+    let tiger = fs::read_to_string(root().join("examples/cassandra/tiger.POMDP")).unwrap();
+    let room = long("room.POMDP", (64 << 20) - tiger.len(), &tiger);
+    let (out, _, status) = run(&["import", room.to_str().unwrap()]);
+    assert!(status == 0 && out.contains("R: 0 : * : * : * -1\n"), "{}", out);
+    let over = long("room.POMDP", (64 << 20) + 1 - tiger.len(), &tiger);
+    assert!(stopped(&["import", over.to_str().unwrap()], 3).contains("cannot be read: it has more than 64 MiB"));
+    fs::remove_file(over).unwrap();
+    let printed = served(&["levels", "examples/dough.pomdp", "--json"]);
+    let levels = long("room.json", 17 << 20, &printed);
+    let certified = served(&["certify", "examples/dough.pomdp", levels.to_str().unwrap()]);
+    assert_eq!(certified, served(&["levels", "examples/dough.pomdp"]));
+    fs::remove_file(levels).unwrap();
+    // The library's own limit is refused by the library.
+    let dough = fs::read_to_string(root().join("examples/dough.pomdp")).unwrap();
+    let fitting = long("room.pomdp", 32_768 - dough.len(), &dough);
+    assert!(served(&["check", fitting.to_str().unwrap()]).contains("accepted"));
+    let over = long("room.pomdp", 32_769 - dough.len(), &dough);
+    assert_eq!(run(&["levels", over.to_str().unwrap()]).0, "refused 1 at 0\n");
+    assert_eq!(run(&["levels", "/dev/zero"]).0, "refused 1 at 0\n");
+}
+
+/// The first look leaves a pipe as it is.
+#[test]
+fn a_file_from_a_pipe() {
+    let [first, whole] = ["biidhaqun-usage", "biidhaqun"].map(cargo_bin);
+    let both = "cat examples/dough.pomdp | { \"$0\" check /dev/stdin; test $? = 100 && \"$1\" check /dev/stdin; }";
+    let output = process::Command::new("sh").current_dir(root()).arg("-c").arg(both).args([first, whole]).output();
+    let output = output.unwrap();
+    assert!(str::from_utf8(&output.stdout).unwrap().starts_with("/dev/stdin: accepted\n"), "{:?}", output);
+}
+
+/// An output that is full or closed ends the command with 3.
+#[test]
+fn outputs_that_cannot_be_written() {
+    let full = || Stdio::from(fs::OpenOptions::new().write(true).open("/dev/full").unwrap());
+    // What nobody reads any more.
+    let closed = || {
+        let mut gone = process::Command::new("true").stdin(Stdio::piped()).spawn().unwrap();
+        let pipe = gone.stdin.take().unwrap();
+        gone.wait().unwrap();
+        Stdio::from(pipe)
+    };
+    let ended = |name: &str, arguments: &[&str], out: Stdio, err: Stdio| {
+        let mut command = process::Command::new(cargo_bin(name));
+        let output = command.current_dir(root()).args(arguments).stdout(out).stderr(err).spawn().unwrap();
+        let output = output.wait_with_output().unwrap();
+        (output.status.code(), String::from_utf8(output.stderr).unwrap())
+    };
+    let served = [&["explain", "5"][..], &["--help"], &["check", "examples/dough.pomdp"], &["levels", "/dev/null"]];
+    for arguments in served {
+        let (status, err) = ended("biidhaqun", arguments, full(), Stdio::piped());
+        assert_eq!(
+            (status, &err[..]),
+            (Some(3), "biidhaqun: standard output cannot be written: no space left on device\n")
+        );
+        let (status, err) = ended("biidhaqun", arguments, closed(), Stdio::piped());
+        assert_eq!((status, &err[..]), (Some(3), "biidhaqun: standard output cannot be written: broken pipe\n"));
+    }
+    for arguments in [&["check", "nofile"][..], &["check", "/dev/null"], &["levels", "/dev/null"], &["level"]] {
+        assert_eq!(ended("biidhaqun", arguments, Stdio::null(), full()).0, Some(3), "{:?}", arguments);
+    }
+    for arguments in [&["explain", "5"][..], &["--help"]] {
+        assert_eq!(ended("biidhaqun-usage", arguments, closed(), Stdio::null()).0, Some(3));
     }
 }
 
@@ -246,11 +385,24 @@ fn wrong_usage() {
         &["levels", "examples/dough.pomdp", "--point", "half,half"],
         &["levels", "examples/dough.pomdp", "--point", "30,30,40"],
         &["levels", "examples/dough.pomdp", "--at", "1"],
+        &["picture", "examples/dough.pomdp", "--at", "1", "--out", "drawn.svg"],
         &["explain", "0"],
         &["explain", "one"],
     ] {
         assert!(!stopped(arguments, 2).is_empty());
     }
+    let at = |weights: &str| stopped(&["levels", "examples/dough.pomdp", &format!("--at={}", weights)], 2);
+    for (weights, told) in [
+        ("1,", "a weight is missing"),
+        ("-1,1", "`-1` is below 0"),
+        ("0.5,1", "`0.5` is no weight"),
+        ("1,4294967296", "`4294967296` is too large"),
+        ("1", "--at 1 has 1 weight, and the model has 2 states"),
+    ] {
+        assert!(at(weights).contains(told), "{}", at(weights));
+    }
+    let range = stopped(&["levels", "examples/dough.pomdp", "--within", "1..2"], 2);
+    assert!(range.contains("--within 1..2 has 1 range, and the model has 2 states"), "{}", range);
 }
 
 #[test]
@@ -261,9 +413,17 @@ fn files_that_cannot_be_read() {
     }
 }
 
+/// The program's own script looks for the file before it proves anything.
+#[test]
+fn the_script_of_ladder() {
+    let output = Command::new("scripts/ladder").current_dir(root()).arg("examples/no-such-file").output().unwrap();
+    let told = str::from_utf8(&output.stderr).unwrap();
+    assert_eq!((output.status.code(), told), (Some(3), "scripts/ladder: examples/no-such-file cannot be read\n"));
+}
+
 #[test]
 fn every_refusal_is_explained() {
-    for number in (1..=22).chain(24..=27) {
+    for number in (1..=27).chain([100]) {
         let out = served(&["explain", &number.to_string()]);
         assert!(out.starts_with(&format!("{}. ", number)) && out.contains("What usually causes it"), "{}", out);
     }
@@ -277,8 +437,24 @@ fn conversions() {
     assert_eq!(served(&["convert", example]), written);
     let out = Path::new(env!("CARGO_TARGET_TMPDIR")).join("glazing.pomdp");
     assert_eq!(served(&["convert", example, "--out", out.to_str().unwrap()]), "");
-    assert_eq!(fs::read_to_string(&out).unwrap(), written);
-    assert!(served(&["check", out.to_str().unwrap()]).contains("accepted"));
+    // The names in the comments are kept, and the model is the same.
+    let names = "# states: dull glossy\n# actions: wait glaze\n# observations: matt shine\n";
+    let named = fs::read_to_string(&out).unwrap();
+    assert_eq!(named, format!("{}{}", names, written));
+    assert_eq!(Model::read(named.as_bytes()), Model::read(written.as_bytes()));
+    assert!(served(&["check", out.to_str().unwrap()]).contains("accepted\n  2 states: dull, glossy\n"));
+    assert!(run(&["import", out.to_str().unwrap()]).0.contains(names));
+    // Names that would make the file too long are left out.
+    let long: String = (0..16).map(|state| format!(" {}{}", "s".repeat(900), state)).collect();
+    let source = format!(
+        "# states:{}\ndiscount: 1 values: reward states: 16 actions: 8 observations: 8 start: 1{} T: * : * : 0 1 O: * : * : 0 1",
+        long,
+        " 0".repeat(15)
+    );
+    let source = temporary("long-names.pomdp", source.as_bytes());
+    let source = source.to_str().unwrap();
+    assert_eq!(served(&["convert", source, "--out", out.to_str().unwrap()]), "");
+    assert_eq!(fs::read_to_string(&out).unwrap(), served(&["convert", source]));
     // The file itself is no model file: the explanation says what to do.
     let err = stopped(&["check", example], 1);
     assert!(err.contains("let `biidhaqun convert` do it"), "{}", err);
@@ -292,9 +468,9 @@ fn conversions() {
     };
     let err = refused("unwhole.pomdp", "R: 1 : * : 1 : 0 3", "R: 1 : * : 1 : 0 3.01");
     assert!(err.contains("error[26]: the expected reward of action glaze at state dull is -0.8392"), "{}", err);
-    assert!(err.contains("refused by 26 of document 02"), "{}", err);
+    assert!(err.contains("refusal 26 of docs/RULES.md;"), "{}", err);
     let err = refused("row.pomdp", "T: 0 : 0 1 0", "T: 0 : 0 1 1");
-    assert!(err.contains("error[5]") && err.contains("refused by 5 of document 01"), "{}", err);
+    assert!(err.contains("error[5]") && err.contains("refusal 5 of docs/RULES.md;"), "{}", err);
     let err = refused("index.pomdp", "R: 1 : * : 1 : 0 3", "R: 1 : * : 1 : 2 3");
     assert!(err.contains("one of the observations 0 to 1"), "{}", err);
     let mut wide =
@@ -303,6 +479,8 @@ fn conversions() {
     let path = temporary("wide.pomdp", wide.as_bytes());
     let err = stopped(&["convert", path.to_str().unwrap()], 1);
     assert!(err.contains("error[25]") && err.contains("the model has 17 states"), "{}", err);
+    assert!(err.contains("help: `biidhaqun import` works them out for up to 64 states"), "{}", err);
+    assert_eq!(run(&["import", path.to_str().unwrap()]).2, 0);
 }
 
 #[test]

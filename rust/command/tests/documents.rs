@@ -73,6 +73,19 @@ fn the_model_of_the_page_on_model_files() {
     assert_eq!(Model::read(shown.as_bytes()), Ok(tiger));
 }
 
+/// The rules that a refusal points to list it.
+#[test]
+fn the_refusals_of_the_rules() {
+    let rules = text("docs/RULES.md");
+    let cells = rules.lines().filter_map(|line| line.strip_prefix("| ")?.split(" |").next());
+    let listed: Vec<&str> = cells.flat_map(|cell| cell.split(", ")).collect();
+    for number in 1..=27 {
+        assert!(listed.contains(&&number.to_string()[..]), "{}", number);
+    }
+    let told = printed(&root(), &["check", "tests/files/empty.pomdp"]);
+    assert!(told.contains("refusal 2 of docs/RULES.md; `biidhaqun explain 2` says more"), "{}", told);
+}
+
 /// Every refusal that the C header lists is explained.
 #[test]
 fn the_refusals_of_the_header() {

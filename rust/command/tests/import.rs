@@ -262,6 +262,9 @@ fn what_is_rounded_is_listed() {
     ] {
         assert!(changes.contains(part), "{}", changes);
     }
+    let start = |start: &str| told(&format!("{}start: {} T: * identity O: * uniform", HEADERS, start));
+    assert_eq!(start("0 0.0"), ["the start totals 0"]);
+    assert_eq!(start("-0.5 1.5"), ["a probability of the start is below 0: -0.5"]);
     let row = |row: &str| told(&format!("{}T: * : * {} O: * uniform", HEADERS, row));
     assert_eq!(row("0.5 0.4")[0], "T of action listen from state left totals 0.9");
     assert_eq!(row("1.5 -0.5")[0], "a probability of T of action listen from state left is below 0: -0.5");
@@ -330,4 +333,26 @@ fn damaged_files() {
         }
         assert!(imported > 0);
     }
+}
+
+/// A model file that would be too long: whether shorter names help is told as it is.
+#[test]
+fn models_that_are_too_long() {
+    let long = |name: &str, text: &str| {
+        let path = Path::new(env!("CARGO_TARGET_TMPDIR")).join(name);
+        fs::write(&path, text).unwrap();
+        let output = Command::cargo_bin("biidhaqun").unwrap().arg("import").arg(&path).output().unwrap();
+        let err = String::from_utf8(output.stderr).unwrap();
+        assert!(output.status.code() == Some(1) && err.starts_with("biidhaqun: refused 1 at 0: "), "{}", err);
+        err
+    };
+    // Each of 64 states leads to all of them, and no two alike.
+    let row = |state: usize| (0..64).map(|to| if to == state { " 0.055" } else { " 0.015" }).collect::<String>();
+    let rows: String = (0..64).map(|state| format!("T: * : {}{}\n", state, row(state))).collect();
+    let headers = "discount: 0.95 values: reward states: 64 actions: 2 observations: 1\n";
+    let dense = long("dense.POMDP", &format!("{}{}O: * uniform", headers, rows));
+    assert!(dense.contains("without them too it is too long") && !dense.contains("shorter names"), "{}", dense);
+    let named = HEADERS.replace("left", &"l".repeat(33_000));
+    let named = long("named.POMDP", &format!("{}T: * identity O: * uniform", named));
+    assert!(named.contains("shorter names help"), "{}", named);
 }

@@ -1,10 +1,12 @@
 //! Levels that are built at points, offered, and asked at mixtures.
 
 use crate::stop::Stop;
+use biidhaqun::slices::FILE_BYTES;
 use biidhaqun::{Certifier, Error, Mixture, Model, Points, Refusal, Rule, TotalsWithin};
 use command::files;
 use command::names::Named;
 use command::options::{Built, Ranges, Weights, LEVELS};
+use command::told::counted;
 use indicatif::{ProgressBar, ProgressFinish, ProgressStyle};
 use std::path::Path;
 
@@ -18,19 +20,6 @@ pub struct Building {
     /// Where totals are asked.
     pub mixtures: Vec<Mixture>,
     pub levels: u64,
-}
-
-/// Where levels from elsewhere are asked.
-pub struct Asked<'a> {
-    pub at: &'a [Weights],
-    pub within: &'a [Ranges],
-}
-
-impl Asked<'_> {
-    /// Whether nothing is asked but the start mixture.
-    pub fn is_empty(&self) -> bool {
-        self.at.is_empty() && self.within.is_empty()
-    }
 }
 
 /// Weights that are known within ranges.
@@ -51,11 +40,7 @@ impl Known {
             if ranges.len() == states {
                 return Ok(known);
             }
-            let found = ranges.len();
-            Err(Stop::Usage(format!(
-                "--within {} has {} ranges, and the model has {} states",
-                known.text, found, states
-            )))
+            Err(unfitting("--within", &known.text, counted(ranges.len(), "range"), states))
         };
         list.iter().map(one).collect()
     }
@@ -66,21 +51,28 @@ impl Known {
             Ok(totals) => Ok(Some(totals)),
             Err(Error::Refused(Refusal { rule: Rule::Counting, .. })) => Ok(None),
             Err(Error::Refused(refusal)) => {
-                Err(Stop::Refused { refusal, note: format!("the ranges are {}", self.text) })
+                Err(Stop::Refused { refusal, note: format!("the ranges are {}", self.text), line: false })
             }
             Err(Error::Length(length)) => Err(Stop::Usage(length.to_string())),
         }
     }
 }
 
-/// A model file, if the library accepts it: the model, its start mixture, and the names in its comments.
-pub fn read(path: &Path, line: bool) -> Result<(Model, Mixture, Named), Stop> {
-    let file = files::read(path).map_err(Stop::File)?;
+/// What is read of a model file: the model, its start mixture, and the names in its comments.
+pub struct Read {
+    pub model: Model,
+    pub start: Mixture,
+    pub named: Named,
+}
+
+/// Reads a model file, if the library accepts it.
+pub fn read(path: &Path, line: bool) -> Result<Read, Stop> {
+    let file = files::front(path, FILE_BYTES).map_err(Stop::File)?;
     match Model::read(&file) {
         Ok((model, start)) => {
             let shape = model.shape();
             let named = Named::of(&file, shape.states, shape.actions, shape.observations);
-            Ok((model, start, named))
+            Ok(Read { model, start, named })
         }
         Err(refusal) => Err(Stop::Model { path: path.to_path_buf(), file, refusal, line }),
     }
@@ -89,14 +81,13 @@ pub fn read(path: &Path, line: bool) -> Result<(Model, Mixture, Named), Stop> {
 impl Building {
     /// Reads the file. Levels are built at the points asked for; totals are asked there, and at the mixtures asked for. Where
     /// nothing is said, the start mixture serves.
-    pub fn of(built: &Built, line: bool) -> Result<Building, Stop> {
-        let (model, start, named) = read(&built.file, line)?;
+    pub fn of(built: &Built, at: &[Weights], line: bool) -> Result<Building, Stop> {
+        let Read { model, start, named } = read(&built.file, line)?;
         let states = model.shape().states;
         let points = fitting("--point", &built.points, states)?;
-        let asked = fitting("--at", &built.mixtures, states)?;
-        let or_start = |list: Vec<Mixture>| if list.is_empty() { vec![start.clone()] } else { list };
-        let mixtures = or_start([&points[..], &asked[..]].concat());
-        let points = or_start(points);
+        let asked = fitting("--at", at, states)?;
+        let mixtures = or_start([&points[..], &asked[..]].concat(), &start);
+        let points = or_start(points, &start);
         Ok(Building { model, named, start, points, mixtures, levels: built.levels.unwrap_or(LEVELS) })
     }
 
@@ -116,12 +107,7 @@ impl Building {
 
     /// What is certified at a mixture.
     pub fn totals(&self, certifier: &Certifier, mixture: &Mixture) -> Result<biidhaqun::Totals, Stop> {
-        certifier.totals(mixture).map_err(|error| match self.refused(error) {
-            Stop::Refused { refusal, .. } => {
-                Stop::Refused { refusal, note: format!("the mixture is {}", joined(&mixture.weights)) }
-            }
-            stop => stop,
-        })
+        certifier.totals(mixture).map_err(|error| refused_at(mixture, error))
     }
 
     /// A refusal, with what it is about.
@@ -130,15 +116,40 @@ impl Building {
             Error::Refused(refusal) => refusal,
             Error::Length(length) => return Stop::Usage(length.to_string()),
         };
-        let at = refusal.place.number();
-        let note = match (refusal.rule, self.points.get(at)) {
-            (Rule::PointTotal, Some(point)) => {
-                format!("point {} is {}, which total {}", at, joined(&point.weights), point.total())
-            }
-            (Rule::LevelSize, _) => format!("there are {} points", self.points.len()),
-            _ => "this command should not meet such a refusal, which is an error of ours: please report it".to_string(),
-        };
-        Stop::Refused { refusal, note }
+        let ours = "this command should not meet such a refusal, which is an error of ours: please report it";
+        let note = about_points(&self.points, &refusal).unwrap_or_else(|| ours.to_string());
+        Stop::Refused { refusal, note, line: false }
+    }
+}
+
+/// What is wrong with points that levels were to be made at, where they are refused.
+pub fn about_points(points: &[Mixture], refusal: &Refusal) -> Option<String> {
+    let at = refusal.place.number();
+    match (refusal.rule, points.get(at)) {
+        (Rule::PointTotal, Some(point)) => {
+            Some(format!("point {} is {}, which total {}", at, joined(&point.weights), point.total()))
+        }
+        (Rule::LevelSize, _) => Some(format!("there are {} points, and levels are made at 16 at most", points.len())),
+        _ => None,
+    }
+}
+
+/// Why there are no totals at a mixture.
+pub fn refused_at(mixture: &Mixture, error: Error) -> Stop {
+    match error {
+        Error::Refused(refusal) => {
+            Stop::Refused { refusal, note: format!("the mixture is {}", joined(&mixture.weights)), line: false }
+        }
+        Error::Length(length) => Stop::Usage(length.to_string()),
+    }
+}
+
+/// The mixtures that are asked for, or else the start mixture.
+pub fn or_start(asked: Vec<Mixture>, start: &Mixture) -> Vec<Mixture> {
+    if asked.is_empty() {
+        vec![start.clone()]
+    } else {
+        asked
     }
 }
 
@@ -149,10 +160,14 @@ pub fn fitting(option: &str, list: &[Weights], states: usize) -> Result<Vec<Mixt
         if found == states {
             return Ok(Mixture::new(&weights.0));
         }
-        let given = joined(&weights.0);
-        Err(Stop::Usage(format!("{} {} has {} weights, and the model has {} states", option, given, found, states)))
+        Err(unfitting(option, &joined(&weights.0), counted(found, "weight"), states))
     };
     list.iter().map(one).collect()
+}
+
+/// An option that does not have something for each state.
+fn unfitting(option: &str, given: &str, found: String, states: usize) -> Stop {
+    Stop::Usage(format!("{} {} has {}, and the model has {}", option, given, found, counted(states, "state")))
 }
 
 /// Weights as they are written in options: `50,50`.

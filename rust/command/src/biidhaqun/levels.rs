@@ -1,10 +1,11 @@
 //! `levels`: what is certified at points and mixtures and within ranges, level by level.
 
 use crate::building::{self, joined, Building, Known};
+use crate::offering::Asked;
 use crate::stop::{put, Stop};
 use biidhaqun::{Level, Mixture, Model, Refusal, Rule, Totals, TotalsWithin};
 use command::names::{Named, Names};
-use command::options::{Built, Ranges};
+use command::options::Built;
 use serde_json::{json, Value};
 use std::path::Path;
 
@@ -32,9 +33,9 @@ pub struct Prices {
     inside: Vec<Option<TotalsWithin>>,
 }
 
-pub fn run(built: &Built, within: &[Ranges], prices: Option<&Path>, json: bool) -> Result<(), Stop> {
-    let building = Building::of(built, !json)?;
-    let ranges = Known::all(within, building.model.shape().states)?;
+pub fn run(built: &Built, asked: &Asked, prices: Option<&Path>, json: bool) -> Result<(), Stop> {
+    let building = Building::of(built, asked.at, !json)?;
+    let ranges = Known::all(asked.within, building.model.shape().states)?;
     let (mut lines, mut inside, mut levels) = (Vec::new(), Vec::new(), Vec::new());
     let mut certifier = building.climb(|certifier| {
         let totals = building.mixtures.iter().map(|mixture| building.totals(certifier, mixture).map(Some));
@@ -46,10 +47,11 @@ pub fn run(built: &Built, within: &[Ranges], prices: Option<&Path>, json: bool) 
     let prices = match prices {
         None => None,
         Some(path) => {
-            let (new, ..) = building::read(path, !json)?;
+            let new = building::read(path, !json)?.model;
             certifier.reprice(&new).map_err(|refusal| Stop::Refused {
                 refusal,
                 note: format!("{} and {} may differ in their rewards alone", built.file.display(), path.display()),
+                line: false,
             })?;
             let at = building.mixtures.iter().map(|mixture| building.totals(&certifier, mixture).map(Some));
             let inside = ranges.iter().map(|known| known.totals(&certifier));
@@ -58,8 +60,7 @@ pub fn run(built: &Built, within: &[Ranges], prices: Option<&Path>, json: bool) 
         }
     };
     let Building { model, named, mixtures, .. } = &building;
-    let asked = built.levels.is_some() || !built.points.is_empty() || !built.mixtures.is_empty() || !within.is_empty();
-    let plain = !asked && prices.is_none();
+    let plain = built.levels.is_none() && built.points.is_empty() && asked.is_empty() && prices.is_none();
     let (lines, ranges, inside, levels, prices) = (&lines, &ranges, &inside, &levels, prices.as_ref());
     put(&text(&Certified { model, named, mixtures, lines, ranges, inside, levels, prices }, json, plain))
 }
@@ -262,4 +263,44 @@ pub fn refused(refusal: &Refusal) -> String {
         "refused": { "number": refusal.number(), "place": refusal.place.number(), "text": refusal.to_string() },
     });
     format!("{:#}\n", object)
+}
+
+#[cfg(test)]
+mod tests {
+    use super::*;
+    use crate::certify::MEBIBYTES;
+    use biidhaqun::Shape;
+
+    /// A hundred levels with the longest numbers, asked at some mixtures, are printed in fewer bytes than are read.
+    #[test]
+    fn the_largest_levels_are_read_again() {
+        let file = format!(
+            "discount: 1 values: reward states: 64 actions: 8 observations: 8 start: 1{} T: * : * : 0 1 O: * : * : 0 1",
+            " 0".repeat(63)
+        );
+        let (model, _) = Model::read(file.as_bytes()).unwrap();
+        let mut level = Level::new(Shape { states: 64, actions: 8, observations: 8 });
+        for _ in 0..1_000 {
+            level.add_vector(7, &[999; 8], &[-10_000_000; 64]).unwrap();
+        }
+        level.set_corners(&[-10_000_000; 64]).unwrap();
+        for _ in 0..32 {
+            level.add_point(&[100; 64], -1_000_000_000).unwrap();
+        }
+        let far = -640_000_000_000_000;
+        let totals = Totals { lower: far, upper: far, gap: -far, action: 7, sawtooth: far, informed: far };
+        let mixtures = vec![Mixture::new(&[1_000_000; 64]); 100];
+        let certified = Certified {
+            model: &model,
+            named: &Named::default(),
+            mixtures: &mixtures,
+            lines: &[vec![Some(totals); mixtures.len()]],
+            ranges: &[],
+            inside: &[Vec::new()],
+            levels: &[level],
+            prices: None,
+        };
+        let printed = object(&certified).len();
+        assert!(100 * printed < MEBIBYTES << 20, "{}", printed);
+    }
 }

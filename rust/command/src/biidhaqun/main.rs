@@ -7,24 +7,31 @@ mod check;
 mod convert;
 mod import;
 mod levels;
+mod offering;
 mod picture;
 mod report;
 mod shortfall;
 mod stop;
 
-use building::Asked;
-use clap::Parser;
-use command::explain;
-use command::options::{exit, Options, Request};
+use biidhaqun::Refusal;
+use command::options::{self, exit, Request};
+use command::{explain, streams};
+use offering::Asked;
 use std::process;
 use stop::Stop;
 
 fn main() {
-    let options = Options::parse();
-    let json = matches!(options.request, Request::Levels { json: true, .. } | Request::Certify { json: true, .. });
-    let ended = match options.request {
-        Request::Explain { number } => process::exit(explain::run(number)),
-        Request::Levels { built, within, prices, json } => levels::run(&built, &within, prices.as_deref(), json),
+    process::exit(options::ended(serve));
+}
+
+/// Serves a request; the exit status, or a sentence where an output cannot be written.
+fn serve(request: Request) -> Result<i32, String> {
+    let json = matches!(request, Request::Levels { json: true, .. } | Request::Certify { json: true, .. });
+    let ended = match request {
+        Request::Explain { number } => return explain::run(number),
+        Request::Levels { built, at, within, prices, json } => {
+            levels::run(&built, &Asked { at: &at, within: &within }, prices.as_deref(), json)
+        }
         Request::Certify { file, levels, points, at, within, json } => match &levels[..] {
             [levels] if points.is_empty() => certify::run(&file, levels, &Asked { at: &at, within: &within }, json),
             [_] => {
@@ -35,69 +42,63 @@ fn main() {
         Request::Check { file } => check::run(&file),
         Request::Import { file, round, out } => import::run(&file, round, out.as_deref()),
         Request::Convert { file, out } => convert::run(&file, out.as_deref()),
-        Request::Picture { built, out } => picture::run(&built, &out),
+        Request::Picture { built, at, out } => picture::run(&built, at.as_ref(), &out),
     };
-    process::exit(match ended {
-        Ok(()) => exit::SERVED,
+    match ended {
+        Ok(()) => Ok(exit::SERVED),
         Err(stop) => stopped(&stop, json),
-    });
+    }
 }
 
 /// Says why the request was not served; the exit status.
-fn stopped(stop: &Stop, json: bool) -> i32 {
+fn stopped(stop: &Stop, json: bool) -> Result<i32, String> {
     match stop {
         Stop::Model { path, file, refusal, line } => {
-            if json {
-                print!("{}", levels::refused(refusal));
-            } else if *line {
-                println!("refused {} at {}", refusal.number(), refusal.place.number());
+            if json || *line {
+                put_refusal(refusal, json)?;
             }
-            report::model(path, file, refusal);
-            exit::REFUSED
+            report::model(path, file, refusal)?;
+            Ok(exit::REFUSED)
         }
         Stop::Conversion { path, file, refusal } => {
-            report::conversion(path, file, refusal);
-            exit::REFUSED
+            report::conversion(path, file, refusal)?;
+            Ok(exit::REFUSED)
         }
         Stop::Solver { path, file, refusal, told } => {
-            if json {
-                print!("{}", levels::refused(refusal));
-            } else {
-                println!("refused {} at {}", refusal.number(), refusal.place.number());
-            }
+            put_refusal(refusal, json)?;
             match told {
-                Some(told) => report::solver(path, file, refusal, told),
-                None => report::unexplained(path, file, refusal),
+                Some(told) => report::solver(path, file, refusal, told)?,
+                None => report::unexplained(path, file, refusal)?,
             }
-            exit::REFUSED
+            Ok(exit::REFUSED)
         }
-        Stop::Refused { refusal, note } => {
-            if json {
-                print!("{}", levels::refused(refusal));
+        Stop::Refused { refusal, note, line } => {
+            if json || *line {
+                put_refusal(refusal, json)?;
             }
-            eprintln!("biidhaqun: {}", refusal);
-            eprintln!("  {}\n  `biidhaqun explain {}` says more", note, refusal.number());
-            exit::REFUSED
+            let more = format!("  {}\n  `biidhaqun explain {}` says more", note, refusal.number());
+            told(&format!("{}\n{}", refusal, more), exit::REFUSED)
         }
         Stop::Source { path, file, told } => {
-            report::source(path, file, told);
-            exit::REFUSED
+            report::source(path, file, told)?;
+            Ok(exit::REFUSED)
         }
-        Stop::Levels(message) => {
-            eprintln!("biidhaqun: {}", message);
-            exit::REFUSED
-        }
+        Stop::Levels(message) => told(message, exit::REFUSED),
         Stop::Ours(message) => {
-            eprintln!("biidhaqun: {}, which is an error of ours: please report it", message);
-            exit::REFUSED
+            told(&format!("{}, which is an error of ours: please report it", message), exit::REFUSED)
         }
-        Stop::Usage(message) => {
-            eprintln!("biidhaqun: {}", message);
-            exit::USAGE
-        }
-        Stop::File(message) => {
-            eprintln!("biidhaqun: {}", message);
-            exit::FILE
-        }
+        Stop::Usage(message) => told(message, exit::USAGE),
+        Stop::File(message) => told(message, exit::FILE),
     }
+}
+
+/// A refusal on standard output, as the program `ladder` prints it or as a JSON object.
+fn put_refusal(refusal: &Refusal, json: bool) -> Result<(), String> {
+    let line = || format!("refused {} at {}\n", refusal.number(), refusal.place.number());
+    streams::put(&if json { levels::refused(refusal) } else { line() })
+}
+
+/// A message on standard error; the exit status beside it.
+fn told(message: &str, status: i32) -> Result<i32, String> {
+    streams::tell(&format!("biidhaqun: {}\n", message)).map(|()| status)
 }

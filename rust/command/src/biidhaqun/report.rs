@@ -1,11 +1,13 @@
-//! Refusals as compilers show errors: the file, the line and the column, the line with a mark, and what was wanted.
+//! Refusals as compilers show errors: the file, the line and the column, the line with a mark, and what was wanted. Each
+//! function says whether standard error could be written.
 
 use biidhaqun::Refusal;
 use codespan_reporting::diagnostic::{Diagnostic, Label};
 use codespan_reporting::files::SimpleFile;
-use codespan_reporting::term::termcolor::{ColorChoice, StandardStream};
+use codespan_reporting::term::termcolor::{BufferWriter, ColorChoice};
 use codespan_reporting::term::{self, Config, DisplayStyle};
 use command::model_file::{self, Draft, Trouble};
+use command::streams;
 use command::told::Told;
 use std::path::Path;
 
@@ -14,59 +16,59 @@ const LONG: usize = 400;
 
 /// A refused model file, in the shell's words. The library's refusal counts: where the shell finds another one, the
 /// library's own sentence is shown, and that the shell is wrong.
-pub fn model(path: &Path, file: &[u8], refusal: &Refusal) {
-    judged(path, file, refusal, model_file::judge(file));
+pub fn model(path: &Path, file: &[u8], refusal: &Refusal) -> Result<(), String> {
+    judged(path, file, refusal, model_file::judge(file))
 }
 
 /// A refused file to convert, likewise.
-pub fn conversion(path: &Path, file: &[u8], refusal: &Refusal) {
-    judged(path, file, refusal, model_file::judge_outcomes(file));
+pub fn conversion(path: &Path, file: &[u8], refusal: &Refusal) -> Result<(), String> {
+    judged(path, file, refusal, model_file::judge_outcomes(file))
 }
 
-fn judged(path: &Path, file: &[u8], refusal: &Refusal, judged: Result<Draft, Trouble>) {
+fn judged(path: &Path, file: &[u8], refusal: &Refusal, judged: Result<Draft, Trouble>) -> Result<(), String> {
     match judged {
         Err(trouble) if (trouble.number, trouble.place) == (refusal.number(), refusal.place.number()) => {
-            show(path, file, &trouble.told, Some(&refusal.number().to_string()), &[more(refusal)]);
+            show(path, file, &trouble.told, Some(&refusal.number().to_string()), &[more(refusal)])
         }
         other => {
             let told = Told { title: refusal.to_string(), marks: Vec::new(), notes: Vec::new() };
             let found = other.err().map_or("nothing".to_string(), |own| format!("{} at {}", own.number, own.place));
             let ours = format!("the explanation finds {} instead, which is an error of ours: please report it", found);
-            show(path, file, &told, Some(&refusal.number().to_string()), &[ours]);
+            show(path, file, &told, Some(&refusal.number().to_string()), &[ours])
         }
     }
 }
 
 /// A refused file of a solver, in the shell's words.
-pub fn solver(path: &Path, file: &[u8], refusal: &Refusal, told: &Told) {
-    show(path, file, told, Some(&refusal.number().to_string()), &[more(refusal)]);
+pub fn solver(path: &Path, file: &[u8], refusal: &Refusal, told: &Told) -> Result<(), String> {
+    show(path, file, told, Some(&refusal.number().to_string()), &[more(refusal)])
 }
 
 /// Where a refusal is from, and where more is said.
 fn more(refusal: &Refusal) -> String {
-    let document = if refusal.number() > 18 { "02" } else { "01" };
-    format!("refused by {} of document {}; `biidhaqun explain {0}` says more", refusal.number(), document)
+    format!("refusal {0} of docs/RULES.md; `biidhaqun explain {0}` says more", refusal.number())
 }
 
 /// A refusal that the shell does not find.
-pub fn unexplained(path: &Path, file: &[u8], refusal: &Refusal) {
+pub fn unexplained(path: &Path, file: &[u8], refusal: &Refusal) -> Result<(), String> {
     let told = Told { title: refusal.to_string(), marks: Vec::new(), notes: Vec::new() };
     let ours = "the explanation finds nothing, which is an error of ours: please report it".to_string();
-    show(path, file, &told, Some(&refusal.number().to_string()), &[ours]);
+    show(path, file, &told, Some(&refusal.number().to_string()), &[ours])
 }
 
 /// What is wrong with a file in Cassandra's format: the first few.
-pub fn source(path: &Path, file: &[u8], all: &[Told]) {
+pub fn source(path: &Path, file: &[u8], all: &[Told]) -> Result<(), String> {
     const FEW: usize = 4;
     for told in all.iter().take(FEW) {
-        show(path, file, told, None, &[]);
+        show(path, file, told, None, &[])?;
     }
     if all.len() > FEW {
-        eprintln!("biidhaqun: and {} more of this kind", all.len() - FEW);
+        streams::tell(&format!("biidhaqun: and {} more of this kind\n", all.len() - FEW))?;
     }
+    Ok(())
 }
 
-fn show(path: &Path, file: &[u8], told: &Told, code: Option<&str>, more: &[String]) {
+fn show(path: &Path, file: &[u8], told: &Told, code: Option<&str>, more: &[String]) -> Result<(), String> {
     let shown = Shown::of(file);
     let labels = told.marks.iter().enumerate().map(|(at, mark)| {
         let span = shown.place(mark.span.start)..shown.place(mark.span.end);
@@ -87,10 +89,12 @@ fn show(path: &Path, file: &[u8], told: &Told, code: Option<&str>, more: &[Strin
         diagnostic.notes.insert(0, mark.text.clone());
     }
     let choice = if console::user_attended_stderr() { ColorChoice::Auto } else { ColorChoice::Never };
-    let mut writer = StandardStream::stderr(choice);
+    let writer = BufferWriter::stderr(choice);
+    let mut buffer = writer.buffer();
     let source = SimpleFile::new(path.display().to_string(), &shown.text);
-    if term::emit(&mut writer, &Config { display_style, ..Config::default() }, &source, &diagnostic).is_err() {
-        eprintln!("biidhaqun: {}: {}", path.display(), told.title);
+    match term::emit(&mut buffer, &Config { display_style, ..Config::default() }, &source, &diagnostic) {
+        Ok(()) => streams::shown("standard error", writer.print(&buffer)),
+        Err(_) => streams::tell(&format!("biidhaqun: {}: {}\n", path.display(), told.title)),
     }
 }
 

@@ -1,14 +1,22 @@
-//! How far a refused level is from its backups: the state or action, and the ticks that are missing; or which state a vector
-//! loses.
+//! What is wrong with a refused level: the counts, the number that does not exist or is out of range, how far an entry is from
+//! its backup and in which state or action, or which state a vector loses.
 //!
-//! The library says which vector, corner or point is refused (13, 14, 15, 21); this works out the rest from the model and the
-//! level below, by the same inequalities, and decides nothing.
+//! The library says which vector, corner or point is refused (9 to 15, 21); this works out the rest from the model and the level
+//! below, by the same rules, and decides nothing.
 
 use biidhaqun::{Certifier, Level, Model, Refusal, Rule};
 use command::names::Named;
+use command::told::counted;
+use std::fmt::Display;
+use std::ops::RangeInclusive;
 
 /// The denominator of backups: T x O x discount are thousandths each.
 const K: i128 = 1_000_000_000;
+
+/// Entries of level t lie within t times this of 0, in ticks.
+const TICKS: i128 = 100_000;
+/// What the weights of a point may total.
+const TOTALS: RangeInclusive<u64> = 1..=100;
 
 /// A level that was refused, the model, and the level below.
 struct Offer<'a> {
@@ -17,12 +25,20 @@ struct Offer<'a> {
     level: &'a Level,
 }
 
-/// What is missing, in a sentence, where a backup or a mask is the reason of the refusal.
-pub fn told(model: &Model, named: &Named, certifier: &Certifier, level: &Level, refusal: &Refusal) -> Option<String> {
+/// What is wrong, in a sentence, where it can be told more closely than the refusal does.
+pub fn told(named: &Named, certifier: &Certifier, level: &Level, refusal: &Refusal) -> Option<String> {
     let standing = certifier.standing();
-    let offer = Offer { model, standing: &standing, level };
+    let offer = Offer { model: certifier.model(), standing: &standing, level };
     let at = refusal.place.number();
     match refusal.rule {
+        Rule::LevelSize => Some(format!(
+            "it has {} and {}",
+            counted(level.vectors().count(), "vector"),
+            counted(level.points().count(), "point")
+        )),
+        Rule::Numbers => offer.missing(at, named),
+        Rule::Range => offer.outside(TICKS * (certifier.level() as i128 + 1), named),
+        Rule::PointTotal => Some(format!("point {}: its weights total {}", at, total(level.point(at)?.weights))),
         Rule::VectorBackup => {
             let (state, ticks) = offer.vector(at)?;
             let entry = level.vector(at)?.entries.get(state)?;
@@ -31,7 +47,7 @@ pub fn told(model: &Model, named: &Named, certifier: &Certifier, level: &Level, 
                 at,
                 named.states.or_number(state),
                 entry,
-                counted(ticks),
+                counted(ticks, "tick"),
                 i128::from(*entry) - ticks
             ))
         }
@@ -42,7 +58,7 @@ pub fn told(model: &Model, named: &Named, certifier: &Certifier, level: &Level, 
                 "corner {}: {} is {} below the backup of action {}; {} would pass",
                 named.states.or_number(at),
                 corner,
-                counted(ticks),
+                counted(ticks, "tick"),
                 named.actions.or_number(action),
                 i128::from(*corner) + ticks
             ))
@@ -54,7 +70,7 @@ pub fn told(model: &Model, named: &Named, certifier: &Certifier, level: &Level, 
                 "point {}: its value {} (ticks x its total weight, {}) is {} below the backup of action {}; {} would pass",
                 at,
                 point.value,
-                point.weights.iter().sum::<u32>(),
+                total(point.weights),
                 short,
                 named.actions.or_number(action),
                 i128::from(point.value) + short
@@ -85,11 +101,55 @@ struct Lost {
     observation: usize,
 }
 
-fn counted(ticks: i128) -> String {
-    format!("{} tick{}", ticks, if ticks == 1 { "" } else { "s" })
+fn total(weights: &[u32]) -> u64 {
+    weights.iter().map(|&weight| u64::from(weight)).sum()
 }
 
 impl Offer<'_> {
+    /// The action or the choice of a vector that does not exist. Of numbers that their types do not hold the largest stands here.
+    fn missing(&self, number: usize, named: &Named) -> Option<String> {
+        let vector = self.level.vector(number)?;
+        let actions = self.model.shape().actions;
+        if usize::from(vector.action) >= actions {
+            let action = or_more(vector.action, u8::MAX);
+            return Some(format!("vector {}: it has action {}, and the last one is {}", number, action, actions - 1));
+        }
+        let last = self.standing.vectors().count() - 1;
+        let (observation, &choice) =
+            vector.choices.iter().enumerate().find(|(_, &choice)| usize::from(choice) > last)?;
+        Some(format!(
+            "vector {}: with observation {} it goes on with vector {}, and the last one of the level below is {}",
+            number,
+            named.observations.or_number(observation),
+            or_more(choice, u16::MAX),
+            last
+        ))
+    }
+
+    /// The first entry of a covered state, else the first corner, else the first value that is further from 0 than its level
+    /// allows. A point whose weights are refused by themselves is passed over.
+    fn outside(&self, range: i128, named: &Named) -> Option<String> {
+        let told = |what: String, value: i64, range: i128| {
+            let far = i128::from(value).abs() > range;
+            far.then(|| format!("{} is {}, further than {} from 0", what, value, range))
+        };
+        let entry = |vector: usize, state: usize, entry: i64| {
+            told(format!("vector {}: the entry of state {}", vector, named.states.or_number(state)), entry, range)
+        };
+        let mut entries = self.level.vectors().enumerate().filter_map(|(number, vector)| {
+            vector.covered().find_map(|state| entry(number, state, vector.entries[state]))
+        });
+        let mut corners =
+            self.level.corners().iter().enumerate().filter_map(|(state, &corner)| {
+                told(format!("corner {}", named.states.or_number(state)), corner, range)
+            });
+        let mut values = self.level.points().enumerate().filter_map(|(number, point)| {
+            let total = Some(total(point.weights)).filter(|total| TOTALS.contains(total))?;
+            told(format!("point {}: its value", number), point.value, range * i128::from(total))
+        });
+        entries.next().or_else(|| corners.next()).or_else(|| values.next())
+    }
+
     /// The first covered state of a vector from which a state is reached that the vector chosen there does not cover.
     fn lost(&self, number: usize) -> Option<Lost> {
         let vector = self.level.vector(number)?;
@@ -193,6 +253,11 @@ impl Offer<'_> {
     }
 }
 
+/// A number; of the largest that its type holds, that it may be more.
+fn or_more<Number: Display + PartialEq>(number: Number, most: Number) -> String {
+    format!("{}{}", number, if number == most { " or more" } else { "" })
+}
+
 /// The first of the largest that are above 0.
 fn first_largest(all: Vec<(usize, i128)>) -> Option<(usize, i128)> {
     let most = all.iter().map(|&(_, amount)| amount).max().filter(|&most| most > 0)?;
@@ -271,6 +336,40 @@ mod tests {
             }
         }
         assert!(tried > 100);
+    }
+
+    /// So it is for ranges: what is told to be outside is refused by 11, and at the end of its range it is not.
+    #[test]
+    fn what_is_outside_is_outside() {
+        for file in MODELS {
+            let (model, start) = Model::read(file).unwrap();
+            let mut certifier = Certifier::open(&model).unwrap();
+            for t in 1..=3 {
+                let built = certifier.build(&Points { weights: vec![start.weights.clone(), vec![1, 2]] }).unwrap();
+                let standing = certifier.standing();
+                let far = TICKS as i64 * t;
+                let told = |level: &Level| {
+                    let offer = Offer { model: &model, standing: &standing, level };
+                    offer.outside(far.into(), &Named::default())
+                };
+                let each = |about: &str, end: i64, set: &dyn Fn(&mut Level, i64)| {
+                    for sign in [1, -1] {
+                        let mut level = built.clone();
+                        set(&mut level, sign * (end + 1));
+                        assert_eq!(refused(&certifier, &level), Some((11, 1)));
+                        let wanted = format!("{} is {}, further than {} from 0", about, sign * (end + 1), end);
+                        assert_eq!(told(&level), Some(wanted));
+                        set(&mut level, sign * end);
+                        assert_ne!(refused(&certifier, &level), Some((11, 1)));
+                        assert_eq!(told(&level), None);
+                    }
+                };
+                each("vector 1: the entry of state 1", far, &|level, value| level.entries_mut(1)[1] = value);
+                each("corner 1", far, &|level, value| level.corners_mut()[1] = value);
+                each("point 1: its value", 3 * far, &|level, value| *level.value_mut(1) = value);
+                certifier.offer(&built).unwrap();
+            }
+        }
     }
 
     /// The library is the judge here, too: a vector without the state that is told passes, or loses another one.

@@ -1,8 +1,8 @@
 //! Why a request is not served.
 
 use biidhaqun::Refusal;
+use command::streams;
 use command::told::Told;
-use std::io::{self, Write};
 use std::path::PathBuf;
 
 #[derive(Debug)]
@@ -13,8 +13,8 @@ pub enum Stop {
     Conversion { path: PathBuf, file: Vec<u8>, refusal: Refusal },
     /// The library refused a solver's files: this one of them, for what is told, if the shell finds the same.
     Solver { path: PathBuf, file: Vec<u8>, refusal: Refusal, told: Option<Told> },
-    /// The library refused something else.
-    Refused { refusal: Refusal, note: String },
+    /// The library refused something else. The line that `ladder` prints is printed where it is wanted.
+    Refused { refusal: Refusal, note: String, line: bool },
     /// A file in Cassandra's format cannot be turned into a model file.
     Source { path: PathBuf, file: Vec<u8>, told: Vec<Told> },
     /// A file of levels has another form.
@@ -29,8 +29,5 @@ pub enum Stop {
 
 /// Writes on standard output.
 pub fn put(text: &str) -> Result<(), Stop> {
-    let mut out = io::stdout().lock();
-    out.write_all(text.as_bytes())
-        .and_then(|()| out.flush())
-        .map_err(|error| Stop::File(format!("standard output cannot be written: {}", error)))
+    streams::put(text).map_err(Stop::File)
 }

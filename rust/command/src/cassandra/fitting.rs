@@ -9,7 +9,7 @@ use crate::model_file::Counts;
 use crate::names::Named;
 use crate::numerals::shown;
 use crate::table::Table;
-use crate::told::{Mark, Told};
+use crate::told::{counted, Mark, Told};
 use num_bigint::BigInt;
 use num_rational::BigRational;
 use num_traits::{One, Signed, ToPrimitive, Zero};
@@ -48,9 +48,8 @@ pub fn fit(source: &Source, round: bool) -> Result<Fitted, Vec<Told>> {
 
     let mut start = Rows::new("start", "hundredths", HUNDRED);
     let from = source.start_from.iter().cloned().collect();
-    let start_row = start.fit(&source.start, "the start numbers", from, &mut wrong, |state| {
-        format!("state {}", named.states.or_number(state))
-    });
+    let start_row = start
+        .fit(&source.start, "the start", from, &mut wrong, |state| format!("state {}", named.states.or_number(state)));
     changes.extend(start.changes());
     if source.start_from.is_none() {
         changes.push("start: not stated, so all states are equally likely".to_string());
@@ -191,24 +190,19 @@ impl Rows {
             ));
         }
         if let Some((total, about)) = &self.furthest {
-            let rows = if self.scaled == 1 { "1 row".to_string() } else { format!("{} rows", self.scaled) };
             changes.push(format!(
                 "{}: {} did not total 1, and the numbers were divided by their total; the furthest is {} ({})",
                 self.key,
-                rows,
+                counted(self.scaled, "row"),
                 text(total),
                 about
             ));
         }
         if self.vanished > 0 {
-            changes.push(format!("{}: {} above 0 became 0", self.key, numbered(self.vanished, "number")));
+            changes.push(format!("{}: {} above 0 became 0", self.key, counted(self.vanished, "number")));
         }
         changes
     }
-}
-
-fn numbered(count: usize, what: &str) -> String {
-    format!("{} {}{}", count, what, if count == 1 { "" } else { "s" })
 }
 
 /// A row over its total in whole parts: each rounded down, and what is left over given to those that lost most, the first
@@ -272,7 +266,7 @@ fn rewards(source: &Source, round: bool) -> Result<(Vec<i64>, Vec<String>), Vec<
     }
     match parts {
         Some((change, about, old, new)) if round => {
-            let count = numbered(uneven, "expected reward");
+            let count = counted(uneven, "expected reward");
             let place = format!("{}: {} became {}", about, old, new);
             let note = format!("R: {} rounded to ticks; the largest change is {} ({})", count, text(&change), place);
             Ok((ticks, vec![note]))

@@ -43,10 +43,14 @@ pub fn read(file: &[u8]) -> Read<Source> {
             }
         }
     }
-    match source {
-        Some(source) => Ok(source),
-        None => parser.headers.source(parser.end),
-    }
+    let mut source = match source {
+        Some(source) => source,
+        None => parser.headers.source(parser.end)?,
+    };
+    // A model file is such a file too, and has its names in comments.
+    let Counts { states, actions, observations } = source.counts;
+    source.named = source.named.or(Named::of(file, states, actions, observations));
+    Ok(source)
 }
 
 /// Behind the last word.

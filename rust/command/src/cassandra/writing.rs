@@ -15,12 +15,7 @@ pub fn write(fitted: &Fitted, name: &str) -> String {
     let named = &fitted.named;
     // A comment ends with its line, whatever the file is called.
     let mut text = format!("# Imported from {}.\n", name.replace(char::is_control, " "));
-    for (kind, names) in [("states", &named.states), ("actions", &named.actions), ("observations", &named.observations)]
-    {
-        if !names.all().is_empty() {
-            line(&mut text, format_args!("# {}: {}", kind, names.all().join(" ")));
-        }
-    }
+    text.push_str(&named.comments());
     for change in &fitted.changes {
         line(&mut text, format_args!("# {}", change));
     }

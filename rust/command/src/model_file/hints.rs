@@ -82,9 +82,10 @@ impl Want {
     }
 }
 
-/// Whether the importer reads a number: commas are none of its signs, and a minus fits rewards alone.
+/// Whether the importer takes a number: one that it reads, within the limits of what is wanted.
 fn readable(text: &str, want: Want) -> bool {
-    !text.contains(',') && (want == Want::Reward || !text.starts_with('-'))
+    let limits = if want == Want::Reward { -1_000.0..=1_000.0 } else { 0.0..=1.0 };
+    text.parse::<f64>().map_or(false, |number| limits.contains(&number))
 }
 
 /// Whether a word is made like a number, in whatever form.

@@ -20,7 +20,7 @@ pub struct Counts {
     pub observations: usize,
 }
 
-/// Why a file is refused: document 01's number and place, and what a person is told.
+/// Why a file is refused: the library's number and place, and what a person is told.
 #[derive(Clone, Debug, PartialEq, Eq)]
 pub struct Trouble {
     pub number: u64,

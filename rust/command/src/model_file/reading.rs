@@ -37,9 +37,13 @@ pub fn judge_outcomes(file: &[u8]) -> Result<Draft, Trouble> {
             told: Told {
                 title: format!("the model has {} states, and at most 16 are converted", draft.counts.states),
                 marks: Vec::new(),
-                notes: vec!["wanted: expected rewards, as `R: a : s : * : *` and a number, which need no conversion: \
-                             then up to 64 states are read"
-                    .to_string()],
+                notes: vec![
+                    "wanted: expected rewards, as `R: a : s : * : *` and a number, which need no conversion: then up to \
+                     64 states are read"
+                        .to_string(),
+                    "help: `biidhaqun import` works them out for up to 64 states; it is not proved, but says what it rounds"
+                        .to_string(),
+                ],
             },
         });
     }

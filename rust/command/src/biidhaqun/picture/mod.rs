@@ -13,11 +13,12 @@ use crate::stop::Stop;
 use biidhaqun::{Bracket, Ceiling, Certifier, Mixture, Units};
 use colours::WHITE;
 use command::files;
-use command::options::Built;
+use command::options::{Built, Weights};
 use plotters::coord::Shift;
 use plotters::prelude::{DrawingArea, IntoDrawingArea, SVGBackend};
 use std::error::Error;
 use std::path::Path;
+use std::slice;
 
 /// The size of a panel.
 const WIDTH: u32 = 520;
@@ -60,14 +61,10 @@ impl Sample {
     }
 }
 
-pub fn run(built: &Built, out: &Path) -> Result<(), Stop> {
-    let building = Building::of(built, false)?;
-    let asked = fitting("--at", &built.mixtures, building.model.shape().states)?;
-    let mixture = match &asked[..] {
-        [] => &building.start,
-        [mixture] => mixture,
-        _ => return Err(Stop::Usage("a picture has room for one mixture: give --at once".to_string())),
-    };
+pub fn run(built: &Built, at: Option<&Weights>, out: &Path) -> Result<(), Stop> {
+    let building = Building::of(built, &[], false)?;
+    let asked = fitting("--at", at.map(slice::from_ref).unwrap_or_default(), building.model.shape().states)?;
+    let mixture = asked.first().unwrap_or(&building.start);
     let mut over_levels = Vec::new();
     let certifier = building.climb(|certifier| {
         over_levels.push(sample(&building, certifier, mixture)?);
@@ -107,12 +104,13 @@ fn sampled(building: &Building, certifier: &Certifier) -> Result<Vec<(Mixture, S
     mixtures.into_iter().map(one).collect()
 }
 
-/// Weights for a title: the first ones, where there are more than it has room for.
+/// Weights for a title: the first ones, where they have more letters than it has room for.
 fn shortened(weights: &[u32]) -> String {
-    const ROOM: usize = 16;
-    match weights.get(..ROOM) {
-        Some(first) if weights.len() > ROOM => format!("{},..", joined(first)),
-        _ => joined(weights),
+    const ROOM: usize = 40;
+    let all = joined(weights);
+    match all.get(..ROOM).and_then(|first| first.rfind(',')) {
+        Some(end) if all.len() > ROOM => format!("{},..", &all[..end]),
+        _ => all,
     }
 }
 
@@ -136,4 +134,16 @@ fn draw(
     }
     root.present()?;
     Ok(())
+}
+
+#[cfg(test)]
+mod tests {
+    use super::*;
+
+    #[test]
+    fn titles_are_cut_by_letters() {
+        assert_eq!(shortened(&[1; 20]), joined(&[1; 20]));
+        assert_eq!(shortened(&[1; 64]), format!("{},..", joined(&[1; 20])));
+        assert_eq!(shortened(&[1_000_000; 16]), format!("{},..", joined(&[1_000_000; 5])));
+    }
 }
