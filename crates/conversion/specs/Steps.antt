@@ -15,8 +15,8 @@ use Rattle.tables.specs.Verdicts.{_before_, left}
 use Rattle.entries.specs.Entries.{startTotal}
 use Rattle.modelfile.specs.ModelFile.{ModelFile}
 use Rattle.digits.specs.Digits.{textOver}
-use Rattle.converting.specs.declared.Converted.{Converted}
-use Rattle.converting.specs.Convert.{expectVerdict, expectedText, convertAnswer}
+use Rattle.conversion.specs.declared.Converted.{Converted}
+use Rattle.conversion.specs.Convert.{expectVerdict, expectedText, convertAnswer}
 
 -- a file that was read, in counts and slices
 abbrev pub fileOf : Counts → List ℕ → List ℕ → List ℤ → List ℕ → ModelFile

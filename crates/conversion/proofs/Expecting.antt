@@ -14,8 +14,8 @@ use Rattle.expected.specs.Expected.{expectedReward}
 use Rattle.expected.specs.Steps.{Ready}
 use Rattle.expected.proofs.Expected.{expected-within}
 use Rattle.written.specs.Steps.{Writable}
-use Rattle.converting.specs.Convert.{expectedRewards}
-use Rattle.converting.specs.Steps.{fileOf, Sound, Long}
+use Rattle.conversion.specs.Convert.{expectedRewards}
+use Rattle.conversion.specs.Steps.{fileOf, Sound, Long}
 
 -- the model with other rewards within their limits
 with-rewards : (c : Counts) (T O : List ℕ) (r r' : List ℤ) → Valid (modelIn c T O r)
