@@ -21,8 +21,9 @@ use Rattle.grammar.proofs.Gives.{Gives, gives-then, gives-after, field-gives}
 use Rattle.entries.specs.Entries.{wholly, forms, startTotal}
 use Rattle.statements.specs.Statements.{Draft, draft, statements}
 use Rattle.statements.proofs.Small.{Small, fills-gives, statements-small}
-use Rattle.headers.specs.Headers.{discountName, valuesName, rewardWord, statesName, actionsName, observationsName, counts, header, headerBy, startNumbers}
-use Rattle.headers.specs.Steps.{counted, CountsFit}
+use Rattle.headers.specs.Headers.{discountName, valuesName, rewardWord, statesName, actionsName, observationsName, counts, counted, header}
+use Rattle.headers.specs.Headers.{headerBy, startNumbers}
+use Rattle.headers.specs.Steps.{CountsFit}
 use Rattle.modelfile.specs.ModelFile.{maxBytes, rewardCells, Text, textOf, noCells, Room, roomFor, roomed, textBy, placed, sumsVerdict, ModelFile}
 use Rattle.modelfile.specs.ModelFile.{refusedFile, judgedFile, ended, body, modelFile, bodyBy, roomedBy, modelFileBy}
 
