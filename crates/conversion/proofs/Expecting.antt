@@ -3,12 +3,11 @@ use Rattle.integers.proofs.Kit.{_≡_, subst⁻¹, List, ℕ, _≤_, _<_, _*_, 
 use Rattle.integers.proofs.Lists.{laidRows-at, laidRows-length}
 use Rattle.integers.proofs.Sums.{total-part}
 use Rattle.tables.specs.declared.Counts.{Counts}
-use Rattle.tables.specs.Limits.{maxConverted, maxActions, maxReward}
+use Rattle.tables.specs.Limits.{maxConverted, maxActions, maxReward, startTotal}
 use Rattle.tables.specs.Model.{Valid}
 use Rattle.tables.specs.Storage.{countsOf, modelIn, rewardIn}
 use Rattle.tables.proofs.Fitting.{Sizes, sizes}
 use Rattle.drafts.specs.Drafts.{outcomePlace}
-use Rattle.entries.specs.Entries.{startTotal}
 use Rattle.modelfile.specs.ModelFile.{ModelFile}
 use Rattle.expected.specs.Expected.{expectedReward}
 use Rattle.expected.specs.Steps.{Ready}

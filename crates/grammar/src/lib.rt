@@ -119,7 +119,7 @@ pub fn key_of(file: &[u8], w: Word, k: &[u8]) -> Read
 
 // It as one of n by its number, or n for a star.
 pub fn index_of(file: &[u8], w: Word, n: usize) -> Read
-    requires { ⌜ (Inside (now file) 0 w) × ((1 ≤ n) × (n ≤ 64)) ⌝ }
+    requires { ⌜ (Inside (now file) 0 w) × (1 ≤ n) ⌝ }
     ensures { λ r. ⌜ Takes (now (file .entry)) w n r (index n (told (now (file .entry)) w)) ⌝ }
 {
     let x = key_of(file, w, b"*");

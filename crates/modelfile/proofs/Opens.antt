@@ -7,7 +7,7 @@ use Rattle.tables.specs.declared.Counts.{Counts}
 use Rattle.tables.specs.Tables.{Tables}
 use Rattle.tables.specs.declared.Verdict.{Verdict}
 use Rattle.tables.specs.declared.Verdict.the-variants.{Fine, Refused}
-use Rattle.tables.specs.Limits.{maxStates, maxActions, maxObservations, one, maxReward}
+use Rattle.tables.specs.Limits.{maxStates, maxActions, maxObservations, one, maxReward, startTotal}
 use Rattle.tables.specs.Storage.{countsOf, modelOf, cellIn}
 use Rattle.tables.specs.Verdicts.{_before_, unless}
 use Rattle.tables.specs.Judged.{countWithin, limitsHold, rowsTotal, modelVerdict}
@@ -18,7 +18,7 @@ use Rattle.words.specs.Words.{Words, wordsIn, between}
 use Rattle.numerals.specs.Numeral.{countForm, probabilityForm}
 use Rattle.grammar.specs.Grammar.{Answer, got, refused, _then_, key, named, field}
 use Rattle.grammar.proofs.Gives.{Gives, gives-then, gives-after, field-gives}
-use Rattle.entries.specs.Entries.{wholly, forms, startTotal}
+use Rattle.entries.specs.Entries.{wholly, forms}
 use Rattle.statements.specs.Statements.{Draft, draft, statements}
 use Rattle.statements.proofs.Small.{Small, fills-gives, statements-small}
 use Rattle.headers.specs.Headers.{discountName, valuesName, rewardWord, statesName, actionsName, observationsName, counts, counted, header}

@@ -10,13 +10,13 @@ use Rattle.tables.specs.declared.Counts.{Counts}
 use Rattle.tables.specs.Tables.{Tables}
 use Rattle.tables.specs.declared.Verdict.{Verdict}
 use Rattle.tables.specs.declared.Verdict.the-variants.{Fine, Refused}
-use Rattle.tables.specs.Limits.{maxStates, maxConverted, maxActions, maxObservations}
+use Rattle.tables.specs.Limits.{maxStates, maxConverted, maxActions, maxObservations, startTotal}
 use Rattle.tables.specs.Storage.{cellIn, tablesIn}
 use Rattle.tables.specs.Verdicts.{_before_, unless}
 use Rattle.tables.specs.Judged.{rowsTotal, hasRoom, noTables}
 use Rattle.words.specs.Words.{Words, wordsIn, between}
 use Rattle.grammar.specs.Grammar.{Answer, got, refused, _then_}
-use Rattle.entries.specs.Entries.{wholly, Forms, forms, startTotal}
+use Rattle.entries.specs.Entries.{wholly, Forms, forms}
 use Rattle.statements.specs.Statements.{Draft, draft, statementsBy}
 use Rattle.headers.specs.Headers.{headerBy, startBy}
 use Rattle.modelfile.specs.declared.TablesRead.{TablesRead}
