@@ -1,7 +1,8 @@
 -- A file that is read opens: its tables are not refused and fit into the slices lent, and its start numbers are the weights of a point. Assumes nothing.
-use Rattle.integers.proofs.Kit.{_≡_, _∙_, refl, ap, sym, subst, true, false, Bool, cond, List, ℕ, _≤_, _+_, _*_, suc, zero, arith, le-leb, eqb-true}
+use Rattle.integers.proofs.Kit.{_≡_, _∙_, refl, ap, sym, subst, true, false, Bool, cond, List, ℕ, _≤_, _+_, _*_, arith, le-leb, eqb-true}
 use Rattle.integers.proofs.Kit.{leb, length, getD, replicate, pos, natAbs}
 use Rattle.integers.specs.Whole.{totalTo}
+use Rattle.integers.proofs.Lists.{replicate-at}
 use Rattle.integers.proofs.Searches.{and-is, at-every}
 use Rattle.tables.specs.declared.Counts.{Counts}
 use Rattle.tables.specs.Tables.{Tables}
@@ -66,16 +67,11 @@ cells-limited m h small =
 small-limited : {c : Counts} (m : Tables) → Fits c → SmallTables c m → limitsHold (modelOf m) ≡ true
 small-limited m h s = cells-limited m (subst Fits (sym (s .counts)) h) (s .small)
 
-same-cells : {A : Type 0} (size i : ℕ) (x : A) → getD (replicate size x) i x ≡ x
-same-cells zero i x = refl
-same-cells (suc size) zero x = refl
-same-cells (suc size) (suc i) x = same-cells size i x
-
 zeros : (size limit i : ℕ) → getD (replicate size 0) i 0 ≤ limit
-zeros size limit i = omega (arith, same-cells {A = ℕ} size i 0)
+zeros size limit i = omega (arith, replicate-at {A = ℕ} 0 size i)
 
 zero-rewards : (size i : ℕ) → natAbs (getD (replicate size (pos 0)) i (pos 0)) ≤ maxReward
-zero-rewards size i = rw (same-cells size i (pos 0)) (omega arith)
+zero-rewards size i = rw (replicate-at (pos 0) size i) (omega arith)
 
 none-small : (full : Bool) → Small (noCells full)
 none-small full = record {

@@ -12,7 +12,7 @@ use Rattle.tables.specs.Judged.{rowsTotal}
 use Rattle.words.specs.Words.{Words, word, end, between, wordsOf, wordsIn}
 use Rattle.drafts.specs.Drafts.{stated}
 use Rattle.numerals.specs.Numeral.{countForm, probabilityForm, startForm, rewardForm}
-use Rattle.grammar.specs.Grammar.{Answer, got, refused, _then_, choose, key, colon, star, named, field, index}
+use Rattle.grammar.specs.Grammar.{Answer, got, refused, choose, key, colon, star, named, field, index}
 use Rattle.grammar.proofs.Named.{UpTo, up-more, words-up, Word-refused, Named, then-named, key-named, number-named, keyed, keys-named, field-named}
 use Rattle.grammar.proofs.Named.{index-named, signed-named}
 use Rattle.entries.specs.Entries.{Outcome, filled, stopped, upon, wholly, forms, probability, startNumber, indexed, row, entry, table}
