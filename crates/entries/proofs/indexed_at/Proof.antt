@@ -18,7 +18,7 @@ index-of-requires : tie.Need-index-of-requires
 index-of-requires c κs = (
   inside (second-word _ _ (c .before .before .before .before .pair-from .ensures)
       (c .before .before .before .before .before .before .pre .0) (c .before .before .key-of .ensures) (c .enum-told .given .1)),
-  c .before .before .before .before .before .before .pre .1 .0,
+  c .before .before .before .before .before .before .pre .1,
 )
 
 returns-2 : tie.Need-returns-2
