@@ -1,7 +1,7 @@
 -- Several words after each other, and what is handed back of a word that is refused. Assumes nothing.
 --
 --   Filled        the first i of several are read into the first cells: filled-none, filled-more, filled-back, filled-end
---   decimal-tells a decimal, by its sign and its magnitude
+--   decimal-tells a decimal, rounded down to ticks
 --   gave-back     a vector or node whose word is refused
 use Rattle.integers.proofs.Kit.{_≡_, _∙_, refl, ap, sym, subst, subst⁻¹, List, [], _∷_, ℕ, _≤_, _<_, _+_, suc, zero, arith, add-one, decLt, length}
 use Rattle.integers.proofs.Kit.{set, take, ℤ}
@@ -11,16 +11,14 @@ use lib.ListN.{length-set}
 use lib.Seq.{take-suc-set}
 use Rattle.integers.specs.Whole.{floorDiv}
 use Rattle.tables.specs.declared.Verdict.{Verdict}
-use Rattle.words.specs.declared.Word.{Word}
-use Rattle.words.specs.Words.{Words, wordsIn, between, told}
-use Rattle.words.specs.Steps.{Worded}
-use Rattle.numerals.specs.Numeral.{decimalForm, signed}
+use Rattle.words.specs.Words.{Words, wordsIn, between}
+use Rattle.numerals.specs.Numeral.{decimalForm}
 use Rattle.grammar.specs.declared.Read.{Read}
 use Rattle.grammar.specs.declared.Read.the-variants.{Value, Refused}
-use Rattle.grammar.specs.Grammar.{Answer, got, refused, _then_, magnitude, minus, signedNumber}
-use Rattle.grammar.specs.Steps.{answerOf, Tells, Takes}
+use Rattle.grammar.specs.Grammar.{Answer, got, refused, _then_, signedNumber}
+use Rattle.grammar.specs.Steps.{answerOf, Tells}
 use Rattle.grammar.proofs.Read as read-type
-use Rattle.grammar.proofs.Laws.{value-is, value-next, takes-reads}
+use Rattle.grammar.proofs.Laws.{value-is, value-next}
 use Rattle.alphas.specs.Alphas.{mostDecimal, perTick, decimal, several, readable}
 use Rattle.alphas.specs.Steps.{Since, Lists, handed, Gave}
 
@@ -98,25 +96,18 @@ lists-value {s = s} {from} {xs = xs} v next l e = (sym (ap (answerOf (λ _. xs) 
 
 -- ---- a decimal
 
-abbrev pub ticksOf : Words → ℕ → ℤ
-ticksOf ws v = floorDiv (signed (minus ws) v) perTick
-
-pub decimal-tells : {s : List ℕ} {at : ℕ} {w : Word} {r : Read} → Worded s at w
-    → Takes s w mostDecimal r (magnitude decimalForm mostDecimal (told s w))
-    → Tells (ticksOf (wordsIn between s at)) s at mostDecimal r (decimal (wordsIn between s at))
-unfolding decimal signedNumber
-decimal-tells {s} {at} {w} {r} worded t =
-    let q = takes-reads (magnitude decimalForm mostDecimal) worded t in
-    let ws = wordsIn between s at in
-    record {
-      is = by ws r ∙ ap (λ (a : Answer ℕ). (a then λ v rest. got (signed (minus ws) v) rest) then λ z ws. got (floorDiv z perTick) ws) (q .is);
-      onward = q .onward;
-    }
+pub decimal-tells : {z : ℤ} {s : List ℕ} {at : ℕ} {r : Read}
+    → Tells (λ _. z) s at mostDecimal r (signedNumber decimalForm mostDecimal (wordsIn between s at))
+    → Tells (λ _. floorDiv z perTick) s at mostDecimal r (decimal (wordsIn between s at))
+unfolding decimal
+decimal-tells {z} {s} {r = r} t = record {
+  is = by r ∙ ap (λ (a : Answer ℤ). a then λ z ws. got (floorDiv z perTick) ws) (t .is);
+  onward = t .onward;
+}
   where
-    by : (ws : Words) (r : Read) → answerOf (ticksOf ws) s r
-        ≡ ((answerOf (λ v. v) s r then λ v rest. got (signed (minus ws) v) rest) then λ z ws. got (floorDiv z perTick) ws)
-    by ws (Value v next) = refl
-    by ws (Refused number place) = refl
+    by : (r : Read) → answerOf (λ _. floorDiv z perTick) s r ≡ (answerOf (λ _. z) s r then λ z ws. got (floorDiv z perTick) ws)
+    by (Value v next) = refl
+    by (Refused number place) = refl
 
 -- ---- a vector, a node
 

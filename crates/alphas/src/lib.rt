@@ -2,12 +2,10 @@
 ghost use mathlib.Core.Path.{_≡_};
 ghost use Prim.Native.Nat.{_≤_};
 ghost use lib.ListN.{length, take};
-ghost use Rattle.integers.specs.Whole.{floorDiv};
 ghost use Rattle.tables.specs.Limits.{maxStates, maxObservations};
 ghost use Rattle.words.specs.Words.{wordsIn, between};
-ghost use Rattle.numerals.specs.Numeral.{signed};
 ghost use Rattle.grammar.specs.Steps.{Reads};
-ghost use Rattle.alphas.specs.Alphas.{mostDecimal, perTick, decimal, nextNode, noNode, several, alpha, node};
+ghost use Rattle.alphas.specs.Alphas.{decimal, nextNode, noNode, several, alpha, node};
 ghost use Rattle.alphas.specs.Steps.{Lists, handed, Gave, alphaOf, nodeOf};
 use grammar::Read;
 use numerals::Form;
@@ -61,15 +59,7 @@ struct NextAt {
     next: NextNodes,
 }
 
-// Units of 10 to the power of -12, rounded down to ticks.
-fn ticks_of(minus: bool, v: u64) -> i64
-    requires { ⌜ v ≤ mostDecimal ⌝ }
-    ensures { λ r. ⌜ r ≡ floorDiv (signed minus v) perTick ⌝ }
-{
-    integers::floor_div(numerals::with_sign(minus, v), AlphaAt::TICK)
-}
-
-// n decimals.
+// n decimals, rounded down to ticks.
 fn ticks_at(file: &[u8], from: usize, n: usize) -> TicksAt
     requires { ⌜ (from ≤ length (now file)) × (n ≤ maxStates) ⌝ }
     ensures { λ r. ⌜ Lists (now (file .entry)) from (r .read) (take n (r .ticks)) (several decimal n (wordsIn between (now (file .entry)) from)) ⌝ }
@@ -77,15 +67,15 @@ fn ticks_at(file: &[u8], from: usize, n: usize) -> TicksAt
     let mut ticks = [0i64; Tables::STATES];
     let mut at = from;
     for s in 0..n {
-        let w = reader::word_from(file, at);
-        let x = grammar::magnitude_of(file, w, Form::DECIMAL, AlphaAt::DECIMAL);
-        let Read::Value(v, next) = x else {
+        let d = grammar::signed_at(file, at, Form::DECIMAL, AlphaAt::DECIMAL);
+        let x = d.read;
+        let Read::Value(_, next) = x else {
             return TicksAt {
                 read: x,
                 ticks: ticks,
             };
         };
-        ticks[s] = ticks_of(grammar::minus_of(file, w), v);
+        ticks[s] = integers::floor_div(d.value, AlphaAt::TICK);
         at = next;
     }
     TicksAt {

@@ -14,7 +14,7 @@ use Rattle.intervals.specs.Claim.{WithinHolds}
 use Rattle.modelfile.specs.declared.TablesRead.{TablesRead}
 use Rattle.worth.specs.declared.Valued.{Valued}
 use Rattle.adoption.specs.declared.Adopted.{Adopted}
-use Rattle.converting.specs.declared.Converted.{Converted}
+use Rattle.conversion.specs.declared.Converted.{Converted}
 use Rattle.replay.specs.declared.Replayed.{Replayed}
 use Rattle.answers.specs.declared.Refusal.{Refusal}
 use Rattle.answers.specs.declared.Reading.{Reading}

@@ -9,21 +9,16 @@ ghost use Rattle.words.specs.Words.{wordsIn, between};
 ghost use Rattle.headers.specs.Steps.{CountsFit};
 ghost use Rattle.modelfile.specs.ModelFile.{ended, body};
 ghost use Rattle.written.specs.Text.{maxText};
-ghost use Rattle.converting.specs.Convert.{convertVerdict, converted, convertAnswer, convertedOver};
-ghost use Rattle.converting.specs.Claim.{ConvertHolds};
-ghost use Rattle.converting.specs.Steps.{fileOf, Sound, Long, nothing, AnswersFile};
+ghost use Rattle.conversion.specs.Convert.{convertVerdict, converted, convertAnswer, convertedOver};
+ghost use Rattle.conversion.specs.Claim.{ConvertHolds};
+ghost use Rattle.conversion.specs.Steps.{fileOf, Sound, Long, nothing, AnswersFile};
+use conversion::Converted;
 use headers::Headed;
 use modelfile::TablesRead;
 use tables::Counts;
 use tables::Tables;
 use tables::Verdict;
 use written::Written;
-
-// What a file is refused for, and the bytes written; with a refusal 0.
-pub struct Converted {
-    pub verdict: Verdict,
-    pub length: usize,
-}
 
 fn refusal(v: Verdict) -> Converted
     ensures { λ r. ⌜ r ≡ nothing v ⌝ }

@@ -3,7 +3,7 @@
 use Prim.Native.Nat.{ℕ, zero, suc, _+_}
 use mathlib.Core.List.{List}
 use Rattle.words.specs.Words.{Words}
-use Rattle.tables.specs.Limits.{one}
+use Rattle.tables.specs.Limits.{one, startTotal}
 use Rattle.drafts.specs.Drafts.{stated}
 use Rattle.numerals.specs.declared.Form.{Form}
 use Rattle.numerals.specs.Numeral.{probabilityForm, startForm, rewardForm}
@@ -39,9 +39,6 @@ forms = record { probability = probabilityForm; start = startForm; reward = rewa
 
 abbrev pub probabilityBy : Forms → Words → Answer ℕ
 probabilityBy f = number (f .probability) 0 one
-
-abbrev pub startTotal : ℕ
-startTotal = 100
 
 abbrev pub startNumberBy : Forms → Words → Answer ℕ
 startNumberBy f = number (f .start) 0 startTotal

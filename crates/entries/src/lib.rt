@@ -2,7 +2,7 @@
 ghost use Prim.Native.Nat.{_≤_};
 ghost use lib.ListN.{length};
 ghost use Rattle.words.specs.Words.{wordsIn, between};
-ghost use Rattle.tables.specs.Limits.{maxStates, one};
+ghost use Rattle.tables.specs.Limits.{one};
 ghost use Rattle.numerals.specs.Steps.{Short};
 ghost use Rattle.drafts.specs.Drafts.{stated};
 ghost use Rattle.grammar.specs.Grammar.{number};
@@ -15,7 +15,7 @@ use tables::Tables;
 
 // `: i`
 pub fn indexed_at(file: &[u8], at: usize, n: usize) -> Read
-    requires { ⌜ (at ≤ length (now file)) × ((1 ≤ n) × (n ≤ maxStates)) ⌝ }
+    requires { ⌜ (at ≤ length (now file)) × (1 ≤ n) ⌝ }
     ensures { λ r. ⌜ Reads (now (file .entry)) at n r (indexed n (wordsIn between (now (file .entry)) at)) ⌝ }
 {
     let p = reader::pair_from(file, at);

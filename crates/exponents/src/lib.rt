@@ -6,8 +6,7 @@ ghost use lib.ListN.{length, drop};
 ghost use Rattle.numerals.specs.Numeral.{mostPower, scaled, powered, exponent};
 ghost use Rattle.numerals.specs.Steps.{mostUnits};
 use numerals::Amount;
-
-const POWER: u64 = 3; // the most that an exponent says
+use numerals::Form;
 
 // 10 to a power times a number, or the number over it, if that is whole.
 fn scaled_by(minus: bool, power: usize, v: u64) -> Amount
@@ -38,7 +37,7 @@ fn powered_by(w: &[u8], v: u64) -> Amount
     if d.end < w.len() {
         return Amount::Not;
     }
-    if POWER < d.value {
+    if Form::POWER < d.value {
         return Amount::Not;
     }
     scaled_by(minus, d.value as usize, v)

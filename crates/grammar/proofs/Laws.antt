@@ -169,6 +169,14 @@ module _ {A : Type 0} {f : ℕ → A} {s : List ℕ} {at l : ℕ} {r : Read} {a 
       onward = onward-earlier s at next most r' (omega (arith, value-next v next h e)) (t .onward);
     }
 
+-- a number that is told as another thing
+pub tells-as : {A : Type 0} (t : ℕ → A) {s : List ℕ} {at l : ℕ} {r : Read} {a : Answer ℕ} (v next : ℕ) {x : A} → Reads s at l r a → r ≡ Value v next → x ≡ t v
+    → Tells (λ _. x) s at l (Value v next) (a then λ v rest. got (t v) rest)
+tells-as {A} t {s} v next {x} h e q = record {
+  is = ap (λ (y : A). got y (wordsIn between s next)) q ∙ ap (λ (a : Answer ℕ). a then λ v rest. got (t v) rest) (value-is v next h e);
+  onward = value-next v next h e;
+}
+
 pub other-is : {X : Type 0} (s : List ℕ) {a : Answer ℕ} (r : Read) (k : Words → X) (o : X) → tagOf read-type.the-type r ≡ 1
     → answerOf (λ v. v) s r ≡ a → o ≡ choose a k o
 other-is s (Value v next) k o e h = absurd (omega arith)

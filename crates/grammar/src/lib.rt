@@ -1,13 +1,13 @@
 // The next word of a file as a number, a key or an index: its form, then its limit.
 ghost use mathlib.Core.Path.{_≡_};
-ghost use Prim.Native.Nat.{_+_, _≤_};
+ghost use Prim.Native.Nat.{_+_, _^_, _≤_, _<_};
 ghost use lib.ListN.{length, drop};
 ghost use Rattle.words.specs.Words.{wordsIn, between, told};
 ghost use Rattle.words.specs.Steps.{Inside};
 ghost use Rattle.numerals.specs.Numeral.{amountOf};
 ghost use Rattle.numerals.specs.Steps.{Short};
-ghost use Rattle.grammar.specs.Grammar.{number, magnitude, minus, same, key, keys, field, index, limited};
-ghost use Rattle.grammar.specs.Steps.{found, bytesOf, Reads, Takes};
+ghost use Rattle.grammar.specs.Grammar.{number, magnitude, minus, signedNumber, same, key, keys, field, index, limited};
+ghost use Rattle.grammar.specs.Steps.{found, bytesOf, Tells, Reads, Takes};
 use numerals::Amount;
 use numerals::Form;
 use words::Word;
@@ -16,6 +16,12 @@ use words::Word;
 pub enum Read {
     Value(u64, usize),
     Refused(u8, usize),
+}
+
+// What was read of a number without its sign, and the number with it.
+pub struct SignedRead {
+    pub read: Read,
+    pub value: i64,
 }
 
 // ---- a word that was found, from start to stop
@@ -58,7 +64,7 @@ pub fn number_of(file: &[u8], w: Word, form: Form, least: u64, most: u64) -> Rea
 }
 
 // It as a number after an optional minus, without its sign.
-pub fn magnitude_of(file: &[u8], w: Word, form: Form, most: u64) -> Read
+fn magnitude_of(file: &[u8], w: Word, form: Form, most: u64) -> Read
     requires { ⌜ (Inside (now file) 0 w) × (Short form) ⌝ }
     ensures { λ r. ⌜ Takes (now (file .entry)) w most r (magnitude form most (told (now (file .entry)) w)) ⌝ }
 {
@@ -70,7 +76,7 @@ pub fn magnitude_of(file: &[u8], w: Word, form: Form, most: u64) -> Read
 }
 
 // Whether it has a minus.
-pub fn minus_of(file: &[u8], w: Word) -> bool
+fn minus_of(file: &[u8], w: Word) -> bool
     requires { ⌜ Inside (now file) 0 w ⌝ }
     ensures { λ r. ⌜ r ≡ minus (told (now (file .entry)) w) ⌝ }
 {
@@ -113,7 +119,7 @@ pub fn key_of(file: &[u8], w: Word, k: &[u8]) -> Read
 
 // It as one of n by its number, or n for a star.
 pub fn index_of(file: &[u8], w: Word, n: usize) -> Read
-    requires { ⌜ (Inside (now file) 0 w) × ((1 ≤ n) × (n ≤ 64)) ⌝ }
+    requires { ⌜ (Inside (now file) 0 w) × (1 ≤ n) ⌝ }
     ensures { λ r. ⌜ Takes (now (file .entry)) w n r (index n (told (now (file .entry)) w)) ⌝ }
 {
     let x = key_of(file, w, b"*");
@@ -132,6 +138,23 @@ pub fn number_at(file: &[u8], at: usize, form: Form, least: u64, most: u64) -> R
 {
     let w = reader::word_from(file, at);
     number_of(file, w, form, least, most)
+}
+
+// A number after an optional minus, with its sign.
+pub fn signed_at(file: &[u8], at: usize, form: Form, most: u64) -> SignedRead
+    requires { ⌜ (at ≤ length (now file)) × ((Short form) × (most < 2 ^ 63)) ⌝ }
+    ensures { λ r. ⌜ Tells (λ _. r .value) (now (file .entry)) at most (r .read)
+        (signedNumber form most (wordsIn between (now (file .entry)) at)) ⌝ }
+{
+    let w = reader::word_from(file, at);
+    let x = magnitude_of(file, w, form, most);
+    let Read::Value(v, _) = x else {
+        return SignedRead { read: x, value: 0 };
+    };
+    SignedRead {
+        read: x,
+        value: numerals::with_sign(minus_of(file, w), v),
+    }
 }
 
 // A word that is given.

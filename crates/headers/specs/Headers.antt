@@ -45,12 +45,16 @@ startName = 115 ∷ 116 ∷ 97 ∷ 114 ∷ 116 ∷ []
 abbrev pub counts : ℕ → ℕ → ℕ → ℕ → Counts
 counts n m k d = record { states = n; actions = m; observations = k; discount = d }
 
--- `discount:` in thousandths, `values: reward`, and the counts: `states:`, `actions:` and `observations:`
-unfoldable pub headerBy : Forms → Words → Answer Counts
-headerBy f ws =
-    field discountName (f .probability) 0 one ws then λ d ws. named valuesName ws then λ _ ws. key rewardWord ws then λ _ ws.
+-- `states:`, `actions:` and `observations:`, beside a discount
+abbrev pub counted : ℕ → Words → Answer Counts
+counted d ws =
     field statesName countForm 1 maxStates ws then λ n ws. field actionsName countForm 1 maxActions ws then λ m ws.
     field observationsName countForm 1 maxObservations ws then λ k ws. got (counts n m k d) ws
+
+-- `discount:` in thousandths, `values: reward`, and the counts
+unfoldable pub headerBy : Forms → Words → Answer Counts
+headerBy f ws =
+    field discountName (f .probability) 0 one ws then λ d ws. named valuesName ws then λ _ ws. key rewardWord ws then λ _ ws. counted d ws
 
 -- `start:` with n numbers, in hundredths
 unfoldable pub startBy : Forms → ℕ → Words → Answer (List ℕ)

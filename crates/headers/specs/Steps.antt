@@ -5,22 +5,15 @@ use mathlib.Core.List.{List}
 use lib.ListN.{length}
 use Rattle.tables.specs.declared.Counts.{Counts}
 use Rattle.tables.specs.Limits.{maxStates, maxActions, maxObservations, one}
-use Rattle.words.specs.Words.{Words, wordsIn, between}
-use Rattle.numerals.specs.Numeral.{countForm}
+use Rattle.words.specs.Words.{wordsIn, between}
 use Rattle.grammar.specs.declared.Read.{Read}
 use Rattle.grammar.specs.declared.Read.the-variants.{Value}
 use Rattle.grammar.specs.declared.Read.the-variants.{Refused as NotRead}
-use Rattle.grammar.specs.Grammar.{Answer, got, refused, _then_, field}
+use Rattle.grammar.specs.Grammar.{Answer, got, refused}
 use Rattle.headers.specs.declared.Headed.{Headed}
 use Rattle.headers.specs.declared.Headed.the-variants.{Refused}
 use Rattle.headers.specs.declared.Headed.the-variants.{Counts as Counted}
-use Rattle.headers.specs.Headers.{statesName, actionsName, observationsName, counts}
-
--- the counts that follow `values: reward`, beside a discount
-abbrev pub counted : ℕ → Words → Answer Counts
-counted d ws =
-    field statesName countForm 1 maxStates ws then λ n ws. field actionsName countForm 1 maxActions ws then λ m ws.
-    field observationsName countForm 1 maxObservations ws then λ k ws. got (counts n m k d) ws
+use Rattle.headers.specs.Headers.{counts}
 
 -- counts within their limits
 pub record CountsFit (n m k d : ℕ) : Type 0 where

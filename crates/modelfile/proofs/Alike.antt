@@ -13,8 +13,7 @@ use Rattle.grammar.proofs.Alike.{Alike, alike-same, alike-then, field-alike}
 use Rattle.entries.specs.Entries.{wholly, Forms, forms, startNumberBy, row}
 use Rattle.statements.specs.Statements.{statementsBy}
 use Rattle.statements.proofs.Alike.{AllWider, wholly-alike, row-alike, start-alike, statements-alike}
-use Rattle.headers.specs.Headers.{discountName, valuesName, rewardWord, startName, headerBy, startBy}
-use Rattle.headers.specs.Steps.{counted}
+use Rattle.headers.specs.Headers.{discountName, valuesName, rewardWord, startName, counted, headerBy, startBy}
 use Rattle.modelfile.specs.ModelFile.{maxBytes, Text, noCells, bodyBy, Room, roomFor, roomedBy, textBy, refusedFile, ended, modelFileBy, modelFile}
 use Rattle.modelfile.specs.Before.{formsBefore}
 

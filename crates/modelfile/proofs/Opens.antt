@@ -1,13 +1,14 @@
 -- A file that is read opens: its tables are not refused and fit into the slices lent, and its start numbers are the weights of a point. Assumes nothing.
-use Rattle.integers.proofs.Kit.{_≡_, _∙_, refl, ap, sym, subst, true, false, Bool, cond, List, ℕ, _≤_, _+_, _*_, suc, zero, arith, le-leb, eqb-true}
+use Rattle.integers.proofs.Kit.{_≡_, _∙_, refl, ap, sym, subst, true, false, Bool, cond, List, ℕ, _≤_, _+_, _*_, arith, le-leb, eqb-true}
 use Rattle.integers.proofs.Kit.{leb, length, getD, replicate, pos, natAbs}
 use Rattle.integers.specs.Whole.{totalTo}
+use Rattle.integers.proofs.Lists.{replicate-at}
 use Rattle.integers.proofs.Searches.{and-is, at-every}
 use Rattle.tables.specs.declared.Counts.{Counts}
 use Rattle.tables.specs.Tables.{Tables}
 use Rattle.tables.specs.declared.Verdict.{Verdict}
 use Rattle.tables.specs.declared.Verdict.the-variants.{Fine, Refused}
-use Rattle.tables.specs.Limits.{maxStates, maxActions, maxObservations, one, maxReward}
+use Rattle.tables.specs.Limits.{maxStates, maxActions, maxObservations, one, maxReward, startTotal}
 use Rattle.tables.specs.Storage.{countsOf, modelOf, cellIn}
 use Rattle.tables.specs.Verdicts.{_before_, unless}
 use Rattle.tables.specs.Judged.{countWithin, limitsHold, rowsTotal, modelVerdict}
@@ -18,11 +19,12 @@ use Rattle.words.specs.Words.{Words, wordsIn, between}
 use Rattle.numerals.specs.Numeral.{countForm, probabilityForm}
 use Rattle.grammar.specs.Grammar.{Answer, got, refused, _then_, key, named, field}
 use Rattle.grammar.proofs.Gives.{Gives, gives-then, gives-after, field-gives}
-use Rattle.entries.specs.Entries.{wholly, forms, startTotal}
+use Rattle.entries.specs.Entries.{wholly, forms}
 use Rattle.statements.specs.Statements.{Draft, draft, statements}
 use Rattle.statements.proofs.Small.{Small, fills-gives, statements-small}
-use Rattle.headers.specs.Headers.{discountName, valuesName, rewardWord, statesName, actionsName, observationsName, counts, header, headerBy, startNumbers}
-use Rattle.headers.specs.Steps.{counted, CountsFit}
+use Rattle.headers.specs.Headers.{discountName, valuesName, rewardWord, statesName, actionsName, observationsName, counts, counted, header}
+use Rattle.headers.specs.Headers.{headerBy, startNumbers}
+use Rattle.headers.specs.Steps.{CountsFit}
 use Rattle.modelfile.specs.ModelFile.{maxBytes, rewardCells, Text, textOf, noCells, Room, roomFor, roomed, textBy, placed, sumsVerdict, ModelFile}
 use Rattle.modelfile.specs.ModelFile.{refusedFile, judgedFile, ended, body, modelFile, bodyBy, roomedBy, modelFileBy}
 
@@ -65,16 +67,11 @@ cells-limited m h small =
 small-limited : {c : Counts} (m : Tables) → Fits c → SmallTables c m → limitsHold (modelOf m) ≡ true
 small-limited m h s = cells-limited m (subst Fits (sym (s .counts)) h) (s .small)
 
-same-cells : {A : Type 0} (size i : ℕ) (x : A) → getD (replicate size x) i x ≡ x
-same-cells zero i x = refl
-same-cells (suc size) zero x = refl
-same-cells (suc size) (suc i) x = same-cells size i x
-
 zeros : (size limit i : ℕ) → getD (replicate size 0) i 0 ≤ limit
-zeros size limit i = omega (arith, same-cells {A = ℕ} size i 0)
+zeros size limit i = omega (arith, replicate-at {A = ℕ} 0 size i)
 
 zero-rewards : (size i : ℕ) → natAbs (getD (replicate size (pos 0)) i (pos 0)) ≤ maxReward
-zero-rewards size i = rw (same-cells size i (pos 0)) (omega arith)
+zero-rewards size i = rw (replicate-at (pos 0) size i) (omega arith)
 
 none-small : (full : Bool) → Small (noCells full)
 none-small full = record {

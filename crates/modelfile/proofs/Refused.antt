@@ -5,17 +5,17 @@ use Rattle.integers.specs.Whole.{totalTo}
 use Rattle.tables.specs.declared.Counts.{Counts}
 use Rattle.tables.specs.declared.Verdict.{Verdict}
 use Rattle.tables.specs.declared.Verdict.the-variants.{Fine, Refused}
-use Rattle.tables.specs.Limits.{maxStates, one}
+use Rattle.tables.specs.Limits.{maxStates, one, startTotal}
 use Rattle.tables.specs.Storage.{cellIn}
 use Rattle.tables.specs.Verdicts.{_before_, unless, firstOf}
 use Rattle.tables.specs.Judged.{rowsTotal}
 use Rattle.words.specs.Words.{Words, word, end, between, wordsOf, wordsIn}
 use Rattle.drafts.specs.Drafts.{stated}
 use Rattle.numerals.specs.Numeral.{countForm, probabilityForm, startForm, rewardForm}
-use Rattle.grammar.specs.Grammar.{Answer, got, refused, _then_, choose, key, colon, star, named, field, index}
+use Rattle.grammar.specs.Grammar.{Answer, got, refused, choose, key, colon, star, named, field, index}
 use Rattle.grammar.proofs.Named.{UpTo, up-more, words-up, Word-refused, Named, then-named, key-named, number-named, keyed, keys-named, field-named}
 use Rattle.grammar.proofs.Named.{index-named, signed-named}
-use Rattle.entries.specs.Entries.{Outcome, filled, stopped, upon, wholly, forms, probability, startTotal, startNumber, indexed, row, entry, table}
+use Rattle.entries.specs.Entries.{Outcome, filled, stopped, upon, wholly, forms, probability, startNumber, indexed, row, entry, table}
 use Rattle.entries.specs.Entries.{entryBy, tableBy}
 use Rattle.statements.specs.Statements.{further, within, rewardNumber, starred, rewards, outcomes, rewardsOrOutcomes, Draft, oneStatement, statements}
 use Rattle.statements.specs.Statements.{observationOrRewardBy, oneStatementBy, rewardBy, rewardStatementBy, rewardsBy, outcomeBy, outcomesBy, statementsBy}

@@ -1,6 +1,6 @@
 -- What a model file is read as: its headers in order, the start numbers, any number of statements, and then the totals.
 use Prim.Native.Nat.{ℕ, _+_, _*_}
-use mathlib.Core.Bool.{Bool, false, cond, _&&_}
+use mathlib.Core.Bool.{Bool, false, cond}
 use mathlib.Core.List.{List}
 use lib.Dec.{eqb, leb}
 use lib.ListN.{length, getD, replicate}
@@ -10,13 +10,13 @@ use Rattle.tables.specs.declared.Counts.{Counts}
 use Rattle.tables.specs.Tables.{Tables}
 use Rattle.tables.specs.declared.Verdict.{Verdict}
 use Rattle.tables.specs.declared.Verdict.the-variants.{Fine, Refused}
-use Rattle.tables.specs.Limits.{maxStates, maxConverted, maxActions, maxObservations}
+use Rattle.tables.specs.Limits.{maxStates, maxConverted, maxActions, maxObservations, startTotal}
 use Rattle.tables.specs.Storage.{cellIn, tablesIn}
 use Rattle.tables.specs.Verdicts.{_before_, unless}
-use Rattle.tables.specs.Judged.{rowsTotal, noTables}
+use Rattle.tables.specs.Judged.{rowsTotal, hasRoom, noTables}
 use Rattle.words.specs.Words.{Words, wordsIn, between}
 use Rattle.grammar.specs.Grammar.{Answer, got, refused, _then_}
-use Rattle.entries.specs.Entries.{wholly, Forms, forms, startTotal}
+use Rattle.entries.specs.Entries.{wholly, Forms, forms}
 use Rattle.statements.specs.Statements.{Draft, draft, statementsBy}
 use Rattle.headers.specs.Headers.{headerBy, startBy}
 use Rattle.modelfile.specs.declared.TablesRead.{TablesRead}
@@ -58,9 +58,7 @@ abbrev pub room : ℕ → ℕ → ℕ → Room
 room transition observation reward = record { transition = transition; observation = observation; reward = reward }
 
 abbrev pub roomFor : Room → Counts → Bool
-roomFor r c =
-    leb (c .actions * c .states * c .states) (r .transition)
-    && (leb (c .actions * c .states * c .observations) (r .observation) && leb (c .actions * c .states) (r .reward))
+roomFor r c = hasRoom c (r .transition) (r .observation) (r .reward)
 
 -- a slice shorter than its counts need gets 3 at 0, once they are read
 unfoldable pub roomedBy : Forms → Room → ℕ → Counts → Words → Answer Text

@@ -10,7 +10,7 @@ ghost use Rattle.tables.specs.declared.Verdict.the-variants.{Fine};
 ghost use Rattle.statements.specs.Statements.{draft};
 ghost use Rattle.headers.specs.Headers.{counts};
 ghost use Rattle.headers.specs.Steps.{CountsFit};
-ghost use Rattle.modelfile.specs.ModelFile.{textOf, placed, sumsVerdict, ended, rewardCells, body, room, roomFor, roomed, modelFile, refusing};
+ghost use Rattle.modelfile.specs.ModelFile.{textOf, placed, sumsVerdict, ended, rewardCells, body, room, roomed, modelFile, refusing};
 ghost use Rattle.modelfile.specs.Steps.{handed, told, fileIn};
 use grammar::Read;
 use headers::Headed;
@@ -88,21 +88,6 @@ pub fn totals_of(
     placed_at(size, judge::rows_total(observation, m, n, k, 6))
 }
 
-// Whether slices of such lengths are long enough for the tables.
-fn has_room(c: Counts, transitions: usize, observations: usize, rewards: usize) -> bool
-    requires { ⌜ CountsFit (c .states) (c .actions) (c .observations) (c .discount) ⌝ }
-    ensures { λ r. ⌜ r ≡ roomFor (room transitions observations rewards) c ⌝ }
-{
-    let rows = c.actions * c.states;
-    if transitions < rows * c.states {
-        return false;
-    }
-    if observations < rows * c.observations {
-        return false;
-    }
-    rows <= rewards
-}
-
 // What follows the counts: the start numbers, the statements with rewards in full or not, and the totals.
 pub fn body_at(
     file: &[u8],
@@ -172,7 +157,7 @@ fn roomed_at(
         → fileIn r (now (transition .exit)) (now (observation .exit)) (now (reward .exit)) (now (start .exit)) ≡ ended (length (now (file .entry)))
         (roomed (room transitions observations rewards) (length (now (file .entry)) + 1) c (wordsIn between (now (file .entry)) at))) ⌝ }
 {
-    if !has_room(c, transitions, observations, rewards) {
+    if !judge::has_room(c, transitions, observations, rewards) {
         return refusal(Verdict::Refused(3, 0));
     }
     body_at(file, at, c, false, transition, observation, reward, start)

@@ -15,6 +15,8 @@ pub struct Form {
 }
 
 impl Form {
+    pub const POWER: u64 = 3; // the most that an exponent says
+
     pub const COUNT: Form = Form {
         digits: 2,
         places: 0,

@@ -1,6 +1,7 @@
 -- Cells after each of them was stated. Assumes nothing.
 use Rattle.integers.proofs.Kit.{_≡_, _∙_, refl, ap, sym, subst, true, false, Bool, cond, _&&_, _||_, List, ℕ, _≤_, _<_, _*_, suc, zero, arith}
-use Rattle.integers.proofs.Kit.{decLt, eqb, eq-eqb, ne-eqb, eqb-true, length, ℤ, and-eq-true-iff}
+use Rattle.integers.proofs.Kit.{decLt, eqb, eq-eqb, ne-eqb, eqb-true, length, ℤ}
+use Rattle.integers.proofs.Searches.{and-true}
 use Rattle.tables.specs.Storage.{cellIn, rewardIn}
 use Rattle.drafts.specs.Drafts.{marked, stated, rewarded}
 use Rattle.drafts.proofs.Marks.{marking-start, marking-more}
@@ -35,9 +36,6 @@ module _ {C : Type 0} (m n : ℕ) (one : ℕ → ℕ → C → C) where
   abbrev pub blocks : C → C
   blocks = done m (λ a. done n (one a))
 
-  pub blocks-keep : (P : C → Type 0) → ((a s : ℕ) (c : C) → a < m → s < n → P c → P (one a s c)) → (c : C) → P c → P (blocks c)
-  blocks-keep P h c p = done-keeps P m _ (λ a c l p. done-keeps P n (one a) (λ s c k. h a s c l k) c p) c p
-
   pub blocks-bring : (P Q : C → Type 0) (a' s' : ℕ) → a' < m → s' < n → ((a s : ℕ) (c : C) → a < m → s < n → P c → P (one a s c))
       → ((a s : ℕ) (c : C) → a < m → s < n → P c → Q c → Q (one a s c)) → ((c : C) → P c → Q (one a' s' c)) → (c : C) → P c → Q (blocks c)
   blocks-bring P Q a' s' la ls h k b =
@@ -67,9 +65,6 @@ itself n i h = ap (λ (t : Bool). t || eqb i i) (ne-eqb i n (λ e. omega arith))
 
 only-itself : (n i j : ℕ) → i < n → meant n i j ≡ true → i ≡ j
 only-itself n i j h e = eqb-true i j (sym (ap (λ (t : Bool). t || eqb i j) (ne-eqb i n (λ e. omega arith))) ∙ e)
-
-both : (s t : Bool) → (s && t) ≡ true → (s ≡ true) × (t ≡ true)
-both s t e = and-eq-true-iff s t .0 e
 
 -- a cell that gets a value where a test holds has it, if it had it before or the test holds
 kept-by : {A : Type 0} (t : Bool) (p x v : A) → (t ≡ true → p ≡ v) → x ≡ v → cond t p x ≡ v
@@ -106,8 +101,8 @@ module _ (m n w : ℕ) (cell : ℕ → ℕ → ℕ → ℕ) where
         stated-cell m n w a s x (cell a s x) cells a' s' x' (omega arith) (omega arith) (omega arith) la ls lx h
         ∙ kept-by (meant m a a' && (meant n s s' && meant w x x')) (cell a s x) (cellIn n w cells a' s' x') (cell a' s' x')
         (λ t.
-        let p = both (meant m a a') (meant n s s' && meant w x x') t in
-        let q = both (meant n s s') (meant w x x') (p .1) in
+        let p = and-true (meant m a a') (meant n s s' && meant w x x') t in
+        let q = and-true (meant n s s') (meant w x x') (p .1) in
         ap (λ (i : ℕ). cell i s x) (only-itself m a a' ka (p .0)) ∙ ap (λ (i : ℕ). cell a' i x) (only-itself n s s' ks (q .0))
         ∙ ap (cell a' s') (only-itself w x x' kx (q .1))) e
 
@@ -144,7 +139,7 @@ module _ (m n : ℕ) (reward : ℕ → ℕ → ℤ) (a' s' : ℕ) (la : a' < m) 
       rewarded-cell m n a s (reward s a) cells a' s' (omega arith) (omega arith) la ls h
       ∙ kept-by (meant m a a' && meant n s s') (reward s a) (rewardIn n cells s' a') (reward s' a')
       (λ t.
-      let p = both (meant m a a') (meant n s s') t in
+      let p = and-true (meant m a a') (meant n s s') t in
       ap (reward s) (only-itself m a a' ka (p .0)) ∙ ap (λ (i : ℕ). reward i a') (only-itself n s s' ks (p .1))) e
 
   pub rewards-set : (cells : List ℤ) → m * n ≤ length cells → Is-reward (rewardsDone m n reward cells)

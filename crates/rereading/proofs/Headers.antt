@@ -2,13 +2,13 @@
 use Rattle.integers.proofs.Kit.{_≡_, _∙_, refl, ap, List, _∷_, ℕ, _≤_, _<_, arith}
 use Rattle.integers.proofs.Kit.{getD, replicate, length-replicate}
 use Rattle.tables.specs.declared.Counts.{Counts}
-use Rattle.tables.specs.Limits.{maxStates, maxActions, maxObservations, one}
+use Rattle.tables.specs.Limits.{maxStates, maxActions, maxObservations, one, startTotal}
 use Rattle.tables.specs.Storage.{cellPlace}
 use Rattle.words.specs.Words.{Words}
 use Rattle.drafts.specs.Drafts.{stated}
 use Rattle.numerals.specs.Numeral.{countForm}
 use Rattle.grammar.specs.Grammar.{Answer, got, _then_, key, named, field}
-use Rattle.entries.specs.Entries.{wholly, startTotal, startNumber, row}
+use Rattle.entries.specs.Entries.{wholly, startNumber, row}
 use Rattle.headers.specs.Headers.{discountName, valuesName, rewardWord, statesName, actionsName, observationsName, startName}
 use Rattle.headers.specs.Headers.{header, headerBy, startNumbers, startBy}
 use Rattle.written.specs.Text.{whole, fixed, line, headerText, startText}

@@ -4,6 +4,7 @@ use Rattle.integers.proofs.Kit.{_/_, _%_, _-_, arith, length, drop, ltb, ne-eqb
 use mathlib.Core.List.{_++_, append-nil}
 use lib.ListN.{length-append}
 use native.Mathlib.Nat.{div-add-mod', mod-lt, pow-suc, mul-one}
+use Rattle.tables.specs.Limits.{one, startTotal, maxReward}
 use Rattle.words.specs.Class.{classOf}
 use Rattle.words.specs.declared.Class.{Class}
 use Rattle.words.specs.declared.Class.the-variants.{Digit}
@@ -240,10 +241,10 @@ fixed-number form v loose one many few =
 
 -- ---- the numbers of a model file
 
-pub probability-number : (p : ℕ) → p ≤ 1_000 → Number probabilityForm (fixed 3 p) p
+pub probability-number : (p : ℕ) → p ≤ one → Number probabilityForm (fixed 3 p) p
 probability-number p h = fixed-number probabilityForm p refl (omega arith) (λ l. absurd (omega arith)) (omega arith) .number
 
-pub start-number : (p : ℕ) → p ≤ 100 → Number startForm (fixed 2 p) p
+pub start-number : (p : ℕ) → p ≤ startTotal → Number startForm (fixed 2 p) p
 start-number p h = fixed-number startForm p refl (omega arith) (λ l. absurd (omega arith)) (omega arith) .number
 
 -- a reward: its magnitude after an optional minus, and its sign
@@ -267,7 +268,7 @@ minus-reward w v f = record {
   sign = refl;
 }
 
-pub reward-number : (r : ℤ) → natAbs r ≤ 100_000 → Reward (signedFixed 2 r) r
+pub reward-number : (r : ℤ) → natAbs r ≤ maxReward → Reward (signedFixed 2 r) r
 unfolding signedFixed
 reward-number (pos v) h = plus-reward (fixed 2 v) v (fixed-number rewardForm v refl (omega arith) (λ _. omega arith) (omega arith))
 reward-number (negsuc v) h = minus-reward (fixed 2 (suc v)) v (fixed-number rewardForm (suc v) refl (omega arith) (λ _. omega arith) (omega arith))

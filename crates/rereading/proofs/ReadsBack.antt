@@ -5,14 +5,14 @@ use mathlib.Core.List.{_++_, append-nil}
 use lib.ListN.{length-append}
 use Rattle.integers.proofs.Searches.{and-true, every-at}
 use Rattle.tables.specs.declared.Counts.{Counts}
-use Rattle.tables.specs.Limits.{one, maxReward}
+use Rattle.tables.specs.Limits.{maxReward, startTotal}
 use Rattle.tables.specs.Model.{Model}
 use Rattle.tables.specs.Storage.{modelIn}
 use Rattle.tables.specs.Steps.{Stored}
 use Rattle.tables.specs.Judged.{cellsWithin, rewardsWithin, limitsHold}
-use Rattle.tables.proofs.Accepted.{count-true}
+use Rattle.tables.proofs.Accepted.{count-true, cells-true}
 use Rattle.words.specs.Words.{end, wordsIn, wordsOf, between}
-use Rattle.entries.specs.Entries.{filled, wholly, startTotal}
+use Rattle.entries.specs.Entries.{filled, wholly}
 use Rattle.statements.specs.Statements.{Draft, draft, statementsBy}
 use Rattle.written.specs.Text.{headerText, startText, tableText, rewardsText, fileText}
 use Rattle.rereading.specs.Rereading.{SameNumbers, ReadsBack, FilesReadBack}
@@ -46,9 +46,6 @@ limits-hold c transition observation reward e =
       },
       record { transitions = t .0; observed = o .0; rewards = o .1 },
     )
-
-cell-within : (m n w : ℕ) (cell : ℕ → ℕ → ℕ → ℕ) → cellsWithin m n w cell ≡ true → (a s x : ℕ) → a < m → s < n → x < w → cell a s x ≤ one
-cell-within m n w cell e a s x la ls lx = leb-true _ _ (every-at w _ (every-at n _ (every-at m _ e a la) s ls) x lx)
 
 reward-within : (m n : ℕ) (reward : ℕ → ℕ → ℤ) → rewardsWithin m n reward ≡ true → (a s : ℕ) → a < m → s < n → natAbs (reward s a) ≤ maxReward
 reward-within m n reward e a s la ls = leb-true _ _ (every-at n _ (every-at m _ e a la) s ls)
@@ -91,11 +88,11 @@ module _ (c : Counts) (transition observation : List ℕ) (reward : List ℤ) (s
       let lm : m ≤ 100 = omega (arith, counts .actions) in
       let ln : n ≤ 100 = omega (arith, counts .states) in
       and-then {D = Any}
-      (transitions-read m n k lm ln (d .observation) (d .reward) moves (omega (arith, counts .states)) (cell-within m n n moves (fit .transitions))
-      (m * n + (m * n + more)) (d .transition))
+      (transitions-read m n k lm ln (d .observation) (d .reward) moves (omega (arith, counts .states))
+      (λ a s x la ls lx. cells-true m n n moves (fit .transitions) a la s ls x lx) (m * n + (m * n + more)) (d .transition))
       (and-then {D = Any}
       (observations-read m n k lm ln (done-all d .transition) (d .reward) (M .observation) (omega (arith, counts .observations))
-      (cell-within m n k (M .observation) (fit .observed)) (m * n + more) (d .observation))
+      (λ a s x la ls lx. cells-true m n k (M .observation) (fit .observed) a la s ls x lx) (m * n + more) (d .observation))
       (rewards-read m n k lm ln (done-all d .transition) (done-all d .observation) (M .reward) (reward-within m n (M .reward) (fit .rewards)) more (d .reward))
       (λ s e. tt)) (λ s e. tt)
 

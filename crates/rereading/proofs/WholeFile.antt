@@ -6,7 +6,7 @@ use Rattle.integers.proofs.Sums.{total-cong, total-part}
 use Rattle.tables.specs.declared.Counts.{Counts}
 use Rattle.tables.specs.declared.Verdict.{Verdict}
 use Rattle.tables.specs.declared.Verdict.the-variants.{Fine}
-use Rattle.tables.specs.Limits.{maxStates, maxActions, maxObservations}
+use Rattle.tables.specs.Limits.{maxStates, maxActions, maxObservations, startTotal}
 use Rattle.tables.specs.Model.{Valid}
 use Rattle.tables.specs.Storage.{modelIn, modelOf, countsOf, cellIn}
 use Rattle.tables.specs.Steps.{Stored}
@@ -16,7 +16,7 @@ use Rattle.tables.proofs.Accepted.{is-valid}
 use Rattle.tables.proofs.Refusals.{before-fine, unless-fine}
 use Rattle.words.specs.Words.{end, wordsIn, between}
 use Rattle.grammar.specs.Grammar.{Answer, got, refused, _then_}
-use Rattle.entries.specs.Entries.{wholly, startTotal, forms}
+use Rattle.entries.specs.Entries.{wholly, forms}
 use Rattle.statements.specs.Statements.{Draft, statements}
 use Rattle.modelfile.specs.ModelFile.{maxBytes, noCells, textOf, bodyBy, Room, roomFor, roomedBy, textBy, placed, sumsVerdict, ModelFile, judgedFile}
 use Rattle.modelfile.specs.ModelFile.{refusedFile, ended, modelFile, modelFileBy}

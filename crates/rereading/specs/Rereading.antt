@@ -8,13 +8,14 @@ use lib.IntN.{ℤ}
 use Rattle.integers.specs.Whole.{totalTo}
 use Rattle.tables.specs.declared.Counts.{Counts}
 use Rattle.tables.specs.declared.Verdict.the-variants.{Fine}
+use Rattle.tables.specs.Limits.{startTotal}
 use Rattle.tables.specs.Model.{Model, Valid}
 use Rattle.tables.specs.Storage.{modelIn, modelOf, countsOf}
 use Rattle.tables.specs.Steps.{Stored}
 use Rattle.tables.specs.Judged.{limitsHold}
 use Rattle.words.specs.Words.{Words, end, wordsIn, between}
 use Rattle.grammar.specs.Grammar.{got}
-use Rattle.entries.specs.Entries.{wholly, startTotal}
+use Rattle.entries.specs.Entries.{wholly}
 use Rattle.statements.specs.Statements.{Draft, statements}
 use Rattle.headers.specs.Headers.{header, startNumbers}
 use Rattle.modelfile.specs.ModelFile.{maxBytes, Room, roomFor, modelFile}

@@ -1,11 +1,11 @@
 -- Statements whose numbers fit narrower forms are read alike by wider ones. Assumes nothing.
 use Rattle.integers.proofs.Kit.{_≡_, refl, subst⁻¹, true, false, Bool, List, ℕ, _+_, suc, zero, ℤ}
 use Rattle.words.specs.Words.{Words, word, end}
-use Rattle.tables.specs.Limits.{one, maxReward}
+use Rattle.tables.specs.Limits.{one, maxReward, startTotal}
 use Rattle.drafts.specs.Drafts.{stated, rewarded}
 use Rattle.grammar.specs.Grammar.{Answer, got, refused, choose, key, colon, index}
 use Rattle.grammar.proofs.Alike.{Alike, alike-same, Wider, number-alike, signed-alike}
-use Rattle.entries.specs.Entries.{Outcome, filled, stopped, upon, wholly, Forms, probabilityBy, startTotal, startNumberBy, indexed, row, entryBy, tableBy}
+use Rattle.entries.specs.Entries.{Outcome, filled, stopped, upon, wholly, Forms, probabilityBy, startNumberBy, indexed, row, entryBy, tableBy}
 use Rattle.statements.specs.Statements.{within, further, rewardNumberBy, starred, rewardBy, rewardsBy, outcomeKept, outcomeBy, outcomesBy}
 use Rattle.statements.specs.Statements.{rewardsOrOutcomesBy, Draft, draft, transitionKey}
 use Rattle.statements.specs.Statements.{observationKey, rewardKey, rewardStatementBy, observationOrRewardBy, oneStatementBy, statementsBy}

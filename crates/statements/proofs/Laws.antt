@@ -1,4 +1,4 @@
--- A statement's cells as a part of more, a reward by its sign, and statements one after the other. Assumes nothing.
+-- A statement's cells as a part of more, and statements one after the other. Assumes nothing.
 use Rattle.integers.proofs.Kit.{_≡_, _∙_, refl, ap, sym, subst, Bool, List, ℕ, _≤_, _<_, _+_, suc, _-_, zero, arith, length, drop, take, ℤ}
 use denote.Enum.Declared.{tagOf}
 use Rattle.words.specs.declared.Word.{Word}
@@ -6,20 +6,17 @@ use Rattle.words.specs.declared.Word.the-variants.{At, End}
 use Rattle.words.specs.Words.{Words, word, end, wordsIn, between, told}
 use Rattle.words.specs.Steps.{Inside, Worded}
 use Rattle.words.proofs.Word as word-type
-use Rattle.tables.specs.Limits.{maxReward}
-use Rattle.numerals.specs.Numeral.{rewardForm, signed}
 use Rattle.grammar.specs.declared.Read.{Read}
 use Rattle.grammar.specs.declared.Read.the-variants.{Value, Refused}
-use Rattle.grammar.specs.Grammar.{Answer, got, refused, _then_, magnitude, minus, signedNumber, unlessEnd}
+use Rattle.grammar.specs.Grammar.{Answer, unlessEnd}
 use Rattle.grammar.specs.Steps.{Onward, Reads, Takes}
 use Rattle.grammar.proofs.Read as read-type
 use Rattle.grammar.proofs.Laws.{onward}
 use Rattle.grammar.proofs.Arms.{no-word}
-use Rattle.entries.specs.Entries.{Outcome, filled, stopped, upon}
+use Rattle.entries.specs.Entries.{Outcome, filled, stopped}
 use Rattle.entries.specs.Steps.{CellsFit, outcomeOf, Leaves}
 use Rattle.entries.proofs.Laws.{leaves-earlier}
-use Rattle.statements.specs.Statements.{further, within, rewardNumber, Draft, oneStatement, statements}
-use Rattle.statements.specs.Statements.{statementsBy}
+use Rattle.statements.specs.Statements.{further, within, Draft, oneStatement, statements, statementsBy}
 use Rattle.statements.specs.Steps.{begin, OutcomesFit, RewardCells}
 
 -- ---- a statement's word and cells
@@ -67,19 +64,6 @@ outcomes-kept r e = record {
 pub rewards-kept : {full : Bool} {m n k : ℕ} {cells cells' : List ℤ} → RewardCells full m n k cells → length cells' ≡ length cells
     → RewardCells full m n k cells'
 rewards-kept r e = record { in-full = λ h. outcomes-kept (r .in-full h) e; by-state = λ h. fit-kept (r .by-state h) e }
-
--- ---- a reward
-
-signed-upon : {C : Type 0} (cells : C) (t : ℕ → ℤ) (a : Answer ℕ) (k : ℤ → Words → Outcome C)
-    → upon cells a (λ v rest. k (t v) rest) ≡ upon cells (a then λ v rest. got (t v) rest) k
-signed-upon cells t (got v ws) k = refl
-signed-upon cells t (refused n p) k = refl
-
-pub reward-by : (put : ℤ → List ℤ) (cells : List ℤ) (ws : Words)
-    → upon cells (magnitude rewardForm maxReward ws) (λ v rest. filled (put (signed (minus ws) v)) rest)
-    ≡ upon cells (rewardNumber ws) (λ r rest. filled (put r) rest)
-unfolding signedNumber
-reward-by put cells ws = signed-upon cells (signed (minus ws)) (magnitude rewardForm maxReward ws) (λ r rest. filled (put r) rest)
 
 -- ---- statements
 

@@ -28,13 +28,12 @@ fn reward_at(
     requires { ⌜ (a ≤ m) × (s ≤ n) ⌝ }
     ensures { λ r. ⌜ Leaves (now (file .entry)) at r (now (cells .exit)) (reward m n a s (now (cells .entry)) (wordsIn between (now (file .entry)) at)) ⌝ }
 {
-    let w = reader::word_from(file, at);
-    let x = grammar::magnitude_of(file, w, Form::REWARD, Tables::REWARD);
-    let Read::Value(v, next) = x else {
+    let r = grammar::signed_at(file, at, Form::REWARD, Tables::REWARD);
+    let x = r.read;
+    let Read::Value(_, next) = x else {
         return x;
     };
-    let r = numerals::with_sign(grammar::minus_of(file, w), v);
-    drafts::state_reward(cells, m, n, a, s, r);
+    drafts::state_reward(cells, m, n, a, s, r.value);
     Read::Value(0, next)
 }
 
@@ -101,13 +100,12 @@ fn outcome_at(
     ensures { λ r. ⌜ Leaves (now (file .entry)) at r (now (cells .exit))
         (outcome m n k a s to o (now (cells .entry)) (wordsIn between (now (file .entry)) at)) ⌝ }
 {
-    let w = reader::word_from(file, at);
-    let x = grammar::magnitude_of(file, w, Form::REWARD, Tables::REWARD);
-    let Read::Value(v, next) = x else {
+    let r = grammar::signed_at(file, at, Form::REWARD, Tables::REWARD);
+    let x = r.read;
+    let Read::Value(_, next) = x else {
         return x;
     };
-    let r = numerals::with_sign(grammar::minus_of(file, w), v);
-    keep_outcome(cells, m, n, k, a, s, to, o, r);
+    keep_outcome(cells, m, n, k, a, s, to, o, r.value);
     Read::Value(0, next)
 }
 

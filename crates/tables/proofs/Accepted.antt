@@ -21,7 +21,7 @@ count-is : (limit n : ℕ) → 0 < n → n ≤ limit → countWithin limit n ≡
 count-is limit n h l = and-is (le-leb 1 n (omega arith)) (le-leb n limit l)
 
 module _ (m n w : ℕ) (cell : ℕ → ℕ → ℕ → ℕ) where
-  cells-true : cellsWithin m n w cell ≡ true → (a : ℕ) → a < m → (s : ℕ) → s < n → (x : ℕ) → x < w → cell a s x ≤ one
+  pub cells-true : cellsWithin m n w cell ≡ true → (a : ℕ) → a < m → (s : ℕ) → s < n → (x : ℕ) → x < w → cell a s x ≤ one
   cells-true e a la s ls x lx =
       leb-true _ _ (every-at w _ (every-at n _ (every-at m _ e a la) s ls) x lx)
 

@@ -7,10 +7,11 @@ use lib.IntN.{ℤ, pos, natAbs}
 use Rattle.integers.specs.Whole.{totalTo}
 use Rattle.integers.specs.Search.{every}
 use Rattle.tables.specs.Tables.{Tables}
+use Rattle.tables.specs.declared.Counts.{Counts}
 use Rattle.tables.specs.declared.Verdict.{Verdict}
 use Rattle.tables.specs.Limits.{maxStates, maxActions, maxObservations, one, maxReward}
 use Rattle.tables.specs.Model.{Model}
-use Rattle.tables.specs.Storage.{rowPlace, modelOf}
+use Rattle.tables.specs.Storage.{rowPlace, countsOf, modelOf}
 use Rattle.tables.specs.Verdicts.{_before_, unless, firstOf}
 
 -- 1 to a limit
@@ -49,12 +50,14 @@ rowsVerdict M =
 unfoldable pub modelVerdict : Model → Verdict
 modelVerdict M = unless (limitsHold M) 3 0 before rowsVerdict M
 
--- slices long enough for their counts
+-- slices of such lengths for T, O and R are long enough for the counts
+abbrev pub hasRoom : Counts → ℕ → ℕ → ℕ → Bool
+hasRoom c transitions observations rewards =
+    leb (c .actions * c .states * c .states) transitions
+    && (leb (c .actions * c .states * c .observations) observations && leb (c .actions * c .states) rewards)
+
 abbrev pub tablesStored : Tables → Bool
-tablesStored m =
-    leb (m .actions * m .states * m .states) (length (m .transition))
-    && (leb (m .actions * m .states * m .observations) (length (m .observation))
-    && leb (m .actions * m .states) (length (m .reward)))
+tablesStored m = hasRoom (countsOf m) (length (m .transition)) (length (m .observation)) (length (m .reward))
 
 -- 3, then 5, then 6, of tables of any content: a slice shorter than its counts need gets 3
 unfoldable pub tablesVerdict : Tables → Verdict

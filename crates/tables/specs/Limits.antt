@@ -25,6 +25,10 @@ maxRows = maxVectors
 abbrev pub one : ℕ
 one = 1_000
 
+-- what start numbers total: 1, in hundredths
+abbrev pub startTotal : ℕ
+startTotal = 100
+
 -- the largest reward, either way, in ticks
 abbrev pub maxReward : ℕ
 maxReward = 100_000

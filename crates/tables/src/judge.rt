@@ -4,10 +4,10 @@ ghost use mathlib.Core.Bool.{_&&_};
 ghost use Prim.Native.Nat.{_+_, _*_, _≤_, max};
 ghost use lib.ListN.{length, getD};
 ghost use Rattle.integers.specs.Whole.{totalTo, largestTo};
-ghost use Rattle.tables.specs.Limits.{maxStates, maxActions, maxObservations, one};
+ghost use Rattle.tables.specs.Limits.{maxStates, maxActions, maxObservations};
 ghost use Rattle.tables.specs.Storage.{cellIn, rewardIn, modelOf, tablesIn};
-ghost use Rattle.tables.specs.Judged.{countWithin, countsWithin, cellsWithin, rewardsWithin, limitsHold, tablesStored, rowsTotal};
-ghost use Rattle.tables.specs.Judged.{tablesVerdict};
+ghost use Rattle.tables.specs.Judged.{countWithin, countsWithin, cellsWithin, rewardsWithin, limitsHold, hasRoom, tablesStored};
+ghost use Rattle.tables.specs.Judged.{rowsTotal, tablesVerdict};
 use super::Action;
 use super::Counts;
 use super::State;
@@ -84,24 +84,19 @@ fn rewards_within(cells: &[i64], m: usize, n: usize) -> bool
     true
 }
 
-// Whether the slices are long enough for their counts.
-fn tables_stored<'a>(
-    transition: &'a [u16],
-    observation: &'a [u16],
-    reward: &'a [i64],
-    c: Counts,
-) -> bool
+// Whether slices of such lengths are long enough for tables of the counts.
+pub fn has_room(c: Counts, transitions: usize, observations: usize, rewards: usize) -> bool
     requires { ⌜ (c .states ≤ maxStates) × ((c .actions ≤ maxActions) × (c .observations ≤ maxObservations)) ⌝ }
-    ensures { λ r. ⌜ r ≡ tablesStored (tablesIn c (now (transition .entry)) (now (observation .entry)) (now (reward .entry))) ⌝ }
+    ensures { λ r. ⌜ r ≡ hasRoom c transitions observations rewards ⌝ }
 {
     let rows = c.actions * c.states;
-    if transition.len() < rows * c.states {
+    if transitions < rows * c.states {
         return false;
     }
-    if observation.len() < rows * c.observations {
+    if observations < rows * c.observations {
         return false;
     }
-    rows <= reward.len()
+    rows <= rewards
 }
 
 // 3: the counts come first, since the cells lie by them.
@@ -117,7 +112,7 @@ fn limits_hold<'a>(
     if !counts_within(c.states, c.actions, c.observations) {
         return false;
     }
-    if !tables_stored(transition, observation, reward, c) {
+    if !has_room(c, transition.len(), observation.len(), reward.len()) {
         return false;
     }
     if Tables::ONE < c.discount {

@@ -4,7 +4,7 @@ use Rattle.integers.proofs.Kit.{Bool, true, false, cond, mul-le-mul-right, lt-l
 use mathlib.Core.List.{_++_}
 use lib.ListN.{length-append}
 use Rattle.tables.specs.declared.Counts.{Counts}
-use Rattle.tables.specs.Limits.{maxConverted, maxActions, maxObservations, one}
+use Rattle.tables.specs.Limits.{maxConverted, maxActions, maxObservations, one, startTotal}
 use Rattle.tables.specs.Model.{Valid}
 use Rattle.tables.specs.Storage.{modelIn, transitionIn, observationIn, rewardIn}
 use Rattle.digits.proofs.Over.{digits-length}
@@ -46,7 +46,7 @@ fixed-length places v =
 thousandths : (v : ℕ) → v ≤ one → length (fixed 3 v) ≤ 5
 thousandths v l = omega (arith, fixed-length 3 v, whole-one (v / 10 ^ 3) (omega arith))
 
-hundredths : (v : ℕ) → v ≤ 100 → length (fixed 2 v) ≤ 4
+hundredths : (v : ℕ) → v ≤ startTotal → length (fixed 2 v) ≤ 4
 hundredths v l = omega (arith, fixed-length 2 v, whole-one (v / 10 ^ 2) (omega arith))
 
 ticks : (v : ℤ) → length (signedFixed 2 v) ≤ 8
@@ -127,14 +127,14 @@ header-length c d n m k =
       length-append (whole (c .observations)) newline,
     )
 
-start-length : (n : ℕ) (start : List ℕ) → n ≤ maxConverted → ((s : ℕ) → s < n → getD start s 0 ≤ 100) → length (startText n start) ≤ 87
+start-length : (n : ℕ) (start : List ℕ) → n ≤ maxConverted → ((s : ℕ) → s < n → getD start s 0 ≤ startTotal) → length (startText n start) ≤ 87
 unfolding startText
 start-length n start few h =
     let f : ℕ → List ℕ = λ s. spaced (fixed 2 (getD start s 0)) in
     omega (arith, length-append (partsTo n f) newline, parts-length n maxConverted f 5 few (λ s l. omega (arith, hundredths (getD start s 0) (h s l))))
 
 pub file-length : (c : Counts) (transition observation : List ℕ) (reward : List ℤ) (start : List ℕ) → Valid (modelIn c transition observation reward)
-    → c .states ≤ maxConverted → ((s : ℕ) → s < c .states → getD start s 0 ≤ 100) → length (fileText c transition observation reward start) ≤ maxText
+    → c .states ≤ maxConverted → ((s : ℕ) → s < c .states → getD start s 0 ≤ startTotal) → length (fileText c transition observation reward start) ≤ maxText
 unfolding fileText
 file-length c transition observation reward start v few begins =
     let n = c .states in

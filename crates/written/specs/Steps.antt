@@ -3,7 +3,7 @@ use Prim.Native.Nat.{ℕ, _+_, _≤_}
 use mathlib.Core.List.{List}
 use lib.ListN.{getD}
 use lib.IntN.{ℤ}
-use Rattle.tables.specs.Limits.{maxConverted}
+use Rattle.tables.specs.Limits.{maxConverted, startTotal}
 use Rattle.integers.specs.Whole.{Below}
 use Rattle.tables.specs.declared.Counts.{Counts}
 use Rattle.tables.specs.Model.{Valid}
@@ -20,4 +20,4 @@ pub record Writable (c : Counts) (transition observation : List ℕ) (reward : L
   pub valid : Valid (modelIn c transition observation reward)
   pub stored : Stored c transition observation reward
   pub few : c .states ≤ maxConverted
-  pub begins : Below 100 (c .states) start
+  pub begins : Below startTotal (c .states) start

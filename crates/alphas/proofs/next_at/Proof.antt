@@ -1,4 +1,4 @@
-use Rattle.alphas.proofs.Prelude.{arith, needs, got, inside, nextNode}
+use Rattle.alphas.proofs.Prelude.{_-_, arith, needs, got, inside, nextNode}
 use Rattle.words.specs.Words.{told}
 use Rattle.words.specs.Steps.{Worded}
 use Rattle.numerals.specs.Numeral.{nodeForm}
@@ -27,8 +27,8 @@ returns-2 c =
     let g = c .before .x .given in
     let a = c .before .before .before .before .before .before .before .args in
     takes-reads nextNode (worded (c .before .before .before .before .before))
-    (takes-on noNode (number nodeForm 0 999 (told (a .file .now) (c .before .before .before .before .before .word-from .result))) (g .0 .0) (g .0 .1 .0)
-    (c .before .before .before .key-of .ensures) (g .1))
+    (takes-on noNode (number nodeForm 0 (noNode - 1) (told (a .file .now) (c .before .before .before .before .before .word-from .result)))
+    (g .0 .0) (g .0 .1 .0) (c .before .before .before .key-of .ensures) (g .1))
 
 pub next-at-spec : {M : Type 1} → statement M
 next-at-spec =

@@ -4,10 +4,10 @@ use Rattle.tables.specs.Verdicts.{_before_}
 use Rattle.modelfile.specs.ModelFile.{maxBytes, ModelFile}
 use Rattle.modelfile.proofs.Laws.{headed-within}
 use Rattle.written.specs.Text.{maxText}
-use Rattle.converting.specs.Convert.{said, expectVerdict, convertVerdict, converted}
-use Rattle.converting.specs.Steps.{Answers, AnswersFile}
-use Rattle.converting.proofs.Converting.{answers-refused, short-output, long-file, short-file, unheaded, headed}
-use Rattle.converting.proofs.Claim.{convert-answers}
+use Rattle.conversion.specs.Convert.{said, expectVerdict, convertVerdict, converted}
+use Rattle.conversion.specs.Steps.{Answers, AnswersFile}
+use Rattle.conversion.proofs.Converting.{answers-refused, short-output, long-file, short-file, unheaded, headed}
+use Rattle.conversion.proofs.Claim.{convert-answers}
 use Rattle.converting.proofs.convert.Statement.{statement}
 use Rattle.converting.proofs.convert.Tie as tie
 

@@ -4,9 +4,9 @@ use Rattle.tables.specs.Limits.{maxStates, maxConverted, maxActions, maxObserva
 use Rattle.words.specs.Words.{wordsIn, between}
 use Rattle.modelfile.specs.ModelFile.{ModelFile, body, ended}
 use Rattle.modelfile.proofs.Opens.{body-holds}
-use Rattle.converting.specs.Convert.{expectedText}
-use Rattle.converting.specs.Steps.{fileOf, Sound, Long, nothing, AnswersFile}
-use Rattle.converting.proofs.Converting.{answers-refused, body-sound, read-refused}
+use Rattle.conversion.specs.Convert.{expectedText}
+use Rattle.conversion.specs.Steps.{fileOf, Sound, Long, nothing, AnswersFile}
+use Rattle.conversion.proofs.Converting.{answers-refused, body-sound, read-refused}
 use Rattle.converting.proofs.from_counts.Statement.{statement}
 use Rattle.converting.proofs.from_counts.Tie as tie
 

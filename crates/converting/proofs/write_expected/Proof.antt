@@ -6,10 +6,10 @@ use Rattle.tables.specs.Limits.{maxConverted, maxActions}
 use Rattle.modelfile.specs.ModelFile.{ModelFile}
 use Rattle.digits.specs.Steps.{Wrote}
 use Rattle.written.specs.Text.{fileText}
-use Rattle.converting.specs.Convert.{expectVerdict, expectedText, expectedRewards}
-use Rattle.converting.specs.Steps.{fileOf, nothing}
-use Rattle.converting.proofs.Expecting.{few-rewards, ready, writable}
-use Rattle.converting.proofs.Converting.{answers-refused, answers-written, many-states, few-states}
+use Rattle.conversion.specs.Convert.{expectVerdict, expectedText, expectedRewards}
+use Rattle.conversion.specs.Steps.{fileOf, nothing}
+use Rattle.conversion.proofs.Expecting.{few-rewards, ready, writable}
+use Rattle.conversion.proofs.Converting.{answers-refused, answers-written, many-states, few-states}
 use Rattle.converting.proofs.write_expected.Statement.{statement}
 use Rattle.converting.proofs.write_expected.Tie as tie
 

@@ -18,7 +18,7 @@ before-number-of c = c .before .before .before .before
 index-of-requires : tie.Need-index-of-requires
 index-of-requires c κs =
     let r = c .before .before .before .pre .0 .1 in
-    (inside (c .pair-from .ensures .first .within (c .before .before .before .pre .0 .0)), (r .some-places, omega (arith, r .few-places)))
+    (inside (c .pair-from .ensures .first .within (c .before .before .before .pre .0 .0)), r .some-places)
 
 returns : tie.Need-returns
 unfolding entryBy

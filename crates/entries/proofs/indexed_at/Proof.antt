@@ -1,4 +1,4 @@
-use Rattle.entries.proofs.Prelude.{arith, needs, key, colon, index, inside, takes-reads, second-word, indexed}
+use Rattle.entries.proofs.Prelude.{needs, key, colon, index, inside, takes-reads, second-word, indexed}
 use Rattle.grammar.proofs.Laws.{reads-on}
 use Rattle.grammar.proofs.Arms.{reads-back}
 use Rattle.entries.proofs.indexed_at.Statement.{statement}
@@ -18,7 +18,7 @@ index-of-requires : tie.Need-index-of-requires
 index-of-requires c κs = (
   inside (second-word _ _ (c .before .before .before .before .pair-from .ensures)
       (c .before .before .before .before .before .before .pre .0) (c .before .before .key-of .ensures) (c .enum-told .given .1)),
-  (c .before .before .before .before .before .before .pre .1 .0, omega (arith, c .before .before .before .before .before .before .pre .1 .1)),
+  c .before .before .before .before .before .before .pre .1,
 )
 
 returns-2 : tie.Need-returns-2

@@ -2,14 +2,11 @@ use Rattle.expected.proofs.Prelude.{_∙_, ap, sym, needs}
 use Rattle.integers.proofs.Kit.{List, ℤ}
 use Rattle.tables.specs.declared.Verdict.{Verdict}
 use Rattle.tables.specs.Verdicts.{left}
-use Rattle.expected.specs.Expected.{laidExpected, expectedVerdict}
+use Rattle.expected.specs.Expected.{laidExpected}
 use Rattle.expected.proofs.expect.Statement.{statement}
 use Rattle.expected.proofs.expect.Tie as tie
 
--- the verdict, and what a verdict leaves of the rewards
-abbrev verdict : tie.Start → Verdict
-verdict c = let a = c .args in expectedVerdict (a .c) (a .transition .now) (a .observation .now) (a .outcomes .now)
-
+-- what a verdict leaves of the rewards
 abbrev leaves : tie.Start → Verdict → List ℤ
 leaves c v =
     let a = c .args in

@@ -3,8 +3,7 @@ use Rattle.words.specs.Words.{Words}
 use Rattle.tables.specs.declared.Counts.{Counts}
 use Rattle.grammar.specs.Grammar.{Answer, _then_, key, named}
 use Rattle.grammar.proofs.Laws.{value-next}
-use Rattle.headers.specs.Headers.{valuesName, rewardWord, headerBy}
-use Rattle.headers.specs.Steps.{counted}
+use Rattle.headers.specs.Headers.{valuesName, rewardWord, counted, headerBy}
 use Rattle.headers.proofs.Laws.{heads-back, heads-on}
 use Rattle.headers.proofs.header_at.Statement.{statement}
 use Rattle.headers.proofs.header_at.Tie as tie

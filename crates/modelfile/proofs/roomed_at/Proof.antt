@@ -13,6 +13,9 @@ begin c = c .before .before .before .before .before
 abbrev of-body : tie.After-body-at → tie.After-has-room
 of-body c = c .before .before .before .before .before .before
 
+has-room-requires : tie.Need-has-room-requires
+has-room-requires c κs = let p = c .before .before .before .before .pre .1 .0 in (p .states .1, (p .actions .1, p .observations .1))
+
 returns : tie.Need-returns
 returns c =
     let h = c .before .before in
@@ -31,5 +34,5 @@ returns-2 c =
 
 pub roomed-at-spec : {M : Type 1} → statement M
 roomed-at-spec =
-    tie.close (tie.spec (λ c κs. search needs) (λ c κs. search needs) returns (λ c κs. begin (c .before .before .before .before .before) .pre)
+    tie.close (tie.spec has-room-requires (λ c κs. search needs) returns (λ c κs. begin (c .before .before .before .before .before) .pre)
     (λ c. search needs) (λ c. search needs) (λ c. search needs) (λ c. search needs) returns-2)

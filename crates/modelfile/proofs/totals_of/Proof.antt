@@ -1,6 +1,6 @@
 use Rattle.modelfile.proofs.Prelude.{ℕ, _+_, _≡_, sym, ap, _∙_, List, arith, needs, placed}
 use Rattle.integers.proofs.Kit.{ne-eqb, eq-eqb, eqb, true, getD}
-use Rattle.entries.specs.Entries.{startTotal}
+use Rattle.tables.specs.Limits.{startTotal}
 use Rattle.modelfile.specs.ModelFile.{sumsVerdict}
 use Rattle.integers.specs.Whole.{totalTo}
 use Rattle.integers.proofs.Sums.{total-cong}

@@ -1,4 +1,4 @@
-use Rattle.statements.proofs.Prelude.{ℕ, ℤ, List, arith, needs, value-next, leaves-back, leaves-on}
+use Rattle.statements.proofs.Prelude.{ℕ, ℤ, List, needs, value-next, leaves-back, leaves-on}
 use Rattle.words.specs.Words.{Words, wordsIn, between}
 use Rattle.grammar.specs.declared.Read.{Read}
 use Rattle.entries.specs.Entries.{Outcome, upon, indexed}
@@ -82,7 +82,7 @@ returns c =
 indexed-at-requires-2 : tie.Need-indexed-at-requires-2
 indexed-at-requires-2 c κs =
     let p = start (c .before .before .before) .pre .1 in
-    (value-next _ _ (c .before .before .before .indexed-at .ensures) (c .before .i .given .1) .1 .1, (p .some-states, p .few-states))
+    (value-next _ _ (c .before .before .before .indexed-at .ensures) (c .before .i .given .1) .1 .1, p .some-states)
 
 returns-2 : tie.Need-returns-2
 returns-2 c =
@@ -94,7 +94,7 @@ returns-2 c =
 indexed-at-requires-3 : tie.Need-indexed-at-requires-3
 indexed-at-requires-3 c κs =
     let p = start (first (c .before .before .before)) .pre .1 in
-    (value-next _ _ (c .before .before .before .indexed-at2 .ensures) (c .before .j .given .1) .1 .1, (p .some-states, p .few-states))
+    (value-next _ _ (c .before .before .before .indexed-at2 .ensures) (c .before .j .given .1) .1 .1, p .some-states)
 
 returns-3 : tie.Need-returns-3
 returns-3 c =
@@ -106,10 +106,8 @@ returns-3 c =
 
 indexed-at-requires-4 : tie.Need-indexed-at-requires-4
 indexed-at-requires-4 c κs =
-    let p = start (first (second (c .before .before .before))) .pre .1 in (
-      value-next _ _ (c .before .before .before .indexed-at3 .ensures) (c .before .g .given .1) .1 .1,
-      (p .some-observations, omega (arith, p .few-observations)),
-    )
+    let p = start (first (second (c .before .before .before))) .pre .1 in
+    (value-next _ _ (c .before .before .before .indexed-at3 .ensures) (c .before .g .given .1) .1 .1, p .some-observations)
 
 -- the action, the state and the state reached that were read
 abbrev action : tie.After-indexed-at4 → ℕ

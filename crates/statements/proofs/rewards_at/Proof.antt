@@ -37,7 +37,7 @@ returns c =
 indexed-at-requires-2 : tie.Need-indexed-at-requires-2
 indexed-at-requires-2 c κs = (
   value-next _ _ (c .before .before .before .indexed-at .ensures) (c .before .i .given .1) .1 .1,
-  (before-indexed-at (c .before .before .before) .pre .1 .some-rows, before-indexed-at (c .before .before .before) .pre .1 .few-rows),
+  before-indexed-at (c .before .before .before) .pre .1 .some-rows,
 )
 
 returns-2 : tie.Need-returns-2

@@ -18,7 +18,7 @@ few-here : (c : tie.Else1) → let m = c .before .before .before .before .args .
 few-here c = few _ _ _ (counts c)
 
 is-stored : (c : tie.Else2) → tablesStored (tables (c .before .before .before .before .before .before)) ≡ true
-is-stored c = sym (c .before .tables-stored .ensures) ∙ not-false _ (c .if2 .left)
+is-stored c = sym (c .before .has-room .ensures) ∙ not-false _ (c .if2 .left)
 
 stored : (c : tie.Else2) → let a = c .before .before .before .before .before .before .args in
     Stored (a .c) (a .transition .now) (a .observation .now) (a .reward .now)
@@ -28,13 +28,13 @@ returns : tie.Need-returns
 unfolding limitsHold
 returns c = rw (sym (c .before .counts-within .ensures) ∙ not-true _ (c .if1 .taken))
 
-tables-stored-requires : tie.Need-tables-stored-requires
-tables-stored-requires c κs = let f = few-here c in (f .states, (f .actions, f .observations))
+has-room-requires : tie.Need-has-room-requires
+has-room-requires c κs = let f = few-here c in (f .states, (f .actions, f .observations))
 
 returns-2 : tie.Need-returns-2
 returns-2 c =
     sym (and-false (limitsHold (modelOf (tables (c .before .before .before .before .before .before)))) _
-    (sym (c .before .tables-stored .ensures) ∙ not-true _ (c .if2 .taken)))
+    (sym (c .before .has-room .ensures) ∙ not-true _ (c .if2 .taken)))
 
 returns-3 : tie.Need-returns-3
 unfolding limitsHold
@@ -94,5 +94,5 @@ returns-6 c =
 
 pub limits-hold-spec : {M : Type 1} → statement M
 limits-hold-spec =
-    tie.close (tie.spec (λ c κs. search needs) returns tables-stored-requires returns-2 returns-3 cells-within-requires returns-4
+    tie.close (tie.spec (λ c κs. search needs) returns has-room-requires returns-2 returns-3 cells-within-requires returns-4
     cells-within-requires-2 returns-5 rewards-within-requires returns-6)

@@ -1,25 +1,26 @@
 use Rattle.tables.proofs.Prelude.{_≤_, _-_, _≡_, sym, ap, _∙_, arith, true, leb, not-true, not-false, every, every-none, every-more, every-not}
 use Rattle.tables.proofs.Prelude.{back, rewardIn, rows-stored}
 use lib.IntN.{ℤ, natAbs}
+use Rattle.tables.specs.Limits.{maxReward}
 use Rattle.tables.proofs.judge.rewards_within.Statement.{statement}
 use Rattle.tables.proofs.judge.rewards_within.Tie as tie
 
 abbrev Inv-loop2 : tie.InvT-loop2
-Inv-loop2 cells m n a s₀ s = (s ≤ n) × (every s (λ t. leb (natAbs (rewardIn n cells t a)) 100000) ≡ true)
+Inv-loop2 cells m n a s₀ s = (s ≤ n) × (every s (λ t. leb (natAbs (rewardIn n cells t a)) maxReward) ≡ true)
 
 abbrev μ-loop2 : tie.MeasureT-loop2
 μ-loop2 cells m n a s₀ s = n - s
 
 abbrev Inv-loop : tie.InvT-loop
-Inv-loop cells m n a₀ a = (a ≤ m) × (every a (λ b. every n (λ t. leb (natAbs (rewardIn n cells t b)) 100000)) ≡ true)
+Inv-loop cells m n a₀ a = (a ≤ m) × (every a (λ b. every n (λ t. leb (natAbs (rewardIn n cells t b)) maxReward)) ≡ true)
 
 abbrev μ-loop : tie.MeasureT-loop
 μ-loop cells m n a₀ a = m - a
 
 said : (c : tie.After-within Inv-loop2 μ-loop2 Inv-loop μ-loop) → c .within .result ≡ leb
     (natAbs (rewardIn (c .before .before .before .before .before .before .args .n) (c .before .before .before .before .before .before .args .cells .now)
-    (c .before .before .before .loop2 .s) (c .before .before .before .before .before .loop .a))) 100000
-said c = c .within .ensures ∙ ap (λ (z : ℤ). leb (natAbs z) 100000) (back _ (c .before .reward-at .ok) ∙ c .before .reward-at .ensures)
+    (c .before .before .before .loop2 .s) (c .before .before .before .before .before .loop .a))) maxReward
+said c = c .within .ensures ∙ ap (λ (z : ℤ). leb (natAbs z) maxReward) (back _ (c .before .reward-at .ok) ∙ c .before .reward-at .ensures)
 
 reward-at-requires : tie.Need-reward-at-requires Inv-loop2 μ-loop2 Inv-loop μ-loop
 reward-at-requires c κs =

@@ -17,7 +17,7 @@ use Rattle.modelfile.specs.ModelFile.{maxBytes, ModelFile, Text, body, ended}
 use Rattle.expected.specs.Expected.{laidExpected, expectedVerdict}
 use Rattle.digits.specs.Digits.{textOver}
 use Rattle.written.specs.Text.{maxText, fileText}
-use Rattle.converting.specs.declared.Converted.{Converted}
+use Rattle.conversion.specs.declared.Converted.{Converted}
 
 -- the words of a file in order, its R statements in full
 abbrev pub outcomesText : ℕ → Words → Answer Text

@@ -3,19 +3,18 @@ use Rattle.integers.proofs.Kit.{_≡_, subst⁻¹, List, ℕ, _≤_, _<_, _*_, 
 use Rattle.integers.proofs.Lists.{laidRows-at, laidRows-length}
 use Rattle.integers.proofs.Sums.{total-part}
 use Rattle.tables.specs.declared.Counts.{Counts}
-use Rattle.tables.specs.Limits.{maxConverted, maxActions, maxReward}
+use Rattle.tables.specs.Limits.{maxConverted, maxActions, maxReward, startTotal}
 use Rattle.tables.specs.Model.{Valid}
 use Rattle.tables.specs.Storage.{countsOf, modelIn, rewardIn}
 use Rattle.tables.proofs.Fitting.{Sizes, sizes}
 use Rattle.drafts.specs.Drafts.{outcomePlace}
-use Rattle.entries.specs.Entries.{startTotal}
 use Rattle.modelfile.specs.ModelFile.{ModelFile}
 use Rattle.expected.specs.Expected.{expectedReward}
 use Rattle.expected.specs.Steps.{Ready}
 use Rattle.expected.proofs.Expected.{expected-within}
 use Rattle.written.specs.Steps.{Writable}
-use Rattle.converting.specs.Convert.{expectedRewards}
-use Rattle.converting.specs.Steps.{fileOf, Sound, Long}
+use Rattle.conversion.specs.Convert.{expectedRewards}
+use Rattle.conversion.specs.Steps.{fileOf, Sound, Long}
 
 -- the model with other rewards within their limits
 with-rewards : (c : Counts) (T O : List ℕ) (r r' : List ℤ) → Valid (modelIn c T O r)

@@ -24,9 +24,9 @@ use Rattle.expected.specs.Expected.{expectedVerdict}
 use Rattle.digits.specs.Digits.{textOver}
 use Rattle.digits.specs.Steps.{Wrote}
 use Rattle.written.specs.Text.{maxText}
-use Rattle.converting.specs.declared.Converted.{Converted}
-use Rattle.converting.specs.Convert.{said, expectVerdict, convertVerdict, convertAnswer}
-use Rattle.converting.specs.Steps.{Sound, nothing, Answers}
+use Rattle.conversion.specs.declared.Converted.{Converted}
+use Rattle.conversion.specs.Convert.{said, expectVerdict, convertVerdict, convertAnswer}
+use Rattle.conversion.specs.Steps.{Sound, nothing, Answers}
 
 -- ---- a refusal, or a text that is written
 

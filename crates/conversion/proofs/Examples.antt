@@ -18,8 +18,8 @@ use Rattle.modelfile.specs.ModelFile.{maxBytes, bodyBy, sumsVerdict}
 use Rattle.expected.specs.Expected.{expectedMillionths, expectedVerdict}
 use Rattle.written.specs.Text.{partsTo, lastDigits, whole, fixed, signedFixed, line, opening, rowText, tableText, rewardText, rewardsText, headerText}
 use Rattle.written.specs.Text.{startText, fileText}
-use Rattle.converting.specs.Convert.{expectVerdict, convertVerdict, converted}
-use Rattle.converting.proofs.Converting.{long-file}
+use Rattle.conversion.specs.Convert.{expectVerdict, convertVerdict, converted}
+use Rattle.conversion.proofs.Converting.{long-file}
 
 -- ---- files and what they are written as; a slash stands for an LF
 

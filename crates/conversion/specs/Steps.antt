@@ -8,15 +8,14 @@ use Rattle.integers.specs.Whole.{totalTo}
 use Rattle.tables.specs.declared.Counts.{Counts}
 use Rattle.tables.specs.declared.Verdict.{Verdict}
 use Rattle.tables.specs.declared.Verdict.the-variants.{Fine}
-use Rattle.tables.specs.Limits.{maxStates, maxConverted, maxActions, maxObservations, maxReward}
+use Rattle.tables.specs.Limits.{maxStates, maxConverted, maxActions, maxObservations, maxReward, startTotal}
 use Rattle.tables.specs.Model.{Valid}
 use Rattle.tables.specs.Storage.{modelOf, tablesIn}
 use Rattle.tables.specs.Verdicts.{_before_, left}
-use Rattle.entries.specs.Entries.{startTotal}
 use Rattle.modelfile.specs.ModelFile.{ModelFile}
 use Rattle.digits.specs.Digits.{textOver}
-use Rattle.converting.specs.declared.Converted.{Converted}
-use Rattle.converting.specs.Convert.{expectVerdict, expectedText, convertAnswer}
+use Rattle.conversion.specs.declared.Converted.{Converted}
+use Rattle.conversion.specs.Convert.{expectVerdict, expectedText, convertAnswer}
 
 -- a file that was read, in counts and slices
 abbrev pub fileOf : Counts → List ℕ → List ℕ → List ℤ → List ℕ → ModelFile

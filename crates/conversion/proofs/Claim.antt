@@ -12,12 +12,12 @@ use Rattle.expected.proofs.Expected.{expected-whole, expected-exact}
 use Rattle.written.specs.Text.{maxText}
 use Rattle.written.proofs.Sizes.{file-length}
 use Rattle.rereading.proofs.WholeFile.{models-read-back}
-use Rattle.converting.specs.declared.Converted.{Converted}
-use Rattle.converting.specs.Convert.{said, expectVerdict, convertVerdict, expectedRewards, expectedText, converted, convertAnswer, convertedOver}
-use Rattle.converting.specs.Claim.{SameModel, ConvertHolds}
-use Rattle.converting.specs.Steps.{Sound, Answers}
-use Rattle.converting.proofs.Converting.{said-sound}
-use Rattle.converting.proofs.Expecting.{expected-at, expected-valid, starts-below}
+use Rattle.conversion.specs.declared.Converted.{Converted}
+use Rattle.conversion.specs.Convert.{said, expectVerdict, convertVerdict, expectedRewards, expectedText, converted, convertAnswer, convertedOver}
+use Rattle.conversion.specs.Claim.{SameModel, ConvertHolds}
+use Rattle.conversion.specs.Steps.{Sound, Answers}
+use Rattle.conversion.proofs.Converting.{said-sound}
+use Rattle.conversion.proofs.Expecting.{expected-at, expected-valid, starts-below}
 
 module _ (x : ModelFile) (h : Sound x) where
   abbrev c : Counts

@@ -10,7 +10,7 @@ use Rattle.tables.specs.Limits.{one}
 use Rattle.tables.specs.Storage.{countsOf, modelOf}
 use Rattle.modelfile.specs.ModelFile.{ModelFile, Room, roomFor, modelFile}
 use Rattle.expected.specs.Expected.{expectedMillionths}
-use Rattle.converting.specs.Convert.{said, converted}
+use Rattle.conversion.specs.Convert.{said, converted}
 
 -- y is read from what x was converted to
 pub record SameModel (x y : ModelFile) : Type 0 where
