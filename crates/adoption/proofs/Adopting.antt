@@ -35,8 +35,9 @@ use Rattle.builder.proofs.Levels.{upon-lent, roofed-lent}
 use Rattle.solver.specs.declared.Judged.{Judged}
 use Rattle.solver.specs.Files.{maxFile, vectorsIn, filesVerdict, withCount}
 use Rattle.solver.proofs.Files.{FilesRead, files-read}
+use Rattle.stated.specs.Steps.{Files, masksOver}
 use Rattle.solved.specs.Solved.{solved}
-use Rattle.solved.specs.Steps.{Files, vectorsOver, masksOver, Solving}
+use Rattle.solved.specs.Steps.{vectorsOver, Solving}
 use Rattle.adoption.specs.Adopt.{solvedFrom, adoptedLevel, adoptFits, solvedVerdict, adoptVerdict, adopted, adoptAnswer}
 use Rattle.adoption.specs.Claim.{AdoptHolds}
 use Rattle.adoption.proofs.Accepted.{roof-fine, adopt-holds}
