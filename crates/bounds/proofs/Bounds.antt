@@ -32,7 +32,7 @@ use Rattle.plans.specs.Totals.{someCounts, best, lower, upper, advice}
 use Rattle.plans.proofs.Agreement.{product-cong, ceiling-weights, best-exists}
 use Rattle.plans.proofs.Rows.{highest-cong, bestRow-range}
 use Rattle.plans.proofs.Built.{ceiling-range, range-limit, shaped-mono}
-use Rattle.levels.specs.Storage.{Lent, levelOf, pointIn, standingIn, informedIn}
+use Rattle.levels.specs.Storage.{Lent, levelOf, pointIn, numberIn, standingIn, informedIn}
 use Rattle.levels.specs.Judged.{holds}
 use Rattle.sawtooth.specs.Steps.{positive, gainIn, ceilingIn}
 use Rattle.sawtooth.proofs.Joined.{ceiling-is}
