@@ -17,7 +17,7 @@ use Rattle.tables.specs.Limits.{maxStates, maxObservations, K}
 use Rattle.tables.specs.Model.{Model, backedUp}
 use Rattle.tables.specs.Storage.{rowPlace, modelIn}
 use Rattle.tables.specs.Verdicts.{_before_, unless, firstOf}
-use Rattle.tables.proofs.Fitting.{row-alone}
+use Rattle.tables.proofs.Fitting.{row-alone, alone-at}
 use Rattle.tables.proofs.Refusals.{never, first-cong}
 use Rattle.masks.specs.Masks.{maskedIn}
 use Rattle.sums.specs.Steps.{foreseenIn, backupIn, foreseenLimit, ChosenFit}
@@ -28,7 +28,6 @@ use Rattle.plans.proofs.Agreement.{backup-cong}
 use Rattle.levels.specs.Judged.{rowsWithin}
 use Rattle.candidates.specs.Steps.{uponIn, Upon}
 use Rattle.candidates.specs.declared.Best.{Best}
-use Rattle.candidates.proofs.Candidates.{alone-at}
 use Rattle.builder.proofs.Levels.{Made}
 use Rattle.stated.specs.Steps.{Choosing}
 use Rattle.solved.specs.declared.Row.{Row}

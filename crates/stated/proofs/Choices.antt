@@ -10,7 +10,7 @@ use Rattle.tables.specs.declared.Verdict.{Verdict}
 use Rattle.tables.specs.Limits.{maxObservations}
 use Rattle.tables.specs.Storage.{choiceIn}
 use Rattle.tables.specs.Verdicts.{_before_, unless, firstOf}
-use Rattle.tables.proofs.Fitting.{row-alone}
+use Rattle.tables.proofs.Fitting.{alone-at}
 use Rattle.tables.proofs.Refusals.{first-cong}
 use Rattle.masks.specs.Masks.{covered, maskOf}
 use Rattle.masks.proofs.Bits.{mask-covers}
@@ -46,7 +46,7 @@ module _ {n k t v : ℕ} {alphaFile graphFile : List ℕ} {r : Said} (says : Say
 
   -- as a table of one row
   row-said : (o : ℕ) → o < k → choiceIn k (r .chosen) 0 o ≡ choicesAt k t graphFile v o
-  row-said o l = ap (λ (i : ℕ). getD (r .chosen) i 0) (row-alone k o) ∙ chosen-said o l
+  row-said o l = alone-at k (r .chosen) o ∙ chosen-said o l
 
   pub numbers-said : (m standing : ℕ)
       → (unless (ltb (r .action .0) m) 10 v before firstOf k (λ o. unless (ltb (getD (r .chosen) o 0) standing) 10 v))

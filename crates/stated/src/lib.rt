@@ -14,6 +14,7 @@ use alphas::NextNodes;
 use alphas::NodeAt;
 use alphas::Ticks;
 use tables::Action;
+use tables::Chosen;
 use tables::Counts;
 use tables::Tables;
 use tables::Vector;
@@ -26,7 +27,7 @@ pub struct Said {
     pub graph: usize,
     pub action: Action,
     pub ticks: Ticks,
-    pub chosen: [u16; Tables::OBSERVATIONS],
+    pub chosen: Chosen,
 }
 
 // ---- one vector
@@ -45,7 +46,7 @@ fn chosen_over(t: usize, next: u16) -> u16
 }
 
 // The same for each observation.
-fn choices_of(next: NextNodes, k: usize, t: usize) -> [u16; Tables::OBSERVATIONS]
+fn choices_of(next: NextNodes, k: usize, t: usize) -> Chosen
     requires { ⌜ k ≤ maxObservations ⌝ }
     ensures { λ r. ⌜ r ≡ padded 0 maxObservations k (λ o. chosenOver t (getD next o 0)) ⌝ }
 {
