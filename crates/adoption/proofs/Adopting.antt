@@ -44,13 +44,6 @@ use Rattle.adoption.proofs.Accepted.{roof-fine, adopt-holds}
 
 -- ---- a verdict with a count
 
-pub verdict-counted : (v : Verdict) (n : ℕ) → withCount v n .verdict ≡ v
-verdict-counted Fine n = refl
-verdict-counted (Refused number place) n = refl
-
-pub vectors-counted : {j : Judged} {v : Verdict} {n : ℕ} → j ≡ withCount v n → v ≡ Fine → j .vectors ≡ n
-vectors-counted {n = n} e f = ap (λ (j : Judged). j .vectors) e ∙ ap (λ (v : Verdict). withCount v n .vectors) f
-
 -- a refusal, counted
 pub counted-back : {r : Judged} {v w : Verdict} {number place : ℕ} (n : ℕ) → (r .verdict ≡ v) × (r .vectors ≡ 0) → v ≡ Refused number place → v ≡ w
     → r ≡ withCount w n
