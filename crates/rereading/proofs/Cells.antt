@@ -35,9 +35,6 @@ module _ {C : Type 0} (m n : ℕ) (one : ℕ → ℕ → C → C) where
   abbrev pub blocks : C → C
   blocks = done m (λ a. done n (one a))
 
-  pub blocks-keep : (P : C → Type 0) → ((a s : ℕ) (c : C) → a < m → s < n → P c → P (one a s c)) → (c : C) → P c → P (blocks c)
-  blocks-keep P h c p = done-keeps P m _ (λ a c l p. done-keeps P n (one a) (λ s c k. h a s c l k) c p) c p
-
   pub blocks-bring : (P Q : C → Type 0) (a' s' : ℕ) → a' < m → s' < n → ((a s : ℕ) (c : C) → a < m → s < n → P c → P (one a s c))
       → ((a s : ℕ) (c : C) → a < m → s < n → P c → Q c → Q (one a s c)) → ((c : C) → P c → Q (one a' s' c)) → (c : C) → P c → Q (blocks c)
   blocks-bring P Q a' s' la ls h k b =

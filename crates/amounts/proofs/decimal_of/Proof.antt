@@ -1,6 +1,6 @@
 use Rattle.amounts.proofs.Prelude.{ℕ, _-_, _*_, _^_, _≤_, _≡_, sym, ap, _∙_, arith, needs, drop, digits, value}
 use Prim.Native.Nat.{_+_, _<_}
-use mathlib.Core.Bool.{true, false, true≢false}
+use mathlib.Core.Bool.{true, true≢false}
 use mathlib.Core.List.{List}
 use native.Mathlib.Decide.{decLt}
 use borrow.Author.Tests.{not-true, not-false}
