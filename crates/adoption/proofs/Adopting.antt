@@ -35,20 +35,14 @@ use Rattle.builder.proofs.Levels.{upon-lent, roofed-lent}
 use Rattle.solver.specs.declared.Judged.{Judged}
 use Rattle.solver.specs.Files.{maxFile, vectorsIn, filesVerdict, withCount}
 use Rattle.solver.proofs.Files.{FilesRead, files-read}
+use Rattle.stated.specs.Steps.{Files, masksOver}
 use Rattle.solved.specs.Solved.{solved}
-use Rattle.solved.specs.Steps.{Files, vectorsOver, masksOver, Solving}
+use Rattle.solved.specs.Steps.{vectorsOver, Solving}
 use Rattle.adoption.specs.Adopt.{solvedFrom, adoptedLevel, adoptFits, solvedVerdict, adoptVerdict, adopted, adoptAnswer}
 use Rattle.adoption.specs.Claim.{AdoptHolds}
 use Rattle.adoption.proofs.Accepted.{roof-fine, adopt-holds}
 
 -- ---- a verdict with a count
-
-pub verdict-counted : (v : Verdict) (n : ℕ) → withCount v n .verdict ≡ v
-verdict-counted Fine n = refl
-verdict-counted (Refused number place) n = refl
-
-pub vectors-counted : {j : Judged} {v : Verdict} {n : ℕ} → j ≡ withCount v n → v ≡ Fine → j .vectors ≡ n
-vectors-counted {n = n} e f = ap (λ (j : Judged). j .vectors) e ∙ ap (λ (v : Verdict). withCount v n .vectors) f
 
 -- a refusal, counted
 pub counted-back : {r : Judged} {v w : Verdict} {number place : ℕ} (n : ℕ) → (r .verdict ≡ v) × (r .vectors ≡ 0) → v ≡ Refused number place → v ≡ w

@@ -17,7 +17,7 @@ use Rattle.tables.specs.Storage.{weightIn, rewardIn, modelIn}
 use Rattle.sums.specs.Steps.{movedIn, seenIn, expectedIn, TransitionsFit, RewardsFit, movedLimit}
 use Rattle.sums.proofs.Regroup.{moved-successor, expected-is, moved-limit}
 use Rattle.plans.specs.Limits.{maxPoints, maxTotal, maxReached, range}
-use Rattle.plans.specs.Level.{Level as Ideal, ceiling, backupAt, corner-weight, IsPoint}
+use Rattle.plans.specs.Level.{Level, ceiling, backupAt, corner-weight, IsPoint}
 use Rattle.plans.proofs.Agreement.{ceiling-weights}
 use Rattle.plans.proofs.Ceiling.{corner-total}
 use Rattle.plans.proofs.Built.{successor-total, successor-limit, ceiling-range}
@@ -162,7 +162,7 @@ module _ {c : Counts} {T O : List ℕ} {R corners : List ℤ} {points : ℕ} {we
     roof = ceilingIn (c .states) corners weights gains points
 
     -- the level that it is the ceiling of
-    abbrev level : Ideal
+    abbrev level : Level
     level = roofIn (c .states) corners points weights values
 
     gained : (i : ℕ) → i < points → getD gains i 0 ≡ positive (gainIn (c .states) corners weights values i)

@@ -18,7 +18,6 @@ use Rattle.tables.specs.declared.Verdict.the-variants.{Fine, Refused}
 use Rattle.tables.specs.Limits.{maxVectors, maxStates, maxActions, maxWeight, maxEntry, maxLevels}
 use Rattle.tables.specs.Model.{Model}
 use Rattle.tables.specs.Storage.{weightIn, countsOf, modelOf}
-use Rattle.tables.specs.Verdicts.{_before_, unless}
 use Rattle.tables.specs.Steps.{EntriesFit}
 use Rattle.tables.proofs.Fitting.{row-alone}
 use Rattle.tables.proofs.Refusals.{before-fine, unless-fine}
@@ -40,10 +39,10 @@ use Rattle.backups.specs.Steps.{Roofed}
 use Rattle.backups.proofs.Lent.{entries-lent, roof-lent}
 use Rattle.backups.proofs.Roofs.{corners-fit, points-fit, gains-below}
 use Rattle.runs.specs.declared.Bounds.{Bounds}
-use Rattle.runs.specs.State.{mixtureHolds, totalsVerdict, boundsBy, totalsOf}
+use Rattle.runs.specs.State.{mixtureHolds, totalsVerdict, noBounds, boundsBy, totalsOf}
 use Rattle.runs.proofs.Judged.{Held, standing-true}
 use Rattle.runs.specs.State.{standingVerdict}
-use Rattle.bounds.specs.Steps.{noBounds, supportIn, bestIn, lowerIn, rowIn, upperIn, boundsIn, widened, answeredIf, answerIn, Asked}
+use Rattle.bounds.specs.Steps.{supportIn, bestIn, lowerIn, rowIn, upperIn, boundsIn, widened, answeredIf, answerIn, Asked}
 
 product-range : (n r : ℕ) (q : ℕ → ℕ) (e : ℕ → ℤ) → ((s : ℕ) → s < n → natAbs (e s) ≤ r) → natAbs (product n q e) ≤ totalTo n q * r
 unfolding product

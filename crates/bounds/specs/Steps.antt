@@ -4,11 +4,10 @@ use mathlib.Core.Bool.{Bool, true, false}
 use mathlib.Core.List.{List}
 use lib.Dec.{ltb}
 use lib.ListN.{length, getD}
-use lib.IntN.{ℤ, pos, natAbs, _-ℤ_}
+use lib.IntN.{ℤ, natAbs, _-ℤ_}
 use Rattle.integers.specs.Whole.{lesser, Below}
 use Rattle.integers.specs.Search.{firstLargestOf}
 use Rattle.integers.specs.Cells.{padded}
-use Rattle.tables.specs.declared.Verdict.{Verdict}
 use Rattle.tables.specs.declared.Verdict.the-variants.{Fine, Refused}
 use Rattle.tables.specs.Limits.{maxStates, maxActions, maxWeight}
 use Rattle.tables.specs.Storage.{weightIn, entryIn}
@@ -20,12 +19,7 @@ use Rattle.plans.specs.Rows.{highest}
 use Rattle.levels.specs.Storage.{pointIn}
 use Rattle.sawtooth.specs.Steps.{ceilingIn, CornersFit, PointsFit, maxGain}
 use Rattle.runs.specs.declared.Bounds.{Bounds}
-use Rattle.runs.specs.State.{mixtureHolds}
-
--- a refusal of which every other part is 0
-abbrev pub noBounds : Verdict → Bounds
-noBounds v =
-    record { verdict = v; lower = pos 0; upper = pos 0; gap = pos 0; action = record { 0 = 0 }; sawtooth = pos 0; informed = pos 0 }
+use Rattle.runs.specs.State.{noBounds, mixtureHolds}
 
 -- the states with a weight above 0: a vector counts where its mask has them
 abbrev pub supportIn : ℕ → List ℕ → ℕ

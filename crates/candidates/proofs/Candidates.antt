@@ -8,12 +8,12 @@ use Rattle.integers.proofs.Searches.{of-in, of-cong}
 use Rattle.tables.specs.declared.Counts.{Counts}
 use Rattle.tables.specs.Limits.{maxStates, maxObservations, maxVectors, K}
 use Rattle.tables.specs.Model.{backedUp}
-use Rattle.tables.specs.Storage.{weightIn, choiceIn, modelIn}
+use Rattle.tables.specs.Storage.{weightIn, modelIn}
 use Rattle.masks.specs.Masks.{maskOf, maskedIn}
 use Rattle.masks.specs.Steps.{includes, MaskedFit}
 use Rattle.masks.proofs.Bits.{includes-every}
 use Rattle.sums.specs.Steps.{movedIn, seenIn, foreseenIn, backupIn, ChosenFit}
-use Rattle.tables.proofs.Fitting.{row-alone}
+use Rattle.tables.proofs.Fitting.{alone-at}
 use Rattle.sums.proofs.Regroup.{backup-regrouped}
 use Rattle.plans.specs.Level.{coversAll, product, follows}
 use Rattle.plans.specs.Build.{chosen, entryFor}
@@ -21,10 +21,6 @@ use Rattle.plans.proofs.Agreement.{product-cong, backup-cong}
 use Rattle.backups.proofs.Roofs.{successors-are}
 use Rattle.candidates.specs.declared.Candidate.{Candidate}
 use Rattle.candidates.specs.Steps.{wholeIn, choiceFor, candidateIn, candidateOf, uponIn}
-
--- what a vector chooses, of a table of one row
-pub alone-at : (k : ℕ) (chosen : List ℕ) (o : ℕ) → choiceIn k chosen 0 o ≡ getD chosen o 0
-alone-at k chosen o = ap (λ (i : ℕ). getD chosen i 0) (row-alone k o)
 
 -- ---- from storage to the model
 pub made-of : {c c' : List ℕ} {e e' : List ℤ} → c ≡ c' → e ≡ e'

@@ -16,15 +16,13 @@ ghost use Rattle.plans.specs.Level.{product};
 ghost use Rattle.backups.specs.Steps.{Light};
 ghost use Rattle.candidates.specs.Steps.{wholeIn, candidateIn, bestOf, uponIn, Upon};
 use tables::Action;
+use tables::Chosen;
 use tables::Counts;
 use tables::Foreseen;
 use tables::Observation;
 use tables::Tables;
 use tables::Vector;
 use tables::read;
-
-// What a vector chooses: a table of choices of one row.
-pub type Chosen = [u16; Tables::OBSERVATIONS];
 
 // One action's vector at some weights.
 pub struct Candidate {

@@ -2,7 +2,7 @@
 --
 --   cells-at, cells-all    the cell of a state, and what each cell of a column has
 --   begins-at, cell-at     the words of a list
---   is-list, not-list      the words of a slice that has it; a word that tells that it has not
+--   is-list, short-list    the words of a slice that has it; a slice that is too short for it
 --   in-parts               as it is tested
 --   turned-back            turned back, it is T
 --   list-says              what the engine asks of it
@@ -17,7 +17,7 @@ use Rattle.integers.specs.Whole.{totalTo}
 use Rattle.integers.specs.Search.{every}
 use Rattle.integers.specs.Cells.{listed}
 use Rattle.integers.proofs.Lists.{length-listed, getD-listed, cell-below}
-use Rattle.integers.proofs.Searches.{and-true, and-false, every-at, every-not, every-add, every-cong}
+use Rattle.integers.proofs.Searches.{and-true, every-at, every-add, every-cong}
 use Rattle.integers.proofs.Sums.{total-cong, total-more, total-none}
 use Rattle.tables.specs.Limits.{one}
 use Rattle.tables.specs.Storage.{rowPlace, transitionIn}
@@ -253,10 +253,6 @@ module _ (n : ℕ) (T : ℕ → ℕ → ℕ → ℕ) where
       pub short-list : length list < length (listOf n m T) → isList n m T list ≡ false
       unfolding isList
       short-list l = rw (lt-leb _ _ l) refl
-
-      pub not-list : (i : ℕ) → i < length (listOf n m T) → (getD list i 0 ≡ getD (listOf n m T) i 0 → ⊥) → isList n m T list ≡ false
-      unfolding isList
-      not-list i l d = and-false (leb (length (listOf n m T)) (length list)) _ (every-not (length (listOf n m T)) _ i l (ne-eqb _ _ d))
 
       -- one that is long enough has it where the words that say where the columns begin are right, and the cells
       pub in-parts : {starts cells : Bool} → length (listOf n m T) ≤ length list

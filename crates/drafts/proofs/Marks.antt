@@ -3,7 +3,7 @@ use Rattle.integers.proofs.Kit.{_≡_, _∙_, refl, ap, sym, true, false, Bool,
 use Rattle.integers.proofs.Kit.{add-zero, zero-add, ne-eqb, eq-eqb, eqb, length, getD, set, ℤ}
 use borrow.Author.Tests.{eqb-false}
 use Rattle.integers.specs.Search.{some}
-use Rattle.integers.proofs.Searches.{some-cong}
+use Rattle.integers.proofs.Searches.{some-cong, cond-by}
 use Rattle.tables.specs.Storage.{rowPlace, cellPlace}
 use Rattle.drafts.specs.Drafts.{outcomePlace, markedFrom, marked, lowest, spread, stated, rewarded, outcomed}
 
@@ -60,15 +60,11 @@ module _ {A : Type 0} where
   marked-cong : (f g : ℕ → Bool) (v : A) (l : List A) → ((i : ℕ) → f i ≡ g i) → marked f v l ≡ marked g v l
   marked-cong f g v l h = from-cong 0 f g v l h
 
-  marked-by : (P : A → Type 0) (t : Bool) (v x : A) → P v → P x → P (cond t v x)
-  marked-by P true v x p q = p
-  marked-by P false v x p q = q
-
   marked-each : (P : A → Type 0) (z : A) (at : ℕ) (test : ℕ → Bool) (v : A) (l : List A) → P v → ((i : ℕ) → P (getD l i z))
       → (i : ℕ) → P (getD (markedFrom at test v l) i z)
   unfolding markedFrom
   marked-each P z at test v [] p h i = h i
-  marked-each P z at test v (x ∷ l) p h zero = marked-by P (test at) v x p (h 0)
+  marked-each P z at test v (x ∷ l) p h zero = cond-by P (test at) p (h 0)
   marked-each P z at test v (x ∷ l) p h (suc i) = marked-each P z (suc at) test v l p (λ j. h (suc j)) i
 
   -- what holds of every cell and of the value holds of every cell that it leaves

@@ -1,10 +1,10 @@
 -- What a statement says of each cell: the one number stated where the cell is meant, and what was there elsewhere. Assumes nothing.
 use Rattle.integers.proofs.Kit.{_≡_, _∙_, refl, ap, sym, true, false, Bool, cond, _&&_, _||_, List, [], _∷_, ℕ, _≤_, _<_, _+_, _*_, suc, zero, arith}
-use Rattle.integers.proofs.Kit.{decLt, ne-eqb, eq-eqb, eqb-true, eqb, length, getD, ℤ, pos}
+use Rattle.integers.proofs.Kit.{decLt, ne-eqb, eq-eqb, eqb-true, eqb, length, getD, ℤ, pos, or-false, and-comm, and-assoc}
 use borrow.Author.Tests.{eqb-false}
 use Rattle.integers.specs.Search.{some}
 use Rattle.integers.proofs.Lists.{cell-below, row-below}
-use Rattle.integers.proofs.Searches.{or-false, some-none}
+use Rattle.integers.proofs.Searches.{some-none}
 use Rattle.tables.specs.Storage.{rowPlace, cellPlace, cellIn, rewardIn}
 use Rattle.drafts.specs.Drafts.{outcomePlace, markedFrom, marked, among, stated, rewarded, outcomed}
 
@@ -84,20 +84,10 @@ pair-place n q r q' r' h k = rows (eqb q q') refl
         apart (yes l) z = omega (arith, row-below q q' n l)
         apart (no l) z = let m : q' < q = omega (arith, eqb-false q q' e) in omega (arith, row-below q' q n m)
 
-and-comm : (a b : Bool) → (a && b) ≡ (b && a)
-and-comm true true = refl
-and-comm true false = refl
-and-comm false true = refl
-and-comm false false = refl
-
 -- the last of three comes first
 and-front : (a b c : Bool) → (a && (b && c)) ≡ (c && (a && b))
 and-front true b c = and-comm b c
 and-front false b c = and-comm false c
-
-and-assoc : (a b c : Bool) → ((a && b) && c) ≡ (a && (b && c))
-and-assoc true b c = refl
-and-assoc false b c = refl
 
 -- ---- what a statement says of a cell
 

@@ -5,11 +5,11 @@ use native.Mathlib.Nat as NatL
 use native.Mathlib.Nat.{mul-le-mul-left}
 use Rattle.integers.specs.Whole.{_·_, sumTo, totalTo, floorDiv}
 use Rattle.integers.proofs.Lists.{cell-below}
-use Rattle.integers.proofs.Order.{≤-antisym, ≤-of, ≤-trans, ·-·, ·-neg, ·-mono}
+use Rattle.integers.proofs.Order.{≤-antisym, ≤-of, ≤-trans, ·-neg, ·-mono}
 use Rattle.integers.proofs.Parts.{eq-by, neg-parts, times-parts}
 use Rattle.integers.proofs.Rounding.{floor-≤, floor-most, floor-range}
 use Rattle.integers.proofs.Sizes.{abs-times, sum-weighed}
-use Rattle.integers.proofs.Sums.{sum-cong, sum-·, total-cong, total-mul, total-mul-right}
+use Rattle.integers.proofs.Sums.{sum-cong, sum-spread, total-cong, total-mul, total-mul-right}
 use Rattle.integers.proofs.Terms.{Terms, terms-limit}
 use Rattle.tables.specs.declared.Counts.{Counts}
 use Rattle.tables.specs.declared.Verdict.the-variants.{Fine}
@@ -53,7 +53,8 @@ module _ (c : Counts) (T O : List ℕ) (cells : List ℤ) where
       ≡ expectedMillionths c T O cells s a
   unfolding expectedMillionths seenIn
   expected-seen s a =
-      sum-cong (c .states) _ _ (λ s' l. sym (sum-· _ (c .observations) _) ∙ sum-cong (c .observations) _ _ (λ o b. sym (·-· _ _ _)))
+      sum-cong (c .states) _ _ (λ s' l. sum-spread _ (c .observations) (observationIn (c .states) (c .observations) O a s')
+      (outcomeIn (c .states) (c .observations) cells a s s'))
 
 -- ---- how large it is
 

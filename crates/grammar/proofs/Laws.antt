@@ -1,6 +1,7 @@
 -- One word, and several after each other. Assumes nothing.
 use Rattle.integers.proofs.Kit.{_≡_, _∙_, refl, ap, sym, subst, subst⁻¹, true, false, Bool, cond, _&&_, List, [], _∷_, ℕ, _≤_, _<_, _+_, suc, arith}
 use Rattle.integers.proofs.Kit.{add-one, le-leb, leb-true, lt-leb, leb, eqb, length, getD, drop}
+use mathlib.Core.Bool.{and-false}
 use denote.Enum.Declared.{tagOf}
 use lib.Seq.{drop-cons, drop-length}
 use Rattle.integers.proofs.Searches.{and-true}
@@ -123,16 +124,12 @@ limited-below least most a = weaker (limited least most a) (λ v p. p .1) (limit
 
 -- ---- the same bytes
 
-and-no : (t : Bool) → (t && false) ≡ false
-and-no true = refl
-and-no false = refl
-
 pub same-length : (a b : List ℕ) → (length a ≡ length b → ⊥) → same a b ≡ false
 unfolding same
 same-length [] [] n = absurd (n refl)
 same-length [] (y ∷ b) n = refl
 same-length (x ∷ a) [] n = refl
-same-length (x ∷ a) (y ∷ b) n = ap (λ (t : Bool). eqb x y && t) (same-length a b (λ e. n (ap suc e))) ∙ and-no (eqb x y)
+same-length (x ∷ a) (y ∷ b) n = ap (λ (t : Bool). eqb x y && t) (same-length a b (λ e. n (ap suc e))) ∙ and-false (eqb x y)
 
 pub same-end : (a b : List ℕ) (i : ℕ) → i ≡ length a → i ≡ length b → same (drop i a) (drop i b) ≡ true
 unfolding same

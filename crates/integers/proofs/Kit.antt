@@ -1,6 +1,6 @@
 -- What proofs name of the prover's library, in every crate.
 pub use mathlib.Core.Path.{_≡_, _∙_, refl, ap, sym, subst, subst⁻¹}
-pub use mathlib.Core.Bool.{true, false, Bool, cond, _&&_, _||_, false≢true, and-eq-true-iff}
+pub use mathlib.Core.Bool.{true, false, Bool, cond, _&&_, _||_, false≢true, and-eq-true-iff, and-comm, and-assoc, or-true, or-false}
 pub use mathlib.Core.List.{List, [], _∷_}
 pub use mathlib.Core.Logic.{⊎-elim}
 pub use Prim.Native.Nat.{ℕ, _≤_, _<_, _+_, _*_, suc, _-_, zero, _^_, _/_, _%_}

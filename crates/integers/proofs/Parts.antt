@@ -1,6 +1,6 @@
 -- A whole number is its positive part less its negative part, one of which is 0. Each operation has a law that is linear in the parts, so that omega
 -- proves what is to be shown of ℤ: list the laws of the operations at hand, and go back by `le-by`, `lt-by` or `eq-by`. Assumes nothing.
-use Rattle.integers.proofs.Kit.{_≡_, _∙_, refl, ap, sym, subst, true, false, Bool, cond, ℕ, _≤_, _<_, _+_, _*_, suc, _-_, zero, arith, leb}
+use Rattle.integers.proofs.Kit.{_≡_, _∙_, refl, ap, sym, subst, true, false, Bool, cond, ℕ, _≤_, _<_, _+_, _*_, suc, _-_, zero, arith}
 use Rattle.integers.proofs.Kit.{ltb, T, ℤ, pos, natAbs, _+ℤ_, negsuc, _-ℤ_, negℤ, _≤ℤ_, ltZ, leZ, _<ℤ_}
 use mathlib.Core.Bool.{not}
 use lib.Dec.{leb→le, le→leb, ltb→lt, lt→ltb, nltb→le}
@@ -103,22 +103,12 @@ is-T e = subst T (sym e) tt
 pub leZ-is : (a b : ℤ) → a ≤ℤ b → leZ a b ≡ true
 leZ-is a b h = T-true (leZ a b) (h .le)
 
-pub ltZ-is : (a b : ℤ) → a <ℤ b → ltZ a b ≡ true
-ltZ-is a b h = T-true (ltZ a b) (h .lt)
-
 -- the order is total
 pub leZ-not : (a b : ℤ) → b <ℤ a → leZ a b ≡ false
 leZ-not a b h = by (leZ a b) refl
   where
     by : (c : Bool) → leZ a b ≡ c → leZ a b ≡ false
     by true e = absurd (let n : ⊥ = omega (arith, leZ-true a b e, lt-parts h) in n)
-    by false e = e
-
-pub ltZ-not : (a b : ℤ) → b ≤ℤ a → ltZ a b ≡ false
-ltZ-not a b h = by (ltZ a b) refl
-  where
-    by : (c : Bool) → ltZ a b ≡ c → ltZ a b ≡ false
-    by true e = absurd (let n : ⊥ = omega (arith, ltZ-true a b e, le-parts h) in n)
     by false e = e
 
 pub leZ-false : (a b : ℤ) → leZ a b ≡ false → b <ℤ a

@@ -1,6 +1,6 @@
 -- Laws of the searches: as a loop makes them, and what their answers say. Assumes nothing.
-use Rattle.integers.proofs.Kit.{_≡_, _∙_, refl, sym, true, false, Bool, cond, _&&_, ℕ, _<_, _+_, suc, zero, arith, add-one, decLt, T, ℤ, _≤ℤ_}
-use Rattle.integers.proofs.Kit.{_||_, ap, _≤_, _*_, _-_, add-zero, mul-le-mul, eqb, eq-eqb, ne-eqb, ltZ, _<ℤ_}
+use Rattle.integers.proofs.Kit.{_≡_, _∙_, refl, sym, true, false, Bool, cond, _&&_, ℕ, _<_, _+_, suc, zero, arith, add-one, decLt, T, ℤ, _≤ℤ_, and-assoc}
+use Rattle.integers.proofs.Kit.{_||_, ap, _≤_, _*_, _-_, add-zero, mul-le-mul, eqb, eq-eqb, ne-eqb, ltZ, _<ℤ_, or-true, or-false}
 use mathlib.Core.Bool.{not}
 use mathlib.Core.Bool as BoolL
 use native.Mathlib.Nat.{add-suc}
@@ -18,6 +18,11 @@ below-suc {P} n f p i l = by (decLt i n)
     by (no h) = let e : i ≡ n = omega arith in rw e p
 
 -- ---- one test
+-- what holds of both holds of the one that is taken
+pub cond-by : {A : Type 0} (P : A → Type 0) (c : Bool) {x y : A} → P x → P y → P (cond c x y)
+cond-by P true p q = p
+cond-by P false p q = q
+
 -- a product with a number above 0 is 0 where the other is
 pub times-none : (t w : ℕ) → 0 < t → eqb (t * w) 0 ≡ eqb w 0
 times-none t zero h = eq-eqb (t * 0) 0 (omega arith)
@@ -35,14 +40,6 @@ zero-or (suc n) b h = rw (ne-eqb (suc n) 0 (λ e. omega arith)) (h (omega arith)
 pub and-true : (a b : Bool) → (a && b) ≡ true → (a ≡ true) × (b ≡ true)
 and-true true b e = (refl, e)
 and-true false b e = absurd (is-T e)
-
-pub or-true : (a : Bool) → (a || true) ≡ true
-or-true true = refl
-or-true false = refl
-
-pub or-false : (a : Bool) → (a || false) ≡ a
-or-false true = refl
-or-false false = refl
 
 pub and-is : {a b : Bool} → a ≡ true → b ≡ true → (a && b) ≡ true
 and-is e f = rw (e, f)
@@ -84,7 +81,7 @@ pub every-add : (a b : ℕ) (p : ℕ → Bool) → every (a + b) p ≡ (every a 
 unfolding every
 every-add a zero p = ap (λ (k : ℕ). every k p) (add-zero a) ∙ sym (BoolL.and-true (every a p))
 every-add a (suc b) p =
-    ap (λ (k : ℕ). every k p) (add-suc a b) ∙ rw (every-add a b p) (BoolL.and-assoc (every a p) (every b (λ i. p (a + i))) (p (a + b)))
+    ap (λ (k : ℕ). every k p) (add-suc a b) ∙ rw (every-add a b p) (and-assoc (every a p) (every b (λ i. p (a + i))) (p (a + b)))
 
 -- what fails below k fails below any larger n
 pub every-short : (k n : ℕ) (p : ℕ → Bool) → k ≤ n → every k p ≡ false → every n p ≡ false

@@ -4,7 +4,7 @@ use Prim.Native.Nat.{max}
 use native.Mathlib.Nat as NatL
 use native.Mathlib.Decide.{decLe}
 use Rattle.integers.specs.Whole.{_·_, sumTo, totalTo, largestTo}
-use Rattle.integers.proofs.Order.{≤-refl, add-mono, add-comm, add-assoc, add-left-comm, ·-add, add-·, ·-zero, zero-·}
+use Rattle.integers.proofs.Order.{≤-refl, add-mono, add-comm, add-assoc, add-left-comm, ·-add, ·-·, add-·, ·-zero, zero-·}
 
 -- ---- as a loop makes them
 pub sum-none : (f : ℕ → ℤ) → sumTo 0 f ≡ pos 0
@@ -45,11 +45,6 @@ unfolding totalTo
 total-cong zero f g h = refl
 total-cong (suc n) f g h = rw (total-cong n f g (λ i l. h i (omega arith)), h n (omega arith))
 
-pub total-mono : (n : ℕ) (f g : ℕ → ℕ) → ((i : ℕ) → i < n → f i ≤ g i) → totalTo n f ≤ totalTo n g
-unfolding totalTo
-total-mono zero f g h = omega arith
-total-mono (suc n) f g h = omega (arith, total-mono n f g (λ i l. h i (omega arith)), h n (omega arith))
-
 pub total-bound : (n B : ℕ) (f : ℕ → ℕ) → ((i : ℕ) → i < n → f i ≤ B) → totalTo n f ≤ n * B
 unfolding totalTo
 total-bound zero B f h = omega arith
@@ -84,6 +79,10 @@ pub sum-· : (k n : ℕ) (f : ℕ → ℤ) → sumTo n (λ i. k · f i) ≡ k ·
 unfolding sumTo
 sum-· k zero f = sym (·-zero k)
 sum-· k (suc n) f = rw (sum-· k n f, ·-add)
+
+-- a factor, inside a sum of products
+pub sum-spread : (t n : ℕ) (k : ℕ → ℕ) (f : ℕ → ℤ) → t · sumTo n (λ i. k i · f i) ≡ sumTo n (λ i. (t * k i) · f i)
+sum-spread t n k f = sym (sum-· t n _) ∙ sum-cong n _ _ (λ i l. sym (·-· t (k i) (f i)))
 
 pub sum-zero : (n : ℕ) → sumTo n (λ i. pos 0) ≡ pos 0
 unfolding sumTo

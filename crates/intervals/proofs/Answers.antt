@@ -24,8 +24,8 @@ use Rattle.bounds.specs.Steps.{supportIn, widened}
 use Rattle.bounds.proofs.Bounds.{counts-weights, some-counts-weights, Mixed, mixed, widened-at, widened-below}
 use Rattle.bounds.proofs.Bounds.{stands, roofed, counts-is, some-is, standing-holds}
 use Rattle.intervals.specs.declared.Within.{Within}
-use Rattle.intervals.specs.Intervals.{rangesHold, highsHold, withinVerdict, withinBy, withinOf}
-use Rattle.intervals.specs.Steps.{Ranged, leastIn, lowerIn, upperIn, totalsIn, noTotals, givenIf, answerIn, Asked}
+use Rattle.intervals.specs.Intervals.{rangesHold, highsHold, withinVerdict, noTotals, withinBy, withinOf}
+use Rattle.intervals.specs.Steps.{Ranged, leastIn, lowerIn, upperIn, totalsIn, givenIf, answerIn, Asked}
 
 -- ---- ranges that hold
 module _ (n : ℕ) (lows highs : List ℕ) (ordered : rangesHold n lows highs ≡ true) (limits : highsHold n lows highs ≡ true) where

@@ -6,7 +6,6 @@ use lib.ListN.{getD}
 use lib.IntN.{ℤ, pos, negsuc}
 use Rattle.integers.specs.Whole.{Below}
 use Rattle.integers.specs.Search.{firstLargestOf}
-use Rattle.tables.specs.declared.Verdict.{Verdict}
 use Rattle.tables.specs.declared.Verdict.the-variants.{Fine, Refused}
 use Rattle.tables.specs.Limits.{maxStates, maxWeight}
 use Rattle.tables.specs.Storage.{weightIn}
@@ -17,7 +16,7 @@ use Rattle.levels.specs.Storage.{cornerIn}
 use Rattle.sawtooth.specs.Steps.{CornersFit}
 use Rattle.bounds.specs.Steps.{supportIn, widened}
 use Rattle.intervals.specs.declared.Within.{Within}
-use Rattle.intervals.specs.Intervals.{rangesHold, highsHold}
+use Rattle.intervals.specs.Intervals.{rangesHold, highsHold, noTotals}
 
 -- the weight that an entry takes: one for entries of 0 or more, another for those below
 unfoldable pub weightFor : ℕ → ℕ → ℤ → ℕ
@@ -48,10 +47,6 @@ upperIn n corners lows highs = leastProduct n (weightIn highs) (weightIn lows) (
 abbrev pub totalsIn : ℕ → ℕ → List ℕ → List ℤ → List ℤ → List ℕ → List ℕ → ℕ → Within
 totalsIn n vectors masks entries corners lows highs states =
     record { verdict = Fine; lower = lowerIn n vectors masks entries lows highs states; upper = upperIn n corners lows highs }
-
--- a refusal of which every other part is 0
-abbrev pub noTotals : Verdict → Within
-noTotals v = record { verdict = v; lower = pos 0; upper = pos 0 }
 
 -- an answer, or a refusal without a place where a test does not hold
 abbrev pub givenIf : Bool → ℕ → Within → Within

@@ -1,10 +1,10 @@
 -- Table and list give the same. Assumes nothing.
-use Rattle.integers.proofs.Kit.{_≡_, _∙_, refl, ap, sym, true, List, ℕ, _≤_, _<_, _*_, arith, le-leb, eqb, eq-eqb, leb, leb-true, length, getD, ℤ}
+use Rattle.integers.proofs.Kit.{_≡_, refl, ap, true, List, ℕ, _≤_, _<_, _*_, arith, le-leb, eqb, eq-eqb, leb, leb-true, length, getD, ℤ, or-true}
 use Rattle.integers.proofs.Kit.{_+ℤ_}
 use Rattle.integers.specs.Whole.{_·_, sumTo}
 use Rattle.integers.specs.Cells.{laid}
 use Rattle.integers.proofs.Lists.{laid-at, laid-length}
-use Rattle.integers.proofs.Searches.{and-is, at-every, or-true}
+use Rattle.integers.proofs.Searches.{and-is, at-every}
 use Rattle.integers.proofs.Sums.{sum-cong, total-cong}
 use Rattle.tables.specs.Tables.{Tables}
 use Rattle.tables.specs.declared.Verdict.the-variants.{Fine}

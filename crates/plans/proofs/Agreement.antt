@@ -1,10 +1,10 @@
 -- Only the parts below the counts are read: levels that agree there meet the same inequalities, have the same limits, ceilings and totals, and weights
 -- that agree there have the same ceilings and backups. Assumes nothing.
-use Rattle.integers.proofs.Kit.{_≡_, _∙_, refl, ap, true, Bool, _||_, ℕ, _<_, suc, zero, arith, eqb, ne-eqb, ℤ, pos, _+ℤ_, negsuc, _-ℤ_}
+use Rattle.integers.proofs.Kit.{_≡_, _∙_, refl, ap, true, Bool, _||_, ℕ, _<_, suc, zero, arith, eqb, ne-eqb, ℤ, pos, _+ℤ_, negsuc, _-ℤ_, or-true}
 use Rattle.integers.specs.Whole.{_·_, sumTo, totalTo, largestTo}
 use Rattle.integers.specs.Search.{some, firstLargestOf}
 use Rattle.integers.proofs.Sums.{sum-cong, total-cong, largestTo-cong}
-use Rattle.integers.proofs.Searches.{or-true, every-at, at-every, every-cong, some-at, some-index, some-cong, of-in, of-some, of-cong}
+use Rattle.integers.proofs.Searches.{every-at, at-every, every-cong, some-at, some-index, some-cong, of-in, of-some, of-cong}
 use Rattle.tables.specs.Limits.{K}
 use Rattle.tables.specs.Model.{Model, successor, expectedReward, backup}
 use Rattle.plans.specs.Level.{Level, coversAll, counts, product, smallest, orNone, drop, gain, ceiling, backupAt, corner-weight, follows}

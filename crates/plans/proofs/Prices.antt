@@ -12,6 +12,7 @@ use native.Mathlib.Nat as NatL
 use Rattle.integers.specs.Whole.{_·_, sumTo, totalTo, largestTo, lesser}
 use Rattle.integers.proofs.Parts.{add-parts, sub-parts-ℤ, neg-parts, times-parts, abs-parts, le-by, le-parts, ltZ-false}
 use Rattle.integers.proofs.Order.{≤-refl, ≤-of, ≤-trans, add-mono, sub-≤, lesser-by, lesser-left, lesser-right, ·-add, ·-mono}
+use Rattle.integers.proofs.Searches.{cond-by}
 use Rattle.integers.proofs.Sums.{sum-cong, sum-mono, sum-add, total-·, total-cong, largest-part}
 use Rattle.integers.proofs.Sizes.{abs-add, times-bound, sum-weighed, abs-below, abs-above, abs-between, multiple-below, multiple-above}
 use Rattle.tables.specs.Limits.{one, maxReward, K}
@@ -179,10 +180,6 @@ earns-range {M} T (step {t = t} a next) f s l =
     step-range (M .discount) t (M .reward s a) x (T .discount-limit) (T .reward-limit a (f .0) s l) ahead
 
 -- ---- fallen and risen
-cond-by : {A : Type 0} (P : A → Type 0) (c : Bool) {x y : A} → P x → P y → P (cond c x y)
-cond-by P true p q = p
-cond-by P false p q = q
-
 -- what holds of either, where it is the one
 fallen-by : (P : ℤ → Type 0) (limit : ℕ) (x : ℤ) (k : ℕ) → (negℤ (pos limit) ≤ℤ (x -ℤ pos k) → P (x -ℤ pos k)) → P (negℤ (pos limit))
     → P (fallen limit x k)

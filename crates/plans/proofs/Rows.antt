@@ -1,7 +1,7 @@
 -- Informed rows and QMDP: no plan earns more than the row of its first action, no informed row is above QMDP's, both stay within the range of their level,
 -- and only entries below the counts are read. Assumes nothing.
 --
---   highest-.., best-of                 the largest as a loop takes it; some row has the best product
+--   highest-..                          the largest as a loop takes it
 --   rows-0, rows-next                   what no plan passes, level by level
 --   rows-roof                           the same at weights: the best row's product
 --   informed-range, qmdp-range, ..      the ranges of the levels
@@ -61,18 +61,6 @@ module _ (f : ℕ → ℤ) (n : ℕ) {most here : ℤ} (so-far : most ≡ highes
 
 ceil-mono : {a b : ℤ} → a ≤ℤ b → ceilDiv a K ≤ℤ ceilDiv b K
 ceil-mono {a} {b} h = ceil-least K K-positive a _ (≤-trans h (ceil-≥ K K-positive b))
-
--- some row has the best product
-pub record BestOf (M : Model) (F : ℕ → ℕ → ℤ) (q : ℕ → ℕ) : Type 0 where
-  pub action : ℕ
-  pub exists : action < M .actions
-  pub best : bestRow M F q ≡ product (M .states) q (F action)
-
-pub best-of : (M : Model) (F : ℕ → ℕ → ℤ) (q : ℕ → ℕ) → 0 < M .actions → BestOf M F q
-unfolding bestRow highest
-best-of M F q some =
-    let f : ℕ → ℤ = λ a. product (M .states) q (F a) in
-    record { action = firstLargest (M .actions) f; exists = largest-in (M .actions) f some; best = refl }
 
 -- ---- what no plan passes
 -- an action with which a plan opens: any, where it has no steps

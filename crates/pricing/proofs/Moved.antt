@@ -1,17 +1,15 @@
 -- What the code works out of new prices is what is defined. Assumes nothing.
 --
 --   change-is               the largest change, cell by cell
---   laid-past, rows-laid    numbers that are moved in place: the one at hand is still as it was; rows that are moved cell by cell
+--   rows-laid               rows that are moved cell by cell
 --   counts-true, ..         23, counts first and then cell by cell
-use Rattle.integers.proofs.Kit.{_≡_, _∙_, refl, ap, sym, true, Bool, List, [], ℕ, _≤_, _<_, _+_, _*_, _-_, _/_, _%_, arith, length, getD, drop, ℤ}
+use Rattle.integers.proofs.Kit.{_≡_, _∙_, refl, ap, sym, true, List, [], ℕ, _≤_, _<_, _+_, _*_, _/_, _%_, arith, getD, ℤ}
 use Rattle.integers.proofs.Kit.{natAbs, _-ℤ_, eqb, eqb-true}
-use mathlib.Core.List.{_++_}
 use native.Mathlib.Nat as NatL
-use lib.Seq.{getD-append-add, getD-drop}
 use Rattle.integers.specs.Whole.{largestTo}
 use Rattle.integers.specs.Search.{every}
-use Rattle.integers.specs.Cells.{listed, laid, laidRows}
-use Rattle.integers.proofs.Lists.{cell-below, length-listed, laid-cong}
+use Rattle.integers.specs.Cells.{laid, laidRows}
+use Rattle.integers.proofs.Lists.{cell-below, laid-cong}
 use Rattle.integers.proofs.Sums.{largest-ind, largest-part}
 use Rattle.integers.proofs.Searches.{and-true}
 use Rattle.tables.specs.declared.Counts.{Counts}
@@ -19,14 +17,10 @@ use Rattle.tables.specs.Tables.{Tables}
 use Rattle.tables.specs.Model.{Valid}
 use Rattle.tables.specs.Storage.{cellIn, rewardIn, modelIn, modelOf}
 use Rattle.tables.specs.Steps.{Stored}
-use Rattle.tables.proofs.Largest.{every-rows}
+use Rattle.tables.proofs.Largest.{every-cells}
 use Rattle.plans.specs.Prices.{change}
 use Rattle.runs.specs.Prices.{countsSame, cellsSame, samePlans}
 use Rattle.pricing.specs.Steps.{changeAt, Chances}
-
--- a test of each cell is one of each block, row and place
-by-place : (m n w : ℕ) (p : ℕ → Bool) → every (m * n * w) p ≡ every m (λ a. every n (λ s. every w (λ x. p ((a * n + s) * w + x))))
-by-place m n w p = every-rows (m * n) w p ∙ every-rows m n (λ i. every w (λ x. p (i * w + x)))
 
 -- ---- the largest change
 -- Each place is one of a row, and each place of a row is one. Qed.
@@ -54,15 +48,6 @@ change-is m m' some e =
     (λ s. natAbs (rewardIn n (m' .reward) s a -ℤ rewardIn (m .states) (m .reward) s a)))) (sym e)
 
 -- ---- numbers that are moved in place
--- past what is laid, cells are as they were
-pub laid-past : {A : Type 0} (n : ℕ) (f : ℕ → A) (xs : List A) (i : ℕ) (d : A) → n ≤ i → getD (laid n f xs) i d ≡ getD xs i d
-unfolding laid
-laid-past {A} n f xs i d h =
-    let e : i ≡ length (listed n f) + (i - n) = omega (arith, length-listed n f) in
-    let k : n + (i - n) ≡ i = omega arith in
-    ap (λ (j : ℕ). getD (listed n f ++ drop n xs) j d) e ∙ getD-append-add (listed n f) (drop n xs) (i - n) d ∙ getD-drop n xs (i - n) d
-    ∙ ap (λ (j : ℕ). getD xs j d) k
-
 -- rows laid cell by cell
 pub rows-laid : {A : Type 0} (r w : ℕ) (f : ℕ → A) (xs : List A) → laidRows r w (λ i x. f (i * w + x)) xs ≡ laid (r * w) f xs
 unfolding laidRows
@@ -84,7 +69,7 @@ counts-true c new e =
 -- tables that lie alike are the same where their cells are, one after the other
 pub tables-same : (m n w n' w' : ℕ) (cells new : List ℕ) → n' ≡ n → w' ≡ w
     → every (m * n * w) (λ i. eqb (getD new i 0) (getD cells i 0)) ≡ cellsSame m n w (cellIn n w cells) (cellIn n' w' new)
-tables-same m n w n' w' cells new e f = rw (e, f) (by-place m n w (λ i. eqb (getD new i 0) (getD cells i 0)))
+tables-same m n w n' w' cells new e f = rw (e, f) (every-cells m n w (λ i. eqb (getD new i 0) (getD cells i 0)))
 
 -- rewards are not compared
 pub unpriced : (c new : Counts) (T O T' O' : List ℕ) (R R' : List ℤ)

@@ -1,9 +1,9 @@
 -- The first largest of those that p holds of, as a loop finds it. Assumes nothing.
-use Rattle.integers.proofs.Kit.{ℕ, _+_, _<_, suc, zero, _≡_, _∙_, refl, sym, ap, arith, Bool, true, false, ℤ, ltZ}
+use Rattle.integers.proofs.Kit.{ℕ, _+_, _<_, suc, zero, _≡_, _∙_, refl, sym, ap, arith, Bool, true, false, ℤ, ltZ, or-true}
 use mathlib.Core.Bool.{not}
 use Rattle.integers.proofs.Parts.{is-T}
 use Rattle.integers.specs.Search.{some, firstLargestOf}
-use Rattle.integers.proofs.Searches.{below-suc, or-true, some-none, of-first, of-later, of-same, of-in}
+use Rattle.integers.proofs.Searches.{below-suc, some-none, of-first, of-later, of-same, of-in}
 
 -- what the search has below v: the first largest so far, and f there, where one was met that p holds of
 pub record Found (p : ℕ → Bool) (f : ℕ → ℤ) (v : ℕ) (found : Bool) (best : ℕ) (most : ℤ) : Type 0 where

@@ -2,12 +2,12 @@
 --
 --   reached-regrouped   every state that a covered one reaches is covered by the vector chosen for each observation that is seen there
 --   reached-all         so it is where the chosen vectors cover all states
-use Rattle.integers.proofs.Kit.{_≡_, _∙_, refl, sym, true, false, Bool, _&&_, _||_, ℕ, _<_, _*_, suc, zero, arith, eqb, ltb, eq-eqb}
+use Rattle.integers.proofs.Kit.{_≡_, _∙_, refl, sym, true, false, Bool, _&&_, _||_, ℕ, _<_, _*_, suc, zero, arith, eqb, ltb, eq-eqb, or-true}
 use Rattle.integers.proofs.Kit.{lt-ltb, ltb-true}
 use mathlib.Core.Bool.{not}
 use Rattle.integers.specs.Search.{every, some}
 use Rattle.integers.proofs.Parts.{is-T}
-use Rattle.integers.proofs.Searches.{times-none, every-at, at-every, some-at, some-none, and-is, or-true}
+use Rattle.integers.proofs.Searches.{times-none, every-at, at-every, some-at, some-none, and-is}
 
 -- what is true together is the same
 both-ways : (a b : Bool) → (a ≡ true → b ≡ true) → (b ≡ true → a ≡ true) → a ≡ b

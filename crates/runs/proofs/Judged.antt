@@ -4,21 +4,19 @@ use Rattle.integers.proofs.Kit.{_≡_, refl, true, false, Bool, _||_, List, ℕ
 use Rattle.integers.proofs.Kit.{length, ℤ, natAbs, _≤ℤ_}
 use mathlib.Core.Bool.{not}
 use Rattle.integers.specs.Whole.{_·_, totalTo}
-use Rattle.integers.proofs.Parts.{is-T, leZ-is, le-true}
+use Rattle.integers.proofs.Parts.{leZ-is, le-true}
 use Rattle.integers.proofs.Searches.{and-true, and-is, every-at, at-every, zero-or}
 use Rattle.tables.specs.Tables.{Tables}
-use Rattle.tables.specs.declared.Verdict.{Verdict}
-use Rattle.tables.specs.declared.Verdict.the-variants.{Fine, Refused}
+use Rattle.tables.specs.declared.Verdict.the-variants.{Fine}
 use Rattle.tables.specs.Limits.{K, maxLevels}
 use Rattle.tables.specs.Model.{Model, Valid, backup}
 use Rattle.tables.specs.Storage.{countsOf, entryIn, modelOf}
 use Rattle.tables.specs.Steps.{Stored}
 use Rattle.tables.specs.Judged.{tablesVerdict}
-use Rattle.tables.proofs.Refusals.{before-fine, unless-fine, fine-at, at-fine}
+use Rattle.tables.proofs.Refusals.{before-fine, unless-fine, fine-at, at-fine, fine-true, fine-is}
 use Rattle.tables.proofs.Accepted.{tables-valid, tables-stored, tables-fine}
 use Rattle.plans.specs.Limits.{maxTotal, range}
 use Rattle.plans.specs.Level.{Level, backupAt, corner-weight, follows, Meets, ShapedUpTo, IsPoint}
-use Rattle.tables.specs.Verdicts.{isFine}
 use Rattle.levels.specs.Judged.{countsHold, rowsWithin, totalHolds, valuesWithin, rangesVerdict, weightsVerdict, actionsExist}
 use Rattle.levels.specs.Judged.{numbersIn, numbersVerdict, masksVerdict, floorsVerdict, coversBackups, cornersVerdict, pointsVerdict, levelVerdict}
 use Rattle.levels.specs.Judged.{rowsHold, holdsUpTo, fits, shapeUpTo, backupsVerdict, offerUpTo}
@@ -27,13 +25,6 @@ use Rattle.levels.proofs.Laws.{passed, fine-before, only-if, numbers-in, masks-
 use Rattle.levels.proofs.Over.{Readable, Complete, readable-true, readable-is, complete-true, complete-is}
 
 -- ---- one test
-fine-true : (v : Verdict) → isFine v ≡ true → v ≡ Fine
-fine-true Fine e = refl
-fine-true (Refused number place) e = absurd (is-T e)
-
-fine-is : {v : Verdict} → v ≡ Fine → isFine v ≡ true
-fine-is e = rw e
-
 rows-fine : (number rows w limit : ℕ) (cell : ℕ → ℕ → ℤ) → rowsWithin number rows w limit cell ≡ Fine
     → (r : ℕ) → r < rows → (x : ℕ) → x < w → natAbs (cell r x) ≤ limit
 unfolding rowsWithin

@@ -77,6 +77,12 @@ totalsVerdict m x b =
     before unless (mixtureHolds (m .states) b) 17 0
     before unless (someCounts (modelOf m) (levelOf m (standingIn x)) (weightIn b)) 22 0
 
+-- a refusal of which every other part is 0
+abbrev pub noBounds : Verdict → Bounds
+noBounds v =
+    record { verdict = v; lower = pos 0; upper = pos 0; gap = pos 0; action = record { 0 = 0 }; sawtooth = pos 0; informed = pos 0 }
+
+-- the totals of a level, or a refusal
 abbrev pub boundsBy : Verdict → Model → Level → (ℕ → ℕ → ℤ) → (ℕ → ℕ) → Bounds
 boundsBy Fine M L F b = record {
   verdict = Fine;
@@ -87,15 +93,7 @@ boundsBy Fine M L F b = record {
   sawtooth = ceiling (M .states) L b;
   informed = bestRow M F b;
 }
-boundsBy (Refused number place) M L F b = record {
-  verdict = Refused number place;
-  lower = pos 0;
-  upper = pos 0;
-  gap = pos 0;
-  action = record { 0 = 0 };
-  sawtooth = pos 0;
-  informed = pos 0;
-}
+boundsBy (Refused number place) M L F b = noBounds (Refused number place)
 
 unfoldable pub totalsOf : Tables → Lent → List ℕ → Bounds
 totalsOf m x b = boundsBy (totalsVerdict m x b) (modelOf m) (levelOf m (standingIn x)) (informedIn m x) (weightIn b)

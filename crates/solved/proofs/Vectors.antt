@@ -1,62 +1,38 @@
--- Laws of the steps that read a vector of both files. Assumes nothing.
+-- Laws of the steps that work out the entries of a vector. Assumes nothing.
 --
---   over-later, over-hyphen, over-first      what a next node stands for
 --   chosen-fit, foreseen-within              what its entries are worked out from is within the limits
 --   backed-is, entry-said                    the entries are the level's
---   chosen-said, long-said                   what it chooses
---   numbers-said, chooses-said, reached-said 10 and 21 of one vector
---   row-fine, row-refused                    11 of one vector
 --   solving-chooses                          what 21 is handed is known once 10 is passed
+--   row-fine, row-refused                    11 of one vector
 --   row-made                                 its rows are those that the builder's steps fill
-use Rattle.integers.proofs.Kit.{_≡_, _∙_, refl, ap, sym, true, false, Bool, cond, _&&_, List, ℕ, _≤_, _<_, suc, zero, arith, ne-eqb, eq-eqb, leb, ltb}
-use Rattle.integers.proofs.Kit.{length, getD, ℤ, pos, natAbs}
+use Rattle.integers.proofs.Kit.{_≡_, _∙_, refl, ap, sym, true, false, Bool, _&&_, List, ℕ, _<_, suc, zero, arith, leb, length, getD, ℤ, pos, natAbs}
 use Rattle.integers.specs.Whole.{lesser, floorDiv, Within}
 use Rattle.integers.specs.Search.{every}
 use Rattle.integers.specs.Cells.{padded}
 use Rattle.integers.proofs.Lists.{padded-at, padded-length, filled-within}
-use Rattle.integers.proofs.Searches.{every-cong}
 use Rattle.tables.specs.declared.Counts.{Counts}
 use Rattle.tables.specs.declared.Verdict.{Verdict}
 use Rattle.tables.specs.declared.Verdict.the-variants.{Fine, Refused}
 use Rattle.tables.specs.Limits.{maxStates, maxObservations, K}
 use Rattle.tables.specs.Model.{Model, backedUp}
-use Rattle.tables.specs.Storage.{rowPlace, choiceIn, modelIn}
+use Rattle.tables.specs.Storage.{rowPlace, modelIn}
 use Rattle.tables.specs.Verdicts.{_before_, unless, firstOf}
-use Rattle.tables.proofs.Fitting.{row-alone}
+use Rattle.tables.proofs.Fitting.{row-alone, alone-at}
 use Rattle.tables.proofs.Refusals.{never, first-cong}
-use Rattle.masks.specs.Masks.{covered, maskOf, maskedIn}
-use Rattle.masks.proofs.Bits.{mask-covers}
+use Rattle.masks.specs.Masks.{maskedIn}
 use Rattle.sums.specs.Steps.{foreseenIn, backupIn, foreseenLimit, ChosenFit}
 use Rattle.sums.proofs.Regroup.{backup-regrouped, foreseen-limit, transitions-fit, observations-fit}
 use Rattle.plans.specs.Limits.{range}
 use Rattle.plans.specs.Level.{Level, follows}
 use Rattle.plans.proofs.Agreement.{backup-cong}
 use Rattle.levels.specs.Judged.{rowsWithin}
-use Rattle.reaches.specs.Steps.{reachedIn, Chooses}
 use Rattle.candidates.specs.Steps.{uponIn, Upon}
 use Rattle.candidates.specs.declared.Best.{Best}
-use Rattle.candidates.proofs.Candidates.{alone-at}
 use Rattle.builder.proofs.Levels.{Made}
-use Rattle.alphas.specs.Alphas.{noNode}
-use Rattle.solver.specs.Files.{actionAt}
-use Rattle.solved.specs.declared.Said.{Said}
+use Rattle.stated.specs.Steps.{Choosing}
 use Rattle.solved.specs.declared.Row.{Row}
-use Rattle.solved.specs.Solved.{chosenOver, solved}
-use Rattle.solved.specs.Steps.{choicesAt, Says, vectorsOver, Choosing, Solving, Gives}
-
--- ---- what a next node stands for
-
-pub over-later : (t next : ℕ) → 0 < t → next ≡ chosenOver t next
-over-later zero next h = absurd (omega arith)
-over-later (suc t) next h = refl
-
-pub over-hyphen : (t next : ℕ) → t ≤ 0 → next ≡ noNode → 0 ≡ chosenOver t next
-over-hyphen zero next h e = sym (ap (λ (b : Bool). cond b 0 next) (eq-eqb next noNode e))
-over-hyphen (suc t) next h e = absurd (omega arith)
-
-pub over-first : (t next : ℕ) → t ≤ 0 → (next ≡ noNode → ⊥) → next ≡ chosenOver t next
-over-first zero next h e = sym (ap (λ (b : Bool). cond b 0 next) (ne-eqb next noNode e))
-over-first (suc t) next h e = absurd (omega arith)
+use Rattle.solved.specs.Solved.{solved}
+use Rattle.solved.specs.Steps.{vectorsOver, Solving, Gives}
 
 -- ---- the entries
 
@@ -107,40 +83,7 @@ entry-said M L {z} {z'} {a} {a'} f g s e h k =
     ap (λ (x : ℤ). lesser x (backedUp M a (follows L f) s)) e ∙ ap (λ (b : ℕ). lesser z' (backedUp M b (follows L f) s)) h
     ∙ ap (λ (x : ℤ). lesser z' (floorDiv x K)) (backup-cong M a' _ _ s (λ o b s' l. ap (λ (v : ℕ). L .entry v s') (k o b)))
 
--- ---- 10, 21 and 11 of one vector
-
-module _ {n k t v : ℕ} {alphaFile graphFile : List ℕ} {r : Said} (says : Says n k t alphaFile graphFile v r) where
-  pub chosen-said : (o : ℕ) → o < k → getD (r .chosen) o 0 ≡ choicesAt k t graphFile v o
-  chosen-said o l = ap (λ (xs : List ℕ). getD xs o 0) (says .chosen) ∙ padded-at 0 maxObservations k (choicesAt k t graphFile v) o 0 l
-
-  pub long-said : k ≤ maxObservations → length (r .chosen) ≡ maxObservations
-  long-said few = rw (says .chosen) (padded-length 0 maxObservations k (choicesAt k t graphFile v) few)
-
-  -- as a table of one row
-  row-said : (o : ℕ) → o < k → choiceIn k (r .chosen) 0 o ≡ choicesAt k t graphFile v o
-  row-said o l = alone-at k (r .chosen) o ∙ chosen-said o l
-
-  pub numbers-said : (m standing : ℕ)
-      → (unless (ltb (r .action) m) 10 v before firstOf k (λ o. unless (ltb (getD (r .chosen) o 0) standing) 10 v))
-      ≡ (unless (ltb (actionAt n alphaFile v) m) 10 v before firstOf k (λ o. unless (ltb (choicesAt k t graphFile v o) standing) 10 v))
-  numbers-said m standing =
-      ap (λ (a : ℕ). unless (ltb a m) 10 v before firstOf k (λ o. unless (ltb (getD (r .chosen) o 0) standing) 10 v)) (says .action)
-      ∙ ap (λ (w : Verdict). unless (ltb (actionAt n alphaFile v) m) 10 v before w)
-      (first-cong k _ _ (λ o l. ap (λ (x : ℕ). unless (ltb x standing) 10 v) (chosen-said o l)))
-
-  pub chooses-said : {masks : List ℕ} → k ≤ maxObservations → ((o : ℕ) → o < k → choicesAt k t graphFile v o < length masks) → Chooses k masks (r .chosen) 0
-  chooses-said few h = record {
-    row = omega arith;
-    stored = omega (arith, long-said few);
-    vector = λ o l. rw (row-said o l) (h o l);
-  }
-
-  -- the mask of all states covers each
-  pub reached-said : (T O masks : List ℕ) {all : ℕ} → all ≡ maskOf n (λ s. true)
-      → reachedIn n k T O masks (covered all) (r .action) (choiceIn k (r .chosen) 0)
-      ≡ reachedIn n k T O masks (λ s. true) (actionAt n alphaFile v) (choicesAt k t graphFile v)
-  reached-said T O masks e =
-      rw (says .action, e) (every-cong n _ _ (λ s b. rw (mask-covers n (λ s. true) s b) (every-cong k _ _ (λ o l. rw (row-said o l)))))
+-- ---- 21 and 11
 
 -- what 21 is handed is known where 10 is passed
 pub solving-chooses : {c : Counts} {T O : List ℕ} {R : List ℤ} {masks : List ℕ} {entries : List ℤ} {standing t : ℕ} {alphaFile graphFile : List ℕ}
@@ -200,7 +143,7 @@ module _ (n limit : ℕ) (f : ℕ → ℤ) (v : ℕ) {row : List ℤ} (e : row �
 -- ---- the vector as the builder's rows are filled with it
 
 abbrev pub bestOf : Row → Best
-bestOf r = record { action = record { 0 = r .action }; candidate = record { chosen = r .chosen; entries = r .entries } }
+bestOf r = record { action = r .action; candidate = record { chosen = r .chosen; entries = r .entries } }
 
 pub row-made : {c : Counts} {T O : List ℕ} {R : List ℤ} {masks : List ℕ} {entries : List ℤ} {standing t : ℕ} {alphaFile graphFile : List ℕ}
     {count v : ℕ} (r : Row) → Solving c T O R masks entries standing t alphaFile graphFile count → v < count

@@ -1,19 +1,13 @@
 -- The level that a solver's alpha file and policy graph file say, over the level that stands.
-use Prim.Native.Nat.{ℕ, suc, zero}
-use mathlib.Core.Bool.{true, cond}
+use Prim.Native.Nat.{ℕ}
+use mathlib.Core.Bool.{true}
 use mathlib.Core.List.{List}
-use lib.Dec.{eqb}
 use Rattle.integers.specs.Whole.{lesser}
 use Rattle.tables.specs.Model.{Model, backedUp}
 use Rattle.plans.specs.Level.{Level, corner-weight, follows}
 use Rattle.plans.specs.Build.{leastValue}
-use Rattle.alphas.specs.Alphas.{noNode}
 use Rattle.solver.specs.Files.{vectorsIn, actionAt, ticksAt, nextAt}
-
--- the vector that a next node stands for, over level t: a hyphen is vector 0 over level 0, and no vector over a later one, as its number is no vector's
-abbrev pub chosenOver : ℕ → ℕ → ℕ
-chosenOver zero next = cond (eqb next noNode) 0 next
-chosenOver (suc t) next = next
+use Rattle.stated.specs.Stated.{chosenOver}
 
 -- over level t, which is L: actions and choices are the files'; an entry is the lesser of the decimal in ticks and its own backup over K, each rounded
 -- down; corners and points are the builder's

@@ -1,5 +1,6 @@
 -- The two files: refused in order, and read once more, vector by vector. Assumes nothing.
 --
+--   counted-verdict, count-of   what a verdict with a count has
 --   both-start, both-on   where both files stand at the first vector, and at the next
 --   files-read            files that are not refused stand at their first vector, and have the same actions
 --   first-refuses, second-refuses, unlike-counts, unlike-actions, all-alike   how they are judged
@@ -24,14 +25,14 @@ use Rattle.solver.specs.Files.{alphas, nodes, listOf, vectorsIn, nodeAt,
 use Rattle.solver.specs.Steps.{BothAt}
 use Rattle.solver.proofs.All.{stands-read, Onward, standing-on}
 
--- ---- how one file is judged
+-- ---- how one file is judged: a verdict with a count
 
-counted-verdict : (v : Verdict) (vectors : ℕ) → withCount v vectors .verdict ≡ v
+pub counted-verdict : (v : Verdict) (vectors : ℕ) → withCount v vectors .verdict ≡ v
 counted-verdict Fine vectors = refl
 counted-verdict (Refused number place) vectors = refl
 
-count-of : {j : Judged} (v : Verdict) (vectors : ℕ) → j ≡ withCount v vectors → v ≡ Fine → j .vectors ≡ vectors
-count-of v vectors e fine = ap (λ (j : Judged). j .vectors) e ∙ ap (λ (v : Verdict). withCount v vectors .vectors) fine
+pub count-of : {j : Judged} {v : Verdict} {vectors : ℕ} → j ≡ withCount v vectors → v ≡ Fine → j .vectors ≡ vectors
+count-of {vectors = vectors} e fine = ap (λ (j : Judged). j .vectors) e ∙ ap (λ (v : Verdict). withCount v vectors .vectors) fine
 
 counted-refused : (v w : Verdict) (vectors : ℕ) → tagOf verdict-type.the-type v ≡ 1 → record { verdict = v; vectors = 0 } ≡ withCount (v before w) vectors
 counted-refused Fine w vectors e = absurd (omega arith)
@@ -148,10 +149,10 @@ module _ (n k : ℕ) (alphaFile graphFile : List ℕ) where
             ∙ ap (λ (b : Bool). judgedBy (readable (alphas n alphaFile)) (readable (nodes k graphFile)) b) (sym q)
 
         vectors-are : x .vectors ≡ vectorsIn n alphaFile
-        vectors-are = count-of (readable (alphas n alphaFile)) (vectorsIn n alphaFile) ex (sym first-is ∙ fx)
+        vectors-are = count-of ex (sym first-is ∙ fx)
 
         nodes-are : y .vectors ≡ length (listOf (nodes k graphFile))
-        nodes-are = count-of (readable (nodes k graphFile)) (length (listOf (nodes k graphFile))) ey (sym second-is ∙ fy)
+        nodes-are = count-of ey (sym second-is ∙ fy)
 
         -- they differ in the number of vectors
         pub unlike-counts : (x .vectors ≡ y .vectors → ⊥) → record { verdict = Refused 20 0; vectors = 0 } ≡ filesJudged n k alphaFile graphFile

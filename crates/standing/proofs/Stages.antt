@@ -20,9 +20,6 @@ fails b e = rw e
 pub holds-on : {a b x : Bool} → a ≡ true → x ≡ b → x ≡ (a && b)
 holds-on e f = rw e f
 
-pub fine : {v : Verdict} → v ≡ Fine → isFine v ≡ true
-fine e = rw e
-
 pub not-fine : {v : Verdict} {k i : ℕ} → v ≡ Refused k i → isFine v ≡ false
 not-fine e = rw e
 

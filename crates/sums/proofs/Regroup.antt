@@ -2,8 +2,7 @@
 use Rattle.integers.proofs.Kit.{_≡_, _∙_, refl, ap, sym, List, ℕ, _≤_, _<_, _+_, _*_, _^_, arith, mul-le-mul, mul-le-mul-right, getD, ℤ, pos, natAbs}
 use Rattle.integers.proofs.Kit.{_+ℤ_}
 use Rattle.integers.specs.Whole.{_·_, sumTo, totalTo, Below, Within}
-use Rattle.integers.proofs.Order.{·-·}
-use Rattle.integers.proofs.Sums.{sum-cong, sum-·, total-bound, total-mul-right}
+use Rattle.integers.proofs.Sums.{sum-cong, sum-spread, total-bound, total-mul-right}
 use Rattle.integers.proofs.Terms.{Terms, terms-limit}
 use Rattle.integers.proofs.Sizes.{abs-times}
 use Rattle.tables.specs.declared.Counts.{Counts}
@@ -29,12 +28,6 @@ module _ (c : Counts) (T O : List ℕ) (R : List ℤ) where
   unfolding expectedIn expectedReward
   expected-is p a = refl
 
-  -- a transition times a sum over observations, with the transition inside the sum
-  spread : (t : ℕ) (next : ℕ → ℕ → ℤ) (a s' : ℕ)
-      → t · sumTo (c .observations) (λ o. observationIn (c .states) (c .observations) O a s' o · next o s')
-      ≡ sumTo (c .observations) (λ o. (t * observationIn (c .states) (c .observations) O a s' o) · next o s')
-  spread t next a s' = sym (sum-· t (c .observations) _) ∙ sum-cong (c .observations) _ _ (λ o l. sym (·-· t _ _))
-
   -- with the sum over observations at each state, the backup is the model's
   pub backup-foreseen : (next : ℕ → ℕ → ℤ) (f : List ℤ) (a s : ℕ)
       → ((s' : ℕ) → s' < c .states
@@ -43,7 +36,8 @@ module _ (c : Counts) (T O : List ℕ) (R : List ℤ) where
   unfolding backupIn onwardIn backup
   backup-foreseen next f a s h =
       ap (λ (z : ℤ). K · rewardIn (c .states) R s a +ℤ c .discount · z)
-      (sum-cong (c .states) _ _ (λ s' l. ap (λ (z : ℤ). transitionIn (c .states) T s a s' · z) (h s' l) ∙ spread _ next a s'))
+      (sum-cong (c .states) _ _ (λ s' l. ap (λ (z : ℤ). transitionIn (c .states) T s a s' · z) (h s' l)
+      ∙ sum-spread _ (c .observations) (observationIn (c .states) (c .observations) O a s') (λ o. next o s')))
 
   -- so it is with what is foreseen by the vectors chosen
   pub backup-regrouped : (masks : List ℕ) (entries : List ℤ) (choices : List ℕ) (v : ℕ) (f : List ℤ) (a s : ℕ)

@@ -1,11 +1,11 @@
 -- Tables whose counts are within the limits do not reach past their arrays. Assumes nothing.
-use Rattle.integers.proofs.Kit.{_≡_, true, _&&_, ℕ, _≤_, _<_, _+_, _*_, arith, mul-le-mul, mul-le-mul-right, le-leb, leb-true, leb, length}
+use Rattle.integers.proofs.Kit.{_≡_, ap, true, _&&_, List, ℕ, _≤_, _<_, _+_, _*_, arith, mul-le-mul, mul-le-mul-right, le-leb, leb-true, leb, length, getD}
 use Rattle.integers.proofs.Lists.{cell-below}
 use Rattle.integers.proofs.Searches.{and-true, and-is}
 use Rattle.tables.specs.Tables.{Tables}
 use Rattle.tables.specs.Limits.{maxStates, maxActions, maxObservations}
 use Rattle.tables.specs.Model.{Model}
-use Rattle.tables.specs.Storage.{rowPlace, cellPlace, countsOf}
+use Rattle.tables.specs.Storage.{rowPlace, cellPlace, choiceIn, countsOf}
 use Rattle.tables.specs.Steps.{rowsTo, cellsTo, Stored}
 use Rattle.tables.specs.Judged.{countWithin, countsWithin, limitsHold, tablesStored}
 
@@ -24,6 +24,10 @@ rows-stored w r rows l long = omega (arith, mul-le-mul-right w (let h : r + 1 �
 -- a row that is alone starts at 0
 pub row-alone : (w x : ℕ) → rowPlace w 0 x ≡ x
 row-alone w x = omega arith
+
+-- so does what a vector chooses, of a table of one row
+pub alone-at : (k : ℕ) (chosen : List ℕ) (o : ℕ) → choiceIn k chosen 0 o ≡ getD chosen o 0
+alone-at k chosen o = ap (λ (i : ℕ). getD chosen i 0) (row-alone k o)
 
 -- ---- tables in full arrays, as a model file is read into
 

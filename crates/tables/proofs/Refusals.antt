@@ -1,13 +1,21 @@
 -- Laws of refusals: the first that is found, as a loop finds it, and what it says that none is. Assumes nothing.
 use Rattle.integers.proofs.Kit.{_≡_, refl, sym, true, false, Bool, ℕ, _<_, _+_, suc, zero, arith, add-one, decLt}
+use Rattle.integers.proofs.Parts.{is-T}
 use Rattle.integers.proofs.Searches.{below-suc}
 use Rattle.tables.specs.declared.Verdict.{Verdict}
 use Rattle.tables.specs.declared.Verdict.the-variants.{Fine, Refused}
-use Rattle.tables.specs.Verdicts.{_before_, unless, firstOf}
+use Rattle.tables.specs.Verdicts.{isFine, _before_, unless, firstOf}
 
 -- a refusal is not fine
 pub never : {A : Type 0} {k i : ℕ} → Refused k i ≡ Fine → A
 never {A} {k} {i} e = let z : _≡_ {A = ℕ} 0 1 = cc in absurd (let n : ⊥ = omega arith in n)
+
+pub fine-true : (v : Verdict) → isFine v ≡ true → v ≡ Fine
+fine-true Fine e = refl
+fine-true (Refused number place) e = absurd (is-T e)
+
+pub fine-is : {v : Verdict} → v ≡ Fine → isFine v ≡ true
+fine-is e = rw e
 
 pub before-fine : (v w : Verdict) → (v before w) ≡ Fine → (v ≡ Fine) × (w ≡ Fine)
 before-fine Fine w e = (refl, e)

@@ -16,6 +16,9 @@ pub type Weights = [u64; Tables::STATES]; // of a mixture, a point or the states
 
 pub type Foreseen = [i64; Tables::STATES];
 
+// What a vector chooses for each observation: a table of choices of one row.
+pub type Chosen = [u16; Tables::OBSERVATIONS];
+
 // The counts by which lent tables are read, and the discount.
 pub struct Counts {
     pub states: usize,

@@ -6,8 +6,9 @@ use Rattle.tables.specs.Storage.{tablesIn}
 use Rattle.levels.specs.Storage.{Cells, Lent, cells, rows, lent, standingAt}
 use Rattle.solver.specs.declared.Judged.{Judged}
 use Rattle.solver.specs.Files.{vectorsIn}
+use Rattle.solver.proofs.Files.{counted-verdict, count-of}
 use Rattle.adoption.specs.Adopt.{adoptVerdict}
-use Rattle.adoption.proofs.Adopting.{verdict-counted, vectors-counted, answered-back, answered-fine, startVerdict, endVerdict, Started, started}
+use Rattle.adoption.proofs.Adopting.{answered-back, answered-fine, startVerdict, endVerdict, Started, started}
 use Rattle.adoption.proofs.Adopting.{adopt-first, adopt-then, level-asks, level-said, roof-asks, vectors-ask, points-are, level-laid}
 use Rattle.adoption.proofs.Adopting.{adopted-refused, adopted-fine, adopt-demand}
 use Rattle.adopting.proofs.adopt.Statement.{statement}
@@ -50,7 +51,7 @@ answer c =
 -- ---- 1 to 9
 first-said : (c : tie.After-judge-files) (choices : List ℕ) → let s = start c in let a = s .args in
     c .judge-files .result .verdict ≡ startVerdict (tables s) (certifier s choices) (a .alpha .now) (a .graph .now) (a .count) (answer s)
-first-said c choices = ap (λ (j : Judged). j .verdict) (c .judge-files .ensures choices) ∙ verdict-counted _ _
+first-said c choices = ap (λ (j : Judged). j .verdict) (c .judge-files .ensures choices) ∙ counted-verdict _ _
 
 first-fine : (c : tie.After-enum-told) (choices : List ℕ) → let s = start (of-files c) in let a = s .args in
     startVerdict (tables s) (certifier s choices) (a .alpha .now) (a .graph .now) (a .count) (answer s) ≡ Fine
@@ -64,7 +65,7 @@ known c choices =
 
 vectors-are : (c : tie.After-enum-told) → let s = start (of-files c) in
     of-files c .judge-files .result .vectors ≡ vectorsIn (s .args .c .states) (s .args .alpha .now)
-vectors-are c = vectors-counted (of-files c .judge-files .ensures []) (first-fine c [])
+vectors-are c = count-of (of-files c .judge-files .ensures []) (first-fine c [])
 
 stands : (c : tie.After-standing-in) → c .standing-in .result ≡ standingAt (start (of-files (c .before)) .args .state .now)
 stands c = c .standing-in .ensures

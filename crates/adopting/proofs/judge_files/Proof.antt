@@ -14,7 +14,8 @@ use Rattle.levels.specs.Judged.{holds}
 use Rattle.runs.proofs.Judged.{Held, standing-true}
 use Rattle.solver.specs.declared.Judged.{Judged}
 use Rattle.solver.specs.Files.{maxFile, vectorsIn, filesVerdict, withCount}
-use Rattle.adoption.proofs.Adopting.{verdict-counted, vectors-counted, counted-back}
+use Rattle.solver.proofs.Files.{counted-verdict, count-of}
+use Rattle.adoption.proofs.Adopting.{counted-back}
 use Rattle.adopting.proofs.judge_files.Statement.{statement}
 use Rattle.adopting.proofs.judge_files.Tie as tie
 
@@ -51,11 +52,11 @@ known c = standing-true maxVectors (tables (start (of-certifier c))) (certifier 
 -- 19 and 20
 files-said : (c : tie.After-judge-files) → let a = start (of-certifier (c .before)) .args in
     c .judge-files .result .verdict ≡ filesVerdict (a .c .states) (a .c .observations) (a .alpha .now) (a .graph .now)
-files-said c = ap (λ (j : Judged). j .verdict) (c .judge-files .ensures) ∙ verdict-counted _ _
+files-said c = ap (λ (j : Judged). j .verdict) (c .judge-files .ensures) ∙ counted-verdict _ _
 
 vectors-are : (c : tie.After-enum-told) → let f = of-files c in let a = start (of-certifier (f .before)) .args in
     f .judge-files .result .vectors ≡ vectorsIn (a .c .states) (a .alpha .now)
-vectors-are c = let f = of-files c in vectors-counted (f .judge-files .ensures) (sym (files-said f) ∙ c .enum-told .given .1)
+vectors-are c = let f = of-files c in count-of (f .judge-files .ensures) (sym (files-said f) ∙ c .enum-told .given .1)
 
 -- 8 and 9, of the level that stands and the vectors that were counted
 abbrev room : tie.Start → ℕ → ℕ → Verdict

@@ -3,12 +3,11 @@ use native.Mathlib.Nat.{le-refl, mod-lt, div-lt-iff-lt-mul, div-add-mod'}
 use mir.Val.{Fits}
 use Rattle.integers.specs.Cells.{laid, laidRows}
 use Rattle.integers.proofs.Words.{back, answer}
-use Rattle.integers.proofs.Lists.{laid-none, laid-turn, laid-long}
+use Rattle.integers.proofs.Lists.{laid-none, laid-turn, laid-long, laid-past}
 use Rattle.tables.specs.Storage.{entryIn}
 use Rattle.masks.specs.Masks.{coveredIn}
 use Rattle.plans.specs.Prices.{fallen}
 use Rattle.pricing.specs.Steps.{loweredIn}
-use Rattle.pricing.proofs.Moved.{laid-past}
 use Rattle.pricing.proofs.lower_entries.Statement.{statement}
 use Rattle.pricing.proofs.lower_entries.Tie as tie
 

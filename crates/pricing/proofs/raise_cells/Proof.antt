@@ -2,10 +2,9 @@ use Rattle.integers.proofs.Kit.{_≡_, _∙_, sym, ap, List, ℤ, pos, ℕ, _�
 use native.Mathlib.Nat.{le-refl}
 use Rattle.integers.specs.Cells.{laid}
 use Rattle.integers.proofs.Words.{back, answer}
-use Rattle.integers.proofs.Lists.{laid-none, laid-turn, laid-long}
+use Rattle.integers.proofs.Lists.{laid-none, laid-turn, laid-long, laid-past}
 use Rattle.plans.specs.Prices.{risen}
 use Rattle.pricing.specs.Steps.{raisedIn}
-use Rattle.pricing.proofs.Moved.{laid-past}
 use Rattle.pricing.proofs.raise_cells.Statement.{statement}
 use Rattle.pricing.proofs.raise_cells.Tie as tie
 

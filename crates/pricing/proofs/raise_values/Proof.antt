@@ -4,13 +4,12 @@ use mir.Val.{Fits}
 use Rattle.integers.specs.Whole.{totalTo}
 use Rattle.integers.specs.Cells.{laid}
 use Rattle.integers.proofs.Words.{back, answer}
-use Rattle.integers.proofs.Lists.{row-below, laid-none, laid-turn, laid-long}
+use Rattle.integers.proofs.Lists.{row-below, laid-none, laid-turn, laid-long, laid-past}
 use Rattle.tables.specs.Limits.{maxEntry}
 use Rattle.plans.specs.Limits.{maxTotal}
 use Rattle.plans.specs.Prices.{risen}
 use Rattle.levels.specs.Storage.{pointIn}
 use Rattle.pricing.specs.Steps.{maxMove, valueIn}
-use Rattle.pricing.proofs.Moved.{laid-past}
 use Rattle.pricing.proofs.raise_values.Statement.{statement}
 use Rattle.pricing.proofs.raise_values.Tie as tie
 

@@ -1,7 +1,7 @@
 use Rattle.integers.proofs.Kit.{needs, ℕ, _≤_, _-_, _≡_, _∙_, refl, sym, Bool, _&&_, _||_, true, false, List, arith, eqb, ltb, ⊎-elim, not-true, not-false}
-use mathlib.Core.Bool.{not}
+use mathlib.Core.Bool.{not, or-true}
 use Rattle.integers.specs.Search.{every, some}
-use Rattle.integers.proofs.Searches.{every-none, every-more, every-not, or-true}
+use Rattle.integers.proofs.Searches.{every-none, every-more, every-not}
 use Rattle.tables.specs.Storage.{transitionIn, observationIn, choiceIn}
 use Rattle.masks.specs.Masks.{covered, coveredIn}
 use Rattle.reaches.specs.Steps.{reachedIn}

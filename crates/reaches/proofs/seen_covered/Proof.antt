@@ -1,7 +1,7 @@
 use Rattle.integers.proofs.Kit.{needs, ℕ, _≤_, _<_, _-_, _≡_, _∙_, refl, sym, ap, Bool, _||_, true, false, List, arith, eqb, eq-eqb, ne-eqb, length, ⊎-elim}
-use Rattle.integers.proofs.Kit.{not-true, not-false}
+use Rattle.integers.proofs.Kit.{not-true, not-false, or-true}
 use Rattle.integers.specs.Search.{every}
-use Rattle.integers.proofs.Searches.{every-none, every-more, every-not, or-true}
+use Rattle.integers.proofs.Searches.{every-none, every-more, every-not}
 use Rattle.tables.specs.Storage.{rowPlace, observationIn, choiceIn}
 use Rattle.masks.specs.Masks.{coveredIn}
 use Rattle.reaches.proofs.seen_covered.Statement.{statement}

@@ -32,14 +32,7 @@ in-turn c = c .before .before .before .before .before .before .before .before .b
 abbrev of-offer : tie.After-qmdp Inv-loop μ-loop → tie.After-offer-block Inv-loop μ-loop
 of-offer c = c .before .before .before .before .before .before .before .before .before .before .before .before .before .before .before
 
--- the certifier as it came, at the loop, and after a turn
-abbrev came : tie.Start Inv-loop μ-loop → Lent
-came s =
-    let a = s .args in
-    lent (a .state .now)
-    (cells (a .actions .now) (a .choices .now) (a .masks .now) (a .entries .now) (a .corners .now) (a .weights .now) (a .values .now))
-    (rows (a .informed .now) (a .qmdp .now))
-
+-- the certifier at the loop, and after a turn
 abbrev looped : tie.At-loop Inv-loop μ-loop → Lent
 looped c =
     let l = c .loop in

@@ -1,11 +1,14 @@
-use Rattle.solved.proofs.Prelude.{needs, arith, ℕ, _-_, _≤_, _≡_, sym, ap, _∙_, pos, getD, Verdict, Fine, firstOf, unless}
-use Rattle.solved.proofs.Prelude.{first-none, first-more, first-here, padded-length, maxStates}
-use Rattle.integers.proofs.Kit.{_+_, leb, natAbs}
+use Rattle.solved.proofs.Prelude.{needs, arith, _-_, _≤_, _≡_, sym, ap, _∙_, pos, getD, Verdict, padded-length, maxStates}
+use Rattle.integers.proofs.Kit.{ℕ, _+_, leb, natAbs}
+use Rattle.tables.specs.declared.Verdict.the-variants.{Fine}
+use Rattle.tables.specs.Verdicts.{firstOf, unless}
+use Rattle.tables.proofs.Refusals.{first-none, first-more, first-here}
 use Rattle.tables.specs.Storage.{rowPlace}
 use Rattle.plans.specs.Limits.{range}
 use Rattle.plans.specs.Level.{Level}
 use Rattle.levels.specs.Judged.{rowsWithin}
-use Rattle.solved.specs.Steps.{ReadTo, vectorsOver}
+use Rattle.stated.specs.Steps.{ReadTo}
+use Rattle.solved.specs.Steps.{vectorsOver}
 use Rattle.solved.proofs.Vectors.{row-fine, row-refused}
 use Rattle.solved.proofs.entries_hold.Statement.{statement}
 use Rattle.solved.proofs.entries_hold.Tie as tie

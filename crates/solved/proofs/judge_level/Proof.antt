@@ -4,8 +4,9 @@ use Rattle.tables.proofs.Refusals.{stops, goes}
 use Rattle.levels.specs.Judged.{numbersIn}
 use Rattle.levels.proofs.Laws.{numbers-in}
 use Rattle.solver.specs.Files.{actionAt}
+use Rattle.stated.specs.Steps.{choicesAt}
 use Rattle.solved.specs.Solved.{solved}
-use Rattle.solved.specs.Steps.{choicesAt, Solving}
+use Rattle.solved.specs.Steps.{Solving}
 use Rattle.solved.proofs.Vectors.{solving-chooses}
 use Rattle.solved.proofs.judge_level.Statement.{statement}
 use Rattle.solved.proofs.judge_level.Tie as tie

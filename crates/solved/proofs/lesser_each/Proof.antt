@@ -1,4 +1,6 @@
-use Rattle.solved.proofs.Prelude.{needs, arith, _-_, _≤_, _≡_, sym, _∙_, getD, pos, padded, padded-none, padded-turn, maxStates}
+use Rattle.solved.proofs.Prelude.{needs, arith, _-_, _≤_, _≡_, sym, _∙_, getD, pos, maxStates}
+use Rattle.integers.specs.Cells.{padded}
+use Rattle.integers.proofs.Lists.{padded-none, padded-turn}
 use Rattle.integers.specs.Whole.{lesser}
 use Rattle.integers.proofs.Words.{answer, back}
 use Rattle.solved.proofs.lesser_each.Statement.{statement}

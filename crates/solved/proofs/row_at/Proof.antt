@@ -1,9 +1,11 @@
-use Rattle.solved.proofs.Prelude.{arith, _≡_, sym, _∙_, pos, padded-cong, maxObservations, maxStates}
+use Rattle.solved.proofs.Prelude.{arith, _≡_, sym, _∙_, pos, padded-cong, maxStates}
 use Rattle.integers.proofs.Kit.{length}
+use Rattle.tables.specs.Limits.{maxObservations}
 use Rattle.tables.specs.Storage.{modelIn}
 use Rattle.candidates.specs.Steps.{uponIn}
+use Rattle.stated.proofs.Choices.{chosen-said, long-said}
 use Rattle.solved.specs.Solved.{solved}
-use Rattle.solved.proofs.Vectors.{entry-said, chosen-said, long-said}
+use Rattle.solved.proofs.Vectors.{entry-said}
 use Rattle.solved.proofs.row_at.Statement.{statement}
 use Rattle.solved.proofs.row_at.Tie as tie
 
@@ -23,7 +25,7 @@ long c = long-said (c .said-at .ensures) (start c .pre .0 .files .few-observatio
 
 entries-of-requires : tie.Need-entries-of-requires
 entries-of-requires c κs =
-    let s = c .before .before .before in
+    let s = c .before .before .before .before in
     let p = start s .pre in (
       p .0 .upon,
       (
@@ -38,7 +40,7 @@ entries-of-requires c κs =
 returns : tie.Need-returns
 unfolding solved
 returns c =
-    let s = c .before .before .before .before in
+    let s = c .before .before .before .before .before in
     let a = start s .args in
     let says = s .said-at .ensures in
     record {
@@ -51,4 +53,4 @@ returns c =
     }
 
 pub row-at-spec : {M : Type 1} → statement M
-row-at-spec = tie.close (tie.spec said-at-requires (λ c. sym (long (c .before .before .before))) entries-of-requires returns)
+row-at-spec = tie.close (tie.spec said-at-requires (λ c. sym (long (c .before .before .before .before))) entries-of-requires returns)

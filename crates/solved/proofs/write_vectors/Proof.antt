@@ -3,7 +3,8 @@ use Rattle.integers.proofs.Kit.{_<_}
 use Rattle.tables.specs.Limits.{maxVectors}
 use Rattle.builder.specs.Steps.{Filled}
 use Rattle.builder.proofs.Levels.{Made, filled-none, VectorsAsLong, filled-long, Room, rows-room, filled-more}
-use Rattle.solved.specs.Steps.{ReadTo, vectorsOver}
+use Rattle.stated.specs.Steps.{ReadTo}
+use Rattle.solved.specs.Steps.{vectorsOver}
 use Rattle.solved.proofs.Vectors.{bestOf, row-made}
 use Rattle.solved.proofs.write_vectors.Statement.{statement}
 use Rattle.solved.proofs.write_vectors.Tie as tie

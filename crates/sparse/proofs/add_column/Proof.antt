@@ -1,4 +1,4 @@
-use Rattle.integers.proofs.Kit.{_≡_, _∙_, _+_, ap, needs, getD, ℕ, ℤ, pos, _+ℤ_, toZ, ofZ, w64, toZ-ofZ}
+use Rattle.integers.proofs.Kit.{_≡_, _∙_, ap, needs, getD, ℕ, ℤ, pos, _+ℤ_, toZ, ofZ, w64, toZ-ofZ}
 use Rattle.integers.specs.Whole.{_·_}
 use Rattle.integers.proofs.Lists.{laid-cong}
 use Rattle.columns.specs.Columns.{saidFor, turnedBack}

@@ -1,10 +1,11 @@
 use Rattle.integers.proofs.Kit.{_≡_, _∙_, sym, _≤_, arith, mul-le-mul, needs, le-leb, lt-leb}
 use Rattle.tables.specs.Limits.{maxEntry}
 use Rattle.tables.specs.Storage.{entryIn}
+use Rattle.tables.proofs.Refusals.{fine-is}
 use Rattle.plans.specs.Limits.{range}
 use Rattle.plans.proofs.Built.{range-limit}
 use Rattle.levels.specs.Judged.{rowsWithin}
-use Rattle.standing.proofs.Stages.{fails, holds-on, fine, not-fine}
+use Rattle.standing.proofs.Stages.{fails, holds-on, not-fine}
 use Rattle.standing.proofs.rows_hold.Statement.{statement}
 use Rattle.standing.proofs.rows_hold.Tie as tie
 
@@ -29,7 +30,7 @@ returns-2 c =
 returns-3 : tie.Need-returns-3
 returns-3 c =
     let r = c .before .before in
-    holds-on (le-leb _ _ (r .before .before .if1 .left)) (sym (fine (sym (said r) ∙ c .enum-told .given .1)))
+    holds-on (le-leb _ _ (r .before .before .if1 .left)) (sym (fine-is (sym (said r) ∙ c .enum-told .given .1)))
 
 pub rows-hold-spec : {M : Type 1} → statement M
 rows-hold-spec =

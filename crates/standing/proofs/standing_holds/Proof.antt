@@ -8,13 +8,14 @@ use Rattle.tables.specs.Model.{Valid}
 use Rattle.tables.specs.Storage.{modelOf, tablesIn}
 use Rattle.tables.specs.Judged.{tablesVerdict}
 use Rattle.tables.proofs.Accepted.{tables-valid}
+use Rattle.tables.proofs.Refusals.{fine-is}
 use Rattle.plans.specs.Limits.{maxPoints}
 use Rattle.levels.specs.declared.Standing.{Standing}
 use Rattle.levels.specs.Storage.{LentLevel, stateSize, standingAt, cells, lentFor, levelIn, readable, pointIn}
 use Rattle.tables.specs.Verdicts.{isFine}
 use Rattle.levels.specs.Judged.{countsHold, actionsExist, rangesVerdict, weightsVerdict, rowsHold, holdsUpTo}
 use Rattle.levels.proofs.Over.{Readable, readable-true}
-use Rattle.standing.proofs.Stages.{fails, holds-on, fine, not-fine, counts-few, ranges-read}
+use Rattle.standing.proofs.Stages.{fails, holds-on, not-fine, counts-few, ranges-read}
 use Rattle.standing.proofs.standing_holds.Statement.{statement}
 use Rattle.standing.proofs.standing_holds.Tie as tie
 
@@ -83,7 +84,7 @@ Tests c b =
     isFine (tablesVerdict (tables x)) && (leb stateSize (length (x .args .state .now)) && b)
 
 after-state : (c : tie.After-standing-in) {b x : Bool} → x ≡ b → x ≡ Tests c b
-after-state c e = holds-on (fine (fine-tables (of-state (c .before)))) (holds-on (long-state (c .before)) e)
+after-state c e = holds-on (fine-is (fine-tables (of-state (c .before)))) (holds-on (long-state (c .before)) e)
 
 after-number : (c : tie.Else2) {b x : Bool} → x ≡ b → x ≡ Tests (of-number c) (leb (state (of-number c) .number) maxLevels && b)
 after-number c e = after-state (of-number c) (holds-on (few-levels c) e)
@@ -107,7 +108,7 @@ returns c choices = fails _ (not-fine (sym (c .before .before .judge-tables .ens
 
 returns-2 : tie.Need-returns-2
 unfolding holdsUpTo
-returns-2 c choices = holds-on (fine (fine-tables (c .before))) (fails _ (lt-leb _ _ (c .if1 .taken)))
+returns-2 c choices = holds-on (fine-is (fine-tables (c .before))) (fails _ (lt-leb _ _ (c .if1 .taken)))
 
 returns-3 : tie.Need-returns-3
 unfolding holdsUpTo
@@ -213,7 +214,7 @@ weights-hold-requires c κs =
 
 after-ranges : (c : tie.After-enum-told3) (choices : List ℕ) {b x : Bool} → x ≡ b
     → x ≡ TestsRead (of-read (of-actions (of-ranges c))) (Acts (of-actions (of-ranges c)) && (isFine (Ranges (of-ranges c) choices) && b))
-after-ranges c choices e = after-actions (of-ranges c) (holds-on (fine (sym (ranges-said (c .before .before) choices) ∙ c .enum-told3 .given .1)) e)
+after-ranges c choices e = after-actions (of-ranges c) (holds-on (fine-is (sym (ranges-said (c .before .before) choices) ∙ c .enum-told3 .given .1)) e)
 
 abbrev Totals : tie.Else5 → Verdict
 Totals c =
@@ -241,7 +242,7 @@ rows-hold-requires c κs =
 
 after-weights : (c : tie.After-enum-told5) (choices : List ℕ) {b x : Bool} → x ≡ b → let r = of-ranges (of-weights c) in
     x ≡ TestsRead (of-read (of-actions r)) (Acts (of-actions r) && (isFine (Ranges r choices) && (isFine (Totals r) && b)))
-after-weights c choices e = after-ranges (of-weights c) choices (holds-on (fine (sym (totals-said (c .before .before)) ∙ c .enum-told5 .given .1)) e)
+after-weights c choices e = after-ranges (of-weights c) choices (holds-on (fine-is (sym (totals-said (c .before .before)) ∙ c .enum-told5 .given .1)) e)
 
 -- the rows of a slice, at the level that stands
 abbrev Rowed : tie.After-enum-told5 → List ℤ → Bool

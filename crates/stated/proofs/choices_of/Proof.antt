@@ -1,7 +1,9 @@
-use Rattle.solved.proofs.Prelude.{needs, arith, _-_, _≤_, _≡_, sym, getD, padded, padded-none, padded-turn, maxObservations}
-use Rattle.solved.specs.Solved.{chosenOver}
-use Rattle.solved.proofs.choices_of.Statement.{statement}
-use Rattle.solved.proofs.choices_of.Tie as tie
+use Rattle.stated.proofs.Prelude.{needs, arith, _-_, _≤_, _≡_, sym, getD, maxObservations}
+use Rattle.integers.specs.Cells.{padded}
+use Rattle.integers.proofs.Lists.{padded-none, padded-turn}
+use Rattle.stated.specs.Stated.{chosenOver}
+use Rattle.stated.proofs.choices_of.Statement.{statement}
+use Rattle.stated.proofs.choices_of.Tie as tie
 
 abbrev Inv-loop : tie.InvT-loop
 Inv-loop k t next chosen₀ o₀ chosen o = (o ≤ k) × (chosen ≡ padded 0 maxObservations o (λ i. chosenOver t (getD next i 0)))

@@ -1,7 +1,7 @@
-use Rattle.solved.proofs.Prelude.{needs, sym, _∙_}
-use Rattle.solved.proofs.Vectors.{over-later, over-hyphen, over-first}
-use Rattle.solved.proofs.chosen_over.Statement.{statement}
-use Rattle.solved.proofs.chosen_over.Tie as tie
+use Rattle.stated.proofs.Prelude.{needs, sym, _∙_}
+use Rattle.stated.proofs.Choices.{over-later, over-hyphen, over-first}
+use Rattle.stated.proofs.chosen_over.Statement.{statement}
+use Rattle.stated.proofs.chosen_over.Tie as tie
 
 returns : tie.Need-returns
 returns c = over-later (c .before .args .t) (c .before .args .next) (c .if1 .taken)

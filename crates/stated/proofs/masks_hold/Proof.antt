@@ -1,13 +1,13 @@
-use Rattle.solved.proofs.Prelude.{arith, ℕ, _-_, _≤_, _≡_, sym, _∙_, List, Fine, firstOf, unless}
-use Rattle.solved.proofs.Prelude.{first-none, first-more, first-here}
+use Rattle.stated.proofs.Prelude.{arith, ℕ, _-_, _≤_, _≡_, sym, _∙_, List, Fine, firstOf, unless}
+use Rattle.stated.proofs.Prelude.{first-none, first-more, first-here}
 use Rattle.integers.proofs.Kit.{true, Bool, refl, not-false, not-true}
 use Rattle.levels.proofs.Laws.{passed, failed}
 use Rattle.reaches.specs.Steps.{reachedIn}
 use Rattle.solver.specs.Files.{actionAt}
-use Rattle.solved.specs.Steps.{choicesAt, ReadTo}
-use Rattle.solved.proofs.Vectors.{long-said, chooses-said, reached-said}
-use Rattle.solved.proofs.masks_hold.Statement.{statement}
-use Rattle.solved.proofs.masks_hold.Tie as tie
+use Rattle.stated.specs.Steps.{choicesAt, ReadTo}
+use Rattle.stated.proofs.Choices.{long-said, chooses-said, reached-said}
+use Rattle.stated.proofs.masks_hold.Statement.{statement}
+use Rattle.stated.proofs.masks_hold.Tie as tie
 
 -- whether what vector v chooses covers what is reached
 abbrev keeps : List ℕ → List ℕ → List ℕ → ℕ → List ℕ → List ℕ → ℕ → ℕ → ℕ → Bool

@@ -1,13 +1,13 @@
-use Rattle.solved.proofs.Prelude.{needs, arith, ℕ, _-_, _≤_, _≡_, sym, _∙_, List, ltb, Verdict, Fine, firstOf, unless}
-use Rattle.solved.proofs.Prelude.{first-none, first-more, first-here}
+use Rattle.stated.proofs.Prelude.{needs, arith, ℕ, _-_, _≤_, _≡_, sym, _∙_, List, ltb, Verdict, Fine, firstOf, unless}
+use Rattle.stated.proofs.Prelude.{first-none, first-more, first-here}
 use Rattle.tables.specs.declared.Counts.{Counts}
 use Rattle.tables.specs.Verdicts.{_before_}
 use Rattle.levels.specs.Judged.{numbersIn}
 use Rattle.solver.specs.Files.{actionAt}
-use Rattle.solved.specs.Steps.{choicesAt, ReadTo}
-use Rattle.solved.proofs.Vectors.{long-said, numbers-said}
-use Rattle.solved.proofs.numbers_hold.Statement.{statement}
-use Rattle.solved.proofs.numbers_hold.Tie as tie
+use Rattle.stated.specs.Steps.{choicesAt, ReadTo}
+use Rattle.stated.proofs.Choices.{long-said, numbers-said}
+use Rattle.stated.proofs.numbers_hold.Statement.{statement}
+use Rattle.stated.proofs.numbers_hold.Tie as tie
 
 -- the verdict on vector v
 abbrev verdict : List ℕ → List ℕ → Counts → ℕ → ℕ → ℕ → Verdict

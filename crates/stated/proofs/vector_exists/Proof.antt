@@ -1,20 +1,20 @@
-use Rattle.solved.proofs.Prelude.{needs, arith, ℕ, _-_, _≤_, _≡_, sym, List, getD, ltb, Verdict, Fine, firstOf, unless}
-use Rattle.solved.proofs.Prelude.{first-none, first-more, first-here}
+use Rattle.stated.proofs.Prelude.{needs, arith, ℕ, _-_, _≤_, _≡_, sym, List, getD, ltb, Verdict, Fine, firstOf, unless}
+use Rattle.stated.proofs.Prelude.{first-none, first-more, first-here}
 use Rattle.integers.proofs.Kit.{lt-ltb, le-ltb}
 use Rattle.tables.proofs.Refusals.{breaks, passes}
 use Rattle.levels.proofs.Laws.{passed, failed}
-use Rattle.solved.proofs.vector_exists.Statement.{statement}
-use Rattle.solved.proofs.vector_exists.Tie as tie
+use Rattle.stated.proofs.vector_exists.Statement.{statement}
+use Rattle.stated.proofs.vector_exists.Tie as tie
 
 -- the verdict on what is chosen for o
 abbrev verdict : List ℕ → ℕ → ℕ → ℕ → Verdict
 verdict chosen standing v o = unless (ltb (getD chosen o 0) standing) 10 v
 
 abbrev Inv-loop : tie.InvT-loop
-Inv-loop action chosen m k standing v o₀ o = (o ≤ k) × (firstOf o (verdict chosen standing v) ≡ Fine)
+Inv-loop chosen m k standing v o₀ o = (o ≤ k) × (firstOf o (verdict chosen standing v) ≡ Fine)
 
 abbrev μ-loop : tie.MeasureT-loop
-μ-loop action chosen m k standing v o₀ o = k - o
+μ-loop chosen m k standing v o₀ o = k - o
 
 returns : tie.Need-returns Inv-loop μ-loop
 returns c = breaks _ (le-ltb _ _ (c .if1 .taken))
@@ -35,7 +35,7 @@ loop-again c =
 
 returns-3 : tie.Need-returns-3 Inv-loop μ-loop
 returns-3 c =
-    let e : c .before .loop .o ≡ c .before .before .before .before .args .k = omega arith in
+    let e : c .before .loop .o ≡ c .before .before .before .before .before .args .k = omega arith in
     passes 10 _ (lt-ltb _ _ (c .before .before .if1 .left)) (sym (rw e at (c .before .loop .inv .1)))
 
 pub vector-exists-spec : {M : Type 1} → statement M

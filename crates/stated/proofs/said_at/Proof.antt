@@ -1,8 +1,10 @@
-use Rattle.solved.proofs.Prelude.{ap, _∙_, padded-cong, maxObservations}
+use Rattle.stated.proofs.Prelude.{_∙_, maxObservations}
+use Rattle.integers.proofs.Kit.{ap}
+use Rattle.integers.proofs.Lists.{padded-cong}
 use Rattle.solver.proofs.Files.{both-on}
-use Rattle.solved.specs.Solved.{chosenOver}
-use Rattle.solved.proofs.said_at.Statement.{statement}
-use Rattle.solved.proofs.said_at.Tie as tie
+use Rattle.stated.specs.Stated.{chosenOver}
+use Rattle.stated.proofs.said_at.Statement.{statement}
+use Rattle.stated.proofs.said_at.Tie as tie
 
 alpha-at-requires : tie.Need-alpha-at-requires
 alpha-at-requires c κs = let p = c .before .before .pre in (p .1 .1 .vectors-stand .inside, p .0 .0)

@@ -1,0 +1,3 @@
+-- Vectors as a solver's files say them.
+pub mod Stated
+pub mod Steps
