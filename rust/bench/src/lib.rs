@@ -13,3 +13,4 @@ pub mod solver_file;
 pub mod stack;
 pub mod tuned;
 pub mod tuned_file;
+pub mod whole;

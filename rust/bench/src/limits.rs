@@ -284,15 +284,14 @@ pub fn answer(
     Ok(())
 }
 
-/// Whether slices have room for a level built at so many points.
-pub fn has_room(level: &Level, n: usize, k: usize, count: usize) -> bool {
-    let vectors = n + count;
+/// Whether slices have room for so many vectors, n corners and so many values.
+pub fn has_room(level: &Level, n: usize, k: usize, vectors: usize, values: usize) -> bool {
     level.actions.len() >= vectors
         && level.choices.len() >= vectors * k
         && level.masks.len() >= vectors
         && level.entries.len() >= vectors * n
         && level.corners.len() >= n
-        && level.values.len() >= count
+        && level.values.len() >= values
 }
 
 /// The actions and next nodes of a graph, cut to their counts; or 18.

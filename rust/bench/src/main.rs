@@ -9,8 +9,8 @@
 
 use bench::inputs::{self, Counts, Standing};
 use bench::limits::{self, BUILT_POINTS, FILE_BYTES, NODES, POINTS, STEPS, TOTAL, VECTORS};
-use bench::plain::Plain;
-use bench::tuned::Tuned;
+use bench::plain::PLAIN;
+use bench::tuned::TUNED;
 use bench::{convert, floating, moved, stack};
 use biidhaqun::slices::{
     self, Adopted, Answers, Certifier, Conversion, Graph, Level, Offers, Reading, Refusal, Replayed, Tables, Totals,
@@ -268,13 +268,13 @@ fn measure(call: &Call, rounds: usize) -> Result<Measured, String> {
     if call.number(&Linked) != 0 {
         return Err(format!("the library refuses by {}", call.number(&Linked)));
     }
-    for other in [&Plain as &dyn Library, &Tuned] {
+    for other in [&PLAIN as &dyn Library, &TUNED] {
         if let Some(found) = call.difference(&Linked, other) {
             return Err(format!("the forms do not agree: {}", found));
         }
     }
     let lent = |by: &'static dyn Library| Box::new(Lent::new(by, call));
-    Ok(measured([lent(&Linked), lent(&Plain), lent(&Tuned), floating_form(call)?], rounds))
+    Ok(measured([lent(&Linked), lent(&PLAIN), lent(&TUNED), floating_form(call)?], rounds))
 }
 
 /// The floating form of a call, if it comes about as far.
@@ -293,7 +293,7 @@ fn floating_form(call: &Call) -> Result<Box<dyn Form + '_>, String> {
     ) -> Box<dyn Form + 'a> {
         Box::new(Floating { before: certifier.clone(), certifier, offer, call })
     }
-    let (answer, after) = call.made(&Tuned);
+    let (answer, after) = call.made(&TUNED);
     match call {
         Call::Read { file, .. } => {
             let read = floating::read(file).ok_or("the floating form does not read the file")?;

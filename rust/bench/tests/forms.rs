@@ -3,8 +3,8 @@
 
 use bench::inputs::{self, Counts, Standing};
 use bench::limits::FILE_BYTES;
-use bench::plain::Plain;
-use bench::tuned::Tuned;
+use bench::plain::PLAIN;
+use bench::tuned::TUNED;
 use bench::{convert, floating};
 use biidhaqun::slices::{Refusal, Tables};
 use compare::copied::BY_THE_DOCUMENT;
@@ -14,7 +14,7 @@ use compare::rng::Rng;
 use compare::through::{self, Through};
 use compare::{adopting, bracket, calls, converting, files, many, replaying, single};
 
-const FORMS: [(&str, &dyn Library); 2] = [("plain", &Plain), ("tuned", &Tuned)];
+const FORMS: [(&str, &dyn Library); 2] = [("plain", &PLAIN), ("tuned", &TUNED)];
 
 fn agree(name: &str, call: &Call) {
     for (form, by) in FORMS {
@@ -85,7 +85,7 @@ fn the_floating_form_converts() {
     let file = inputs::outcome_file(&mut Rng::for_case(1, "bench", 0), counts, FILE_BYTES).into_bytes();
     assert!(file.len() > FILE_BYTES - 100);
     let mut output = vec![0; FILE_BYTES];
-    let ended = Tuned.convert(&file, &mut output);
+    let ended = TUNED.convert(&file, &mut output);
     assert_eq!(ended.number, 0);
     let (exact, _) = floating::read(&output[..ended.length]).unwrap();
     let (float, _) = floating::read(floating::convert(&file).unwrap().as_bytes()).unwrap();
@@ -133,7 +133,7 @@ fn the_floating_form_comes_close() {
             let points: Vec<Vec<u64>> = (0..2).map(|_| gen::shares(&mut rng, shape.n, 100)).collect();
             let points: Vec<u32> = points.concat().iter().map(|&weight| weight as u32).collect();
             let level = standing.built(&points);
-            let ended = Tuned.offer(&standing.tables, &[], &mut standing.certifier, &level);
+            let ended = TUNED.offer(&standing.tables, &[], &mut standing.certifier, &level);
             assert_eq!(ended, Refusal::default());
             assert!(floating::offer(&mut float, &convert::floating_level(&level, shape.n, shape.k)));
             let beliefs: Vec<Vec<f64>> = points.chunks(shape.n).map(convert::belief).collect();
@@ -143,7 +143,7 @@ fn the_floating_form_comes_close() {
             }
             let mixture = lent::mixture(&gen::mixture(&mut rng, shape.n), shape.n);
             let total: f64 = mixture.iter().map(|&weight| f64::from(weight)).sum();
-            let exact = Tuned.totals(&standing.tables, &standing.certifier, &mixture);
+            let exact = TUNED.totals(&standing.tables, &standing.certifier, &mixture);
             assert_eq!(exact.number, 0);
             let close = floating::totals(&float, &convert::belief(&mixture));
             assert!((exact.lower as f64 / total - close.lower).abs() < 1.0);
