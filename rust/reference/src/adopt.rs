@@ -14,7 +14,7 @@ use crate::level::{
 use crate::model::Model;
 use crate::refusal::Refusal;
 use crate::rules::{Rules, Trap};
-use crate::words::{word_after, Word};
+use crate::words::{Reader, Word};
 use num_bigint::BigInt;
 
 /// Each of a solver's files has at most this many bytes: 4 MiB.
@@ -189,15 +189,15 @@ fn judge_files(
 fn read_files(model: &Model, alpha: &[u8], graph: &[u8], rules: &Rules) -> Result<Files, Refusal> {
     if rules.has(Trap::TwentyFirst) {
         // The files as far as they read.
-        let alphas = Reader { file: alpha, offset: 0, rules }.alphas(model.n).0;
-        let nodes = Reader { file: graph, offset: 0, rules }.nodes(model.k).0;
+        let alphas = Reader::new(alpha, rules).alphas(model.n).0;
+        let nodes = Reader::new(graph, rules).nodes(model.k).0;
         agree(&alphas, &nodes, rules)?;
     }
-    let nodes = || all(Reader { file: graph, offset: 0, rules }.nodes(model.k));
+    let nodes = || all(Reader::new(graph, rules).nodes(model.k));
     if rules.has(Trap::GraphFirst) {
         nodes()?;
     }
-    let alphas = all(Reader { file: alpha, offset: 0, rules }.alphas(model.n))?;
+    let alphas = all(Reader::new(alpha, rules).alphas(model.n))?;
     if alphas.len() > VECTORS && rules.has(Trap::NineBeforeGraph) {
         return Err(Refusal::at(9, 0));
     }
@@ -238,32 +238,15 @@ fn named(model: &Model, standing: &Lists, level: u64, node: &Node, rules: &Rules
     node.next.iter().map(choice).collect::<Option<_>>().filter(|_| action)
 }
 
-/// A file and the offset that was reached in it.
-struct Reader<'a> {
-    file: &'a [u8],
-    offset: usize,
-    rules: &'a Rules,
-}
-
-impl<'a> Reader<'a> {
-    /// The next word, if any is left.
-    fn next(&mut self) -> Option<Word<'a>> {
-        let word = word_after(self.file, self.offset, self.rules)?;
-        self.offset = word.place + word.bytes.len();
-        Some(word)
-    }
-
+impl Reader<'_> {
     /// The value of the next word by its form; 19 where it does not fit, at the file's length where it is missing.
     fn value<Of>(&mut self, form: impl Fn(&[u8]) -> Option<Of>) -> Result<Of, Refusal> {
-        let last_word_end = self.offset;
-        let missing = if self.rules.has(Trap::MissingAtLastWord) { last_word_end } else { self.file.len() };
-        let word = self.next().ok_or_else(|| Refusal::at_index(19, missing))?;
+        let word = self.word_or(19)?;
         self.fitting(&word, form)
     }
 
     fn fitting<Of>(&self, word: &Word, form: impl Fn(&[u8]) -> Option<Of>) -> Result<Of, Refusal> {
-        let past = if self.rules.has(Trap::PlaceAtWordEnd) { word.bytes.len() } else { 0 };
-        form(word.bytes).ok_or_else(|| Refusal::at_index(19, word.place + past))
+        form(word.bytes).ok_or_else(|| self.at(19, word))
     }
 
     /// The alpha file's vectors, and how its reading ended: with the first word that does not fit, or with the file.
