@@ -1,6 +1,6 @@
 //! A solver's two files, whole and damaged, upon certifiers of any content.
 
-use crate::files::escaped;
+use crate::files::{escaped, DOUGH};
 use crate::gen::{self, Shape, DOCUMENT, FEW};
 use crate::lent::Call;
 use crate::rng::Rng;
@@ -109,8 +109,7 @@ const WORDS: &[&str] = &[
     "33",
 ];
 
-/// The dough model's steps, and a model of one state, action and observation.
-const DOUGH: &str = include_str!("../../../examples/dough.pomdp");
+/// A model of one state, action and observation.
 const SINGLE: &str =
     "discount: 0.5 values: reward states: 1 actions: 1 observations: 1 start: 1 T: 0 : 0 1 O: 0 : 0 1 \
                       R: 0 : 0 : * : * -0.01";

@@ -7,23 +7,7 @@ use std::path::Path;
 use std::{fs, io};
 
 /// The model that the document prints, 235 bytes.
-pub const DOUGH: &str = "\
-discount: 0.9
-values: reward
-states: 2
-actions: 2
-observations: 2
-start: 0.5 0.5
-T: 0 : 0 0.5 0.5
-T: 0 : 1 0 1
-T: 1 : * 1 0
-O: 0 : 0 0.8 0.2
-O: 0 : 1 0.3 0.7
-O: 1 : * 0.5 0.5
-R: 0 : * : * : * -1
-R: 1 : 0 : * : * -10
-R: 1 : 1 : * : * 6
-";
+pub const DOUGH: &str = include_str!("../../../examples/dough.pomdp");
 
 /// A small model in another dress: comments, CR LF, tabs, single forms, doubled statements.
 const DRESSED: &str = "# a kettle : *\r\n\

@@ -6,12 +6,11 @@
 use crate::rng::Rng;
 use num_bigint::BigInt;
 use reference::{
-    build, full_mask, offer, open, reprice, scale, Certifier, Graph, Level, Model, Points, Rules, Tables, ACTIONS,
+    build, full_mask, offer, open, reprice, scale, Certifier, Graph, Level, Model, Points, Tables, ACTIONS,
     BUILT_POINTS, LEVELS, NODES, OBSERVATIONS, POINTS, POINT_TOTAL, REWARD, ROWS, STATES, STEPS, THOUSAND, WEIGHT,
 };
 
-/// The document.
-pub const DOCUMENT: Rules = Rules { trap: None };
+pub use reference::DOCUMENT;
 
 /// The most vectors of a level here, where it has no more for its states.
 pub const FEW: usize = 40;

@@ -5,25 +5,7 @@ use crate::level::{ceiling, examine};
 use crate::*;
 use num_bigint::BigInt;
 
-const FILE: &str = "\
-discount: 0.9
-values: reward
-states: 2
-actions: 2
-observations: 2
-start: 0.5 0.5
-T: 0 : 0 0.5 0.5
-T: 0 : 1 0 1
-T: 1 : * 1 0
-O: 0 : 0 0.8 0.2
-O: 0 : 1 0.3 0.7
-O: 1 : * 0.5 0.5
-R: 0 : * : * : * -1
-R: 1 : 0 : * : * -10
-R: 1 : 1 : * : * 6
-";
-
-const DOCUMENT: Rules = Rules { trap: None };
+pub const FILE: &str = include_str!("../../../examples/dough.pomdp");
 
 /// The start point (50, 50).
 fn start() -> Points {
@@ -33,10 +15,13 @@ fn start() -> Points {
     points
 }
 
-/// The certifier after so many built levels.
-fn standing(levels: u64) -> Certifier {
-    let reading = read(FILE.as_bytes(), &DOCUMENT).unwrap();
-    let mut certifier = open(&reading.tables, &DOCUMENT).unwrap();
+pub fn tables() -> Tables {
+    read(FILE.as_bytes(), &DOCUMENT).unwrap().tables
+}
+
+/// The certifier after so many levels built at the start point.
+pub fn standing(levels: u64) -> Certifier {
+    let mut certifier = open(&tables(), &DOCUMENT).unwrap();
     for _ in 0..levels {
         let level = build(&certifier, &start(), &DOCUMENT).unwrap();
         offer(&mut certifier, &level, &DOCUMENT).unwrap();
@@ -113,7 +98,7 @@ fn d7_and_d8_a_point() {
 
 #[test]
 fn d9_the_best_two_step_plan() {
-    let model = Model::of(&standing(0).tables, &DOCUMENT).unwrap();
+    let model = Model::of(&tables(), &DOCUMENT).unwrap();
     let plans = all_plans(&model, 2);
     assert_eq!(plans.len(), 8);
     assert_eq!(best(&plans, &[50, 50], None), Some(BigInt::from(10_025) * scale(2)));
@@ -149,7 +134,7 @@ fn d12_and_the_limits_of_a_mixture() {
 
 #[test]
 fn a_plan_alone_earns_what_it_earns_among_all() {
-    let model = Model::of(&standing(0).tables, &DOCUMENT).unwrap();
+    let model = Model::of(&tables(), &DOCUMENT).unwrap();
     let step = |action| Plan { action, next: Vec::new() };
     let plan = Plan { action: 0, next: vec![step(0), step(1)] };
     assert_eq!(plan.steps(), 2);
@@ -161,7 +146,7 @@ fn a_plan_alone_earns_what_it_earns_among_all() {
 
 #[test]
 fn a_worth_is_rounded_at_each_step() {
-    let tables = standing(0).tables;
+    let tables = tables();
     let mut graph = Graph::zero();
     graph.nodes = 3;
     graph.actions[..3].copy_from_slice(&[0, 0, 1]);

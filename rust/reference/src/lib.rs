@@ -49,7 +49,7 @@ pub use plan::{all_plans, at_mixture, best, earned, scale, Earned, Plan};
 pub use prices::reprice;
 pub use refusal::Refusal;
 pub use rows::ROWS;
-pub use rules::{Rules, Trap};
+pub use rules::{Rules, Trap, DOCUMENT};
 pub use totals::{totals, Totals, WEIGHT};
 pub use within::{within, Within};
 pub use worth::{worth, Graph, NODES, STEPS};

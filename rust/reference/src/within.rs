@@ -76,12 +76,9 @@ mod tests {
     use super::*;
     use crate::*;
 
-    const DOCUMENT: Rules = Rules { trap: None };
-
     /// The dough at level 1: waiting where the dough is ready, and baking anywhere, or waiting alone. Corners are -100 and 600.
     fn dough(vectors: u64) -> Certifier {
-        let file = include_bytes!("../../../examples/dough.pomdp");
-        let mut certifier = open(&read(file, &DOCUMENT).unwrap().tables, &DOCUMENT).unwrap();
+        let mut certifier = dough::standing(0);
         let level = Level {
             vectors,
             actions: vec![0, 1],
@@ -130,9 +127,7 @@ mod tests {
     fn the_order() {
         let (both, ready) = (dough(2), dough(1));
         assert_eq!(at(&Certifier { level: 101, ..both.clone() }, &[2, 0], &[1, 0]), Err((7, 0)));
-        let file = include_bytes!("../../../examples/dough.pomdp");
-        let fresh = open(&read(file, &DOCUMENT).unwrap().tables, &DOCUMENT).unwrap();
-        assert_eq!(at(&fresh, &[2, 0], &[1, 1]), Err((16, 0)));
+        assert_eq!(at(&dough::standing(0), &[2, 0], &[1, 1]), Err((16, 0)));
         assert_eq!(at(&both, &[2, 0], &[1, 1_000_001]), Err((24, 0)));
         assert_eq!(at(&both, &[1_000_001, 0], &[1_000_001, 1]), Err((17, 0)));
         assert_eq!(at(&ready, &[0, 0], &[1_000_001, 1]), Err((17, 0)));
