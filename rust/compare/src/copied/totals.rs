@@ -6,7 +6,7 @@ use biidhaqun::slices::{Answers, Certifier, Refusal, Tables, Totals, TotalsWithi
 use num_bigint::BigInt;
 use reference::STATES;
 
-/// What no answer holds is answered as its largest number.
+/// A total as it is answered; the largest number stands for one that has no room.
 pub(super) fn ticks(total: &BigInt) -> i64 {
     i64::try_from(total).unwrap_or(i64::MAX)
 }
