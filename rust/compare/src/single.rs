@@ -244,6 +244,15 @@ pub fn touched(rng: &mut Rng, mut call: Call) -> Call {
     call
 }
 
+/// The call as it is, or touched.
+pub fn half_touched(rng: &mut Rng, call: Call) -> Call {
+    if rng.once_in(2) {
+        call
+    } else {
+        touched(rng, call)
+    }
+}
+
 /// A call that is served, with slices as long as they must be and no longer, of which no one is empty but where it can only
 /// be: upon level 0 stands no point.
 fn served(rng: &mut Rng, kind: u64) -> Call {

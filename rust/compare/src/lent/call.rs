@@ -5,8 +5,8 @@ use super::Library;
 use crate::files;
 use crate::gen::Question;
 use biidhaqun::slices::{
-    Adopted, Answers, Certifier, Conversion, Graph, Level, Offers, Reading, Refusal, Replayed, Tables, Totals,
-    TotalsWithin, Worth,
+    Answers, Certifier, Conversion, Graph, Level, Offers, Reading, Refusal, Replayed, Tables, Totals, TotalsWithin,
+    Worth,
 };
 use std::fmt;
 
