@@ -42,7 +42,7 @@ pub fn outcomes(rng: &mut Rng) -> Case {
 }
 
 /// The lines in any dress, half of them with something wrong.
-pub(super) fn damaged(rng: &mut Rng, mut lines: Lines, what: &str) -> Case {
+fn damaged(rng: &mut Rng, mut lines: Lines, what: &str) -> Case {
     let how = match rng.below(12) {
         0..=5 => "valid",
         6 | 7 => {

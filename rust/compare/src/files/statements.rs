@@ -148,7 +148,7 @@ fn header(rng: &mut Rng, model: &Tables, start: &[u64]) -> Lines {
 }
 
 /// Any statement with any indices or stars. What it states of T and O is noted.
-pub(super) fn statement(rng: &mut Rng, shape: Shape, stated: &mut Tables) -> Vec<Vec<u8>> {
+fn statement(rng: &mut Rng, shape: Shape, stated: &mut Tables) -> Vec<Vec<u8>> {
     let Shape { n, m, k } = shape;
     let (actions, action) = some_index(rng, m);
     let (states, state) = some_index(rng, n);

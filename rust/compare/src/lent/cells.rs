@@ -26,7 +26,7 @@ macro_rules! cells {
 cells!(u8 u16 u32 u64 usize i64);
 
 /// Any number: near limits, near the ends of types, and plain random ones.
-pub(super) fn any<Of: Cell>(rng: &mut Rng) -> Of {
+fn any<Of: Cell>(rng: &mut Rng) -> Of {
     let number = rng.next();
     Of::cut(rng.pick(&[0, 1, 2, 8, 9, 16, 17, 32, 33, 99, 100, 101, 1_000, 1_001, 1_000_001, u64::MAX, number, number]))
 }

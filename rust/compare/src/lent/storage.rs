@@ -28,7 +28,7 @@ fn size(count: u64) -> usize {
 }
 
 /// How many there are of something, or the most that are lent.
-pub(super) fn count(number: u64, most: usize) -> usize {
+fn count(number: u64, most: usize) -> usize {
     size(number).min(most)
 }
 
