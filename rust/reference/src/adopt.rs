@@ -4,13 +4,12 @@
 //! graph file has, for each node, its number, an action, and a next node for each observation. Words part as in the model
 //! file.
 
+use crate::backup::{reaches_uncovered, vector_backup};
 use crate::build::{least_ceiling, Points, BUILT_POINTS};
+use crate::certifier::{examine, full, Certifier};
 use crate::exact::{k, round_down, zero};
 use crate::file::FILE_BYTES;
-use crate::level::{
-    examine, first_untotalled, full, kept_choice, most_vectors, reaches_uncovered, vector_backup, Certifier, Level,
-    Lists, TICKS, VECTORS,
-};
+use crate::level::{first_untotalled, kept_choice, most_vectors, Level, Lists, TICKS, VECTORS};
 use crate::model::Model;
 use crate::refusal::Refusal;
 use crate::rules::{Rules, Trap};

@@ -1,7 +1,8 @@
 //! The dough model: its output and the table D1 to D12.
 
+use crate::backup::ceiling;
+use crate::certifier::examine;
 use crate::exact::weights;
-use crate::level::{ceiling, examine};
 use crate::*;
 use num_bigint::BigInt;
 

@@ -1,8 +1,8 @@
 //! The program `ladder`.
 
 use crate::build::{build, Points};
+use crate::certifier::{offer, open};
 use crate::file::read;
-use crate::level::{offer, open};
 use crate::refusal::Refusal;
 use crate::rules::Rules;
 use crate::totals::totals;

@@ -13,7 +13,9 @@
 mod adopt;
 #[cfg(test)]
 mod adopt_tests;
+mod backup;
 mod build;
+mod certifier;
 mod convert;
 #[cfg(test)]
 mod dough;
@@ -39,10 +41,11 @@ mod worth;
 
 pub use adopt::{adopt, adopted_vectors, SOLVER_BYTES};
 pub use build::{build, Points, BUILT_POINTS};
+pub use certifier::{offer, open, Certifier};
 pub use convert::{convert, WRITTEN_STATES};
 pub use file::{read, read_into, read_outcomes, Reading, FILE_BYTES};
 pub use ladder::ladder;
-pub use level::{full_mask, offer, open, Certifier, Level, LEVELS, POINTS, POINT_TOTAL, VECTORS};
+pub use level::{full_mask, Level, LEVELS, POINTS, POINT_TOTAL, VECTORS};
 pub use lists::{by_list, list, turned_back, LIST};
 pub use model::{Model, Tables, ACTIONS, OBSERVATIONS, REWARD, STATES, THOUSAND};
 pub use plan::{all_plans, at_mixture, best, earned, scale, Earned, Plan};

@@ -4,7 +4,7 @@
 //! and where the last one ends. Column a × n + s' is that of the action a and of the state s' that is reached. Behind them lie
 //! the cells, column by column, each by rising state: for every T(s, a, s') above 0 the word s × 65,536 + T(s, a, s').
 
-use crate::level::Certifier;
+use crate::certifier::Certifier;
 use crate::model::{Model, Tables, ACTIONS, STATES};
 use crate::refusal::Refusal;
 use crate::rules::{Rules, Trap};

@@ -1,7 +1,8 @@
 //! New prices in mid-plan: document 02, Job 10.
 
+use crate::certifier::{examine, Certifier};
 use crate::exact::{stored, weights};
-use crate::level::{covers, examine, Certifier, TICKS};
+use crate::level::{covers, TICKS};
 use crate::model::{Model, Tables};
 use crate::refusal::Refusal;
 use crate::rules::{Rules, Trap};

@@ -1,7 +1,8 @@
 //! Totals over weights that are known within ranges.
 
+use crate::backup::ceiling;
+use crate::certifier::{examine, Certifier};
 use crate::exact::{dot, weights, zero};
-use crate::level::{ceiling, examine, Certifier};
 use crate::refusal::Refusal;
 use crate::rules::{Rules, Trap};
 use crate::totals::WEIGHT;
