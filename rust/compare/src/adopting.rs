@@ -159,9 +159,7 @@ fn at_step(climb: &Climb, below: usize, step: usize) -> Case {
 pub fn fixed() -> Vec<Case> {
     let climb = |text: &str| {
         let read = reference::read(text.as_bytes(), &DOCUMENT).expect("the model is read");
-        let mut points = Points { count: 1, ..Points::none() };
-        points.weights[..read.start.len()].copy_from_slice(&read.start);
-        Climb::of(read.tables, points, 3)
+        Climb::of(read.tables, Points::one(&read.start), 3)
     };
     let mut cases = Vec::new();
     for (name, climb) in [("dough", climb(DOUGH)), ("single", climb(SINGLE))] {
@@ -372,15 +370,9 @@ fn written(rng: &mut Rng) -> Case {
     Case { about, certifier, alpha, graph, points }
 }
 
-/// A certifier after some built levels.
+/// A certifier after some built levels, now and then with vectors that leave out states.
 fn climbed(rng: &mut Rng, shape: Shape) -> Certifier {
-    let mut certifier = reference::open(&gen::tables(rng, shape), &DOCUMENT).expect("generated tables open");
-    for _ in 0..rng.below(3) {
-        let count = rng.index(3);
-        let points = gen::points(rng, shape.n, count);
-        let level = reference::build(&certifier, &points, &DOCUMENT).expect("points within the limits");
-        reference::offer(&mut certifier, &level, &DOCUMENT).expect("a built level is accepted");
-    }
+    let mut certifier = gen::climbed(rng, shape);
     if rng.once_in(3) {
         gen::uncover(rng, &mut certifier, shape);
     }

@@ -9,11 +9,11 @@ mod statements;
 mod wrong;
 
 pub use fixed::{fixed, fixed_outcomes, fixed_to_read};
-pub use models::DOUGH;
+pub use models::{DOUGH, TIGER};
 pub use random::{noise, outcomes, random};
 
 use crate::rng::Rng;
-use std::path::Path;
+use std::path::{Path, PathBuf};
 use std::{fs, io};
 
 /// A file with a few words about it.
@@ -28,12 +28,25 @@ impl Case {
     }
 }
 
+/// What a folder holds, by name.
+fn paths(folder: &Path) -> io::Result<Vec<PathBuf>> {
+    let mut paths = fs::read_dir(folder)?.map(|entry| Ok(entry?.path())).collect::<io::Result<Vec<_>>>()?;
+    paths.sort();
+    Ok(paths)
+}
+
+/// The model files of a folder, by name.
+pub fn models(folder: &Path) -> io::Result<Vec<PathBuf>> {
+    let mut paths = paths(folder)?;
+    paths.retain(|path| path.extension().map_or(false, |end| end == "pomdp"));
+    Ok(paths)
+}
+
 /// The files of a folder by name, if there is one: each whole, and cut in a few places.
 pub fn examples(folder: &Path, seed: u64) -> io::Result<Vec<(String, Case)>> {
     let mut cases = Vec::new();
-    let entries: io::Result<Vec<fs::DirEntry>> = fs::read_dir(folder)?.collect();
-    let mut paths: Vec<_> = entries?.iter().map(fs::DirEntry::path).filter(|path| path.is_file()).collect();
-    paths.sort();
+    let mut paths = paths(folder)?;
+    paths.retain(|path| path.is_file());
     if paths.is_empty() {
         return Err(io::Error::new(io::ErrorKind::NotFound, format!("no file in {}", folder.display())));
     }

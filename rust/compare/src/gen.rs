@@ -13,7 +13,7 @@ mod shapes;
 mod weights;
 
 pub use cells::{at_ends, shares};
-pub use certifiers::{ends, handed, uncover};
+pub use certifiers::{climbed, ends, handed, uncover};
 pub use graphs::{graph, graph_of, question, spoil_graph, Question};
 pub use levels::{above, loosened, mask, masked, nudged};
 pub use lists::{at_thirds, climb, list, thirds, List, Step};

@@ -8,7 +8,7 @@ pub use call::Call;
 pub use cells::{Cell, Slice};
 pub use storage::{
     certifier, counts, front, graph, level, mixture, narrowed, points, roomy, roomy_level, rows, stored, tables,
-    weights,
+    to_be_made, weights,
 };
 
 use crate::gen::Question;

@@ -24,6 +24,13 @@ impl Points {
     pub fn none() -> Points {
         Points { count: 0, weights: vec![0; BUILT_POINTS * STATES] }
     }
+
+    /// One point with these weights.
+    pub fn one(weights: &[u64]) -> Points {
+        let mut points = Points { count: 1, ..Points::none() };
+        points.weights[..weights.len()].copy_from_slice(weights);
+        points
+    }
 }
 
 /// A vector that the builder made: its action, the vectors chosen for each observation, its entries, and the exact backups

@@ -8,12 +8,9 @@ use num_bigint::BigInt;
 
 pub const FILE: &str = include_str!("../../../examples/dough.pomdp");
 
-/// The start point (50, 50).
+/// The start point.
 fn start() -> Points {
-    let mut points = Points::none();
-    points.count = 1;
-    points.weights[..2].copy_from_slice(&[50, 50]);
-    points
+    Points::one(&[50, 50])
 }
 
 pub fn tables() -> Tables {

@@ -3,6 +3,9 @@
 /// The model that the document prints, 235 bytes.
 pub const DOUGH: &str = include_str!("../../../../examples/dough.pomdp");
 
+/// Two states, three actions, two observations.
+pub const TIGER: &str = include_str!("../../../../examples/tiger.pomdp");
+
 /// A small model in another dress: comments, CR LF, tabs, single forms, doubled statements.
 pub(super) const DRESSED: &str = "# a kettle : *\r\n\
 discount:1.000# no discount\r\n\

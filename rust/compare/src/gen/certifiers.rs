@@ -46,15 +46,20 @@ fn spoil_rows(rng: &mut Rng, certifier: &mut Certifier, shape: Shape) {
     }
 }
 
+/// A certifier after up to two built levels.
+pub fn climbed(rng: &mut Rng, shape: Shape) -> Certifier {
+    let mut certifier = open(&tables(rng, shape), &DOCUMENT).expect("generated tables open");
+    for _ in 0..rng.below(3) {
+        let level = built(rng, &certifier, shape, 2);
+        offer(&mut certifier, &level, &DOCUMENT).expect("a built level is accepted");
+    }
+    certifier
+}
+
 /// A certifier of any content, and calls on it: one that was climbed to, with some of its numbers at a limit, past it or
 /// anywhere.
 pub fn handed(rng: &mut Rng, shape: Shape) -> (Certifier, Vec<Step>) {
-    let tables = tables(rng, shape);
-    let mut certifier = open(&tables, &DOCUMENT).expect("generated tables open");
-    for _ in 0..rng.below(3) {
-        let level = built(rng, &certifier, shape, 2);
-        offer(&mut certifier, &level, &DOCUMENT).expect("a built level passes");
-    }
+    let mut certifier = climbed(rng, shape);
     if rng.once_in(3) {
         certifier.standing = loosened(rng, &certifier.standing.clone(), shape, certifier.level);
     }

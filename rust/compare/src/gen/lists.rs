@@ -107,8 +107,7 @@ pub fn thirds(rng: &mut Rng, levels: u64) -> List {
 
 /// So many levels upon three states, each built and offered at the point (1, 1, 1), and the totals there.
 pub fn at_thirds(tables: Tables, levels: u64) -> List {
-    let mut points = Points { count: 1, ..Points::none() };
-    points.weights[..3].fill(1);
+    let points = Points::one(&[1; 3]);
     let mut mixture = vec![0; STATES];
     mixture[..3].fill(1);
     let level = |_| [Step::Raise(points.clone()), Step::Totals(mixture.clone())];

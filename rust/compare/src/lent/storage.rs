@@ -137,7 +137,11 @@ pub fn roomy(rng: &mut Rng, mut certifier: Certifier, n: usize, vectors: usize) 
 
 /// Slices for a level of so many states to be built, with anything in them.
 pub fn roomy_level(rng: &mut Rng, n: usize) -> Level {
-    let room = roomy(rng, Certifier::default(), n, n + BUILT_POINTS);
+    to_be_made(roomy(rng, Certifier::default(), n, n + BUILT_POINTS))
+}
+
+/// The slices of a level to be made, of which the counts and weights are not lent, from a certifier's.
+pub fn to_be_made(room: Certifier) -> Level {
     let Certifier { actions, choices, masks, entries, corners, values, .. } = room;
     Level { actions, choices, masks, entries, corners, values, ..Level::default() }
 }

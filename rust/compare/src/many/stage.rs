@@ -1,13 +1,11 @@
 //! Certifiers upon which there are many vectors, and calls on them.
 
 use super::rng;
+use crate::files::TIGER;
 use crate::gen::{Shape, DOCUMENT};
-use crate::lent::{self, Call};
-use crate::single;
+use crate::lent::Call;
+use crate::{pricing, single};
 use reference::{Certifier, Level, Points, VECTORS};
-
-/// Two states, three actions, two observations.
-const TIGER: &str = include_str!("../../../../examples/tiger.pomdp");
 
 /// The two files of a level.
 pub(super) type Files = (Vec<u8>, Vec<u8>);
@@ -99,8 +97,7 @@ impl Stage {
     }
 
     pub(super) fn totals(&self, upon: &Certifier) -> Call {
-        let (tables, certifier) = (lent::tables(&upon.tables), lent::certifier(upon));
-        Call::Totals { tables, certifier, mixture: vec![1; self.shape.n] }
+        single::totals(upon, vec![1; self.shape.n])
     }
 
     pub(super) fn within(&self, upon: &Certifier) -> Call {
@@ -116,7 +113,6 @@ impl Stage {
         let mut new = upon.tables.clone();
         let (_, _, used) = new.cells_used();
         new.rewards[..used].iter_mut().enumerate().for_each(|(at, reward)| *reward += 7 * (at as i64 + 1));
-        let (tables, new) = (lent::tables(&upon.tables), lent::tables(&new));
-        Call::Reprice { tables, new, certifier: lent::certifier(upon) }
+        pricing::call(upon, &new)
     }
 }

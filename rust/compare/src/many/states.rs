@@ -3,7 +3,7 @@
 use super::stage::raised;
 use super::{rng, Case, SERVED};
 use crate::gen::{self, Shape, DOCUMENT};
-use crate::lent::{self, Call};
+use crate::lent::Call;
 use crate::single;
 use reference::{Certifier, Level, Points, Tables, BUILT_POINTS, REWARD, STATES, VECTORS};
 
@@ -45,7 +45,7 @@ pub(super) fn wide_masks() -> Vec<Case> {
         let totals = |upon: &Certifier, weighed: &[usize]| {
             let mut mixture = vec![0; n];
             weighed.iter().for_each(|&s| mixture[s] = 1);
-            Call::Totals { tables: lent::tables(&upon.tables), certifier: lent::certifier(upon), mixture }
+            single::totals(upon, mixture)
         };
         for s in [0, 31, 32, last - 1, last] {
             add(&format!("totals at state {}", s), totals(&narrow, &[s]), SERVED);
@@ -99,7 +99,6 @@ pub(super) fn largest() -> Vec<Case> {
     }
     let call = single::offering(&mut rng, shape, &certifier, &level);
     let offered = Case { about: "1,000 vectors of the largest model".to_string(), call, ends: SERVED };
-    let (tables, lent) = (lent::tables(&tables), lent::certifier(&certifier));
-    let call = Call::Totals { tables, certifier: lent, mixture: vec![1; shape.n] };
+    let call = single::totals(&certifier, vec![1; shape.n]);
     vec![offered, Case { about: "totals of the largest model".to_string(), call, ends: SERVED }]
 }
