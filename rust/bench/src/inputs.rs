@@ -291,7 +291,7 @@ pub fn outcome_file(rng: &mut Rng, counts: Counts, longest: usize) -> String {
 mod tests {
     use super::*;
     use crate::limits::{FILE_BYTES, POINTS, VECTORS};
-    use crate::{plain_file, tuned_file};
+    use crate::plain::PLAIN;
 
     #[test]
     fn the_largest_level_is_accepted_and_all_its_points_matter() {
@@ -332,14 +332,14 @@ mod tests {
         let text = file(&tables, &start, FILE_BYTES);
         assert!(text.len() > FILE_BYTES - 100 && text.len() <= FILE_BYTES);
         let room = Tables::roomy();
-        for read in [plain_file::read(text.as_bytes(), &room), tuned_file::read(text.as_bytes(), &room)] {
+        for read in [PLAIN.read_into(text.as_bytes(), &room), TUNED.read_into(text.as_bytes(), &room)] {
             let read = read.unwrap();
             assert_eq!((&read.tables, &read.start), (&tables, &start));
         }
         let tables = sparse_tables(&mut rng, Counts { states: 64, actions: 2, observations: 2 });
         let start: Vec<u16> = shares(&mut rng, 64, 100);
         let text = file(&tables, &start, FILE_BYTES);
-        let read = tuned_file::read(text.as_bytes(), &room).unwrap();
+        let read = TUNED.read_into(text.as_bytes(), &room).unwrap();
         assert_eq!((&read.tables, &read.start), (&tables, &start));
     }
 }

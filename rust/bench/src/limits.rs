@@ -32,6 +32,11 @@ pub fn ended(answer: Answer<()>) -> Refusal {
     answer.err().unwrap_or_default()
 }
 
+#[inline]
+pub fn dot(left: &[i64], right: &[i64]) -> i64 {
+    left.iter().zip(right).map(|(x, y)| x * y).sum()
+}
+
 /// Whether a mask covers a state.
 pub fn covers(mask: u64, s: usize) -> bool {
     mask >> s & 1 == 1
@@ -164,6 +169,34 @@ impl<'a> Cut<'a> {
         certifier.informed[..self.informed.len()].copy_from_slice(self.informed);
         certifier.qmdp[..self.qmdp.len()].copy_from_slice(self.qmdp);
     }
+}
+
+/// A model, and what stands upon it with its number.
+pub type Examined<'a> = (Model<'a>, usize, Cut<'a>);
+
+/// 7: tables that were judged, and a certifier upon them that is within its limits; `holds` tests 11 and 12.
+pub fn examined<'a>(
+    judged: Answer<Model<'a>>,
+    certifier: &'a Certifier,
+    holds: impl FnOnce(&Cut, usize, usize) -> bool,
+) -> Answer<Examined<'a>> {
+    let seven = Refusal { number: 7, place: 0 };
+    let model = judged.map_err(|_| seven)?;
+    let (number, level) = Cut::standing(certifier, model.m, model.n).ok_or(seven)?;
+    let actions = level.actions.iter().all(|&action| usize::from(action) < model.m);
+    if actions && holds(&level, model.n, number) && level.rows_fit(number) {
+        Ok((model, number, level))
+    } else {
+        Err(seven)
+    }
+}
+
+/// 16: what stands above level 0.
+pub fn risen<'a>((model, number, level): Examined<'a>) -> Answer<(Model<'a>, Cut<'a>)> {
+    if number == 0 {
+        return refused(16, 0);
+    }
+    Ok((model, level))
 }
 
 /// Level 0 in a certifier's slices.
@@ -350,6 +383,9 @@ pub struct Read {
     pub tables: Tables,
     pub start: Vec<u16>,
 }
+
+/// Zeros for tables of so many states, actions and observations; or 3.
+pub type Zeros<'a> = dyn Fn(usize, usize, usize) -> Answer<Tables> + 'a;
 
 /// 3: zeros for tables of so many states, actions and observations, if the slices lent for them have room.
 pub fn zeros(states: usize, actions: usize, observations: usize, lent: &Tables) -> Answer<Tables> {

@@ -7,12 +7,12 @@ use crate::limits::*;
 use crate::plain_file;
 use crate::solver_file;
 use crate::whole::Whole;
-use biidhaqun::slices::{Answers, Certifier, Graph, Level, Refusal, Tables, Totals, TotalsWithin};
+use biidhaqun::slices::{Answers, Certifier, Graph, Level, Tables, Totals, TotalsWithin};
 use compare::gen::Question;
 
 pub const PLAIN: Whole = Whole {
     read: plain_file::read,
-    convert: plain_file::convert,
+    write: plain_file::write,
     judge,
     examine,
     offer,
@@ -113,10 +113,6 @@ fn judge(tables: &Tables) -> Answer<Model<'_>> {
     Ok(model)
 }
 
-fn dot(left: &[i64], right: &[i64]) -> i64 {
-    left.iter().zip(right).map(|(x, y)| x * y).sum()
-}
-
 fn whole(weights: &[u32]) -> Vec<i64> {
     weights.iter().map(|&weight| i64::from(weight)).collect()
 }
@@ -175,19 +171,10 @@ fn first_untotalled(weights: &[u32], n: usize) -> Option<usize> {
 }
 
 /// 7.
-fn examine<'a>(tables: &'a Tables, certifier: &'a Certifier) -> Answer<(Model<'a>, usize, Cut<'a>)> {
-    let seven = Refusal { number: 7, place: 0 };
-    let model = judge(tables).map_err(|_| seven)?;
-    let (number, level) = Cut::standing(certifier, model.m, model.n).ok_or(seven)?;
-    let holds = level.actions.iter().all(|&action| usize::from(action) < model.m)
-        && first_outside(&level, model.n, number).is_none()
-        && first_untotalled(level.weights, model.n).is_none()
-        && level.rows_fit(number);
-    if holds {
-        Ok((model, number, level))
-    } else {
-        Err(seven)
-    }
+fn examine<'a>(tables: &'a Tables, certifier: &'a Certifier) -> Answer<Examined<'a>> {
+    examined(judge(tables), certifier, |level, n, number| {
+        first_outside(level, n, number).is_none() && first_untotalled(level.weights, n).is_none()
+    })
 }
 
 fn offer(tables: &Tables, certifier: &mut Certifier, level: &Level) -> Answer<()> {
@@ -227,10 +214,7 @@ fn offer(tables: &Tables, certifier: &mut Certifier, level: &Level) -> Answer<()
 
 /// 7, 16.
 fn standing<'a>(tables: &'a Tables, certifier: &'a Certifier) -> Answer<(Model<'a>, Cut<'a>)> {
-    match examine(tables, certifier)? {
-        (_, 0, _) => refused(16, 0),
-        (model, _, level) => Ok((model, level)),
-    }
+    risen(examine(tables, certifier)?)
 }
 
 fn totals_at(model: &Model, level: &Cut, weights: &[u32]) -> Answer<Totals> {

@@ -8,12 +8,12 @@ use crate::limits::*;
 use crate::solver_file;
 use crate::tuned_file;
 use crate::whole::Whole;
-use biidhaqun::slices::{Answers, Certifier, Graph, Level, Refusal, Tables, Totals, TotalsWithin};
+use biidhaqun::slices::{Answers, Certifier, Graph, Level, Tables, Totals, TotalsWithin};
 use compare::gen::Question;
 
 pub const TUNED: Whole = Whole {
     read: tuned_file::read,
-    convert: tuned_file::convert,
+    write: tuned_file::write,
     judge,
     examine,
     offer,
@@ -32,10 +32,6 @@ const QUARTER: usize = STATES / 4;
 type Gains = [i64; POINTS];
 /// Room for the weights of all points.
 type Weights = [i64; POINTS * STATES];
-
-fn dot(left: &[i64], right: &[i64]) -> i64 {
-    left.iter().zip(right).map(|(x, y)| x * y).sum()
-}
 
 /// The product of thousandths with numbers, of which those that count are within their range.
 fn mean(row: &[u16], numbers: &[i64]) -> i64 {
@@ -229,19 +225,10 @@ fn drop_of(q: &[i64], p: &[i64], gain: i64) -> i64 {
 }
 
 /// 7.
-fn examine<'a>(tables: &'a Tables, certifier: &'a Certifier) -> Answer<(Model<'a>, usize, Cut<'a>)> {
-    let seven = Refusal { number: 7, place: 0 };
-    let model = judge(tables).map_err(|_| seven)?;
-    let (number, level) = Cut::standing(certifier, model.m, model.n).ok_or(seven)?;
-    let holds = level.actions.iter().all(|&action| usize::from(action) < model.m)
-        && first_outside(&level, model.n, number).is_none()
-        && first_untotalled(level.weights, model.n).is_none()
-        && level.rows_fit(number);
-    if holds {
-        Ok((model, number, level))
-    } else {
-        Err(seven)
-    }
+fn examine<'a>(tables: &'a Tables, certifier: &'a Certifier) -> Answer<Examined<'a>> {
+    examined(judge(tables), certifier, |level, n, number| {
+        first_outside(level, n, number).is_none() && first_untotalled(level.weights, n).is_none()
+    })
 }
 
 /// What moves to each state by an action: the sum over s of p(s) × T.
@@ -426,10 +413,7 @@ fn offer(tables: &Tables, certifier: &mut Certifier, level: &Level) -> Answer<()
 
 /// 7, 16.
 fn standing<'a>(tables: &'a Tables, certifier: &'a Certifier) -> Answer<(Model<'a>, Cut<'a>)> {
-    match examine(tables, certifier)? {
-        (_, 0, _) => refused(16, 0),
-        (model, _, level) => Ok((model, level)),
-    }
+    risen(examine(tables, certifier)?)
 }
 
 fn totals_at(level: &Cut, sawtooth: &Sawtooth, weights: &[u32]) -> Answer<Totals> {

@@ -12,12 +12,14 @@ use compare::lent::Library;
 
 /// A form in whole numbers: what it does of its own.
 pub struct Whole {
-    pub read: fn(&[u8], &Tables) -> Answer<Read>,
-    pub convert: fn(&[u8], &mut [u8]) -> Conversion,
+    /// Reads a file, or one whose rewards depend on what follows, into zeros for its counts.
+    pub read: fn(&[u8], bool, &Zeros) -> Answer<Read>,
+    /// Writes the file with expected rewards; its length, or 26.
+    pub write: fn(&Read, &mut [u8]) -> Answer<usize>,
     /// Tables within the limits, of which each row totals 1,000.
     pub judge: for<'a> fn(&'a Tables) -> Answer<Model<'a>>,
     /// A certifier within the limits, with its number; or 7.
-    pub examine: for<'a> fn(&'a Tables, &'a Certifier) -> Answer<(Model<'a>, usize, Cut<'a>)>,
+    pub examine: for<'a> fn(&'a Tables, &'a Certifier) -> Answer<Examined<'a>>,
     pub offer: fn(&Tables, &mut Certifier, &Level) -> Answer<()>,
     pub totals: fn(&Tables, &Certifier, &[u32]) -> Answer<Totals>,
     pub within: fn(&Tables, &Certifier, &[u32], &[u32]) -> Answer<TotalsWithin>,
@@ -28,6 +30,11 @@ pub struct Whole {
 }
 
 impl Whole {
+    /// A model file's tables and start numbers, if the slices that are lent have room for its counts.
+    pub fn read_into(&self, file: &[u8], lent: &Tables) -> Answer<Read> {
+        (self.read)(file, false, &|states, actions, observations| zeros(states, actions, observations, lent))
+    }
+
     /// 7: whether no list is handed in, or it is that of the tables.
     fn handed(&self, tables: &Tables, list: &[u32]) -> Answer<()> {
         moved::handed(|| (self.judge)(tables).map(|model| moved::words(&model)), list)
@@ -36,11 +43,12 @@ impl Whole {
 
 impl Library for Whole {
     fn read(&self, file: &[u8], tables: &mut Tables, start: &mut [u16]) -> Reading {
-        laid((self.read)(file, tables), tables, start)
+        laid(self.read_into(file, tables), tables, start)
     }
 
     fn convert(&self, file: &[u8], output: &mut [u8]) -> Conversion {
-        (self.convert)(file, output)
+        let zeros = |states, actions, observations| Ok(outcome_zeros(states, actions, observations));
+        converted(output, || (self.read)(file, true, &zeros), self.write)
     }
 
     fn open(&self, tables: &Tables, certifier: &mut Certifier) -> Refusal {

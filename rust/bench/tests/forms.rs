@@ -163,7 +163,7 @@ fn the_floating_form_reads_whole_models() {
     for number in 0..200 {
         let mut rng = Rng::for_case(11, "models", number);
         let file = files::random(&mut rng).file;
-        if let Ok(read) = bench::tuned_file::read(&file, &Tables::roomy()) {
+        if let Ok(read) = TUNED.read_into(&file, &Tables::roomy()) {
             if let Some((float, _)) = floating::read(&file) {
                 let exact = convert::floating_tables(&read.tables);
                 let close = |left: &[f64], right: &[f64]| left.iter().zip(right).all(|(x, y)| (x - y).abs() < 1e-6);

@@ -248,45 +248,45 @@ impl Reader<'_> {
         form(word.bytes).ok_or_else(|| self.at(19, word))
     }
 
-    /// The alpha file's vectors, and how its reading ended: with the first word that does not fit, or with the file.
-    fn alphas(&mut self, n: usize) -> (Vec<Alpha>, Result<(), Refusal>) {
-        let mut alphas = Vec::new();
-        let rules = self.rules;
-        while let Some(word) = self.next().filter(|_| wanted(alphas.len(), rules)) {
-            let mut one = || {
-                let action = self.fitting(&word, |bytes| digits(bytes, action_digits(rules)))?;
-                let ticks = (0..n).map(|_| self.value(|bytes| decimal_form(bytes, rules)));
-                Ok(Alpha { action, ticks: ticks.collect::<Result<_, _>>()? })
-            };
-            match one() {
-                Ok(alpha) => alphas.push(alpha),
-                Err(refusal) => return (alphas, Err(refusal)),
+    /// The vectors or nodes of a file, each from its first word on, and how the reading ended: with the first word that does
+    /// not fit, or with the file.
+    fn items<Item>(
+        &mut self,
+        item: impl Fn(&mut Self, &Word, usize) -> Result<Item, Refusal>,
+    ) -> (Vec<Item>, Result<(), Refusal>) {
+        let mut items = Vec::new();
+        while let Some(first) = self.next().filter(|_| wanted(items.len(), self.rules)) {
+            match item(self, &first, items.len()) {
+                Ok(item) => items.push(item),
+                Err(refusal) => return (items, Err(refusal)),
             }
         }
-        (alphas, Ok(()))
+        (items, Ok(()))
     }
 
-    /// The graph's nodes, and how its reading ended.
-    fn nodes(&mut self, observations: usize) -> (Vec<Node>, Result<(), Refusal>) {
-        let mut nodes = Vec::new();
+    /// The alpha file's vectors.
+    fn alphas(&mut self, n: usize) -> (Vec<Alpha>, Result<(), Refusal>) {
         let rules = self.rules;
-        while let Some(word) = self.next().filter(|_| wanted(nodes.len(), rules)) {
+        self.items(|reader, first, _| {
+            let action = reader.fitting(first, |bytes| digits(bytes, action_digits(rules)))?;
+            let ticks = (0..n).map(|_| reader.value(|bytes| decimal_form(bytes, rules)));
+            Ok(Alpha { action, ticks: ticks.collect::<Result<_, _>>()? })
+        })
+    }
+
+    /// The graph's nodes.
+    fn nodes(&mut self, observations: usize) -> (Vec<Node>, Result<(), Refusal>) {
+        let rules = self.rules;
+        self.items(|reader, first, number| {
             let in_order = |bytes: &[u8]| {
-                let number = digits(bytes, node_digits(rules))?;
-                Some(()).filter(|()| number == BigInt::from(nodes.len()) || rules.has(Trap::NodesUnordered))
+                let found = digits(bytes, node_digits(rules))?;
+                Some(()).filter(|()| found == BigInt::from(number) || rules.has(Trap::NodesUnordered))
             };
-            let mut one = || {
-                self.fitting(&word, in_order)?;
-                let action = self.value(|bytes| digits(bytes, action_digits(rules)))?;
-                let next = (0..observations).map(|_| self.value(|bytes| next_form(bytes, rules)));
-                Ok(Node { action, next: next.collect::<Result<_, _>>()? })
-            };
-            match one() {
-                Ok(node) => nodes.push(node),
-                Err(refusal) => return (nodes, Err(refusal)),
-            }
-        }
-        (nodes, Ok(()))
+            reader.fitting(first, in_order)?;
+            let action = reader.value(|bytes| digits(bytes, action_digits(rules)))?;
+            let next = (0..observations).map(|_| reader.value(|bytes| next_form(bytes, rules)));
+            Ok(Node { action, next: next.collect::<Result<_, _>>()? })
+        })
     }
 }
 

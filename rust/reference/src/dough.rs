@@ -27,6 +27,19 @@ pub fn standing(levels: u64) -> Certifier {
     certifier
 }
 
+/// A level 1 of so many vectors: waiting where the dough is ready, and baking anywhere, or waiting alone.
+pub fn masked(vectors: u64) -> Level {
+    Level {
+        vectors,
+        actions: vec![0, 1],
+        choices: vec![0; 4],
+        masks: vec![2, 3],
+        entries: vec![0, -100, -1_000, 600],
+        corners: vec![-100, 600],
+        ..Level::default()
+    }
+}
+
 /// What the built level 2 gets after a change.
 fn second(change: impl Fn(&mut Level)) -> Result<(), Refusal> {
     let mut certifier = standing(1);

@@ -156,16 +156,7 @@ mod tests {
     #[test]
     fn uncovered_entries_stay() {
         let mut one = dough::standing(0);
-        let level = Level {
-            vectors: 2,
-            actions: vec![0, 1],
-            choices: vec![0; 4],
-            masks: vec![2, 3],
-            entries: vec![0, -100, -1_000, 600],
-            corners: vec![-100, 600],
-            ..Level::default()
-        };
-        offer(&mut one, &level, &DOCUMENT).unwrap();
+        offer(&mut one, &dough::masked(2), &DOCUMENT).unwrap();
         let new = priced(&one, [-100, -100, -1_000, 620]);
         reprice(&mut one, &new, &DOCUMENT).unwrap();
         assert_eq!(one.standing.entries, [0, -120, -1_020, 580]);

@@ -77,19 +77,10 @@ mod tests {
     use super::*;
     use crate::*;
 
-    /// The dough at level 1: waiting where the dough is ready, and baking anywhere, or waiting alone. Corners are -100 and 600.
+    /// The dough at level 1, upon vectors that cover part of the states. Corners are -100 and 600.
     fn dough(vectors: u64) -> Certifier {
         let mut certifier = dough::standing(0);
-        let level = Level {
-            vectors,
-            actions: vec![0, 1],
-            choices: vec![0; 4],
-            masks: vec![2, 3],
-            entries: vec![0, -100, -1_000, 600],
-            corners: vec![-100, 600],
-            ..Level::default()
-        };
-        offer(&mut certifier, &level, &DOCUMENT).unwrap();
+        offer(&mut certifier, &dough::masked(vectors), &DOCUMENT).unwrap();
         certifier
     }
 
