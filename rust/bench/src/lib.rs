@@ -4,6 +4,7 @@
 
 pub mod convert;
 pub mod floating;
+pub mod floating_file;
 pub mod inputs;
 pub mod limits;
 pub mod moved;
@@ -14,3 +15,4 @@ pub mod stack;
 pub mod tuned;
 pub mod tuned_file;
 pub mod whole;
+pub mod whole_file;

@@ -1,6 +1,7 @@
 //! Reading a model file the obvious way: all words first, then the grammar over them.
 
 use crate::limits::*;
+use crate::whole_file::{Read, Zeros};
 use biidhaqun::slices::{Refusal, Tables};
 
 /// The words of a file with the bytes before each.

@@ -1,6 +1,7 @@
 //! Reading a model file as well as we can: word by word, digits as they come, and nothing allocated but the tables.
 
 use crate::limits::*;
+use crate::whole_file::{Read, Zeros};
 use biidhaqun::slices::{Refusal, Tables};
 
 /// The file and the offset that was reached.

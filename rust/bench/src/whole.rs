@@ -3,6 +3,7 @@
 use crate::limits::*;
 use crate::moved;
 use crate::solver_file::adopted;
+use crate::whole_file::{converted, laid, outcome_zeros, zeros, Read, Zeros};
 use biidhaqun::slices::{
     Adopted, Answers, Certifier, Conversion, Graph, Level, Offers, Reading, Refusal, Replayed, Tables, Totals,
     TotalsWithin, Worth,

@@ -5,7 +5,7 @@ use bench::inputs::{self, Counts, Standing};
 use bench::limits::FILE_BYTES;
 use bench::plain::PLAIN;
 use bench::tuned::TUNED;
-use bench::{convert, floating};
+use bench::{convert, floating, floating_file};
 use biidhaqun::slices::{Refusal, Tables};
 use compare::copied::BY_THE_DOCUMENT;
 use compare::gen;
@@ -87,8 +87,8 @@ fn the_floating_form_converts() {
     let mut output = vec![0; FILE_BYTES];
     let ended = TUNED.convert(&file, &mut output);
     assert_eq!(ended.number, 0);
-    let (exact, _) = floating::read(&output[..ended.length]).unwrap();
-    let (float, _) = floating::read(floating::convert(&file).unwrap().as_bytes()).unwrap();
+    let (exact, _) = floating_file::read(&output[..ended.length]).unwrap();
+    let (float, _) = floating_file::read(floating_file::convert(&file).unwrap().as_bytes()).unwrap();
     assert!(exact.rewards.iter().any(|&reward| reward != 0.0));
     assert!(exact.rewards.iter().zip(&float.rewards).all(|(exact, float)| (exact - float).abs() < 1.5));
 }
@@ -164,7 +164,7 @@ fn the_floating_form_reads_whole_models() {
         let mut rng = Rng::for_case(11, "models", number);
         let file = files::random(&mut rng).file;
         if let Ok(read) = TUNED.read_into(&file, &Tables::roomy()) {
-            if let Some((float, _)) = floating::read(&file) {
+            if let Some((float, _)) = floating_file::read(&file) {
                 let exact = convert::floating_tables(&read.tables);
                 let close = |left: &[f64], right: &[f64]| left.iter().zip(right).all(|(x, y)| (x - y).abs() < 1e-6);
                 assert!(close(&float.transitions, &exact.transitions));

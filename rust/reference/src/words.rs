@@ -6,7 +6,7 @@ use num_bigint::BigInt;
 
 /// The eight kinds that bytes fall into.
 #[derive(Clone, Copy, Debug, PartialEq, Eq)]
-pub enum Class {
+enum Class {
     Space,
     Colon,
     Hash,
@@ -18,7 +18,7 @@ pub enum Class {
 }
 
 /// The kind of a byte. Only space, tab, CR and LF are space; a byte that is in no list is of the rest.
-pub fn class(byte: u8, rules: &Rules) -> Class {
+fn class(byte: u8, rules: &Rules) -> Class {
     match byte {
         b' ' | b'\t' | b'\r' | b'\n' => Class::Space,
         b':' => Class::Colon,

@@ -2,7 +2,7 @@
 
 use crate::forms::Form;
 use bench::tuned::TUNED;
-use bench::{convert, floating, limits};
+use bench::{convert, floating, floating_file, limits};
 use compare::lent::Call;
 
 /// A call of the floating form, on a certifier that it may change.
@@ -50,22 +50,24 @@ pub fn floating_form(call: &Call) -> Result<Box<dyn Form + '_>, String> {
     let (answer, after) = call.made(&TUNED);
     match call {
         Call::Read { file, .. } => {
-            let read = floating::read(file).ok_or("the floating form does not read the file")?;
+            let read = floating_file::read(file).ok_or("the floating form does not read the file")?;
             if let Call::Read { tables, .. } = after {
                 close(tables.reward[0] as f64, read.0.rewards[0])?;
             }
             let standing = opened(&read.0)?;
-            Ok(form(standing, false, move |_| floating::read(file).map_or(-1, |read| read.0.rewards[0] as i64)))
+            Ok(form(standing, false, move |_| floating_file::read(file).map_or(-1, |read| read.0.rewards[0] as i64)))
         }
         Call::Convert { file, .. } => {
-            let text = floating::convert(file).ok_or("the floating form does not convert the file")?;
-            let (tables, _) = floating::read(text.as_bytes()).ok_or("the floating form does not read what it wrote")?;
+            let text = floating_file::convert(file).ok_or("the floating form does not convert the file")?;
+            let (tables, _) =
+                floating_file::read(text.as_bytes()).ok_or("the floating form does not read what it wrote")?;
             if let Call::Convert { output, .. } = after {
-                let (exact, _) = floating::read(&output[..answer[2] as usize]).ok_or("what is written is not read")?;
+                let (exact, _) =
+                    floating_file::read(&output[..answer[2] as usize]).ok_or("what is written is not read")?;
                 close(exact.rewards[0], tables.rewards[0])?;
             }
             let standing = opened(&tables)?;
-            Ok(form(standing, false, move |_| floating::convert(file).map_or(-1, |text| text.len() as i64)))
+            Ok(form(standing, false, move |_| floating_file::convert(file).map_or(-1, |text| text.len() as i64)))
         }
         Call::Open { tables, .. } => {
             let float = convert::floating_tables(tables);
