@@ -2,7 +2,7 @@
 //! is accepted, and every point takes something off the corners.
 
 use crate::limits::{covers, full_mask, BUILT_POINTS, REWARD, TOTAL};
-use crate::tuned::Tuned;
+use crate::tuned::TUNED;
 use biidhaqun::slices::{Certifier, Graph, Level, Refusal, Tables};
 use compare::lent::Library;
 use compare::rng::Rng;
@@ -92,7 +92,7 @@ impl Standing {
     /// A certifier that opens on tables.
     pub fn fresh(tables: Tables) -> Standing {
         let mut certifier = Certifier::roomy(tables.states, tables.actions, tables.observations);
-        assert_eq!(Tuned.open(&tables, &mut certifier), Refusal::default(), "tables within the limits");
+        assert_eq!(TUNED.open(&tables, &mut certifier), Refusal::default(), "tables within the limits");
         Standing { tables, certifier }
     }
 
@@ -101,7 +101,7 @@ impl Standing {
         let (n, k) = (self.tables.states, self.tables.observations);
         let count = points.len() / n;
         let mut level = Level::zeros(n, k, n + count, count);
-        let ended = Tuned.build(&self.tables, &[], &self.certifier, (count, points), &mut level);
+        let ended = TUNED.build(&self.tables, &[], &self.certifier, (count, points), &mut level);
         assert_eq!(ended, Refusal::default(), "points within the limits");
         Level { vectors: n + count, points: count, weights: points.to_vec(), ..level }
     }
@@ -184,7 +184,7 @@ fn offer_upon(rng: &mut Rng, tables: Tables, vectors: usize, count: usize, steep
         if steep && step == 3 {
             next = stairs(next);
         }
-        let ended = Tuned.offer(&standing.tables, &[], &mut standing.certifier, &next);
+        let ended = TUNED.offer(&standing.tables, &[], &mut standing.certifier, &next);
         assert_eq!(ended, Refusal::default(), "a built level is accepted");
     }
     let offered = standing.level(&points(rng, states, count), vectors);
@@ -291,7 +291,7 @@ pub fn outcome_file(rng: &mut Rng, counts: Counts, longest: usize) -> String {
 mod tests {
     use super::*;
     use crate::limits::{FILE_BYTES, POINTS, VECTORS};
-    use crate::{plain_file, tuned_file};
+    use crate::plain::PLAIN;
 
     #[test]
     fn the_largest_level_is_accepted_and_all_its_points_matter() {
@@ -305,7 +305,7 @@ mod tests {
                 let corners: i64 = weights.iter().zip(corners).map(|(&p, c)| i64::from(p) * c).sum();
                 assert!(corners > *value);
             }
-            let ended = Tuned.offer(&standing.tables, &[], &mut standing.certifier, &offered);
+            let ended = TUNED.offer(&standing.tables, &[], &mut standing.certifier, &offered);
             assert_eq!(ended, Refusal::default());
         }
     }
@@ -315,11 +315,11 @@ mod tests {
         let counts = Counts { states: 16, actions: 8, observations: 8 };
         let (mut standing, offered) = halved(&mut Rng::for_case(1, "bench", 0), counts, VECTORS);
         assert!(offered.masks.iter().all(|mask| mask.count_ones() == 8));
-        let ended = Tuned.offer(&standing.tables, &[], &mut standing.certifier, &offered);
+        let ended = TUNED.offer(&standing.tables, &[], &mut standing.certifier, &offered);
         assert_eq!(ended, Refusal::default());
         let at = |first: u32, last: u32| {
             let mixture = [[first; 8], [last; 8]].concat();
-            Tuned.totals(&standing.tables, &standing.certifier, &mixture).number
+            TUNED.totals(&standing.tables, &standing.certifier, &mixture).number
         };
         assert_eq!((at(1, 0), at(0, 1), at(1, 1)), (0, 0, 22));
     }
@@ -332,14 +332,14 @@ mod tests {
         let text = file(&tables, &start, FILE_BYTES);
         assert!(text.len() > FILE_BYTES - 100 && text.len() <= FILE_BYTES);
         let room = Tables::roomy();
-        for read in [plain_file::read(text.as_bytes(), &room), tuned_file::read(text.as_bytes(), &room)] {
+        for read in [PLAIN.read_into(text.as_bytes(), &room), TUNED.read_into(text.as_bytes(), &room)] {
             let read = read.unwrap();
             assert_eq!((&read.tables, &read.start), (&tables, &start));
         }
         let tables = sparse_tables(&mut rng, Counts { states: 64, actions: 2, observations: 2 });
         let start: Vec<u16> = shares(&mut rng, 64, 100);
         let text = file(&tables, &start, FILE_BYTES);
-        let read = tuned_file::read(text.as_bytes(), &room).unwrap();
+        let read = TUNED.read_into(text.as_bytes(), &room).unwrap();
         assert_eq!((&read.tables, &read.start), (&tables, &start));
     }
 }

@@ -4,6 +4,7 @@
 
 pub mod convert;
 pub mod floating;
+pub mod floating_file;
 pub mod inputs;
 pub mod limits;
 pub mod moved;
@@ -13,3 +14,5 @@ pub mod solver_file;
 pub mod stack;
 pub mod tuned;
 pub mod tuned_file;
+pub mod whole;
+pub mod whole_file;

@@ -4,9 +4,7 @@ pub use biidhaqun::slices::{
     full_mask, ACTIONS, BUILT_POINTS, FILE_BYTES, LEVELS, NODES, OBSERVATIONS, POINTS, SOLVER_BYTES, STATES, STEPS,
     VECTORS, WRITTEN_STATES,
 };
-use biidhaqun::slices::{
-    Answers, Certifier, Conversion, Graph, Level, Offers, Reading, Refusal, Replayed, Tables, Totals,
-};
+use biidhaqun::slices::{Answers, Certifier, Graph, Level, Offers, Refusal, Replayed, Tables, Totals};
 
 pub const THOUSAND: i64 = 1_000;
 pub const REWARD: i64 = 100_000;
@@ -30,6 +28,11 @@ pub fn refuse(number: u64, offender: Option<usize>) -> Answer<()> {
 
 pub fn ended(answer: Answer<()>) -> Refusal {
     answer.err().unwrap_or_default()
+}
+
+#[inline]
+pub fn dot(left: &[i64], right: &[i64]) -> i64 {
+    left.iter().zip(right).map(|(x, y)| x * y).sum()
 }
 
 /// Whether a mask covers a state.
@@ -166,6 +169,34 @@ impl<'a> Cut<'a> {
     }
 }
 
+/// A model, and what stands upon it with its number.
+pub type Examined<'a> = (Model<'a>, usize, Cut<'a>);
+
+/// 7: tables that were judged, and a certifier upon them that is within its limits; `holds` tests 11 and 12.
+pub fn examined<'a>(
+    judged: Answer<Model<'a>>,
+    certifier: &'a Certifier,
+    holds: impl FnOnce(&Cut, usize, usize) -> bool,
+) -> Answer<Examined<'a>> {
+    let seven = Refusal { number: 7, place: 0 };
+    let model = judged.map_err(|_| seven)?;
+    let (number, level) = Cut::standing(certifier, model.m, model.n).ok_or(seven)?;
+    let actions = level.actions.iter().all(|&action| usize::from(action) < model.m);
+    if actions && holds(&level, model.n, number) && level.rows_fit(number) {
+        Ok((model, number, level))
+    } else {
+        Err(seven)
+    }
+}
+
+/// 16: what stands above level 0.
+pub fn risen<'a>((model, number, level): Examined<'a>) -> Answer<(Model<'a>, Cut<'a>)> {
+    if number == 0 {
+        return refused(16, 0);
+    }
+    Ok((model, level))
+}
+
 /// Level 0 in a certifier's slices.
 pub fn open(model: Model, certifier: &mut Certifier) -> Answer<()> {
     let zeros = [0; STATES];
@@ -284,15 +315,14 @@ pub fn answer(
     Ok(())
 }
 
-/// Whether slices have room for a level built at so many points.
-pub fn has_room(level: &Level, n: usize, k: usize, count: usize) -> bool {
-    let vectors = n + count;
+/// Whether slices have room for so many vectors, n corners and so many values.
+pub fn has_room(level: &Level, n: usize, k: usize, vectors: usize, values: usize) -> bool {
     level.actions.len() >= vectors
         && level.choices.len() >= vectors * k
         && level.masks.len() >= vectors
         && level.entries.len() >= vectors * n
         && level.corners.len() >= n
-        && level.values.len() >= count
+        && level.values.len() >= values
 }
 
 /// The actions and next nodes of a graph, cut to their counts; or 18.
@@ -308,80 +338,4 @@ pub fn nodes<'a>(model: &Model, graph: &'a Graph) -> Answer<(&'a [u8], &'a [u16]
     };
     refuse(18, actions.iter().zip(next.chunks_exact(model.k)).position(missing))?;
     Ok((actions, next))
-}
-
-/// Zeros for tables whose rewards go by action, state, state reached and observation.
-pub fn outcome_zeros(states: usize, actions: usize, observations: usize) -> Tables {
-    let rows = actions * states;
-    Tables {
-        states,
-        actions,
-        observations,
-        discount: 0,
-        transition: vec![0; rows * states],
-        observation: vec![0; rows * observations],
-        reward: vec![0; rows * states * observations],
-    }
-}
-
-/// A conversion: 27, what the form reads of the file or its refusal, 25, and what the form writes or 26.
-pub fn converted(
-    output: &mut [u8],
-    read: impl FnOnce() -> Answer<Read>,
-    write: impl FnOnce(&Read, &mut [u8]) -> Answer<usize>,
-) -> Conversion {
-    let convert = || {
-        if output.len() < FILE_BYTES {
-            return refused(27, 0);
-        }
-        let read = read()?;
-        if read.tables.states > WRITTEN_STATES {
-            return refused(25, 0);
-        }
-        write(&read, output)
-    };
-    match convert() {
-        Ok(length) => Conversion { length, ..Conversion::default() },
-        Err(Refusal { number, place }) => Conversion { number, place, length: 0 },
-    }
-}
-
-/// A file that was read, before it is laid over what is lent.
-pub struct Read {
-    pub tables: Tables,
-    pub start: Vec<u16>,
-}
-
-/// 3: zeros for tables of so many states, actions and observations, if the slices lent for them have room.
-pub fn zeros(states: usize, actions: usize, observations: usize, lent: &Tables) -> Answer<Tables> {
-    let rows = actions * states;
-    let (t, o) = (rows * states, rows * observations);
-    if lent.transition.len() < t || lent.observation.len() < o || lent.reward.len() < rows {
-        return refused(3, 0);
-    }
-    Ok(Tables {
-        states,
-        actions,
-        observations,
-        discount: 0,
-        transition: vec![0; t],
-        observation: vec![0; o],
-        reward: vec![0; rows],
-    })
-}
-
-/// Lays what was read over the slices lent for it, if the start numbers have room.
-pub fn laid(read: Answer<Read>, lent: &mut Tables, start: &mut [u16]) -> Reading {
-    let lay = |read: Read| {
-        let Tables { states, actions, observations, discount, transition, observation, reward } = read.tables;
-        if start.len() < states {
-            return refused(100, states);
-        }
-        lent.transition[..transition.len()].copy_from_slice(&transition);
-        lent.observation[..observation.len()].copy_from_slice(&observation);
-        lent.reward[..reward.len()].copy_from_slice(&reward);
-        start[..states].copy_from_slice(&read.start);
-        Ok(Reading { states, actions, observations, discount, ..Reading::default() })
-    };
-    read.and_then(lay).unwrap_or_else(|Refusal { number, place }| Reading { number, place, ..Reading::default() })
 }

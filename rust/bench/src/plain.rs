@@ -4,17 +4,25 @@
 //! next.
 
 use crate::limits::*;
-use crate::moved;
 use crate::plain_file;
-use crate::solver_file::{self, adopted};
-use biidhaqun::slices::{
-    Adopted, Answers, Certifier, Conversion, Graph, Level, Offers, Reading, Refusal, Replayed, Tables, Totals,
-    TotalsWithin, Worth,
-};
+use crate::solver_file;
+use crate::whole::Whole;
+use biidhaqun::slices::{Answers, Certifier, Graph, Level, Tables, Totals, TotalsWithin};
 use compare::gen::Question;
-use compare::lent::Library;
 
-pub struct Plain;
+pub const PLAIN: Whole = Whole {
+    read: plain_file::read,
+    write: plain_file::write,
+    judge,
+    examine,
+    offer,
+    totals,
+    within,
+    each,
+    build,
+    adopt,
+    worth,
+};
 
 impl Model<'_> {
     fn t(&self, s: usize, a: usize, s2: usize) -> i64 {
@@ -105,10 +113,6 @@ fn judge(tables: &Tables) -> Answer<Model<'_>> {
     Ok(model)
 }
 
-fn dot(left: &[i64], right: &[i64]) -> i64 {
-    left.iter().zip(right).map(|(x, y)| x * y).sum()
-}
-
 fn whole(weights: &[u32]) -> Vec<i64> {
     weights.iter().map(|&weight| i64::from(weight)).collect()
 }
@@ -167,19 +171,10 @@ fn first_untotalled(weights: &[u32], n: usize) -> Option<usize> {
 }
 
 /// 7.
-fn examine<'a>(tables: &'a Tables, certifier: &'a Certifier) -> Answer<(Model<'a>, usize, Cut<'a>)> {
-    let seven = Refusal { number: 7, place: 0 };
-    let model = judge(tables).map_err(|_| seven)?;
-    let (number, level) = Cut::standing(certifier, model.m, model.n).ok_or(seven)?;
-    let holds = level.actions.iter().all(|&action| usize::from(action) < model.m)
-        && first_outside(&level, model.n, number).is_none()
-        && first_untotalled(level.weights, model.n).is_none()
-        && level.rows_fit(number);
-    if holds {
-        Ok((model, number, level))
-    } else {
-        Err(seven)
-    }
+fn examine<'a>(tables: &'a Tables, certifier: &'a Certifier) -> Answer<Examined<'a>> {
+    examined(judge(tables), certifier, |level, n, number| {
+        first_outside(level, n, number).is_none() && first_untotalled(level.weights, n).is_none()
+    })
 }
 
 fn offer(tables: &Tables, certifier: &mut Certifier, level: &Level) -> Answer<()> {
@@ -219,10 +214,7 @@ fn offer(tables: &Tables, certifier: &mut Certifier, level: &Level) -> Answer<()
 
 /// 7, 16.
 fn standing<'a>(tables: &'a Tables, certifier: &'a Certifier) -> Answer<(Model<'a>, Cut<'a>)> {
-    match examine(tables, certifier)? {
-        (_, 0, _) => refused(16, 0),
-        (model, _, level) => Ok((model, level)),
-    }
+    risen(examine(tables, certifier)?)
 }
 
 fn totals_at(model: &Model, level: &Cut, weights: &[u32]) -> Answer<Totals> {
@@ -302,7 +294,7 @@ fn build(tables: &Tables, certifier: &Certifier, (count, points): (usize, &[u32]
     if number == LEVELS {
         return refused(8, 0);
     }
-    if count > BUILT_POINTS || points.len() < count * n || !has_room(level, n, k, count) {
+    if count > BUILT_POINTS || points.len() < count * n || !has_room(level, n, k, n + count, count) {
         return refused(9, 0);
     }
     let points = &points[..count * n];
@@ -367,94 +359,4 @@ fn worth(tables: &Tables, graph: &Graph, asked: Question) -> Answer<i64> {
         worths = more;
     }
     Ok(worths[asked.node as usize * n + asked.state as usize])
-}
-
-impl Library for Plain {
-    fn read(&self, file: &[u8], tables: &mut Tables, start: &mut [u16]) -> Reading {
-        laid(plain_file::read(file, tables), tables, start)
-    }
-
-    fn convert(&self, file: &[u8], output: &mut [u8]) -> Conversion {
-        plain_file::convert(file, output)
-    }
-
-    fn open(&self, tables: &Tables, certifier: &mut Certifier) -> Refusal {
-        ended(judge(tables).and_then(|model| open(model, certifier)))
-    }
-
-    fn list(&self, tables: &Tables, list: &mut [u32]) -> Refusal {
-        ended(judge(tables).and_then(|model| moved::list(&model, list)))
-    }
-
-    fn offer(&self, tables: &Tables, list: &[u32], certifier: &mut Certifier, level: &Level) -> Refusal {
-        let handed = moved::handed(|| judge(tables).map(|model| moved::words(&model)), list);
-        ended(handed.and_then(|()| offer(tables, certifier, level)))
-    }
-
-    fn reprice(&self, tables: &Tables, new: &Tables, certifier: &mut Certifier) -> Refusal {
-        let examined = examine(tables, certifier).map(|_| ());
-        moved::repriced(examined, tables, judge(new), certifier)
-    }
-
-    fn replay(&self, tables: &Tables, certifier: &mut Certifier, offers: &Offers) -> Replayed {
-        let examined = examine(tables, certifier).map(|(model, ..)| (model.n, model.k));
-        replay(examined, offers, |level| offer(tables, certifier, level))
-    }
-
-    fn totals(&self, tables: &Tables, certifier: &Certifier, mixture: &[u32]) -> Totals {
-        totals(tables, certifier, mixture).unwrap_or_else(|Refusal { number, place }| Totals {
-            number,
-            place,
-            ..Totals::default()
-        })
-    }
-
-    fn within(&self, tables: &Tables, certifier: &Certifier, lows: &[u32], highs: &[u32]) -> TotalsWithin {
-        within(tables, certifier, lows, highs).unwrap_or_else(|Refusal { number, place }| TotalsWithin {
-            number,
-            place,
-            ..TotalsWithin::default()
-        })
-    }
-
-    fn each(
-        &self,
-        tables: &Tables,
-        certifier: &Certifier,
-        mixtures: &[u32],
-        count: usize,
-        answers: &mut Answers,
-    ) -> Refusal {
-        ended(each(tables, certifier, (count, mixtures), answers))
-    }
-
-    fn build(
-        &self,
-        tables: &Tables,
-        list: &[u32],
-        certifier: &Certifier,
-        points: (usize, &[u32]),
-        level: &mut Level,
-    ) -> Refusal {
-        let handed = moved::handed(|| judge(tables).map(|model| moved::words(&model)), list);
-        ended(handed.and_then(|()| build(tables, certifier, points, level)))
-    }
-
-    fn adopt(
-        &self,
-        tables: &Tables,
-        certifier: &Certifier,
-        files: (&[u8], &[u8]),
-        points: (&[u32], usize),
-        level: &mut Level,
-    ) -> Adopted {
-        adopted(adopt(tables, certifier, files, points, level))
-    }
-
-    fn worth(&self, tables: &Tables, graph: &Graph, asked: Question) -> Worth {
-        match worth(tables, graph, asked) {
-            Ok(ticks) => Worth { ticks, ..Worth::default() },
-            Err(Refusal { number, place }) => Worth { number, place, ticks: 0 },
-        }
-    }
 }

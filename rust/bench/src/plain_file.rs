@@ -1,7 +1,8 @@
 //! Reading a model file the obvious way: all words first, then the grammar over them.
 
 use crate::limits::*;
-use biidhaqun::slices::{Conversion, Refusal, Tables};
+use crate::whole_file::{Read, Zeros};
+use biidhaqun::slices::{Refusal, Tables};
 
 /// The words of a file with the bytes before each.
 fn words(file: &[u8]) -> Vec<(usize, &[u8])> {
@@ -208,23 +209,11 @@ impl<'a> Reader<'a> {
     }
 }
 
-/// Reads a model file into slices that are lent: its tables and start numbers.
-pub fn read(file: &[u8], lent: &Tables) -> Answer<Read> {
-    read_as(file, false, |states, actions, observations| zeros(states, actions, observations, lent))
-}
-
-/// Converts a file whose rewards depend on what follows.
-pub fn convert(file: &[u8], output: &mut [u8]) -> Conversion {
-    let zeros = |states, actions, observations| Ok(outcome_zeros(states, actions, observations));
-    converted(
-        output,
-        || read_as(file, true, zeros),
-        |read, output| {
-            let text = text(read, &expected(&read.tables)?);
-            output[..text.len()].copy_from_slice(text.as_bytes());
-            Ok(text.len())
-        },
-    )
+/// Writes the model file with the rewards that are expected.
+pub fn write(read: &Read, output: &mut [u8]) -> Answer<usize> {
+    let text = text(read, &expected(&read.tables)?);
+    output[..text.len()].copy_from_slice(text.as_bytes());
+    Ok(text.len())
 }
 
 /// The expected rewards by action and state; or 26.
@@ -275,7 +264,7 @@ fn text(read: &Read, rewards: &[i64]) -> String {
 }
 
 /// Reads a file, with rewards by action and state or by outcome, into tables that begin as zeros.
-fn read_as(file: &[u8], outcomes: bool, zeros: impl Fn(usize, usize, usize) -> Answer<Tables>) -> Answer<Read> {
+pub fn read(file: &[u8], outcomes: bool, zeros: &Zeros) -> Answer<Read> {
     if file.len() > FILE_BYTES {
         return refused(1, 0);
     }

@@ -67,15 +67,8 @@ pub fn adopt(
     if number == LEVELS {
         return refused(8, 0);
     }
-    let room = |level: &Level| {
-        level.actions.len() >= vectors
-            && level.choices.len() >= vectors * k
-            && level.masks.len() >= vectors
-            && level.entries.len() >= vectors * n
-            && level.corners.len() >= n
-            && level.values.len() >= count
-    };
-    if vectors < 1 || vectors > VECTORS || count > BUILT_POINTS || points.len() < count * n || !room(level) {
+    let fits = (1..=VECTORS).contains(&vectors) && count <= BUILT_POINTS && points.len() >= count * n;
+    if !fits || !has_room(level, n, k, vectors, count) {
         return refused(9, 0);
     }
     let chosen = |next: &Option<u16>| match next {

@@ -1,7 +1,8 @@
 //! Reading a model file as well as we can: word by word, digits as they come, and nothing allocated but the tables.
 
 use crate::limits::*;
-use biidhaqun::slices::{Conversion, Refusal, Tables};
+use crate::whole_file::{Read, Zeros};
+use biidhaqun::slices::{Refusal, Tables};
 
 /// The file and the offset that was reached.
 struct Reader<'a> {
@@ -218,42 +219,30 @@ impl<'a> Reader<'a> {
     }
 }
 
-/// Reads a model file into slices that are lent: its tables and start numbers.
-pub fn read(file: &[u8], lent: &Tables) -> Answer<Read> {
-    read_as(file, false, |states, actions, observations| zeros(states, actions, observations, lent))
-}
-
-/// Converts a file whose rewards depend on what follows: each partial sum is over the observations of one state reached, and the
-/// text goes straight to the output.
-pub fn convert(file: &[u8], output: &mut [u8]) -> Conversion {
-    let zeros = |states, actions, observations| Ok(outcome_zeros(states, actions, observations));
-    converted(
-        output,
-        || read_as(file, true, zeros),
-        |read, output| {
-            let tables = &read.tables;
-            let Tables { states: n, observations: k, .. } = *tables;
-            let mut rewards = [0; ACTIONS * WRITTEN_STATES];
-            for (row, (reached, outcomes)) in
-                tables.transition.chunks_exact(n).zip(tables.reward.chunks_exact(n * k)).enumerate()
-            {
-                let seen = tables.observation[row / n * n * k..].chunks_exact(k).zip(outcomes.chunks_exact(k));
-                let sum: i64 = reached
-                    .iter()
-                    .zip(seen)
-                    .filter(|(&t, _)| t > 0)
-                    .map(|(&t, (seen, rewards))| {
-                        i64::from(t) * seen.iter().zip(rewards).map(|(&o, r)| i64::from(o) * r).sum::<i64>()
-                    })
-                    .sum();
-                if sum % (THOUSAND * THOUSAND) != 0 {
-                    return refused(26, row);
-                }
-                rewards[row] = sum / (THOUSAND * THOUSAND);
-            }
-            Ok(Writer { output, length: 0 }.file(read, &rewards))
-        },
-    )
+/// Writes the model file with the rewards that are expected: each partial sum is over the observations of one state reached, and
+/// the text goes straight to the output.
+pub fn write(read: &Read, output: &mut [u8]) -> Answer<usize> {
+    let tables = &read.tables;
+    let Tables { states: n, observations: k, .. } = *tables;
+    let mut rewards = [0; ACTIONS * WRITTEN_STATES];
+    for (row, (reached, outcomes)) in
+        tables.transition.chunks_exact(n).zip(tables.reward.chunks_exact(n * k)).enumerate()
+    {
+        let seen = tables.observation[row / n * n * k..].chunks_exact(k).zip(outcomes.chunks_exact(k));
+        let sum: i64 = reached
+            .iter()
+            .zip(seen)
+            .filter(|(&t, _)| t > 0)
+            .map(|(&t, (seen, rewards))| {
+                i64::from(t) * seen.iter().zip(rewards).map(|(&o, r)| i64::from(o) * r).sum::<i64>()
+            })
+            .sum();
+        if sum % (THOUSAND * THOUSAND) != 0 {
+            return refused(26, row);
+        }
+        rewards[row] = sum / (THOUSAND * THOUSAND);
+    }
+    Ok(Writer { output, length: 0 }.file(read, &rewards))
 }
 
 /// An output and the bytes that were written.
@@ -337,7 +326,7 @@ impl Writer<'_> {
 }
 
 /// Reads a file, with rewards by action and state or by outcome, into tables that begin as zeros.
-fn read_as(file: &[u8], outcomes: bool, zeros: impl Fn(usize, usize, usize) -> Answer<Tables>) -> Answer<Read> {
+pub fn read(file: &[u8], outcomes: bool, zeros: &Zeros) -> Answer<Read> {
     if file.len() > FILE_BYTES {
         return refused(1, 0);
     }

@@ -3,9 +3,9 @@
 
 use bench::inputs::{self, Counts, Standing};
 use bench::limits::FILE_BYTES;
-use bench::plain::Plain;
-use bench::tuned::Tuned;
-use bench::{convert, floating};
+use bench::plain::PLAIN;
+use bench::tuned::TUNED;
+use bench::{convert, floating, floating_file};
 use biidhaqun::slices::{Refusal, Tables};
 use compare::copied::BY_THE_DOCUMENT;
 use compare::gen;
@@ -14,7 +14,7 @@ use compare::rng::Rng;
 use compare::through::{self, Through};
 use compare::{adopting, bracket, calls, converting, files, many, replaying, single};
 
-const FORMS: [(&str, &dyn Library); 2] = [("plain", &Plain), ("tuned", &Tuned)];
+const FORMS: [(&str, &dyn Library); 2] = [("plain", &PLAIN), ("tuned", &TUNED)];
 
 fn agree(name: &str, call: &Call) {
     for (form, by) in FORMS {
@@ -85,10 +85,10 @@ fn the_floating_form_converts() {
     let file = inputs::outcome_file(&mut Rng::for_case(1, "bench", 0), counts, FILE_BYTES).into_bytes();
     assert!(file.len() > FILE_BYTES - 100);
     let mut output = vec![0; FILE_BYTES];
-    let ended = Tuned.convert(&file, &mut output);
+    let ended = TUNED.convert(&file, &mut output);
     assert_eq!(ended.number, 0);
-    let (exact, _) = floating::read(&output[..ended.length]).unwrap();
-    let (float, _) = floating::read(floating::convert(&file).unwrap().as_bytes()).unwrap();
+    let (exact, _) = floating_file::read(&output[..ended.length]).unwrap();
+    let (float, _) = floating_file::read(floating_file::convert(&file).unwrap().as_bytes()).unwrap();
     assert!(exact.rewards.iter().any(|&reward| reward != 0.0));
     assert!(exact.rewards.iter().zip(&float.rewards).all(|(exact, float)| (exact - float).abs() < 1.5));
 }
@@ -133,7 +133,7 @@ fn the_floating_form_comes_close() {
             let points: Vec<Vec<u64>> = (0..2).map(|_| gen::shares(&mut rng, shape.n, 100)).collect();
             let points: Vec<u32> = points.concat().iter().map(|&weight| weight as u32).collect();
             let level = standing.built(&points);
-            let ended = Tuned.offer(&standing.tables, &[], &mut standing.certifier, &level);
+            let ended = TUNED.offer(&standing.tables, &[], &mut standing.certifier, &level);
             assert_eq!(ended, Refusal::default());
             assert!(floating::offer(&mut float, &convert::floating_level(&level, shape.n, shape.k)));
             let beliefs: Vec<Vec<f64>> = points.chunks(shape.n).map(convert::belief).collect();
@@ -143,7 +143,7 @@ fn the_floating_form_comes_close() {
             }
             let mixture = lent::mixture(&gen::mixture(&mut rng, shape.n), shape.n);
             let total: f64 = mixture.iter().map(|&weight| f64::from(weight)).sum();
-            let exact = Tuned.totals(&standing.tables, &standing.certifier, &mixture);
+            let exact = TUNED.totals(&standing.tables, &standing.certifier, &mixture);
             assert_eq!(exact.number, 0);
             let close = floating::totals(&float, &convert::belief(&mixture));
             assert!((exact.lower as f64 / total - close.lower).abs() < 1.0);
@@ -163,8 +163,8 @@ fn the_floating_form_reads_whole_models() {
     for number in 0..200 {
         let mut rng = Rng::for_case(11, "models", number);
         let file = files::random(&mut rng).file;
-        if let Ok(read) = bench::tuned_file::read(&file, &Tables::roomy()) {
-            if let Some((float, _)) = floating::read(&file) {
+        if let Ok(read) = TUNED.read_into(&file, &Tables::roomy()) {
+            if let Some((float, _)) = floating_file::read(&file) {
                 let exact = convert::floating_tables(&read.tables);
                 let close = |left: &[f64], right: &[f64]| left.iter().zip(right).all(|(x, y)| (x - y).abs() < 1e-6);
                 assert!(close(&float.transitions, &exact.transitions));

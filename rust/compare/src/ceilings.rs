@@ -1,6 +1,7 @@
 //! How often the informed ceiling is lower than the sawtooth, and by how much: levels built in turn upon the model files of a
 //! folder, asked at some dozens of mixtures.
 
+use crate::files;
 use crate::gen::{self, DOCUMENT};
 use crate::rng::Rng;
 use num_bigint::BigInt;
@@ -92,12 +93,8 @@ pub fn run(examples: &Path, seed: u64) -> io::Result<bool> {
     println!(
         "where the informed ceiling is below the sawtooth: how often, ticks on average and at most, part of the gap"
     );
-    let mut paths: Vec<_> =
-        fs::read_dir(examples)?.map(|entry| entry.map(|entry| entry.path())).collect::<Result<_, _>>()?;
-    paths.retain(|path| path.extension().map_or(false, |kind| kind == "pomdp"));
-    paths.sort();
     let mut well = true;
-    for path in paths {
+    for path in files::models(examples)? {
         let name = path.file_stem().map_or(String::new(), |name| name.to_string_lossy().into_owned());
         let file = fs::read(&path)?;
         for more in [0, BUILT_POINTS - 1] {

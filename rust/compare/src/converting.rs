@@ -48,7 +48,7 @@ pub fn fixed(cases: &[files::Case], number: usize) -> Option<Call> {
 
 /// How what a library writes, read back by the reference, differs from what the file holds: T, O, discount and start are the
 /// same, and each reward times 1,000,000 is the sum over outcomes of T × O × the outcome's reward.
-pub fn read_back(call: &Call, by: &dyn Library) -> Option<String> {
+fn read_back(call: &Call, by: &dyn Library) -> Option<String> {
     let (answer, after) = call.made(by);
     let (file, output) = match &after {
         Call::Convert { file, output } if answer[0] == 0 => (file, output),

@@ -190,6 +190,7 @@ pub fn difference(call: &Call, by: &dyn Library) -> Option<String> {
 #[cfg(test)]
 mod tests {
     use super::*;
+    use crate::files::DOUGH;
     use crate::gen::DOCUMENT;
     use std::collections::BTreeMap;
 
@@ -215,7 +216,7 @@ mod tests {
     /// What is handed in by hand: the dough's list, and others.
     #[test]
     fn the_list_of_the_dough() {
-        let tables = reference::read(include_bytes!("../../../examples/dough.pomdp"), &DOCUMENT).unwrap().tables;
+        let tables = reference::read(DOUGH.as_bytes(), &DOCUMENT).unwrap().tables;
         let words = [5, 6, 8, 10, 10, 500, 500, STATE + 1_000, 1_000, STATE + 1_000];
         assert_eq!(exact(&lent::tables(&tables)), words);
     }

@@ -35,7 +35,8 @@ pub fn served(rng: &mut Rng, certifier: &Certifier) -> Call {
     call(certifier, &gen::repriced(rng, &certifier.tables))
 }
 
-fn call(certifier: &Certifier, new: &Tables) -> Call {
+/// New tables upon a certifier.
+pub fn call(certifier: &Certifier, new: &Tables) -> Call {
     let (tables, new) = (lent::tables(&certifier.tables), lent::tables(new));
     Call::Reprice { tables, new, certifier: lent::certifier(certifier) }
 }

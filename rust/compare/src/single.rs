@@ -2,12 +2,12 @@
 
 use crate::copied::BY_THE_DOCUMENT;
 use crate::files;
-use crate::gen::{self, Shape, Step};
+use crate::gen::{self, Question, Shape, Step};
 use crate::lent::{self, Call, Slice};
 use crate::rng::Rng;
 use crate::{adopting, converting, listing, pricing, replaying};
 use biidhaqun::slices::{Answers, Certifier, Level, Tables};
-use reference::{Points, STATES};
+use reference::{Graph, Points, STATES};
 use std::cell::Cell;
 
 /// A call with whole objects. Its slices are as long as they must be and no longer, and anything lies in those that are
@@ -32,7 +32,7 @@ fn whole(rng: &mut Rng) -> Call {
                 gen::spoil_graph(rng, &mut graph, shape);
             }
             let asked = gen::question(rng, &graph, shape);
-            Call::Worth { tables: lent::tables(&tables), graph: lent::graph(&graph, shape.k), asked }
+            worth(&tables, &graph, asked)
         }
         3 | 4 => {
             // A level that grows by a few points, so that the certifier must have room for it.
@@ -71,16 +71,9 @@ fn whole(rng: &mut Rng) -> Call {
                     let count = rng.index(4);
                     asking(rng, shape, &certifier, count)
                 }
-                Step::Totals(mixture) => {
-                    let mixture = lent::mixture(&mixture, shape.n);
-                    let tables = lent::tables(&certifier.tables);
-                    Call::Totals { tables, certifier: lent::certifier(&certifier), mixture }
-                }
+                Step::Totals(mixture) => totals(&certifier, lent::mixture(&mixture, shape.n)),
                 Step::Within(lows, highs) => within(shape, &certifier, &lows, &highs),
-                Step::Reprice(new) => {
-                    let (tables, new) = (lent::tables(&certifier.tables), lent::tables(&new));
-                    Call::Reprice { tables, new, certifier: lent::certifier(&certifier) }
-                }
+                Step::Reprice(new) => pricing::call(&certifier, &new),
                 Step::Build(points) | Step::Raise(points) => building(rng, shape, &certifier, &points),
             }
         }
@@ -129,6 +122,11 @@ pub fn offering(rng: &mut Rng, shape: Shape, certifier: &reference::Certifier, l
     Call::Offer { list: list(rng, &tables), tables, certifier: standing, level }
 }
 
+/// Totals at a mixture.
+pub fn totals(certifier: &reference::Certifier, mixture: Vec<u32>) -> Call {
+    Call::Totals { tables: lent::tables(&certifier.tables), certifier: lent::certifier(certifier), mixture }
+}
+
 /// Totals at some mixtures, of which some are refused.
 pub fn asking(rng: &mut Rng, shape: Shape, certifier: &reference::Certifier, count: usize) -> Call {
     let (mut mixtures, mut answers) = (Vec::new(), Answers::default());
@@ -153,12 +151,15 @@ pub fn within(shape: Shape, certifier: &reference::Certifier, lows: &[u64], high
     Call::Within { tables: lent::tables(&certifier.tables), certifier: lent::certifier(certifier), lows, highs }
 }
 
+/// Slices for such a level, to be made.
+fn room(rng: &mut Rng, level: &Level) -> Level {
+    lent::to_be_made(sized(rng, Certifier::default(), level))
+}
+
 pub fn building(rng: &mut Rng, shape: Shape, certifier: &reference::Certifier, points: &Points) -> Call {
     let (count, points) = lent::points(points, shape.n);
     let few = count.min(reference::BUILT_POINTS + 1);
-    let room = sized(rng, Certifier::default(), &Level::zeros(shape.n, shape.k, shape.n + few, few));
-    let Certifier { actions, choices, masks, entries, corners, values, .. } = room;
-    let level = Level { actions, choices, masks, entries, corners, values, ..Level::default() };
+    let level = room(rng, &Level::zeros(shape.n, shape.k, shape.n + few, few));
     let tables = lent::tables(&certifier.tables);
     Call::Build { list: list(rng, &tables), tables, certifier: lent::certifier(certifier), count, points, level }
 }
@@ -174,11 +175,15 @@ pub fn adoption(
     let (n, k) = lent::counts(&certifier.tables);
     let (count, points) = lent::points(points, n);
     let few = count.min(reference::BUILT_POINTS + 1);
-    let room = sized(rng, Certifier::default(), &Level::zeros(n, k, vectors, few));
-    let Certifier { actions, choices, masks, entries, corners, values, .. } = room;
-    let level = Level { actions, choices, masks, entries, corners, values, ..Level::default() };
+    let level = room(rng, &Level::zeros(n, k, vectors, few));
     let (tables, certifier) = (lent::tables(&certifier.tables), lent::certifier(certifier));
     Call::Adopt { tables, certifier, alpha: alpha.to_vec(), graph: graph.to_vec(), points, count, level }
+}
+
+/// What a graph is worth.
+pub fn worth(tables: &reference::Tables, graph: &Graph, asked: Question) -> Call {
+    let (_, k) = lent::counts(tables);
+    Call::Worth { tables: lent::tables(tables), graph: lent::graph(graph, k), asked }
 }
 
 /// Reads a random file, with slices as long as its counts need.
@@ -244,6 +249,15 @@ pub fn touched(rng: &mut Rng, mut call: Call) -> Call {
     call
 }
 
+/// The call as it is, or touched.
+pub fn half_touched(rng: &mut Rng, call: Call) -> Call {
+    if rng.once_in(2) {
+        call
+    } else {
+        touched(rng, call)
+    }
+}
+
 /// A call that is served, with slices as long as they must be and no longer, of which no one is empty but where it can only
 /// be: upon level 0 stands no point.
 fn served(rng: &mut Rng, kind: u64) -> Call {
@@ -274,7 +288,7 @@ fn served(rng: &mut Rng, kind: u64) -> Call {
             }
             3 => {
                 let mixture = lent::mixture(&gen::mixture(rng, shape.n), shape.n);
-                Call::Totals { tables: lent::tables(&tables), certifier: lent::certifier(&certifier), mixture }
+                totals(&certifier, mixture)
             }
             4 => {
                 let points = gen::points(rng, shape.n, 2);
@@ -293,7 +307,7 @@ fn served(rng: &mut Rng, kind: u64) -> Call {
             _ => {
                 let graph = gen::graph(rng, shape);
                 let asked = gen::question(rng, &graph, shape);
-                Call::Worth { tables: lent::tables(&tables), graph: lent::graph(&graph, shape.k), asked }
+                worth(&tables, &graph, asked)
             }
         };
         if call.number(&BY_THE_DOCUMENT) == 0 {

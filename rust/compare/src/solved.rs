@@ -1,12 +1,13 @@
 //! Levels that a solver found, one upon the other: each must be certified, and how far below the floats is measured.
 
 use crate::calls::Calls;
+use crate::files::{self, TIGER};
 use crate::gen::{self, Shape};
 use crate::rng::Rng;
 use crate::show;
 use reference::{Points, Tables};
 use solver::{alpha_file, graph_file, Vector};
-use std::path::{Path, PathBuf};
+use std::path::Path;
 use std::{fs, io};
 
 /// How many steps an example is solved for.
@@ -57,21 +58,16 @@ pub fn random(rng: &mut Rng) -> Climb {
 
 /// The tiger over forty steps: the last has over 100 vectors.
 pub fn long() -> Climb {
-    let file = include_str!("../../../examples/tiger.pomdp");
-    let tables = reference::read(file.as_bytes(), &gen::DOCUMENT).expect("the model is read").tables;
+    let tables = reference::read(TIGER.as_bytes(), &gen::DOCUMENT).expect("the model is read").tables;
     Climb::up_to(reference::VECTORS, tables, Points::none(), 40)
 }
 
 /// Steps upon each model file of a folder that is read, at its start mixture.
 pub fn examples(folder: &Path) -> io::Result<Vec<(String, Climb)>> {
-    let paths: io::Result<Vec<PathBuf>> = fs::read_dir(folder)?.map(|entry| Ok(entry?.path())).collect();
-    let mut paths = paths?;
-    paths.sort();
     let mut climbs = Vec::new();
-    for path in paths.iter().filter(|path| path.extension().map_or(false, |end| end == "pomdp")) {
-        if let Ok(read) = reference::read(&fs::read(path)?, &gen::DOCUMENT) {
-            let mut points = Points { count: 1, ..Points::none() };
-            points.weights[..read.start.len()].copy_from_slice(&read.start);
+    for path in files::models(folder)? {
+        if let Ok(read) = reference::read(&fs::read(&path)?, &gen::DOCUMENT) {
+            let points = Points::one(&read.start);
             climbs.push((path.display().to_string(), Climb::of(read.tables, points, STEPS)));
         }
     }

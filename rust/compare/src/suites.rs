@@ -1,6 +1,8 @@
 //! The suites of calls, run against a library: files, storage, slices, and all plans of small models.
 
-use crate::copied::{Copied, Slip, BY_THE_DOCUMENT};
+mod hunting;
+
+use crate::copied::BY_THE_DOCUMENT;
 use crate::lent::{Call, Library};
 use crate::options::Options;
 use crate::rng::Rng;
@@ -8,7 +10,6 @@ use crate::through::{self, Through};
 use crate::{
     adopting, bracket, calls, converting, files, listing, many, pricing, replaying, show, single, solved, ticks,
 };
-use reference::Trap;
 use std::collections::BTreeMap;
 use std::time::{Duration, Instant};
 use std::{fs, io};
@@ -27,9 +28,6 @@ const LISTS: u64 = 4_000;
 const PRICES: u64 = 4_000;
 const CONVERSIONS: u64 = 4_000;
 const SOLVED: u64 = 300;
-
-/// How many random cases a slip or a trap is looked for in.
-const HUNTED: u64 = 3_000;
 
 /// Does what was asked for; whether all was well.
 pub fn run(options: &Options, library: &dyn Library) -> io::Result<bool> {
@@ -64,13 +62,6 @@ struct Suites<'a> {
     many: Vec<many::Case>,
     /// The fixed files to convert.
     converted: Vec<files::Case>,
-}
-
-/// A copy with one mistake, and the first case that tells it from the library.
-struct Hunted {
-    name: String,
-    copy: Copied,
-    caught: Option<String>,
 }
 
 impl Suites<'_> {
@@ -256,13 +247,11 @@ impl Suites<'_> {
             }
             "adopt" => {
                 let call = adopting::random(&mut rng).call(&mut rng);
-                let call = if rng.once_in(2) { call } else { single::touched(&mut rng, call) };
-                self.call(&name, &call)
+                self.call(&name, &single::half_touched(&mut rng, call))
             }
             "replay" => {
                 let call = replaying::random(&mut rng);
-                let call = if rng.once_in(2) { call } else { single::touched(&mut rng, call) };
-                self.call(&name, &call)
+                self.call(&name, &single::half_touched(&mut rng, call))
             }
             "lists" => {
                 let call = listing::random(&mut rng);
@@ -329,122 +318,6 @@ impl Suites<'_> {
         }
         Ok(false)
     }
-
-    /// Whether the library differs from every copy with one mistake: slips of the interface in single calls, traps of the
-    /// reader in files, those of the converter in conversions, those of a solver's files in adoptions, traps of the judging in calls on storage, both kinds in calls with
-    /// many vectors and long files. In each case the library itself is held against the document first.
-    fn traps(&self) -> bool {
-        let slips = |list: &[Slip]| -> Vec<Hunted> {
-            let slip = |&slip: &Slip| hunted((format!("{:?} ({})", slip, slip.text()), Copied::slipping(slip)));
-            list.iter().map(slip).collect()
-        };
-        let traps = |list: &[Trap]| -> Vec<Hunted> {
-            list.iter().map(|&trap| hunted((trap.to_string(), Copied::trapped(trap)))).collect()
-        };
-        let mut all = true;
-        all &= self.hunt("slips of the interface, by single calls", HUNTED, slips(Slip::ANY), &|number| {
-            if number % 20 == 10 {
-                let mut rng = self.rng("adopt", number);
-                let call = adopting::random(&mut rng).call(&mut rng);
-                let call = single::touched(&mut rng, call);
-                return (format!("adopt:{}", number), Box::new(move |one, other| call.difference(one, other)));
-            }
-            if number % 20 == 13 {
-                let call =
-                    single::touched(&mut self.rng("touched", number), listing::random(&mut self.rng("lists", number)));
-                return (format!("lists:{}", number), Box::new(move |one, other| call.difference(one, other)));
-            }
-            if number % 10 == 5 {
-                let mut rng = self.rng("replay", number);
-                let call = replaying::random(&mut rng);
-                let call = if rng.once_in(2) { call } else { single::touched(&mut rng, call) };
-                return (format!("replay:{}", number), Box::new(move |one, other| call.difference(one, other)));
-            }
-            if number % 20 == 0 {
-                let calls = single::lengths(&mut self.rng("lengths", number / 20), number / 20);
-                let differs = move |one: &dyn Library, other: &dyn Library| {
-                    calls.iter().find_map(|(call, _)| call.difference(one, other))
-                };
-                return (format!("lengths:{}", number / 20), Box::new(differs));
-            }
-            let call = single::random(&mut self.rng("slices", number));
-            (format!("slices:{}", number), Box::new(move |one, other| call.difference(one, other)))
-        });
-        let fixed = files::fixed_to_read();
-        let cases = fixed.len() as u64 + HUNTED;
-        all &= self.hunt("traps of the reader, by files", cases, traps(Trap::READING), &|number| {
-            let (name, file) = match fixed.get(number as usize) {
-                Some(case) => (format!("fixed:{}", number), case.file.clone()),
-                None => (format!("random:{}", number), files::random(&mut self.rng("random", number)).file),
-            };
-            let call = single::reading(&file);
-            (name, Box::new(move |one, other| call.difference(one, other)))
-        });
-        let cases = self.converted.len() as u64 + HUNTED;
-        all &= self.hunt("traps of the converter, by conversions", cases, traps(Trap::CONVERTING), &|number| {
-            let random = number.saturating_sub(self.converted.len() as u64);
-            let (name, call) = match converting::fixed(&self.converted, number as usize) {
-                Some(call) => (format!("converted:{}", number), call),
-                None => (format!("convert:{}", random), converting::random(&mut self.rng("convert", random))),
-            };
-            (name, Box::new(move |one, other| call.difference(one, other)))
-        });
-        let cases = self.adopted.len() as u64 + HUNTED;
-        all &= self.hunt("traps of a solver's files, by adoptions", cases, traps(Trap::ADOPTING), &|number| {
-            let random = number.saturating_sub(self.adopted.len() as u64);
-            let (name, mut rng) = (format!("adopt:{}", random), self.rng("adopt", random));
-            let (name, call) = match self.adopted.get(number as usize) {
-                Some(case) => (format!("adopted:{}", number), case.call(&mut rng)),
-                None => (name, adopting::random(&mut rng).call(&mut rng)),
-            };
-            (name, Box::new(move |one, other| call.difference(one, other)))
-        });
-        let judging = traps(Trap::JUDGING);
-        all &= self.hunt("traps of the judging, by calls on storage", HUNTED, judging, &|number| {
-            let mut rng = self.rng("calls", number);
-            let case = calls::random(&mut rng, number);
-            let differs =
-                move |one: &dyn Library, other: &dyn Library| through::difference(&case, one, other, &mut rng.clone());
-            (format!("calls:{}", number), Box::new(differs))
-        });
-        all &= self.hunt("traps of lists, by single calls", HUNTED, traps(Trap::LISTING), &|number| {
-            let call = listing::random(&mut self.rng("lists", number));
-            (format!("lists:{}", number), Box::new(move |one, other| call.difference(one, other)))
-        });
-        let mut large = traps(Trap::MANY);
-        large.extend(slips(Slip::MANY));
-        all &= self.hunt("both with many vectors and long files", self.many.len() as u64, large, &|number| {
-            let call = self.many[number as usize].call.clone();
-            (format!("many:{}", number), Box::new(move |one, other| call.difference(one, other)))
-        });
-        all
-    }
-
-    /// Whether every copy is told from the library by one of the cases.
-    fn hunt(&self, what: &str, cases: u64, mut hunts: Vec<Hunted>, case: &dyn Fn(u64) -> (String, Differs)) -> bool {
-        for number in 0..cases {
-            if hunts.iter().all(|hunted| hunted.caught.is_some()) {
-                break;
-            }
-            let (name, differs) = case(number);
-            if differs(&BY_THE_DOCUMENT, self.linked).is_some() {
-                println!("DIFFERENCE between the library and the reference in {}; run without --traps", name);
-                return false;
-            }
-            for hunted in hunts.iter_mut().filter(|hunted| hunted.caught.is_none()) {
-                if differs(self.linked, &hunted.copy).is_some() {
-                    println!("caught  {}: {}", hunted.name, name);
-                    hunted.caught = Some(name.clone());
-                }
-            }
-        }
-        let left: Vec<&Hunted> = hunts.iter().filter(|hunted| hunted.caught.is_none()).collect();
-        for hunted in &left {
-            println!("NOT CAUGHT  {}", hunted.name);
-        }
-        println!("{}: {} of {} caught", what, hunts.len() - left.len(), hunts.len());
-        left.is_empty()
-    }
 }
 
 /// New prices of this number: now and then upon the largest model at the ends of all ranges, half of the others with slices that
@@ -454,18 +327,7 @@ fn priced(rng: &mut Rng, number: u64) -> Call {
         return pricing::largest(rng);
     }
     let call = pricing::random(rng);
-    if rng.once_in(2) {
-        call
-    } else {
-        single::touched(rng, call)
-    }
-}
-
-/// How two differ in a case.
-type Differs = Box<dyn Fn(&dyn Library, &dyn Library) -> Option<String>>;
-
-fn hunted((name, copy): (String, Copied)) -> Hunted {
-    Hunted { name, copy, caught: None }
+    single::half_touched(rng, call)
 }
 
 fn unknown(what: &str) -> io::Error {
@@ -475,6 +337,7 @@ fn unknown(what: &str) -> io::Error {
 #[cfg(test)]
 mod tests {
     use super::*;
+    use crate::copied::{Copied, Slip};
     use std::collections::BTreeSet;
 
     #[test]

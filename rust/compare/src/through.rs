@@ -5,6 +5,7 @@ use crate::gen::{self, List, Question, Step};
 use crate::lent::{self, stored, Call, Library};
 use crate::listing;
 use crate::rng::Rng;
+use crate::single;
 use biidhaqun::slices::{Certifier, Level, Tables};
 use num_bigint::BigInt;
 use reference::{Graph, Points, Refusal, Totals, Within, ROWS, STATES};
@@ -16,9 +17,7 @@ pub fn difference(case: &Case, one: &dyn Library, other: &dyn Library, rng: &mut
     match case {
         Case::Open(tables) => named("open", opening(rng, tables).difference(one, other)),
         Case::Worth(tables, graph, asked) => {
-            let (_, k) = lent::counts(tables);
-            let call = Call::Worth { tables: lent::tables(tables), graph: lent::graph(graph, k), asked: *asked };
-            named("worth", call.difference(one, other))
+            named("worth", single::worth(tables, graph, *asked).difference(one, other))
         }
         Case::Handed(certifier, steps) => {
             let (n, k) = lent::counts(&certifier.tables);

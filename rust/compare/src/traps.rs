@@ -35,7 +35,7 @@ impl Hunt {
 /// Files are answered by the program that is compared, and by the copy in the reference's stead. The other suites show what
 /// the comparison notices, not what the program does: calls are compared between the copy and the reference, in the third
 /// suite the copy is held against all plans of small models, in the fourth against the plans that its vectors name. With
-/// `--library` there is a hunt in which the library itself is told from the copies (`suites.rs`).
+/// `--library` there is a hunt in which the library itself is told from the copies (`suites/hunting.rs`).
 pub fn run(answerer: &Answerer, seed: u64) -> io::Result<bool> {
     let hunt = |trap: Trap, reading: bool| Hunt { trap, reading, files: None, calls: None, plans: None, ticks: None };
     let judging = Trap::JUDGING.iter().chain(Trap::RUNNING).map(|&trap| hunt(trap, false));

@@ -4,17 +4,16 @@
 //! graph file has, for each node, its number, an action, and a next node for each observation. Words part as in the model
 //! file.
 
+use crate::backup::{reaches_uncovered, vector_backup};
 use crate::build::{least_ceiling, Points, BUILT_POINTS};
+use crate::certifier::{examine, full, Certifier};
 use crate::exact::{k, round_down, zero};
 use crate::file::FILE_BYTES;
-use crate::level::{
-    examine, first_untotalled, full, kept_choice, most_vectors, reaches_uncovered, vector_backup, Certifier, Level,
-    Lists, TICKS, VECTORS,
-};
+use crate::level::{first_untotalled, kept_choice, most_vectors, Level, Lists, TICKS, VECTORS};
 use crate::model::Model;
 use crate::refusal::Refusal;
 use crate::rules::{Rules, Trap};
-use crate::words::{word_after, Word};
+use crate::words::{Reader, Word};
 use num_bigint::BigInt;
 
 /// Each of a solver's files has at most this many bytes: 4 MiB.
@@ -189,15 +188,15 @@ fn judge_files(
 fn read_files(model: &Model, alpha: &[u8], graph: &[u8], rules: &Rules) -> Result<Files, Refusal> {
     if rules.has(Trap::TwentyFirst) {
         // The files as far as they read.
-        let alphas = Reader { file: alpha, offset: 0, rules }.alphas(model.n).0;
-        let nodes = Reader { file: graph, offset: 0, rules }.nodes(model.k).0;
+        let alphas = Reader::new(alpha, rules).alphas(model.n).0;
+        let nodes = Reader::new(graph, rules).nodes(model.k).0;
         agree(&alphas, &nodes, rules)?;
     }
-    let nodes = || all(Reader { file: graph, offset: 0, rules }.nodes(model.k));
+    let nodes = || all(Reader::new(graph, rules).nodes(model.k));
     if rules.has(Trap::GraphFirst) {
         nodes()?;
     }
-    let alphas = all(Reader { file: alpha, offset: 0, rules }.alphas(model.n))?;
+    let alphas = all(Reader::new(alpha, rules).alphas(model.n))?;
     if alphas.len() > VECTORS && rules.has(Trap::NineBeforeGraph) {
         return Err(Refusal::at(9, 0));
     }
@@ -238,73 +237,56 @@ fn named(model: &Model, standing: &Lists, level: u64, node: &Node, rules: &Rules
     node.next.iter().map(choice).collect::<Option<_>>().filter(|_| action)
 }
 
-/// A file and the offset that was reached in it.
-struct Reader<'a> {
-    file: &'a [u8],
-    offset: usize,
-    rules: &'a Rules,
-}
-
-impl<'a> Reader<'a> {
-    /// The next word, if any is left.
-    fn next(&mut self) -> Option<Word<'a>> {
-        let word = word_after(self.file, self.offset, self.rules)?;
-        self.offset = word.place + word.bytes.len();
-        Some(word)
-    }
-
+impl Reader<'_> {
     /// The value of the next word by its form; 19 where it does not fit, at the file's length where it is missing.
     fn value<Of>(&mut self, form: impl Fn(&[u8]) -> Option<Of>) -> Result<Of, Refusal> {
-        let last_word_end = self.offset;
-        let missing = if self.rules.has(Trap::MissingAtLastWord) { last_word_end } else { self.file.len() };
-        let word = self.next().ok_or_else(|| Refusal::at_index(19, missing))?;
+        let word = self.word_or(19)?;
         self.fitting(&word, form)
     }
 
     fn fitting<Of>(&self, word: &Word, form: impl Fn(&[u8]) -> Option<Of>) -> Result<Of, Refusal> {
-        let past = if self.rules.has(Trap::PlaceAtWordEnd) { word.bytes.len() } else { 0 };
-        form(word.bytes).ok_or_else(|| Refusal::at_index(19, word.place + past))
+        form(word.bytes).ok_or_else(|| self.at(19, word))
     }
 
-    /// The alpha file's vectors, and how its reading ended: with the first word that does not fit, or with the file.
+    /// The vectors or nodes of a file, each from its first word on, and how the reading ended: with the first word that does
+    /// not fit, or with the file.
+    fn items<Item>(
+        &mut self,
+        item: impl Fn(&mut Self, &Word, usize) -> Result<Item, Refusal>,
+    ) -> (Vec<Item>, Result<(), Refusal>) {
+        let mut items = Vec::new();
+        while let Some(first) = self.next().filter(|_| wanted(items.len(), self.rules)) {
+            match item(self, &first, items.len()) {
+                Ok(item) => items.push(item),
+                Err(refusal) => return (items, Err(refusal)),
+            }
+        }
+        (items, Ok(()))
+    }
+
+    /// The alpha file's vectors.
     fn alphas(&mut self, n: usize) -> (Vec<Alpha>, Result<(), Refusal>) {
-        let mut alphas = Vec::new();
         let rules = self.rules;
-        while let Some(word) = self.next().filter(|_| wanted(alphas.len(), rules)) {
-            let mut one = || {
-                let action = self.fitting(&word, |bytes| digits(bytes, action_digits(rules)))?;
-                let ticks = (0..n).map(|_| self.value(|bytes| decimal_form(bytes, rules)));
-                Ok(Alpha { action, ticks: ticks.collect::<Result<_, _>>()? })
-            };
-            match one() {
-                Ok(alpha) => alphas.push(alpha),
-                Err(refusal) => return (alphas, Err(refusal)),
-            }
-        }
-        (alphas, Ok(()))
+        self.items(|reader, first, _| {
+            let action = reader.fitting(first, |bytes| digits(bytes, action_digits(rules)))?;
+            let ticks = (0..n).map(|_| reader.value(|bytes| decimal_form(bytes, rules)));
+            Ok(Alpha { action, ticks: ticks.collect::<Result<_, _>>()? })
+        })
     }
 
-    /// The graph's nodes, and how its reading ended.
+    /// The graph's nodes.
     fn nodes(&mut self, observations: usize) -> (Vec<Node>, Result<(), Refusal>) {
-        let mut nodes = Vec::new();
         let rules = self.rules;
-        while let Some(word) = self.next().filter(|_| wanted(nodes.len(), rules)) {
+        self.items(|reader, first, number| {
             let in_order = |bytes: &[u8]| {
-                let number = digits(bytes, node_digits(rules))?;
-                Some(()).filter(|()| number == BigInt::from(nodes.len()) || rules.has(Trap::NodesUnordered))
+                let found = digits(bytes, node_digits(rules))?;
+                Some(()).filter(|()| found == BigInt::from(number) || rules.has(Trap::NodesUnordered))
             };
-            let mut one = || {
-                self.fitting(&word, in_order)?;
-                let action = self.value(|bytes| digits(bytes, action_digits(rules)))?;
-                let next = (0..observations).map(|_| self.value(|bytes| next_form(bytes, rules)));
-                Ok(Node { action, next: next.collect::<Result<_, _>>()? })
-            };
-            match one() {
-                Ok(node) => nodes.push(node),
-                Err(refusal) => return (nodes, Err(refusal)),
-            }
-        }
-        (nodes, Ok(()))
+            reader.fitting(first, in_order)?;
+            let action = reader.value(|bytes| digits(bytes, action_digits(rules)))?;
+            let next = (0..observations).map(|_| reader.value(|bytes| next_form(bytes, rules)));
+            Ok(Node { action, next: next.collect::<Result<_, _>>()? })
+        })
     }
 }
 

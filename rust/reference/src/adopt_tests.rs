@@ -9,33 +9,27 @@ const MODEL: &str =
 const ALPHA: &str = "0\n-1.000 -1.000\n\n1\n-10.0 6.01\n\n";
 const GRAPH: &str = "0 0  - -\n1 1  - -\n";
 
-fn rules() -> Rules {
-    Rules::default()
-}
-
 fn fresh() -> Certifier {
-    open(&read(MODEL.as_bytes(), &rules()).unwrap().tables, &rules()).unwrap()
+    open(&read(MODEL.as_bytes(), &DOCUMENT).unwrap().tables, &DOCUMENT).unwrap()
 }
 
 /// The certifier after the two vectors were accepted.
 fn raised() -> Certifier {
     let mut certifier = fresh();
-    let level = adopt(&certifier, ALPHA.as_bytes(), GRAPH.as_bytes(), &Points::none(), &rules()).unwrap();
-    offer(&mut certifier, &level, &rules()).unwrap();
+    let level = adopt(&certifier, ALPHA.as_bytes(), GRAPH.as_bytes(), &Points::none(), &DOCUMENT).unwrap();
+    offer(&mut certifier, &level, &DOCUMENT).unwrap();
     certifier
 }
 
 fn half() -> Points {
-    let mut points = Points { count: 1, ..Points::none() };
-    points.weights[..2].copy_from_slice(&[50, 50]);
-    points
+    Points::one(&[50, 50])
 }
 
 /// The level, or the refusal as number and place. Every level that is made is accepted.
 fn made(certifier: &Certifier, alpha: &str, graph: &str, points: &Points) -> Result<Level, (u8, u64)> {
-    let level = adopt(certifier, alpha.as_bytes(), graph.as_bytes(), points, &rules());
+    let level = adopt(certifier, alpha.as_bytes(), graph.as_bytes(), points, &DOCUMENT);
     if let Ok(level) = &level {
-        offer(&mut certifier.clone(), level, &rules()).unwrap();
+        offer(&mut certifier.clone(), level, &DOCUMENT).unwrap();
     }
     level.map_err(|refusal| (refusal.number, refusal.place))
 }
@@ -57,7 +51,7 @@ fn the_level_is_the_files_with_the_builders_ceiling() {
     assert_eq!((level.vectors, level.points), (2, 1));
     assert_eq!((&level.actions[..2], &level.choices[..4]), (&[0, 1][..], &[0, 0, 0, 0][..]));
     assert_eq!(level.entries[..4], [-100, -100, -1_000, 601]);
-    let built = build(&fresh(), &half(), &rules()).unwrap();
+    let built = build(&fresh(), &half(), &DOCUMENT).unwrap();
     assert_eq!((level.corners, level.weights, level.values), (built.corners, built.weights, built.values));
     // The order is the files'.
     let level = made(&raised(), "1 0 0 0 0 0 1 0 0", "0 1 0 1 1 0 1 0 2 1 1 1", &Points::none()).unwrap();

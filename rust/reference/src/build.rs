@@ -1,9 +1,9 @@
 //! The builder.
 
+use crate::backup::{ceiling_backup, vector_backup};
+use crate::certifier::{examine, full, Certifier};
 use crate::exact::{corner, dot, first_largest, k, last_largest, round_down, round_up, stored, weights};
-use crate::level::{
-    ceiling_backup, examine, first_untotalled, full, full_mask, kept_choice, vector_backup, Certifier, Level, Lists,
-};
+use crate::level::{first_untotalled, full_mask, kept_choice, Level, Lists};
 use crate::model::{Model, STATES};
 use crate::refusal::Refusal;
 use crate::rules::{Rules, Trap};
@@ -23,6 +23,13 @@ impl Points {
     /// No points.
     pub fn none() -> Points {
         Points { count: 0, weights: vec![0; BUILT_POINTS * STATES] }
+    }
+
+    /// One point with these weights.
+    pub fn one(weights: &[u64]) -> Points {
+        let mut points = Points { count: 1, ..Points::none() };
+        points.weights[..weights.len()].copy_from_slice(weights);
+        points
     }
 }
 

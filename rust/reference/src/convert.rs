@@ -151,8 +151,7 @@ fn decimal(number: u64, decimals: usize, rules: &Rules) -> String {
 #[cfg(test)]
 mod tests {
     use super::*;
-
-    const DOCUMENT: Rules = Rules { trap: None };
+    use crate::DOCUMENT;
 
     /// Two states, an action and two observations: it stays or goes with equal chances, and is seen with 8 in 10 and 3 in 10.
     const HEADER: &str = "discount: 0.9 values: reward states: 2 actions: 1 observations: 2 start: 0.5 0.5 \

@@ -1,47 +1,43 @@
 //! The dough model: its output and the table D1 to D12.
 
+use crate::backup::ceiling;
+use crate::certifier::examine;
 use crate::exact::weights;
-use crate::level::{ceiling, examine};
 use crate::*;
 use num_bigint::BigInt;
 
-const FILE: &str = "\
-discount: 0.9
-values: reward
-states: 2
-actions: 2
-observations: 2
-start: 0.5 0.5
-T: 0 : 0 0.5 0.5
-T: 0 : 1 0 1
-T: 1 : * 1 0
-O: 0 : 0 0.8 0.2
-O: 0 : 1 0.3 0.7
-O: 1 : * 0.5 0.5
-R: 0 : * : * : * -1
-R: 1 : 0 : * : * -10
-R: 1 : 1 : * : * 6
-";
+pub const FILE: &str = include_str!("../../../examples/dough.pomdp");
 
-const DOCUMENT: Rules = Rules { trap: None };
-
-/// The start point (50, 50).
+/// The start point.
 fn start() -> Points {
-    let mut points = Points::none();
-    points.count = 1;
-    points.weights[..2].copy_from_slice(&[50, 50]);
-    points
+    Points::one(&[50, 50])
 }
 
-/// The certifier after so many built levels.
-fn standing(levels: u64) -> Certifier {
-    let reading = read(FILE.as_bytes(), &DOCUMENT).unwrap();
-    let mut certifier = open(&reading.tables, &DOCUMENT).unwrap();
+pub fn tables() -> Tables {
+    read(FILE.as_bytes(), &DOCUMENT).unwrap().tables
+}
+
+/// The certifier after so many levels built at the start point.
+pub fn standing(levels: u64) -> Certifier {
+    let mut certifier = open(&tables(), &DOCUMENT).unwrap();
     for _ in 0..levels {
         let level = build(&certifier, &start(), &DOCUMENT).unwrap();
         offer(&mut certifier, &level, &DOCUMENT).unwrap();
     }
     certifier
+}
+
+/// A level 1 of so many vectors: waiting where the dough is ready, and baking anywhere, or waiting alone.
+pub fn masked(vectors: u64) -> Level {
+    Level {
+        vectors,
+        actions: vec![0, 1],
+        choices: vec![0; 4],
+        masks: vec![2, 3],
+        entries: vec![0, -100, -1_000, 600],
+        corners: vec![-100, 600],
+        ..Level::default()
+    }
 }
 
 /// What the built level 2 gets after a change.
@@ -113,7 +109,7 @@ fn d7_and_d8_a_point() {
 
 #[test]
 fn d9_the_best_two_step_plan() {
-    let model = Model::of(&standing(0).tables, &DOCUMENT).unwrap();
+    let model = Model::of(&tables(), &DOCUMENT).unwrap();
     let plans = all_plans(&model, 2);
     assert_eq!(plans.len(), 8);
     assert_eq!(best(&plans, &[50, 50], None), Some(BigInt::from(10_025) * scale(2)));
@@ -149,7 +145,7 @@ fn d12_and_the_limits_of_a_mixture() {
 
 #[test]
 fn a_plan_alone_earns_what_it_earns_among_all() {
-    let model = Model::of(&standing(0).tables, &DOCUMENT).unwrap();
+    let model = Model::of(&tables(), &DOCUMENT).unwrap();
     let step = |action| Plan { action, next: Vec::new() };
     let plan = Plan { action: 0, next: vec![step(0), step(1)] };
     assert_eq!(plan.steps(), 2);
@@ -161,7 +157,7 @@ fn a_plan_alone_earns_what_it_earns_among_all() {
 
 #[test]
 fn a_worth_is_rounded_at_each_step() {
-    let tables = standing(0).tables;
+    let tables = tables();
     let mut graph = Graph::zero();
     graph.nodes = 3;
     graph.actions[..3].copy_from_slice(&[0, 0, 1]);

@@ -4,7 +4,7 @@ use crate::model::{Tables, ACTIONS, OBSERVATIONS, REWARD, STATES, THOUSAND};
 use crate::refusal::Refusal;
 use crate::rules::{Rules, Trap};
 use crate::words::{
-    index_form, is_keyword, number_form, reward_form, whole_part, word_after, Form, Word, PROBABILITY, START,
+    index_form, is_keyword, number_form, reward_form, whole_part, Form, Reader, Word, PROBABILITY, START,
 };
 use num_bigint::BigInt;
 
@@ -53,7 +53,7 @@ pub fn stated(
         Some(nul) if rules.has(Trap::NulEndsFile) => nul,
         _ => file.len(),
     };
-    let mut reader = Reader { file: &file[..end], offset: 0, rules };
+    let mut reader = Reader::new(&file[..end], rules);
     let mut stated = reader.header(has_room)?;
     if outcomes {
         stated.outcomes = Some(Outcomes::zeros(&stated.tables));
@@ -161,34 +161,10 @@ fn supersede<Cell: Copy + std::ops::AddAssign>(
     stated[at] = true;
 }
 
-/// The file and the offset that was reached in it.
-struct Reader<'a> {
-    file: &'a [u8],
-    offset: usize,
-    rules: &'a Rules,
-}
-
 impl<'a> Reader<'a> {
-    /// The next word, if any is left.
-    fn next(&mut self) -> Option<Word<'a>> {
-        let word = word_after(self.file, self.offset, self.rules)?;
-        self.offset = word.place + word.bytes.len();
-        Some(word)
-    }
-
-    /// The next word; a missing one gets 2 at the file's length.
+    /// The next word; a missing one gets 2.
     fn word(&mut self) -> Result<Word<'a>, Refusal> {
-        let last_word_end = self.offset;
-        self.next().ok_or_else(|| {
-            let at_last = self.rules.has(Trap::MissingAtLastWord);
-            Refusal::at_index(2, if at_last { last_word_end } else { self.file.len() })
-        })
-    }
-
-    /// A refusal at a word: the place is the number of bytes before it.
-    fn at(&self, number: u8, word: &Word) -> Refusal {
-        let at_end = self.rules.has(Trap::PlaceAtWordEnd);
-        Refusal::at_index(number, word.place + if at_end { word.bytes.len() } else { 0 })
+        self.word_or(2)
     }
 
     /// This word and no other, or 2.

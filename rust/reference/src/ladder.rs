@@ -1,8 +1,8 @@
 //! The program `ladder`.
 
 use crate::build::{build, Points};
+use crate::certifier::{offer, open};
 use crate::file::read;
-use crate::level::{offer, open};
 use crate::refusal::Refusal;
 use crate::rules::Rules;
 use crate::totals::totals;
@@ -21,9 +21,7 @@ pub fn ladder(file: &[u8], rules: &Rules) -> String {
 fn climb(file: &[u8], rules: &Rules, printed: &mut String) -> Result<(), Refusal> {
     let reading = read(file, rules)?;
     let mut certifier = open(&reading.tables, rules)?;
-    let mut points = Points::none();
-    points.count = 1;
-    points.weights[..reading.start.len()].copy_from_slice(&reading.start);
+    let points = Points::one(&reading.start);
     for _ in 0..3 {
         let level = build(&certifier, &points, rules)?;
         offer(&mut certifier, &level, rules)?;

@@ -13,7 +13,9 @@
 mod adopt;
 #[cfg(test)]
 mod adopt_tests;
+mod backup;
 mod build;
+mod certifier;
 mod convert;
 #[cfg(test)]
 mod dough;
@@ -39,17 +41,18 @@ mod worth;
 
 pub use adopt::{adopt, adopted_vectors, SOLVER_BYTES};
 pub use build::{build, Points, BUILT_POINTS};
+pub use certifier::{offer, open, Certifier};
 pub use convert::{convert, WRITTEN_STATES};
 pub use file::{read, read_into, read_outcomes, Reading, FILE_BYTES};
 pub use ladder::ladder;
-pub use level::{full_mask, offer, open, Certifier, Level, LEVELS, POINTS, POINT_TOTAL, VECTORS};
+pub use level::{full_mask, Level, LEVELS, POINTS, POINT_TOTAL, VECTORS};
 pub use lists::{by_list, list, turned_back, LIST};
 pub use model::{Model, Tables, ACTIONS, OBSERVATIONS, REWARD, STATES, THOUSAND};
 pub use plan::{all_plans, at_mixture, best, earned, scale, Earned, Plan};
 pub use prices::reprice;
 pub use refusal::Refusal;
 pub use rows::ROWS;
-pub use rules::{Rules, Trap};
+pub use rules::{Rules, Trap, DOCUMENT};
 pub use totals::{totals, Totals, WEIGHT};
 pub use within::{within, Within};
 pub use worth::{worth, Graph, NODES, STEPS};

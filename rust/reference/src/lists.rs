@@ -4,7 +4,7 @@
 //! and where the last one ends. Column a × n + s' is that of the action a and of the state s' that is reached. Behind them lie
 //! the cells, column by column, each by rising state: for every T(s, a, s') above 0 the word s × 65,536 + T(s, a, s').
 
-use crate::level::Certifier;
+use crate::certifier::Certifier;
 use crate::model::{Model, Tables, ACTIONS, STATES};
 use crate::refusal::Refusal;
 use crate::rules::{Rules, Trap};
@@ -109,26 +109,20 @@ mod tests {
     use super::*;
     use crate::*;
 
-    const DOCUMENT: Rules = Rules { trap: None };
-
-    fn dough() -> Tables {
-        read(include_bytes!("../../../examples/dough.pomdp"), &DOCUMENT).unwrap().tables
-    }
-
     /// Four columns: of waiting to either state, then of baking to either.
     #[test]
     fn the_dough_by_hand() {
         let words = [5, 6, 8, 10, 10, 500, 500, STATE + 1_000, 1_000, STATE + 1_000];
-        assert_eq!(list(&dough(), 10, &DOCUMENT).unwrap(), words);
-        assert_eq!(list(&dough(), 9, &DOCUMENT), Err(Refusal::at(9, 0)));
-        assert_eq!(turned_back(&dough(), &words), Some(dough().stored()));
+        assert_eq!(list(&dough::tables(), 10, &DOCUMENT).unwrap(), words);
+        assert_eq!(list(&dough::tables(), 9, &DOCUMENT), Err(Refusal::at(9, 0)));
+        assert_eq!(turned_back(&dough::tables(), &words), Some(dough::tables().stored()));
     }
 
     /// 3, 5, 6, 9.
     #[test]
     fn the_order() {
         let refused = |change: &dyn Fn(&mut Tables)| {
-            let mut tables = dough();
+            let mut tables = dough::tables();
             change(&mut tables);
             list(&tables, 0, &DOCUMENT).map_err(|refusal| (refusal.number, refusal.place))
         };
@@ -141,9 +135,9 @@ mod tests {
     /// A list must be that of the tables handed in with it, word by word; what lies past it is not read.
     #[test]
     fn lists_that_are_handed_in() {
-        let mut certifier = open(&dough(), &DOCUMENT).unwrap();
+        let mut certifier = open(&dough::tables(), &DOCUMENT).unwrap();
         let mut asked = |change: &dyn Fn(&mut Vec<u64>)| {
-            let mut words = list(&dough(), LIST, &DOCUMENT).unwrap();
+            let mut words = list(&dough::tables(), LIST, &DOCUMENT).unwrap();
             change(&mut words);
             let built = by_list(&mut certifier, &words, &DOCUMENT, |by| build(by, &Points::none(), &DOCUMENT));
             built.map(|level| level.corners).map_err(|refusal| (refusal.number, refusal.place))
@@ -166,7 +160,7 @@ mod tests {
             seven
         );
         certifier.tables.discount = 1_001;
-        let words = list(&dough(), LIST, &DOCUMENT).unwrap();
+        let words = list(&dough::tables(), LIST, &DOCUMENT).unwrap();
         let built = by_list(&mut certifier, &words, &DOCUMENT, |by| build(by, &Points::none(), &DOCUMENT));
         assert_eq!(built, Err(Refusal::at(7, 0)));
     }

@@ -1,15 +1,9 @@
 //! Vectors that cover part of the states, upon the dough and upon a probe that tells states apart.
+//!
+//! Of the dough, waiting (action 0) leads from state 0 to both states, from 1 to 1 alone; baking (action 1) leads to state 0.
 
 use crate::*;
 use num_bigint::BigInt;
-
-/// Waiting (action 0) leads from state 0 to both states, from 1 to 1 alone; baking (action 1) leads to state 0.
-const DOUGH: &str = "\
-discount: 0.9 values: reward states: 2 actions: 2 observations: 2 start: 0.5 0.5
-T: 0 : 0 0.5 0.5 T: 0 : 1 0 1 T: 1 : * 1 0
-O: 0 : 0 0.8 0.2 O: 0 : 1 0.3 0.7 O: 1 : * 0.5 0.5
-R: 0 : * : * : * -1 R: 1 : 0 : * : * -10 R: 1 : 1 : * : * 6
-";
 
 /// The state moves to 0, 1 or 2 with a third of chance each, or nearly; the probe shows 0 in state 0 and 1 in the others.
 const PROBE: &str = "\
@@ -17,11 +11,11 @@ discount: 1 values: reward states: 3 actions: 1 observations: 2 start: 1 0 0
 T: 0 : * 0.333 0.333 0.334 O: 0 : 0 1 0 O: 0 : 1 0 1 O: 0 : 2 0 1 R: 0 : * : * : * 1
 ";
 
-const DOCUMENT: Rules = Rules { trap: None };
 const NONE: i64 = i64::MIN;
 
-fn opened(file: &str) -> Certifier {
-    open(&read(file.as_bytes(), &DOCUMENT).unwrap().tables, &DOCUMENT).unwrap()
+/// The probe at level 0.
+fn probe() -> Certifier {
+    open(&read(PROBE.as_bytes(), &DOCUMENT).unwrap().tables, &DOCUMENT).unwrap()
 }
 
 /// A vector: its action, its mask, its choices, its entries.
@@ -65,24 +59,25 @@ fn built(certifier: &Certifier, points: &Points) -> Result<Level, (u8, u64)> {
 
 /// The dough at level 1: waiting where the dough is ready, baking anywhere.
 fn one() -> Certifier {
-    offered(&opened(DOUGH), &[(0, 2, &[0, 0], &[NONE, -100]), (1, 3, &[0, 0], &[-1_000, 600])]).unwrap()
+    offered(&dough::standing(0), &[(0, 2, &[0, 0], &[NONE, -100]), (1, 3, &[0, 0], &[-1_000, 600])]).unwrap()
 }
 
 #[test]
 fn level_0_built_and_adopted_levels_cover_all() {
-    let fresh = opened(DOUGH);
+    let fresh = dough::standing(0);
     assert_eq!(fresh.standing.masks, [3]);
     assert_eq!(built(&fresh, &Points::none()).unwrap().masks, [3, 3]);
     let files = (b"0 0 0 1 0 0".as_slice(), b"0 0 - - 1 1 - -".as_slice());
     assert_eq!(adopt(&fresh, files.0, files.1, &Points::none(), &DOCUMENT).unwrap().masks, [3, 3]);
-    assert_eq!(opened(PROBE).standing.masks, [7]);
+    assert_eq!(probe().standing.masks, [7]);
 }
 
 /// Past the states a mask is stored as 0, and elsewhere entries are.
 #[test]
 fn what_is_stored() {
     assert_eq!((one().standing.masks, one().standing.entries), (vec![2, 3], vec![0, -100, -1_000, 600]));
-    let wide = offered(&opened(DOUGH), &[(0, u64::MAX, &[0, 0], &[-100, -100]), (1, !3, &[0, 0], &[7, NONE])]).unwrap();
+    let wide =
+        offered(&dough::standing(0), &[(0, u64::MAX, &[0, 0], &[-100, -100]), (1, !3, &[0, 0], &[7, NONE])]).unwrap();
     assert_eq!((wide.standing.masks, wide.standing.entries), (vec![3, 0], vec![-100, -100, 0, 0]));
 }
 
@@ -92,18 +87,18 @@ fn a_vector_counts_where_it_covers_all_weight() {
     assert_eq!(at(&one, &[0, 1]), Ok((600, 1)));
     assert_eq!(at(&one, &[1, 1]), Ok((-400, 1)));
     // Over state 1 alone the masked vector is the larger one.
-    let low = offered(&opened(DOUGH), &[(1, 3, &[0, 0], &[-1_000, -500]), (0, 2, &[0, 0], &[0, -100])]).unwrap();
+    let low = offered(&dough::standing(0), &[(1, 3, &[0, 0], &[-1_000, -500]), (0, 2, &[0, 0], &[0, -100])]).unwrap();
     assert_eq!(at(&low, &[0, 7]), Ok((-700, 0)));
     assert_eq!(at(&low, &[1, 7]), Ok((-4_500, 1)));
     // An entry of 0 inside the mask is no hole in it.
-    let waiting = offered(&opened(PROBE), &[(0, 3, &[0, 0], &[0, 100, 0])]).unwrap();
+    let waiting = offered(&probe(), &[(0, 3, &[0, 0], &[0, 100, 0])]).unwrap();
     assert_eq!(at(&waiting, &[5, 1, 0]), Ok((100, 0)));
     assert_eq!(at(&waiting, &[5, 1, 1]), Err((22, 0)));
 }
 
 #[test]
 fn inequalities_are_for_covered_states() {
-    let fresh = opened(DOUGH);
+    let fresh = dough::standing(0);
     assert_eq!(refused(&fresh, &[(0, 2, &[0, 0], &[99_999, -100])]), None);
     assert_eq!(refused(&fresh, &[(0, 2, &[0, 0], &[99_999, -99])]), Some((13, 0)));
     assert_eq!(refused(&fresh, &[(0, 2, &[0, 0], &[NONE, -100_000])]), None);
@@ -134,7 +129,7 @@ fn a_covered_state_reaches_covered_states_only() {
 #[test]
 fn reached_with_an_observation() {
     let halves: [Vector; 2] = [(0, 1, &[0, 0], &[100, 0, 0]), (0, 6, &[0, 0], &[0, 100, 100])];
-    let one = offered(&opened(PROBE), &halves).unwrap();
+    let one = offered(&probe(), &halves).unwrap();
     assert_eq!(refused(&one, &[(0, 7, &[0, 1], &[200, 200, 200])]), None);
     assert_eq!(refused(&one, &[(0, 7, &[1, 1], &[200, 200, 200])]), Some((21, 0)));
     assert_eq!(refused(&one, &[(0, 7, &[0, 0], &[200, 200, 200])]), Some((21, 0)));
@@ -159,13 +154,13 @@ fn the_order_of_an_offer() {
 
 #[test]
 fn where_no_vector_counts() {
-    let ready = offered(&opened(DOUGH), &[(0, 2, &[0, 0], &[0, -100])]).unwrap();
+    let ready = offered(&dough::standing(0), &[(0, 2, &[0, 0], &[0, -100])]).unwrap();
     assert_eq!(at(&ready, &[0, 3]), Ok((-300, 0)));
     assert_eq!(at(&ready, &[1, 3]), Err((22, 0)));
     // 16 and 17 come first.
     assert_eq!(at(&ready, &[1_000_001, 0]), Err((17, 0)));
     assert_eq!(at(&ready, &[0, 0]), Err((17, 0)));
-    let mut fresh = opened(DOUGH);
+    let mut fresh = dough::standing(0);
     fresh.standing.masks[0] = 0;
     assert_eq!(at(&fresh, &[1, 0]), Err((16, 0)));
 }
@@ -176,7 +171,7 @@ fn the_builder_wants_a_vector_that_covers_all() {
     let level = built(&one, &Points::none()).unwrap();
     assert_eq!((&level.masks[..], &level.choices[..]), (&[3, 3][..], &[1, 1, 1, 1][..]));
     assert_eq!(offer(&mut one.clone(), &level, &DOCUMENT), Ok(()));
-    let ready = offered(&opened(DOUGH), &[(0, 2, &[0, 0], &[0, -100])]).unwrap();
+    let ready = offered(&dough::standing(0), &[(0, 2, &[0, 0], &[0, -100])]).unwrap();
     assert_eq!(built(&ready, &Points::none()), Err((22, 0)));
     assert_eq!(built(&ready, &Points { count: 1, ..Points::none() }), Err((12, 0)));
     assert_eq!(built(&ready, &Points { count: 17, ..Points::none() }), Err((9, 0)));
@@ -200,7 +195,7 @@ fn files_of_a_solver() {
     assert_eq!(made("0 0 0 0 0 0", "0 0 1 1 1 0 1 1"), Err((12, 0)));
     // Baking leads to a dough that is not ready, which vector 0 does not cover; no vector that counts there is 22's matter.
     assert_eq!(made("1 0 0", "0 1 0 0"), Err((21, 0)));
-    let ready = offered(&opened(DOUGH), &[(0, 2, &[0, 0], &[0, -100])]).unwrap();
+    let ready = offered(&dough::standing(0), &[(0, 2, &[0, 0], &[0, -100])]).unwrap();
     let made = adopt(&ready, b"0 0 0", b"0 0 0 0", &Points::none(), &DOCUMENT);
     assert_eq!(made, Err(Refusal::at(21, 0)));
 }

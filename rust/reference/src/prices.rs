@@ -1,7 +1,8 @@
 //! New prices in mid-plan: document 02, Job 10.
 
+use crate::certifier::{examine, Certifier};
 use crate::exact::{stored, weights};
-use crate::level::{covers, examine, Certifier, TICKS};
+use crate::level::{covers, TICKS};
 use crate::model::{Model, Tables};
 use crate::refusal::Refusal;
 use crate::rules::{Rules, Trap};
@@ -104,21 +105,6 @@ mod tests {
     use super::*;
     use crate::*;
 
-    const DOCUMENT: Rules = Rules { trap: None };
-
-    /// The dough after so many levels built at (50, 50).
-    fn dough(levels: usize) -> Certifier {
-        let file = include_bytes!("../../../examples/dough.pomdp");
-        let mut certifier = open(&read(file, &DOCUMENT).unwrap().tables, &DOCUMENT).unwrap();
-        let mut points = Points { count: 1, ..Points::none() };
-        points.weights[..2].fill(50);
-        for _ in 0..levels {
-            let level = build(&certifier, &points, &DOCUMENT).unwrap();
-            offer(&mut certifier, &level, &DOCUMENT).unwrap();
-        }
-        certifier
-    }
-
     /// The certifier's tables with rewards that are changed: waiting at either state, then baking.
     fn priced(certifier: &Certifier, rewards: [i64; 4]) -> Tables {
         let mut tables = certifier.tables.clone();
@@ -136,7 +122,7 @@ mod tests {
     /// Butter gets dearer by 0.30: the largest change is 30, at level 2 by 60.
     #[test]
     fn the_dough_by_hand() {
-        let two = dough(2);
+        let two = dough::standing(2);
         assert_eq!((&two.standing.corners[..], two.standing.values[0]), (&[-32, 510][..], 12_500));
         let mut moved = two.clone();
         reprice(&mut moved, &priced(&two, [-100, -110, -1_000, 570]), &DOCUMENT).unwrap();
@@ -154,12 +140,12 @@ mod tests {
     /// What would leave its range is held at the end of it; at level 0 only the tables change.
     #[test]
     fn held_at_the_ends() {
-        let one = dough(1);
+        let one = dough::standing(1);
         let mut moved = one.clone();
         reprice(&mut moved, &priced(&one, [100_000, -100, -1_000, 600]), &DOCUMENT).unwrap();
         assert_eq!(moved.standing.entries, [-100_000, -100_000, -100_000, -99_500, -100_000, -100_000]);
         assert_eq!((&moved.standing.corners[..], moved.standing.values[0]), (&[100_000; 2][..], 10_000_000));
-        let mut fresh = dough(0);
+        let mut fresh = dough::standing(0);
         let new = priced(&fresh, [5, 6, 7, 8]);
         let before = fresh.clone();
         reprice(&mut fresh, &new, &DOCUMENT).unwrap();
@@ -169,17 +155,8 @@ mod tests {
     /// Entries of states that are not covered stay.
     #[test]
     fn uncovered_entries_stay() {
-        let mut one = dough(0);
-        let level = Level {
-            vectors: 2,
-            actions: vec![0, 1],
-            choices: vec![0; 4],
-            masks: vec![2, 3],
-            entries: vec![0, -100, -1_000, 600],
-            corners: vec![-100, 600],
-            ..Level::default()
-        };
-        offer(&mut one, &level, &DOCUMENT).unwrap();
+        let mut one = dough::standing(0);
+        offer(&mut one, &dough::masked(2), &DOCUMENT).unwrap();
         let new = priced(&one, [-100, -100, -1_000, 620]);
         reprice(&mut one, &new, &DOCUMENT).unwrap();
         assert_eq!(one.standing.entries, [0, -120, -1_020, 580]);
@@ -189,7 +166,7 @@ mod tests {
     /// 7, 3, 5, 6, 23.
     #[test]
     fn the_order() {
-        let one = dough(1);
+        let one = dough::standing(1);
         let with = |change: &dyn Fn(&mut Tables)| {
             let mut tables = one.tables.clone();
             change(&mut tables);

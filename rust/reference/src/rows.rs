@@ -97,8 +97,6 @@ mod tests {
     use super::*;
     use crate::*;
 
-    const DOCUMENT: Rules = Rules { trap: None };
-
     fn model(tables: &Tables) -> Model {
         Model::of(tables, &DOCUMENT).unwrap()
     }

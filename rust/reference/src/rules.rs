@@ -336,6 +336,9 @@ pub struct Rules {
     pub trap: Option<Trap>,
 }
 
+/// The document.
+pub const DOCUMENT: Rules = Rules { trap: None };
+
 impl Rules {
     /// The document with one trap.
     pub fn broken(trap: Trap) -> Rules {

@@ -1,7 +1,8 @@
 //! Totals at a mixture.
 
+use crate::backup::ceiling;
+use crate::certifier::{examine, Certifier};
 use crate::exact::{dot, first_largest, last_largest, weights, zero};
-use crate::level::{ceiling, examine, Certifier};
 use crate::refusal::Refusal;
 use crate::rows;
 use crate::rules::{Rules, Trap};

@@ -1,7 +1,8 @@
 //! Totals over weights that are known within ranges.
 
+use crate::backup::ceiling;
+use crate::certifier::{examine, Certifier};
 use crate::exact::{dot, weights, zero};
-use crate::level::{ceiling, examine, Certifier};
 use crate::refusal::Refusal;
 use crate::rules::{Rules, Trap};
 use crate::totals::WEIGHT;
@@ -76,22 +77,10 @@ mod tests {
     use super::*;
     use crate::*;
 
-    const DOCUMENT: Rules = Rules { trap: None };
-
-    /// The dough at level 1: waiting where the dough is ready, and baking anywhere, or waiting alone. Corners are -100 and 600.
+    /// The dough at level 1, upon vectors that cover part of the states. Corners are -100 and 600.
     fn dough(vectors: u64) -> Certifier {
-        let file = include_bytes!("../../../examples/dough.pomdp");
-        let mut certifier = open(&read(file, &DOCUMENT).unwrap().tables, &DOCUMENT).unwrap();
-        let level = Level {
-            vectors,
-            actions: vec![0, 1],
-            choices: vec![0; 4],
-            masks: vec![2, 3],
-            entries: vec![0, -100, -1_000, 600],
-            corners: vec![-100, 600],
-            ..Level::default()
-        };
-        offer(&mut certifier, &level, &DOCUMENT).unwrap();
+        let mut certifier = dough::standing(0);
+        offer(&mut certifier, &dough::masked(vectors), &DOCUMENT).unwrap();
         certifier
     }
 
@@ -130,9 +119,7 @@ mod tests {
     fn the_order() {
         let (both, ready) = (dough(2), dough(1));
         assert_eq!(at(&Certifier { level: 101, ..both.clone() }, &[2, 0], &[1, 0]), Err((7, 0)));
-        let file = include_bytes!("../../../examples/dough.pomdp");
-        let fresh = open(&read(file, &DOCUMENT).unwrap().tables, &DOCUMENT).unwrap();
-        assert_eq!(at(&fresh, &[2, 0], &[1, 1]), Err((16, 0)));
+        assert_eq!(at(&dough::standing(0), &[2, 0], &[1, 1]), Err((16, 0)));
         assert_eq!(at(&both, &[2, 0], &[1, 1_000_001]), Err((24, 0)));
         assert_eq!(at(&both, &[1_000_001, 0], &[1_000_001, 1]), Err((17, 0)));
         assert_eq!(at(&ready, &[0, 0], &[1_000_001, 1]), Err((17, 0)));

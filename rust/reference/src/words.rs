@@ -1,11 +1,12 @@
 //! The words of a model file and their forms.
 
+use crate::refusal::Refusal;
 use crate::rules::{Rules, Trap};
 use num_bigint::BigInt;
 
 /// The eight kinds that bytes fall into.
 #[derive(Clone, Copy, Debug, PartialEq, Eq)]
-pub enum Class {
+enum Class {
     Space,
     Colon,
     Hash,
@@ -17,7 +18,7 @@ pub enum Class {
 }
 
 /// The kind of a byte. Only space, tab, CR and LF are space; a byte that is in no list is of the rest.
-pub fn class(byte: u8, rules: &Rules) -> Class {
+fn class(byte: u8, rules: &Rules) -> Class {
     match byte {
         b' ' | b'\t' | b'\r' | b'\n' => Class::Space,
         b':' => Class::Colon,
@@ -42,7 +43,7 @@ pub struct Word<'a> {
 ///
 /// Spaces part words, a colon is a word by itself, and a hash ends a word and opens a comment up to the next LF or the
 /// file's end.
-pub fn word_after<'a>(file: &'a [u8], offset: usize, rules: &Rules) -> Option<Word<'a>> {
+fn word_after<'a>(file: &'a [u8], offset: usize, rules: &Rules) -> Option<Word<'a>> {
     let place = after_spaces_and_comments(file, offset, rules);
     let rest = &file[place..];
     let first = class(*rest.first()?, rules);
@@ -72,6 +73,40 @@ fn after_spaces_and_comments(file: &[u8], offset: usize, rules: &Rules) -> usize
         }
     }
     file.len()
+}
+
+/// A file, and the offset that was reached in it.
+pub struct Reader<'a> {
+    pub file: &'a [u8],
+    offset: usize,
+    pub rules: &'a Rules,
+}
+
+impl<'a> Reader<'a> {
+    /// At the file's beginning.
+    pub fn new(file: &'a [u8], rules: &'a Rules) -> Reader<'a> {
+        Reader { file, offset: 0, rules }
+    }
+
+    /// The next word, if any is left.
+    pub fn next(&mut self) -> Option<Word<'a>> {
+        let word = word_after(self.file, self.offset, self.rules)?;
+        self.offset = word.place + word.bytes.len();
+        Some(word)
+    }
+
+    /// The next word; a missing one gets this number, at the file's length.
+    pub fn word_or(&mut self, number: u8) -> Result<Word<'a>, Refusal> {
+        let last_word_end = self.offset;
+        let missing = if self.rules.has(Trap::MissingAtLastWord) { last_word_end } else { self.file.len() };
+        self.next().ok_or_else(|| Refusal::at_index(number, missing))
+    }
+
+    /// A refusal at a word: the place is the number of bytes before it.
+    pub fn at(&self, number: u8, word: &Word) -> Refusal {
+        let past = if self.rules.has(Trap::PlaceAtWordEnd) { word.bytes.len() } else { 0 };
+        Refusal::at_index(number, word.place + past)
+    }
 }
 
 /// Whether a word is this keyword, byte by byte.

@@ -36,8 +36,7 @@ fn they_are_what_the_solver_writes() {
 fn certified(model: &Reading, files: impl Iterator<Item = (String, String)>) -> String {
     let rules = Rules::default();
     let mut certifier = open(&model.tables, &rules).unwrap();
-    let mut points = Points { count: 1, ..Points::none() };
-    points.weights[..model.start.len()].copy_from_slice(&model.start);
+    let points = Points::one(&model.start);
     let mut lines = String::new();
     for (t, (alpha, graph)) in (1..).zip(files) {
         let level = adopt(&certifier, alpha.as_bytes(), graph.as_bytes(), &points, &rules).unwrap();

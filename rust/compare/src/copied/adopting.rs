@@ -1,7 +1,8 @@
 //! Levels from a solver's files, by the reference.
 
-use super::{Copied, Needed, Slip, NINE};
-use crate::lent::{narrowed, stored};
+use super::storage::Needed;
+use super::{Copied, Slip, NINE};
+use crate::lent::stored;
 use biidhaqun::slices::{Certifier, Level, Tables};
 use reference::{BUILT_POINTS, STATES, VECTORS};
 
@@ -21,20 +22,12 @@ impl Copied {
         let few = count.min(BUILT_POINTS + 1);
         let read = reference::adopted_vectors(&standing, alpha, graph, &self.rules);
         let needed = |vectors: usize| Needed::of(vectors, few, n, k);
-        let room = |needed: &Needed| {
-            self.long(&level.actions, needed.vectors)
-                && self.long(&level.choices, needed.choices)
-                && self.masks_long(&level.masks, needed.vectors)
-                && self.long(&level.entries, needed.entries)
-                && self.long(&level.corners, needed.states)
-                && self.long(&level.values, needed.points)
-        };
         let wanted = match &read {
             Ok(_) if self.has(Slip::AdoptedRoomForMost) => VECTORS,
             Ok(vectors) => (*vectors).min(VECTORS),
             Err(_) => 0,
         };
-        let room = room(&needed(wanted));
+        let room = self.has_room(level, &needed(wanted));
         if !room && self.has(Slip::AdoptedRoomFirst) {
             return Err(NINE);
         }
@@ -48,12 +41,7 @@ impl Copied {
             return Err(NINE);
         }
         let needed = needed(made.vectors as usize);
-        self.lay(&narrowed(&made.actions, needed.vectors), &mut level.actions);
-        self.lay(&narrowed(&made.choices, needed.choices), &mut level.choices);
-        self.lay(&made.masks[..needed.vectors], &mut level.masks);
-        self.lay(&made.entries[..needed.entries], &mut level.entries);
-        self.lay(&made.corners[..needed.states], &mut level.corners);
-        self.lay(&made.values[..needed.points], &mut level.values);
+        self.write(&made, &needed, level);
         let counted = if self.has(Slip::AdoptedPointsCounted) { needed.points } else { 0 };
         Ok(needed.vectors + counted)
     }

@@ -1,6 +1,7 @@
 //! Lists of offers, by the reference: each is offered upon what the one before left.
 
-use super::{Copied, Needed, Slip, NINE};
+use super::storage::Needed;
+use super::{Copied, Slip, NINE};
 use biidhaqun::slices::{Certifier, Level, Offers, Tables};
 use reference::{POINTS, VECTORS};
 

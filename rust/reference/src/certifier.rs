@@ -1,0 +1,199 @@
+//! The certifier, and offers to it.
+
+use crate::backup::{ceiling_backup, reaches_uncovered, vector_backup};
+use crate::exact::{corner, k, ticks};
+use crate::level::{first_untotalled, Level, Lists, LEVELS, TICKS, VECTORS};
+use crate::model::{Model, Tables};
+use crate::refusal::Refusal;
+use crate::rows;
+use crate::rules::{Rules, Trap};
+use num_bigint::BigInt;
+
+/// The rule for totals as it was when hundredths were all that a point could say.
+const HUNDRED_ONLY: Rules = Rules { trap: Some(Trap::HundredOnly) };
+
+/// The certifier: its tables, the standing level, the number of levels that were accepted, and the rows that it steps.
+#[derive(Clone, Debug, PartialEq, Eq)]
+pub struct Certifier {
+    pub tables: Tables,
+    pub standing: Level,
+    pub level: u64,
+    /// The fast informed bound in ticks, by action and state.
+    pub informed: Vec<i64>,
+    /// The QMDP rows in ticks, by action and state.
+    pub qmdp: Vec<i64>,
+}
+
+/// Opens a certifier on tables, or refuses them with 3, 5 or 6. It stands at level 0.
+pub fn open(tables: &Tables, rules: &Rules) -> Result<Certifier, Refusal> {
+    let Model { n, k, .. } = Model::of(tables, rules)?;
+    let (informed, qmdp) = (rows::fresh(), rows::fresh());
+    Ok(Certifier { tables: tables.stored(), standing: Level::fresh(n, k), level: 0, informed, qmdp })
+}
+
+impl Certifier {
+    /// Steps both kinds of rows.
+    fn step_rows(&mut self, rules: &Rules) {
+        if let Ok(model) = Model::of(&self.tables, rules) {
+            self.informed = rows::informed(&self.informed, &model, rules);
+            if !rules.has(Trap::QmdpKept) {
+                self.qmdp = rows::qmdp(&self.qmdp, &model, rules);
+            }
+        }
+    }
+
+    /// 7: whether the entries of the rows keep to the range of a vector's at this level.
+    fn rows_fit(&self, model: &Model, rules: &Rules) -> bool {
+        let t = self.level + u64::from(rules.has(Trap::RowsRangeOfNext));
+        let end = BigInt::from(TICKS) * t;
+        let fit = |cells: &[i64]| ticks(&cells[..model.m * model.n]).iter().all(|cell| *cell >= -&end && *cell <= end);
+        (fit(&self.informed) || rules.has(Trap::SevenForgetsInformed))
+            && (fit(&self.qmdp) || rules.has(Trap::SevenForgetsQmdp))
+    }
+}
+
+/// 7: the certifier handed in is within the limits of 3, 5, 6, 9, 11 and 12, each standing vector has an action, its level is
+/// at most 100, and the entries of its rows keep to a vector entry's range. Its choices, and entries of states that a vector
+/// does not cover, are not read, and its inequalities are not asked. The place is 0 whatever is broken.
+pub fn examine(certifier: &Certifier, rules: &Rules) -> Result<(Model, Lists), Refusal> {
+    let seven = Refusal::at(7, 0);
+    let model = Model::of(&certifier.tables, rules).map_err(|_| seven)?;
+    let standing = &certifier.standing;
+    let fits = certifier.level <= LEVELS
+        && standing.counts_fit(&model, false, rules)
+        && standing.first_outside(model.n, certifier.level, rules.has(Trap::SevenReadsUncovered), rules).is_none()
+        && standing.first_untotalled(model.n, rules).is_none()
+        && certifier.rows_fit(&model, rules)
+        && standing.actions[..standing.vectors as usize].iter().all(|&a| a < model.m as u64);
+    if !fits {
+        return Err(seven);
+    }
+    let mut choices = standing.choices.iter().take(standing.vectors as usize * model.k);
+    if rules.has(Trap::StandingChoicesRead) && choices.any(|&v| v >= VECTORS as u64) {
+        return Err(seven);
+    }
+    let hundred = || first_untotalled(&standing.weights, standing.points as usize, model.n, &HUNDRED_ONLY).is_none();
+    if rules.has(Trap::StandingHundredOnly) && !hundred() {
+        return Err(seven);
+    }
+    if rules.has(Trap::FreshOnly) && certifier.level == 0 && *standing != Level::fresh(model.n, model.k) {
+        return Err(seven);
+    }
+    let lists = Lists { informed: rows::lists(&certifier.informed, &model), ..standing.lists(model.n) };
+    Ok((model, lists))
+}
+
+/// 8: whether 100 levels already stand.
+pub fn full(certifier: &Certifier, rules: &Rules) -> bool {
+    certifier.level == LEVELS || (certifier.level == LEVELS - 1 && rules.has(Trap::HundredEarly))
+}
+
+/// Offers a level: accepted, it stands, the level number is one more, and the rows are stepped; refused with 7 to 12, 21, 13,
+/// 14 or 15, the certifier stays.
+pub fn offer(certifier: &mut Certifier, offered: &Level, rules: &Rules) -> Result<(), Refusal> {
+    let answer = judge(certifier, offered, rules);
+    match &answer {
+        Ok(stored) => {
+            if !rules.has(Trap::NothingStored) {
+                certifier.standing = stored.clone();
+            }
+            certifier.level += if rules.has(Trap::LevelMadeUp) { 2 } else { 1 };
+            if !rules.has(Trap::RowsKept) {
+                certifier.step_rows(rules);
+            }
+        }
+        Err(_) if rules.has(Trap::RefusalChanges) => certifier.standing = offered.clone(),
+        Err(_) if rules.has(Trap::RefusalStepsRows) => certifier.step_rows(rules),
+        Err(_) => {}
+    }
+    answer.map(|_| ())
+}
+
+/// The level to store, or the first refusal in checking order. One number is tested throughout before the next.
+fn judge(certifier: &Certifier, offered: &Level, rules: &Rules) -> Result<Level, Refusal> {
+    let refuse_at = |number: u8, offender: Option<usize>| match offender {
+        Some(place) => Err(Refusal::at_index(number, place)),
+        None => Ok(()),
+    };
+    let (model, standing) = examine(certifier, rules)?;
+    if full(certifier, rules) {
+        return Err(Refusal::at(8, 0));
+    }
+    if !offered.counts_fit(&model, true, rules) {
+        return Err(Refusal::at(9, 0));
+    }
+    let stored = offered.stored(&model, rules);
+    if rules.has(Trap::AcceptAll) {
+        return Ok(stored);
+    }
+    if rules.has(Trap::RefuseAll) {
+        return Err(Refusal::at(13, 0));
+    }
+
+    let dangling = offered.first_dangling(&model, certifier.standing.vectors);
+    let excused = offered.first_dangling(&model, offered.vectors).is_none() && rules.has(Trap::ChoicesOfOffered);
+    if dangling.is_some() && excused {
+        return Ok(stored);
+    }
+    refuse_at(10, dangling)?;
+
+    let lists = offered.lists(model.n);
+    let uncovered = (0..lists.actions.len()).find(|&v| {
+        let choices = chosen(&offered.choices, v, model.k);
+        reaches_uncovered(&model, &standing, &lists.covered[v], lists.actions[v] as usize, &choices, rules)
+    });
+    if rules.has(Trap::TwentyOneFirst) {
+        refuse_at(21, uncovered)?;
+    }
+    let t = if rules.has(Trap::RangeOfStanding) { certifier.level } else { certifier.level + 1 };
+    let outside = offered.first_outside(model.n, t, rules.has(Trap::ElevenReadsUncovered), rules);
+    let mut shape = [(11, outside), (12, offered.first_untotalled(model.n, rules))];
+    if rules.has(Trap::TotalsBeforeRanges) {
+        shape.reverse();
+    }
+    for (number, offender) in shape {
+        refuse_at(number, offender)?;
+    }
+
+    if rules.has(Trap::LaterLevelsWaved) && certifier.level >= 1 {
+        return Ok(stored);
+    }
+    if !rules.has(Trap::ThirteenFirst) {
+        refuse_at(21, uncovered)?;
+    }
+    if !rules.has(Trap::WithoutThirteen) {
+        refuse_at(13, first_above(&model, &standing, offered, &lists, rules))?;
+    }
+    refuse_at(21, uncovered)?;
+    let below = |value: &BigInt, p: &[BigInt]| {
+        (0..model.m).any(|a| k() * value < ceiling_backup(&model, &standing, p, a, rules))
+    };
+    if !rules.has(Trap::WithoutFourteen) {
+        let low = (0..model.n).find(|&s| below(&lists.corners[s], &corner(model.n, s)));
+        refuse_at(14, low)?;
+    }
+    if !rules.has(Trap::WithoutFifteen) {
+        let low = lists.points.iter().position(|point| below(&point.value, &point.weights));
+        refuse_at(15, low)?;
+    }
+    Ok(stored)
+}
+
+/// The vectors that a vector chooses.
+fn chosen(choices: &[u64], v: usize, k: usize) -> Vec<usize> {
+    choices[v * k..(v + 1) * k].iter().map(|&choice| choice as usize).collect()
+}
+
+/// 13: the first vector with an entry of a covered state above its backup. Both are compared exactly, K times the entry with
+/// the backup.
+fn first_above(model: &Model, standing: &Lists, offered: &Level, lists: &Lists, rules: &Rules) -> Option<usize> {
+    (0..lists.vectors.len()).find(|&v| {
+        let action = lists.actions[v] as usize;
+        let choices = chosen(&offered.choices, v, model.k);
+        let tested = |s: &usize| lists.covered[v][*s] || rules.has(Trap::ThirteenReadsUncovered);
+        (0..model.n).filter(tested).any(|s| {
+            let backup = vector_backup(model, standing, s, action, &choices, rules);
+            k() * &lists.vectors[v][s] > backup
+        })
+    })
+}
