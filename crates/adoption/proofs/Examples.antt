@@ -15,8 +15,8 @@ use Rattle.plans.specs.Build.{leastFor, leastValue}
 use Rattle.levels.specs.Storage.{rows, Lent, over}
 use Rattle.levels.specs.Judged.{rowsWithin, valuesWithin, rangesVerdict, weightsVerdict, holdsUpTo, numbersIn, masksVerdict}
 use Rattle.runs.proofs.Dough.{dough, slices, rowsAt, fresh, half, one, standing}
-use Rattle.words.specs.Words.{run, wordsOf, wordsIn}
-use Rattle.numerals.specs.Numeral.{digits, value, amountOf, fraction, decimal as afterPoint, exponent}
+use Rattle.words.specs.Words.{wordRun, wordsOf, wordsIn}
+use Rattle.numerals.specs.Numeral.{digits, value, amountOf, fraction, afterPoint, exponent}
 use Rattle.grammar.specs.Grammar.{number, magnitude, signedNumber, same, key}
 use Rattle.alphas.specs.Alphas.{action, decimal, nextNode, several, alpha, node}
 use Rattle.solver.specs.Files.{allFrom, allIn, alike, filesVerdict}
@@ -140,7 +140,7 @@ unfolding dough slices rowsAt fresh half one standing
     firstOf every totalTo rangesVerdict rowsWithin valuesWithin weightsVerdict range leastValue leastFor firstLargestOf
     product successor sumTo backedUp backup follows floorDiv ceilDiv backupAt expectedReward ceiling largestTo drop gain smallest joined orNone
     corner-weight covered maskOf laid laidRows listed lesser _·_ K
-    run wordsOf wordsIn digits value amountOf fraction afterPoint exponent number magnitude signedNumber same key action decimal nextNode
+    wordRun wordsOf wordsIn digits value amountOf fraction afterPoint exponent number magnitude signedNumber same key action decimal nextNode
     several alpha node allFrom allIn alike filesVerdict
 table = record {
   first-verdict = refl;

@@ -19,8 +19,8 @@ use Rattle.grammar.specs.Grammar.{Answer, got, refused, _then_, signedNumber}
 use Rattle.grammar.specs.Steps.{answerOf, Tells}
 use Rattle.grammar.proofs.Read as read-type
 use Rattle.grammar.proofs.Laws.{value-is, value-next}
-use Rattle.alphas.specs.Alphas.{mostDecimal, perTick, decimal, several, readable}
-use Rattle.alphas.specs.Steps.{Since, Lists, handed, Gave}
+use Rattle.alphas.specs.Alphas.{mostDecimal, perTick, decimal, several, wordsVerdict}
+use Rattle.alphas.specs.Steps.{Since, GivesList, handedVerdict, Gave}
 
 -- ---- several words
 
@@ -71,11 +71,11 @@ module _ {A : Type 0} (one : Words → Answer A) where
         }
 
         pub filled-back : tagOf read-type.the-type r ≡ 1 → i < count
-            → Lists file from r (take count cells) (several one count (wordsIn between file from))
+            → GivesList file from r (take count cells) (several one count (wordsIn between file from))
         filled-back e h = by r e (t .is)
           where
             by : (r : Read) → tagOf read-type.the-type r ≡ 1 → answerOf f file r ≡ one (wordsIn between file at)
-                → Lists file from r (take count cells) (several one count (wordsIn between file from))
+                → GivesList file from r (take count cells) (several one count (wordsIn between file from))
             by (Value v next) e q = absurd (omega arith)
             by (Refused number place) e q = record {
               is = sym (several-refused count (i + 1) number place (wordsIn between file from) (omega arith)
@@ -83,14 +83,14 @@ module _ {A : Type 0} (one : Words → Answer A) where
               since = tt;
             }
 
-      pub filled-end : i ≡ count → Lists file from (Value 0 at) (take count cells) (several one count (wordsIn between file from))
+      pub filled-end : i ≡ count → GivesList file from (Value 0 at) (take count cells) (several one count (wordsIn between file from))
       filled-end e = record {
         is = sym (subst (λ (k : ℕ). several one k (wordsIn between file from) ≡ got (take k cells) (wordsIn between file at)) e (filled .so-far));
         since = (filled .since, filled .inside);
       }
 
 -- what was read, and where reading goes on
-pub lists-value : {A : Type 0} {s : List ℕ} {from : ℕ} {r : Read} {xs : List A} {a : Answer (List A)} (v next : ℕ) → Lists s from r xs a → r ≡ Value v next
+pub lists-value : {A : Type 0} {s : List ℕ} {from : ℕ} {r : Read} {xs : List A} {a : Answer (List A)} (v next : ℕ) → GivesList s from r xs a → r ≡ Value v next
     → (got xs (wordsIn between s next) ≡ a) × ((from ≤ next) × (next ≤ length s))
 lists-value {s = s} {from} {xs = xs} v next l e = (sym (ap (answerOf (λ _. xs) s) e) ∙ l .is, subst (Since s from) e (l .since))
 
@@ -113,7 +113,7 @@ decimal-tells {z} {s} {r = r} t = record {
 
 -- a word that is refused is the answer of the whole
 pub gave-back : {A B : Type 0} (f : ℕ → A) (s : List ℕ) (at : ℕ) {verdict : Verdict} (end : ℕ) (x : B) (r : Read) {a : Answer A} {b : Answer B}
-    (k : A → Words → Answer B) → verdict ≡ handed r → tagOf read-type.the-type r ≡ 1 → answerOf f s r ≡ a → (a then k) ≡ b → Gave s at verdict end x b
+    (k : A → Words → Answer B) → verdict ≡ handedVerdict r → tagOf read-type.the-type r ≡ 1 → answerOf f s r ≡ a → (a then k) ≡ b → Gave s at verdict end x b
 gave-back f s at end x (Value v next) k q e h g = absurd (omega arith)
 gave-back {A} f s at end x (Refused number place) {b = b} k q e h g =
-    subst⁻¹ (λ (v : Verdict). Gave s at v end x b) q (ap readable (ap (λ (a : Answer A). a then k) h ∙ g))
+    subst⁻¹ (λ (v : Verdict). Gave s at v end x b) q (ap wordsVerdict (ap (λ (a : Answer A). a then k) h ∙ g))

@@ -67,6 +67,6 @@ unfoldable pub node : ℕ → ℕ → Words → Answer Node
 node k i ws = number nodeForm i i ws then λ _ ws. action ws then λ a ws. several nextNode k ws then λ os ws. got (record { action = a; next = os }) ws
 
 -- 19, whatever it is that a word does not fit
-abbrev pub readable : {A : Type 0} → Answer A → Verdict
-readable (got x ws) = Fine
-readable (refused number place) = Refused 19 place
+abbrev pub wordsVerdict : {A : Type 0} → Answer A → Verdict
+wordsVerdict (got x ws) = Fine
+wordsVerdict (refused number place) = Refused 19 place

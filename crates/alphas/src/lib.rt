@@ -6,7 +6,7 @@ ghost use Rattle.tables.specs.Limits.{maxStates, maxObservations};
 ghost use Rattle.words.specs.Words.{wordsIn, between};
 ghost use Rattle.grammar.specs.Steps.{Reads};
 ghost use Rattle.alphas.specs.Alphas.{decimal, nextNode, noNode, several, alpha, node};
-ghost use Rattle.alphas.specs.Steps.{Lists, handed, Gave, alphaOf, nodeOf};
+ghost use Rattle.alphas.specs.Steps.{GivesList, handedVerdict, Gave, alphaOf, nodeOf};
 use grammar::Read;
 use numerals::Form;
 use tables::Tables;
@@ -62,7 +62,7 @@ struct NextAt {
 // n decimals, rounded down to ticks.
 fn ticks_at(file: &[u8], from: usize, n: usize) -> TicksAt
     requires { ⌜ (from ≤ length (now file)) × (n ≤ maxStates) ⌝ }
-    ensures { λ r. ⌜ Lists (now (file .entry)) from (r .read) (take n (r .ticks)) (several decimal n (wordsIn between (now (file .entry)) from)) ⌝ }
+    ensures { λ r. ⌜ GivesList (now (file .entry)) from (r .read) (take n (r .ticks)) (several decimal n (wordsIn between (now (file .entry)) from)) ⌝ }
 {
     let mut ticks = [0i64; Tables::STATES];
     let mut at = from;
@@ -100,7 +100,7 @@ fn next_at(file: &[u8], at: usize) -> Read
 // k next nodes.
 fn nexts_at(file: &[u8], from: usize, k: usize) -> NextAt
     requires { ⌜ (from ≤ length (now file)) × (k ≤ maxObservations) ⌝ }
-    ensures { λ r. ⌜ Lists (now (file .entry)) from (r .read) (take k (r .next)) (several nextNode k (wordsIn between (now (file .entry)) from)) ⌝ }
+    ensures { λ r. ⌜ GivesList (now (file .entry)) from (r .read) (take k (r .next)) (several nextNode k (wordsIn between (now (file .entry)) from)) ⌝ }
 {
     let mut nodes = [0u16; Tables::OBSERVATIONS];
     let mut at = from;
@@ -125,7 +125,7 @@ fn nexts_at(file: &[u8], from: usize, k: usize) -> NextAt
 
 // The refusal of a word, handed back.
 fn back(x: Read) -> Verdict
-    ensures { λ r. ⌜ r ≡ handed x ⌝ }
+    ensures { λ r. ⌜ r ≡ handedVerdict x ⌝ }
 {
     match x {
         Read::Refused(_, place) => Verdict::Refused(19, place),

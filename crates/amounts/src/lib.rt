@@ -2,7 +2,7 @@
 ghost use mathlib.Core.Path.{_≡_};
 ghost use Prim.Native.Nat.{_≤_};
 ghost use lib.ListN.{length, drop};
-ghost use Rattle.numerals.specs.Numeral.{pointed, enough, decimal, fraction, amountOf};
+ghost use Rattle.numerals.specs.Numeral.{pointed, enough, afterPoint, fraction, amountOf};
 ghost use Rattle.numerals.specs.Steps.{mostWhole, Short};
 use numerals::Amount;
 use numerals::Form;
@@ -24,7 +24,7 @@ fn is_enough(loose: bool, n: usize, k: usize) -> bool
 // What follows a point.
 fn decimal_of(w: &[u8], from: usize, form: Form, n: usize, whole: u64) -> Amount
     requires { ⌜ (from ≤ length (now w)) × ((Short form) × (whole ≤ mostWhole (form .loose))) ⌝ }
-    ensures { λ r. ⌜ r ≡ decimal form n whole (drop from (now (w .entry))) ⌝ }
+    ensures { λ r. ⌜ r ≡ afterPoint form n whole (drop from (now (w .entry))) ⌝ }
 {
     let d = numerals::digits_from(w, from, form.places);
     let k = d.end - from;

@@ -42,7 +42,7 @@ use Rattle.runs.specs.declared.Bounds.{Bounds}
 use Rattle.runs.specs.State.{mixtureHolds, totalsVerdict, noBounds, boundsBy, totalsOf}
 use Rattle.runs.proofs.Judged.{Held, standing-true}
 use Rattle.runs.specs.State.{standingVerdict}
-use Rattle.bounds.specs.Steps.{supportIn, bestIn, lowerIn, rowIn, upperIn, boundsIn, widened, answeredIf, answerIn, Asked}
+use Rattle.bounds.specs.Steps.{supportIn, bestIn, lowerIn, bestInformedIn, upperIn, boundsIn, widened, answeredIf, answerIn, Asked}
 
 product-range : (n r : ℕ) (q : ℕ → ℕ) (e : ℕ → ℤ) → ((s : ℕ) → s < n → natAbs (e s) ≤ r) → natAbs (product n q e) ≤ totalTo n q * r
 unfolding product
@@ -65,7 +65,7 @@ best-covers n vectors masks entries q some e s l above =
 -- by its parts
 pub bounds-by : (n m vectors points : ℕ) (actions masks : List ℕ) (entries corners : List ℤ) (weights : List ℕ) (informed : List ℤ) (gains q : List ℕ)
     {i a : ℕ} {x y z saw row : ℤ} → i ≡ bestIn n vectors masks entries q → x ≡ lowerIn n vectors masks entries q
-    → saw ≡ ceilingIn n corners weights gains points q → row ≡ rowIn n m informed q → y ≡ lesser saw row → z ≡ y -ℤ x → a ≡ getD actions i 0
+    → saw ≡ ceilingIn n corners weights gains points q → row ≡ bestInformedIn n m informed q → y ≡ lesser saw row → z ≡ y -ℤ x → a ≡ getD actions i 0
     → _≡_ {A = Bounds} record { verdict = Fine; lower = x; upper = y; gap = z; action = record { 0 = a }; sawtooth = saw; informed = row }
     (boundsIn n m vectors points actions masks entries corners weights informed gains q)
 bounds-by n m vectors points actions masks entries corners weights informed gains q e low high best both gap action = rw (action, gap, both, low, high, best, e)
@@ -254,7 +254,7 @@ module _ (m : Tables) (x : Lent) (h : holds m x ≡ true) where
     unfolding lower
     lower-is q = ap (λ (v : ℕ). product (m .states) (weightIn q) (L .entry v)) (best-is q)
 
-    row-is : (q : List ℕ) → rowIn (m .states) (m .actions) (x .rows .informed) q ≡ bestRow M F (weightIn q)
+    row-is : (q : List ℕ) → bestInformedIn (m .states) (m .actions) (x .rows .informed) q ≡ bestRow M F (weightIn q)
     unfolding bestRow
     row-is q = refl
 

@@ -34,12 +34,12 @@ abbrev pub lowerIn : ℕ → ℕ → List ℕ → List ℤ → List ℕ → ℤ
 lowerIn n vectors masks entries q = product n (weightIn q) (maskedIn n masks entries (bestIn n vectors masks entries q))
 
 -- the best of m informed rows
-abbrev pub rowIn : ℕ → ℕ → List ℤ → List ℕ → ℤ
-rowIn n m informed q = highest m (λ a. product n (weightIn q) (entryIn n informed a))
+abbrev pub bestInformedIn : ℕ → ℕ → List ℤ → List ℕ → ℤ
+bestInformedIn n m informed q = highest m (λ a. product n (weightIn q) (entryIn n informed a))
 
 -- the lower of the two ceilings
 abbrev pub upperIn : ℕ → ℕ → ℕ → List ℤ → List ℕ → List ℤ → List ℕ → List ℕ → ℤ
-upperIn n m points corners weights informed gains q = lesser (ceilingIn n corners weights gains points q) (rowIn n m informed q)
+upperIn n m points corners weights informed gains q = lesser (ceilingIn n corners weights gains points q) (bestInformedIn n m informed q)
 
 -- the answer at weights within the limits
 abbrev pub boundsIn : ℕ → ℕ → ℕ → ℕ → List ℕ → List ℕ → List ℤ → List ℤ → List ℕ → List ℤ → List ℕ → List ℕ → Bounds
@@ -50,7 +50,7 @@ boundsIn n m vectors points actions masks entries corners weights informed gains
   gap = upperIn n m points corners weights informed gains q -ℤ lowerIn n vectors masks entries q;
   action = record { 0 = getD actions (bestIn n vectors masks entries q) 0 };
   sawtooth = ceilingIn n corners weights gains points q;
-  informed = rowIn n m informed q;
+  informed = bestInformedIn n m informed q;
 }
 
 -- the weights of the states, as they are widened: those of a row that is alone

@@ -29,11 +29,11 @@ use Rattle.backups.specs.Steps.{Roofed}
 use Rattle.backups.proofs.Lent.{floor-shaped, roof-lent}
 use Rattle.candidates.specs.declared.Best.{Best}
 use Rattle.candidates.specs.Steps.{topBuilt, candidateOf, bestOf, uponIn, Upon}
-use Rattle.builder.specs.Steps.{leastFrom, leastOf, RowsFit, Filled}
+use Rattle.builder.specs.Steps.{leastFrom, leastRoof, RowsFit, Filled}
 
 -- ---- the least value, from what each action allows
 pub least-is : (M : Model) (L : Level) (p : ℕ → ℕ) (backups : List ℤ) → ((a : ℕ) → a < M .actions → getD backups a (pos 0) ≡ backupAt M L p a)
-    → 0 < M .actions → leastOf (M .actions) backups ≡ leastValue M L p
+    → 0 < M .actions → leastRoof (M .actions) backups ≡ leastValue M L p
 unfolding leastValue leastFor
 least-is M L p backups h some =
     let same = largest-cong (M .actions) (leastFrom backups) (λ a. ceilDiv (backupAt M L p a) K) some (λ a l. ap (λ (z : ℤ). ceilDiv z K) (h a l)) in

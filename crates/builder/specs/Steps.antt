@@ -15,8 +15,8 @@ use Rattle.plans.specs.Level.{Level}
 abbrev pub leastFrom : List ℤ → ℕ → ℤ
 leastFrom backups a = ceilDiv (getD backups a (pos 0)) K
 
-abbrev pub leastOf : ℕ → List ℤ → ℤ
-leastOf actions backups = leastFrom backups (firstLargest actions (leastFrom backups))
+abbrev pub leastRoof : ℕ → List ℤ → ℤ
+leastRoof actions backups = leastFrom backups (firstLargest actions (leastFrom backups))
 
 -- slices are long enough for so many vectors
 pub record RowsFit (n k count : ℕ) (actions choices masks : List ℕ) (entries : List ℤ) : Type 0 where

@@ -15,7 +15,7 @@ ghost use Rattle.levels.specs.Storage.{cells, roofIn, levelIn, pointIn, lentFor
 ghost use Rattle.columns.specs.Steps.{Lists};
 ghost use Rattle.backups.specs.Steps.{Roofed};
 ghost use Rattle.candidates.specs.Steps.{uponIn, Upon};
-ghost use Rattle.builder.specs.Steps.{leastOf, RowsFit, Filled};
+ghost use Rattle.builder.specs.Steps.{leastRoof, RowsFit, Filled};
 use integers::cells;
 use levels::shape;
 use tables::Counts;
@@ -28,7 +28,7 @@ use tables::read;
 // The least whole number that meets the inequality of every action, from what each allows.
 fn least_of(backups: &[i64], actions: usize) -> i64
     requires { ⌜ (0 < actions) × (actions ≤ length (now backups)) ⌝ }
-    ensures { λ r. ⌜ r ≡ leastOf actions (now (backups .entry)) ⌝ }
+    ensures { λ r. ⌜ r ≡ leastRoof actions (now (backups .entry)) ⌝ }
 {
     let mut most = integers::ceil_div(backups[0], Tables::K);
     for a in 1..actions {

@@ -17,7 +17,7 @@ pub record TableFits (n m : ℕ) (cells : List ℕ) : Type 0 where
   pub chance : (a : ℕ) → a < m → (s : ℕ) → s < n → (s' : ℕ) → s' < n → transitionIn n cells s a s' ≤ one
 
 -- the cells from a word on, so many
-pub record CellsFit (n : ℕ) (list : List ℕ) (first count : ℕ) : Type 0 where
+pub record ColumnStored (n : ℕ) (list : List ℕ) (first count : ℕ) : Type 0 where
   pub few : count ≤ n
   pub stored : first + count ≤ length list
   pub state-in : (i : ℕ) → i < count → stateOf (getD list (first + i) 0) < n
@@ -28,7 +28,7 @@ pub record CellsFit (n : ℕ) (list : List ℕ) (first count : ℕ) : Type 0 whe
 pub record ColumnFits (n : ℕ) (list : List ℕ) (c : ℕ) : Type 0 where
   pub named : c + 1 < length list
   pub rises : getD list c 0 ≤ getD list (c + 1) 0
-  pub cells : CellsFit n list (getD list c 0) (getD list (c + 1) 0 - getD list c 0)
+  pub cells : ColumnStored n list (getD list c 0) (getD list (c + 1) 0 - getD list c 0)
 
 -- the columns of an action
 pub record ColumnsFit (n : ℕ) (list : List ℕ) (a : ℕ) : Type 0 where

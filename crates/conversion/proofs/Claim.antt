@@ -15,11 +15,11 @@ use Rattle.rereading.proofs.WholeFile.{models-read-back}
 use Rattle.conversion.specs.declared.Converted.{Converted}
 use Rattle.conversion.specs.Convert.{said, expectVerdict, convertVerdict, expectedRewards, expectedText, converted, convertAnswer, convertedOver}
 use Rattle.conversion.specs.Claim.{SameModel, ConvertHolds}
-use Rattle.conversion.specs.Steps.{Sound, Answers}
+use Rattle.conversion.specs.Steps.{SoundFile, AnswersText}
 use Rattle.conversion.proofs.Converting.{said-sound}
 use Rattle.conversion.proofs.Expecting.{expected-at, expected-valid, starts-below}
 
-module _ (x : ModelFile) (h : Sound x) where
+module _ (x : ModelFile) (h : SoundFile x) where
   abbrev c : Counts
   c = countsOf (x .tables)
 
@@ -55,7 +55,7 @@ convert-holds room file e =
     same-model (said file) (said-sound file (read .0)) (read .1)
 
 -- what the call answers and leaves, with the claim
-pub convert-answers : (file out : List ℕ) {r : Converted} {after : List ℕ} → Answers (convertVerdict (length out) file) (converted file) out r after
+pub convert-answers : (file out : List ℕ) {r : Converted} {after : List ℕ} → AnswersText (convertVerdict (length out) file) (converted file) out r after
     → (r ≡ convertAnswer (convertVerdict (length out) file) (length (converted file)))
     × ((after ≡ convertedOver file out) × (convertVerdict (length out) file ≡ Fine → ConvertHolds file))
 convert-answers file out h = (h .is, (h .leaves, convert-holds (length out) file))

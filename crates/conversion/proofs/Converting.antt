@@ -14,11 +14,11 @@ use Rattle.grammar.proofs.Gives.{Gives}
 use Rattle.headers.specs.declared.Headed.{Headed}
 use Rattle.headers.specs.declared.Headed.the-variants.{Counts as Counted}
 use Rattle.headers.specs.declared.Headed.the-variants.{Refused as NotHeaded}
-use Rattle.headers.specs.Headers.{counts, header}
+use Rattle.headers.specs.Headers.{countsWith, header}
 use Rattle.headers.specs.Steps.{headedOf, Heads}
 use Rattle.modelfile.specs.declared.TablesRead.{TablesRead}
 use Rattle.modelfile.specs.ModelFile.{maxBytes, ModelFile, body, ended}
-use Rattle.modelfile.specs.Steps.{told}
+use Rattle.modelfile.specs.Steps.{fileAnswer}
 use Rattle.modelfile.proofs.Opens.{Fits, BodyHolds, header-fits, body-holds}
 use Rattle.expected.specs.Expected.{expectedVerdict}
 use Rattle.digits.specs.Digits.{textOver}
@@ -26,19 +26,19 @@ use Rattle.digits.specs.Steps.{Wrote}
 use Rattle.written.specs.Text.{maxText}
 use Rattle.conversion.specs.declared.Converted.{Converted}
 use Rattle.conversion.specs.Convert.{said, expectVerdict, convertVerdict, convertAnswer}
-use Rattle.conversion.specs.Steps.{Sound, nothing, Answers}
+use Rattle.conversion.specs.Steps.{SoundFile, nothing, AnswersText}
 
 -- ---- a refusal, or a text that is written
 
 module _ {v : Verdict} (text out : List ℕ) {r : Converted} {after : List ℕ} where
-  pub answers-refused : {number place : ℕ} → Refused number place ≡ v → r ≡ nothing (Refused number place) → after ≡ out → Answers v text out r after
+  pub answers-refused : {number place : ℕ} → Refused number place ≡ v → r ≡ nothing (Refused number place) → after ≡ out → AnswersText v text out r after
   answers-refused e q f = record {
     is = q ∙ ap (λ (v : Verdict). convertAnswer v (length text)) e;
     leaves = f ∙ ap (λ (v : Verdict). left v (textOver 0 text out) out) e;
   }
 
 pub answers-written : {v : Verdict} (text out : List ℕ) {size : ℕ} {after : List ℕ} → Fine ≡ v → Wrote 0 text out size after
-    → Answers v text out record { verdict = Fine; length = size } after
+    → AnswersText v text out record { verdict = Fine; length = size } after
 answers-written text out {size} {after} e w =
     let l : size ≡ length text = omega (arith, w .place) in
     record {
@@ -48,15 +48,15 @@ answers-written text out {size} {after} e w =
 
 -- ---- what a file that is not refused by 2 to 6 says
 
-pub body-sound : {c : Counts} {x : ModelFile} → BodyHolds c x → Sound x
+pub body-sound : {c : Counts} {x : ModelFile} → BodyHolds c x → SoundFile x
 body-sound {c} {x} h = record { valid = valid (modelOf (x .tables)) (h .tables-fine); outcomes = h .read .small .rewards; starts = h .start-total }
 
 counts-sound : (size fuel : ℕ) (a : Answer Counts) → Gives Fits a → ended size (a then λ c ws. body true fuel c ws) .verdict ≡ Fine
-    → Sound (ended size (a then λ c ws. body true fuel c ws))
+    → SoundFile (ended size (a then λ c ws. body true fuel c ws))
 counts-sound size fuel (got c ws) h e = body-sound (body-holds c h size true fuel ws refl e)
 counts-sound size fuel (refused n p) h e = never e
 
-pub said-sound : (file : List ℕ) → said file .verdict ≡ Fine → Sound (said file)
+pub said-sound : (file : List ℕ) → said file .verdict ≡ Fine → SoundFile (said file)
 said-sound file e = counts-sound (length file) (length file + 1) (header (wordsIn between file 0)) (header-fits (wordsIn between file 0)) e
 
 -- ---- 25, then 26
@@ -72,7 +72,7 @@ module _ (x : ModelFile) where
   few-states e f = passes 25 0 e f
 
 -- a file that was refused as it was read
-pub read-refused : (x : ModelFile) {r : TablesRead} {number place : ℕ} → r ≡ told x → r .verdict ≡ Refused number place
+pub read-refused : (x : ModelFile) {r : TablesRead} {number place : ℕ} → r ≡ fileAnswer x → r .verdict ≡ Refused number place
     → Refused number place ≡ (x .verdict before expectVerdict x)
 read-refused x e g = sym (refused-before (expectVerdict x) (sym (ap (λ (r : TablesRead). r .verdict) e) ∙ g))
 
@@ -101,5 +101,5 @@ module _ (file : List ℕ) {r : Headed} (t : Heads file r (header (wordsIn betwe
   unheaded number place e = ap (λ (a : Answer Counts). ending a .verdict before expectVerdict (ending a)) (sym (ap (headedOf file) e) ∙ t .is)
 
   pub headed : (n m k d next : ℕ) → r ≡ Counted n m k d next
-      → ended (length file) (body true (length file + 1) (counts n m k d) (wordsIn between file next)) ≡ said file
+      → ended (length file) (body true (length file + 1) (countsWith n m k d) (wordsIn between file next)) ≡ said file
   headed n m k d next e = ap ending (sym (ap (headedOf file) e) ∙ t .is)

@@ -7,8 +7,8 @@ use Rattle.integers.specs.Cells.{listed, laid, laidRows}
 use Rattle.tables.specs.declared.Verdict.the-variants.{Fine, Refused}
 use Rattle.tables.specs.Verdicts.{firstOf}
 use Rattle.tables.specs.Judged.{rowsTotal}
-use Rattle.words.specs.Words.{run, wordsOf, wordsIn}
-use Rattle.numerals.specs.Numeral.{digits, value, powered, amountOf, fraction, decimal, exponent}
+use Rattle.words.specs.Words.{wordRun, wordsOf, wordsIn}
+use Rattle.numerals.specs.Numeral.{digits, value, powered, amountOf, fraction, afterPoint, exponent}
 use Rattle.drafts.specs.Drafts.{markedFrom, stated, outcomed}
 use Rattle.grammar.specs.Grammar.{number, magnitude, signedNumber, same, key, keys, field, index}
 use Rattle.entries.specs.Entries.{indexed, row, entryBy, tableBy}
@@ -96,7 +96,8 @@ pub record Examples : Type 0 where
   pub rows-first : convertVerdict 32_768 (manyStates ++ tooLittle) ≡ Refused 6 157
 
 pub examples : Examples
-unfolding _·_ sumTo totalTo floorDiv some listed laid laidRows firstOf rowsTotal run wordsOf wordsIn digits value powered amountOf fraction decimal exponent
+unfolding _·_ sumTo totalTo floorDiv some listed laid laidRows firstOf rowsTotal wordRun wordsOf wordsIn digits value powered amountOf fraction afterPoint
+    exponent
     markedFrom stated outcomed number magnitude signedNumber same key keys field index indexed row entryBy tableBy outcomeBy outcomesBy rewardStatementBy
     observationOrRewardBy oneStatementBy statementsBy headerBy startBy bodyBy sumsVerdict expectedMillionths expectedVerdict partsTo lastDigits whole fixed
     signedFixed line opening rowText tableText rewardText rewardsText headerText startText fileText expectVerdict convertVerdict

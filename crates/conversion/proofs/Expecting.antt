@@ -9,12 +9,12 @@ use Rattle.tables.specs.Storage.{countsOf, modelIn, rewardIn}
 use Rattle.tables.proofs.Fitting.{Sizes, sizes}
 use Rattle.drafts.specs.Drafts.{outcomePlace}
 use Rattle.modelfile.specs.ModelFile.{ModelFile}
-use Rattle.expected.specs.Expected.{expectedReward}
-use Rattle.expected.specs.Steps.{Ready}
+use Rattle.expected.specs.Expected.{expectedTicks}
+use Rattle.expected.specs.Steps.{ExpectReady}
 use Rattle.expected.proofs.Expected.{expected-within}
 use Rattle.written.specs.Steps.{Writable}
 use Rattle.conversion.specs.Convert.{expectedRewards}
-use Rattle.conversion.specs.Steps.{fileOf, Sound, Long}
+use Rattle.conversion.specs.Steps.{fileOf, SoundFile, Long}
 
 -- the model with other rewards within their limits
 with-rewards : (c : Counts) (T O : List ℕ) (r r' : List ℤ) → Valid (modelIn c T O r)
@@ -46,12 +46,12 @@ module _ (x : ModelFile) where
 
   -- each lies in its place
   pub expected-at : (a : ℕ) → a < c .actions → (s : ℕ) → s < c .states
-      → rewardIn (c .states) (expectedRewards x) s a ≡ expectedReward c T O (x .tables .reward) s a
+      → rewardIn (c .states) (expectedRewards x) s a ≡ expectedTicks c T O (x .tables .reward) s a
   expected-at a la s ls =
-      laidRows-at (c .actions) (c .states) (λ a s. expectedReward c T O (x .tables .reward) s a) (replicate (maxActions * maxConverted) (pos 0)) a s (pos 0)
+      laidRows-at (c .actions) (c .states) (λ a s. expectedTicks c T O (x .tables .reward) s a) (replicate (maxActions * maxConverted) (pos 0)) a s (pos 0)
       la ls
 
-  module _ (h : Sound x) where
+  module _ (h : SoundFile x) where
     pub expected-valid : Valid (modelIn c T O (expectedRewards x))
     expected-valid = with-rewards c T O (x .tables .reward) (expectedRewards x) (h .valid) (λ a la s ls.
         subst⁻¹ (λ (z : ℤ). natAbs z ≤ maxReward) (expected-at a la s ls)
@@ -63,7 +63,7 @@ module _ (x : ModelFile) where
 
 -- ---- in slices
 
-module _ (c : Counts) (T O : List ℕ) (cells : List ℤ) (start : List ℕ) (h : Sound (fileOf c T O cells start)) (l : Long T O cells start)
+module _ (c : Counts) (T O : List ℕ) (cells : List ℤ) (start : List ℕ) (h : SoundFile (fileOf c T O cells start)) (l : Long T O cells start)
     (few : c .states ≤ maxConverted) where
   pub few-rewards : c .actions * c .states ≤ maxActions * maxConverted
   few-rewards = mul-le-mul (h .valid .few-actions) few
@@ -71,7 +71,7 @@ module _ (c : Counts) (T O : List ℕ) (cells : List ℤ) (start : List ℕ) (h 
   fit : Sizes (c .actions) (c .states) (c .observations)
   fit = let v = h .valid in sizes record { actions = v .few-actions; states = v .few-states; observations = v .few-observations }
 
-  pub ready : Ready c T O cells
+  pub ready : ExpectReady c T O cells
   ready =
       let v = h .valid in
       record {
@@ -97,7 +97,7 @@ module _ (c : Counts) (T O : List ℕ) (cells : List ℤ) (start : List ℕ) (h 
         arith,
         few-rewards,
         length-replicate {A = ℤ} (maxActions * maxConverted) (pos 0),
-        laidRows-length (c .actions) (c .states) (λ a s. expectedReward c T O cells s a) (replicate (maxActions * maxConverted) (pos 0))
+        laidRows-length (c .actions) (c .states) (λ a s. expectedTicks c T O cells s a) (replicate (maxActions * maxConverted) (pos 0))
             (omega (arith, few-rewards, length-replicate {A = ℤ} (maxActions * maxConverted) (pos 0))),
       );
     };

@@ -22,7 +22,7 @@ abbrev pub fileOf : Counts → List ℕ → List ℕ → List ℤ → List ℕ �
 fileOf c transition observation outcomes start = record { verdict = Fine; tables = tablesIn c transition observation outcomes; start = start }
 
 -- what a file that is not refused by 2 to 6 says: limits that hold, and totals
-pub record Sound (x : ModelFile) : Type 0 where
+pub record SoundFile (x : ModelFile) : Type 0 where
   pub valid : Valid (modelOf (x .tables))
   pub outcomes : (i : ℕ) → natAbs (getD (x .tables .reward) i (pos 0)) ≤ maxReward
   pub starts : totalTo (x .tables .states) (λ s. getD (x .start) s 0) ≡ startTotal
@@ -40,10 +40,10 @@ abbrev pub nothing : Verdict → Converted
 nothing v = record { verdict = v; length = 0 }
 
 -- the answer of a verdict and a text, and what they leave of the output
-pub record Answers (v : Verdict) (text out : List ℕ) (r : Converted) (after : List ℕ) : Type 0 where
+pub record AnswersText (v : Verdict) (text out : List ℕ) (r : Converted) (after : List ℕ) : Type 0 where
   pub is : r ≡ convertAnswer v (length text)
   pub leaves : after ≡ left v (textOver 0 text out) out
 
 -- the same of a file that was read
 abbrev pub AnswersFile : ModelFile → List ℕ → Converted → List ℕ → Type 0
-AnswersFile x = Answers (x .verdict before expectVerdict x) (expectedText x)
+AnswersFile x = AnswersText (x .verdict before expectVerdict x) (expectedText x)

@@ -11,7 +11,7 @@ ghost use Rattle.modelfile.specs.ModelFile.{ended, body};
 ghost use Rattle.written.specs.Text.{maxText};
 ghost use Rattle.conversion.specs.Convert.{convertVerdict, converted, convertAnswer, convertedOver};
 ghost use Rattle.conversion.specs.Claim.{ConvertHolds};
-ghost use Rattle.conversion.specs.Steps.{fileOf, Sound, Long, nothing, AnswersFile};
+ghost use Rattle.conversion.specs.Steps.{fileOf, SoundFile, Long, nothing, AnswersFile};
 use conversion::Converted;
 use headers::Headed;
 use modelfile::TablesRead;
@@ -38,7 +38,7 @@ fn write_expected(
     start: &[u16],
     out: &mut [u8],
 ) -> Converted
-    requires { ⌜ Sound (fileOf c (now transition) (now observation) (now outcomes) (now start)) ⌝ }
+    requires { ⌜ SoundFile (fileOf c (now transition) (now observation) (now outcomes) (now start)) ⌝ }
     requires { ⌜ Long (now transition) (now observation) (now outcomes) (now start) ⌝ }
     requires { ⌜ maxText ≤ length (now out) ⌝ }
     ensures { λ r. ⌜ AnswersFile (fileOf c (now (transition .entry)) (now (observation .entry)) (now (outcomes .entry)) (now (start .entry)))

@@ -5,7 +5,7 @@ use mathlib.Core.List.{_++_, append-assoc, append-nil}
 use lib.ListN.{length-append, length-drop, take-append-drop}
 use lib.Seq.{take-length, take-at, drop-at, drop-append-add, set-split, take-set-le, append-snoc, length-take-le}
 use Rattle.digits.specs.Digits.{textOver, partsTo, lastDigits}
-use Rattle.digits.specs.Steps.{Room, Wrote}
+use Rattle.digits.specs.Steps.{HasRoom, Wrote}
 
 -- ---- one text
 
@@ -39,7 +39,8 @@ over-then at t u xs h =
     ∙ ap (λ (j : ℕ). take at xs ++ (t ++ u) ++ drop j xs) e
 
 -- the last byte of a text, written before the rest of it
-pub over-set : (at : ℕ) (t : List ℕ) (b : ℕ) (xs : List ℕ) → at + length t < length xs → textOver at (t ++ (b ∷ [])) xs ≡ textOver at t (set xs (at + length t) b)
+pub over-set : (at : ℕ) (t : List ℕ) (b : ℕ) (xs : List ℕ) → at + length t < length xs
+    → textOver at (t ++ (b ∷ [])) xs ≡ textOver at t (set xs (at + length t) b)
 unfolding textOver
 over-set at t b xs h =
     let k = at + length t in
@@ -59,17 +60,17 @@ over-paste at t xs = ap (λ (q : List ℕ). take at xs ++ q ++ drop (at + length
 
 -- ---- what functions that write one behind the other leave
 
-pub wrote-long : {at : ℕ} {t xs : List ℕ} {n : ℕ} {ys : List ℕ} → Room at t xs → Wrote at t xs n ys → length ys ≡ length xs
+pub wrote-long : {at : ℕ} {t xs : List ℕ} {n : ℕ} {ys : List ℕ} → HasRoom at t xs → Wrote at t xs n ys → length ys ≡ length xs
 wrote-long {at} {t} {xs} h w = ap length (w .same) ∙ over-length at t xs (h .fits)
 
 -- room for both is room for the first, and then for the second
-pub room-first : {at : ℕ} {t : List ℕ} (u : List ℕ) {xs : List ℕ} → Room at (t ++ u) xs → Room at t xs
+pub room-first : {at : ℕ} {t : List ℕ} (u : List ℕ) {xs : List ℕ} → HasRoom at (t ++ u) xs → HasRoom at t xs
 room-first {at} {t} u h = record { fits = omega (arith, length-append t u, h .fits) }
 
-pub room-then : {at n : ℕ} {t u xs ys : List ℕ} → Room at (t ++ u) xs → Wrote at t xs n ys → Room n u ys
+pub room-then : {at n : ℕ} {t u xs ys : List ℕ} → HasRoom at (t ++ u) xs → Wrote at t xs n ys → HasRoom n u ys
 room-then {t = t} {u = u} h w = record { fits = omega (arith, length-append t u, h .fits, w .place, wrote-long (room-first u h) w) }
 
-pub wrote-then : {at n m : ℕ} {t u xs ys zs : List ℕ} → Room at (t ++ u) xs → Wrote at t xs n ys → Wrote n u ys m zs → Wrote at (t ++ u) xs m zs
+pub wrote-then : {at n m : ℕ} {t u xs ys zs : List ℕ} → HasRoom at (t ++ u) xs → Wrote at t xs n ys → Wrote n u ys m zs → Wrote at (t ++ u) xs m zs
 wrote-then {at} {n} {m} {t} {u} {xs} {ys} {zs} h w v = record {
   place = omega (arith, length-append t u, w .place, v .place);
   same =
@@ -95,14 +96,14 @@ unfolding partsTo
 parts-none f {at} {xs} = record { place = omega arith; same = sym (over-none at xs) }
 
 module _ (n : ℕ) (f : ℕ → List ℕ) {at : ℕ} {xs : List ℕ} where
-  parts-to : (x : ℕ) → x < n → Room at (partsTo n f) xs → Room at (partsTo (suc x) f) xs
+  parts-to : (x : ℕ) → x < n → HasRoom at (partsTo n f) xs → HasRoom at (partsTo (suc x) f) xs
   parts-to x l h = record { fits = omega (arith, parts-shorter n f x l, h .fits) }
 
-  pub parts-room : (x : ℕ) {next : ℕ} {ys : List ℕ} → x < n → Room at (partsTo n f) xs → Wrote at (partsTo x f) xs next ys → Room next (f x) ys
+  pub parts-room : (x : ℕ) {next : ℕ} {ys : List ℕ} → x < n → HasRoom at (partsTo n f) xs → Wrote at (partsTo x f) xs next ys → HasRoom next (f x) ys
   unfolding partsTo
   parts-room x l h w = room-then (parts-to x l h) w
 
-  pub parts-more : (x : ℕ) {next behind : ℕ} {ys zs : List ℕ} → x < n → Room at (partsTo n f) xs → Wrote at (partsTo x f) xs next ys
+  pub parts-more : (x : ℕ) {next behind : ℕ} {ys zs : List ℕ} → x < n → HasRoom at (partsTo n f) xs → Wrote at (partsTo x f) xs next ys
       → Wrote next (f x) ys behind zs → Wrote at (partsTo (x + 1) f) xs behind zs
   unfolding partsTo
   parts-more x l h w v = rw (add-one x) (wrote-then (parts-to x l h) w v)

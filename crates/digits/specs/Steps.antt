@@ -6,7 +6,7 @@ use lib.ListN.{length}
 use Rattle.digits.specs.Digits.{textOver}
 
 -- there is room for it
-pub record Room (at : ℕ) (text xs : List ℕ) : Type 0 where
+pub record HasRoom (at : ℕ) (text xs : List ℕ) : Type 0 where
   pub fits : at + length text ≤ length xs
 
 -- it is written, and the place behind it is answered

@@ -2,12 +2,12 @@
 ghost use mathlib.Core.Path.{_≡_};
 ghost use Prim.Native.Nat.{_+_, _^_, _%_};
 ghost use Rattle.digits.specs.Digits.{digitsFor, lastDigits, whole, fixed, signedFixed, spaced, line, opening};
-ghost use Rattle.digits.specs.Steps.{Room, Wrote};
+ghost use Rattle.digits.specs.Steps.{HasRoom, Wrote};
 use integers::cells;
 
 // A word.
 pub fn put(out: &mut [u8], at: usize, word: &[u8]) -> usize
-    requires { ⌜ Room at (now word) (now out) ⌝ }
+    requires { ⌜ HasRoom at (now word) (now out) ⌝ }
     ensures { λ r. ⌜ Wrote at (now (word .entry)) (now (out .entry)) r (now (out .exit)) ⌝ }
 {
     let w = word.len();
@@ -24,7 +24,7 @@ fn digit(v: u64) -> u8
 
 // So many decimal digits of v, the last ones.
 fn put_last_digits(out: &mut [u8], at: usize, count: usize, v: u64) -> usize
-    requires { ⌜ Room at (lastDigits count v) (now out) ⌝ }
+    requires { ⌜ HasRoom at (lastDigits count v) (now out) ⌝ }
     ensures { λ r. ⌜ Wrote at (lastDigits count v) (now (out .entry)) r (now (out .exit)) ⌝ }
 {
     let mut rest = v;
@@ -55,7 +55,7 @@ fn digits_for(v: u64) -> usize
 
 // A number below 10,000.
 fn put_whole(out: &mut [u8], at: usize, v: u64) -> usize
-    requires { ⌜ Room at (whole v) (now out) ⌝ }
+    requires { ⌜ HasRoom at (whole v) (now out) ⌝ }
     ensures { λ r. ⌜ Wrote at (whole v) (now (out .entry)) r (now (out .exit)) ⌝ }
 {
     put_last_digits(out, at, digits_for(v), v)
@@ -63,7 +63,7 @@ fn put_whole(out: &mut [u8], at: usize, v: u64) -> usize
 
 // v units of which `unit` make 1.
 pub fn put_fixed(out: &mut [u8], at: usize, places: usize, unit: u64, v: u64) -> usize
-    requires { ⌜ (unit ≡ 10 ^ places) × Room at (fixed places v) (now out) ⌝ }
+    requires { ⌜ (unit ≡ 10 ^ places) × HasRoom at (fixed places v) (now out) ⌝ }
     ensures { λ r. ⌜ Wrote at (fixed places v) (now (out .entry)) r (now (out .exit)) ⌝ }
 {
     let x = put_whole(out, at, v / unit);
@@ -73,7 +73,7 @@ pub fn put_fixed(out: &mut [u8], at: usize, places: usize, unit: u64, v: u64) ->
 
 // The same with a minus for a number below 0.
 pub fn put_signed_fixed(out: &mut [u8], at: usize, places: usize, unit: u64, v: i64) -> usize
-    requires { ⌜ (unit ≡ 10 ^ places) × Room at (signedFixed places v) (now out) ⌝ }
+    requires { ⌜ (unit ≡ 10 ^ places) × HasRoom at (signedFixed places v) (now out) ⌝ }
     ensures { λ r. ⌜ Wrote at (signedFixed places v) (now (out .entry)) r (now (out .exit)) ⌝ }
 {
     let size = integers::magnitude(v);
@@ -88,7 +88,7 @@ pub fn put_signed_fixed(out: &mut [u8], at: usize, places: usize, unit: u64, v: 
 
 // "K: a : s"
 pub fn put_opening(out: &mut [u8], at: usize, key: u8, a: usize, s: usize) -> usize
-    requires { ⌜ Room at (opening key a s) (now out) ⌝ }
+    requires { ⌜ HasRoom at (opening key a s) (now out) ⌝ }
     ensures { λ r. ⌜ Wrote at (opening key a s) (now (out .entry)) r (now (out .exit)) ⌝ }
 {
     let head = [key, b':', b' '];
@@ -100,7 +100,7 @@ pub fn put_opening(out: &mut [u8], at: usize, key: u8, a: usize, s: usize) -> us
 
 // " v"
 pub fn put_number(out: &mut [u8], at: usize, places: usize, unit: u64, v: u64) -> usize
-    requires { ⌜ (unit ≡ 10 ^ places) × Room at (spaced (fixed places v)) (now out) ⌝ }
+    requires { ⌜ (unit ≡ 10 ^ places) × HasRoom at (spaced (fixed places v)) (now out) ⌝ }
     ensures { λ r. ⌜ Wrote at (spaced (fixed places v)) (now (out .entry)) r (now (out .exit)) ⌝ }
 {
     let x = put(out, at, b" ");
@@ -109,7 +109,7 @@ pub fn put_number(out: &mut [u8], at: usize, places: usize, unit: u64, v: u64) -
 
 // "name: v" and a new line
 pub fn put_whole_line(out: &mut [u8], at: usize, name: &[u8], v: usize) -> usize
-    requires { ⌜ Room at (line (now name) (whole v)) (now out) ⌝ }
+    requires { ⌜ HasRoom at (line (now name) (whole v)) (now out) ⌝ }
     ensures { λ r. ⌜ Wrote at (line (now (name .entry)) (whole v)) (now (out .entry)) r (now (out .exit)) ⌝ }
 {
     let x = put(out, at, name);
@@ -126,7 +126,7 @@ pub fn put_fixed_line(
     unit: u64,
     v: u64,
 ) -> usize
-    requires { ⌜ (unit ≡ 10 ^ places) × Room at (line (now name) (fixed places v)) (now out) ⌝ }
+    requires { ⌜ (unit ≡ 10 ^ places) × HasRoom at (line (now name) (fixed places v)) (now out) ⌝ }
     ensures { λ r. ⌜ Wrote at (line (now (name .entry)) (fixed places v)) (now (out .entry)) r (now (out .exit)) ⌝ }
 {
     let x = put(out, at, name);

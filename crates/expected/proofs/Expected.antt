@@ -16,8 +16,8 @@ use Rattle.tables.specs.declared.Verdict.the-variants.{Fine}
 use Rattle.tables.specs.Limits.{maxConverted, maxActions, maxReward, one}
 use Rattle.tables.specs.Storage.{rowPlace, cellPlace, transitionIn, observationIn}
 use Rattle.tables.proofs.Refusals.{fine-at, unless-fine}
-use Rattle.expected.specs.Expected.{outcomeIn, expectedMillionths, isWhole, expectedReward, expectedVerdict}
-use Rattle.expected.specs.Steps.{seenIn, seenLimit, Seen, Ready}
+use Rattle.expected.specs.Expected.{outcomeIn, expectedMillionths, isWhole, expectedTicks, expectedVerdict}
+use Rattle.expected.specs.Steps.{outcomesIn, seenLimit, SeenFit, ExpectReady}
 
 -- ---- whole numbers of ticks
 
@@ -42,16 +42,16 @@ module _ (c : Counts) (T O : List ℕ) (cells : List ℤ) where
 
   -- and in ticks it is the same
   pub expected-exact : (s a : ℕ) → isWhole (expectedMillionths c T O cells s a) ≡ true
-      → (one * one) · expectedReward c T O cells s a ≡ expectedMillionths c T O cells s a
+      → (one * one) · expectedTicks c T O cells s a ≡ expectedMillionths c T O cells s a
   expected-exact s a h = whole-exact (one * one) (lit< tt) (expectedMillionths c T O cells s a) (eqb-true _ 0 h)
 
   -- ---- how it is summed
 
   -- with the sum over observations at each state reached
   pub expected-seen : (s a : ℕ)
-      → sumTo (c .states) (λ s'. transitionIn (c .states) T s a s' · seenIn (c .states) (c .observations) O cells a s s')
+      → sumTo (c .states) (λ s'. transitionIn (c .states) T s a s' · outcomesIn (c .states) (c .observations) O cells a s s')
       ≡ expectedMillionths c T O cells s a
-  unfolding expectedMillionths seenIn
+  unfolding expectedMillionths outcomesIn
   expected-seen s a =
       sum-cong (c .states) _ _ (λ s' l. sum-spread _ (c .observations) (observationIn (c .states) (c .observations) O a s')
       (outcomeIn (c .states) (c .observations) cells a s s'))
@@ -73,7 +73,7 @@ module _ (c : Counts) (T O : List ℕ) (cells : List ℤ) (s a : ℕ) (moves : t
       ∙ total-mul-right (c .states) one _
       ∙ ap (λ (t : ℕ). t * one) moves
 
-  pub expected-within : natAbs (expectedReward c T O cells s a) ≤ maxReward
+  pub expected-within : natAbs (expectedTicks c T O cells s a) ≤ maxReward
   unfolding expectedMillionths
   expected-within =
       floor-range (one * one) (lit< tt) maxReward (expectedMillionths c T O cells s a)
@@ -85,15 +85,15 @@ module _ (c : Counts) (T O : List ℕ) (cells : List ℤ) (s a : ℕ) (moves : t
 
 -- ---- what the code's sums read
 
-module _ {n k a s s' : ℕ} {O : List ℕ} {cells : List ℤ} (r : Seen n k O cells a s s') where
+module _ {n k a s s' : ℕ} {O : List ℕ} {cells : List ℤ} (r : SeenFit n k O cells a s s') where
   pub seen-terms : Terms k one maxReward (observationIn n k O a s') (outcomeIn n k cells a s s')
   seen-terms = record { weights = r .observation; values = r .outcome }
 
-  pub seen-limit : natAbs (seenIn n k O cells a s s') ≤ seenLimit
-  unfolding seenIn
+  pub seen-limit : natAbs (outcomesIn n k O cells a s s') ≤ seenLimit
+  unfolding outcomesIn
   seen-limit = omega (arith, terms-limit seen-terms k (omega arith), mul-le-mul-right (one * maxReward) (r .few-observations))
 
-module _ {c : Counts} {T O : List ℕ} {cells : List ℤ} (r : Ready c T O cells) where
+module _ {c : Counts} {T O : List ℕ} {cells : List ℤ} (r : ExpectReady c T O cells) where
   -- the action and the state of a place, and how many places there are
   pub action-in : {i : ℕ} → i < c .actions * c .states → i / c .states < c .actions
   action-in l = NatL.div-lt-iff-lt-mul (r .some-states) .1 l
@@ -104,8 +104,8 @@ module _ {c : Counts} {T O : List ℕ} {cells : List ℤ} (r : Ready c T O cells
   pub places-few : c .actions * c .states ≤ maxActions * maxConverted
   places-few = mul-le-mul (r .few-actions) (r .few-states)
 
-module _ {c : Counts} {T O : List ℕ} {cells : List ℤ} (r : Ready c T O cells) {a s : ℕ} (la : a < c .actions) (ls : s < c .states) where
-  pub ready-seen : {s' : ℕ} → s' < c .states → Seen (c .states) (c .observations) O cells a s s'
+module _ {c : Counts} {T O : List ℕ} {cells : List ℤ} (r : ExpectReady c T O cells) {a s : ℕ} (la : a < c .actions) (ls : s < c .states) where
+  pub ready-seen : {s' : ℕ} → s' < c .states → SeenFit (c .states) (c .observations) O cells a s s'
   ready-seen {s'} l = record {
     few-states = r .few-states;
     few-observations = r .few-observations;
@@ -123,5 +123,5 @@ module _ {c : Counts} {T O : List ℕ} {cells : List ℤ} (r : Ready c T O cells
     outcome = r .outcome a la s ls s' l;
   }
 
-  pub ready-terms : Terms (c .states) one seenLimit (transitionIn (c .states) T s a) (seenIn (c .states) (c .observations) O cells a s)
+  pub ready-terms : Terms (c .states) one seenLimit (transitionIn (c .states) T s a) (outcomesIn (c .states) (c .observations) O cells a s)
   ready-terms = record { weights = r .transition a la s ls; values = λ s' l. seen-limit (ready-seen l) }

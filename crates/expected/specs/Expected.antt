@@ -2,7 +2,7 @@
 --
 --   outcomeIn            the reward of a, s, s' and o
 --   expectedMillionths   the sum over s' and o of T(s,a,s') × O(a,s',o) × it: T and O are thousandths each
---   expectedReward       the same in ticks
+--   expectedTicks        the same in ticks
 --   laidExpected         all of them, by action and state, over the first of other cells
 --   expectedVerdict      26 where it is not a whole number of ticks: first by action, then by state, at action × n + state
 use Prim.Native.Nat.{ℕ, _*_, _%_}
@@ -33,11 +33,11 @@ expectedMillionths c T O cells s a =
 abbrev pub isWhole : ℤ → Bool
 isWhole z = eqb (natAbs z % (one * one)) 0
 
-abbrev pub expectedReward : Counts → List ℕ → List ℕ → List ℤ → ℕ → ℕ → ℤ
-expectedReward c T O cells s a = floorDiv (expectedMillionths c T O cells s a) (one * one)
+abbrev pub expectedTicks : Counts → List ℕ → List ℕ → List ℤ → ℕ → ℕ → ℤ
+expectedTicks c T O cells s a = floorDiv (expectedMillionths c T O cells s a) (one * one)
 
 abbrev pub laidExpected : Counts → List ℕ → List ℕ → List ℤ → List ℤ → List ℤ
-laidExpected c T O cells xs = laidRows (c .actions) (c .states) (λ a s. expectedReward c T O cells s a) xs
+laidExpected c T O cells xs = laidRows (c .actions) (c .states) (λ a s. expectedTicks c T O cells s a) xs
 
 unfoldable pub expectedVerdict : Counts → List ℕ → List ℕ → List ℤ → Verdict
 expectedVerdict c T O cells =

@@ -12,15 +12,15 @@ use Rattle.drafts.specs.Drafts.{outcomePlace}
 use Rattle.expected.specs.Expected.{outcomeIn}
 
 -- the sum over o of O(a,s',o) × the reward of a, s, s' and o
-unfoldable pub seenIn : ℕ → ℕ → List ℕ → List ℤ → ℕ → ℕ → ℕ → ℤ
-seenIn n k O cells a s s' = sumTo k (λ o. observationIn n k O a s' o · outcomeIn n k cells a s s' o)
+unfoldable pub outcomesIn : ℕ → ℕ → List ℕ → List ℤ → ℕ → ℕ → ℕ → ℤ
+outcomesIn n k O cells a s s' = sumTo k (λ o. observationIn n k O a s' o · outcomeIn n k cells a s s' o)
 
 -- its size at most
 abbrev pub seenLimit : ℕ
 seenLimit = maxObservations * (one * maxReward)
 
 -- what that sum reads, within its limits and slices
-pub record Seen (n k : ℕ) (O : List ℕ) (cells : List ℤ) (a s s' : ℕ) : Type 0 where
+pub record SeenFit (n k : ℕ) (O : List ℕ) (cells : List ℤ) (a s s' : ℕ) : Type 0 where
   pub few-states : n ≤ maxConverted
   pub few-observations : k ≤ maxObservations
   pub action : a < maxActions
@@ -32,7 +32,7 @@ pub record Seen (n k : ℕ) (O : List ℕ) (cells : List ℤ) (a s s' : ℕ) : T
   pub outcome : (o : ℕ) → o < k → natAbs (outcomeIn n k cells a s s' o) ≤ maxReward
 
 -- counts, probabilities and rewards within their limits, in slices long enough for them
-pub record Ready (c : Counts) (T O : List ℕ) (cells : List ℤ) : Type 0 where
+pub record ExpectReady (c : Counts) (T O : List ℕ) (cells : List ℤ) : Type 0 where
   pub some-states : 0 < c .states
   pub few-states : c .states ≤ maxConverted
   pub few-actions : c .actions ≤ maxActions

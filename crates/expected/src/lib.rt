@@ -6,7 +6,7 @@ ghost use Rattle.tables.specs.Limits.{maxConverted, maxActions, maxObservations
 ghost use Rattle.tables.specs.Verdicts.{left};
 ghost use Rattle.drafts.specs.Drafts.{outcomePlace};
 ghost use Rattle.expected.specs.Expected.{outcomeIn, expectedMillionths, isWhole, laidExpected, expectedVerdict};
-ghost use Rattle.expected.specs.Steps.{seenIn, Seen, Ready};
+ghost use Rattle.expected.specs.Steps.{outcomesIn, SeenFit, ExpectReady};
 use tables::Action;
 use tables::Counts;
 use tables::Observation;
@@ -54,8 +54,8 @@ fn seen(
     s: State,
     to: State,
 ) -> i64
-    requires { ⌜ Seen n k (now observation) (now outcomes) (a .0) (s .0) (to .0) ⌝ }
-    ensures { λ r. ⌜ r ≡ seenIn n k (now (observation .entry)) (now (outcomes .entry)) (a .0) (s .0) (to .0) ⌝ }
+    requires { ⌜ SeenFit n k (now observation) (now outcomes) (a .0) (s .0) (to .0) ⌝ }
+    ensures { λ r. ⌜ r ≡ outcomesIn n k (now (observation .entry)) (now (outcomes .entry)) (a .0) (s .0) (to .0) ⌝ }
 {
     let mut sum: i64 = 0;
     for o in 0..k {
@@ -76,7 +76,7 @@ fn millionths(
     s: State,
 ) -> i64
     requires { ⌜ (a .0 < c .actions) × (s .0 < c .states) ⌝ }
-    requires { ⌜ Ready c (now transition) (now observation) (now outcomes) ⌝ }
+    requires { ⌜ ExpectReady c (now transition) (now observation) (now outcomes) ⌝ }
     ensures { λ r. ⌜ r ≡ expectedMillionths c (now (transition .entry)) (now (observation .entry)) (now (outcomes .entry)) (s .0) (a .0) ⌝ }
 {
     let n = c.states;
@@ -98,7 +98,7 @@ fn is_whole(x: i64) -> bool
 
 // 26: the first expected reward, by action and then by state, that is not a whole number of ticks.
 fn judge(transition: &[u16], observation: &[u16], outcomes: &[i64], c: Counts) -> Verdict
-    requires { ⌜ Ready c (now transition) (now observation) (now outcomes) ⌝ }
+    requires { ⌜ ExpectReady c (now transition) (now observation) (now outcomes) ⌝ }
     ensures { λ r. ⌜ r ≡ expectedVerdict c (now (transition .entry)) (now (observation .entry)) (now (outcomes .entry)) ⌝ }
 {
     let n = c.states;
@@ -118,7 +118,7 @@ fn judge(transition: &[u16], observation: &[u16], outcomes: &[i64], c: Counts) -
 
 // The expected rewards, by action and state, over the first cells of `reward`.
 fn lay(transition: &[u16], observation: &[u16], outcomes: &[i64], c: Counts, reward: &mut [i64])
-    requires { ⌜ Ready c (now transition) (now observation) (now outcomes) ⌝ }
+    requires { ⌜ ExpectReady c (now transition) (now observation) (now outcomes) ⌝ }
     requires { ⌜ c .actions * c .states ≤ length (now reward) ⌝ }
     ensures { λ _. ⌜ now (reward .exit)
         ≡ laidExpected c (now (transition .entry)) (now (observation .entry)) (now (outcomes .entry)) (now (reward .entry)) ⌝ }
@@ -146,7 +146,7 @@ pub fn expect(
     c: Counts,
     reward: &mut [i64],
 ) -> Verdict
-    requires { ⌜ Ready c (now transition) (now observation) (now outcomes) ⌝ }
+    requires { ⌜ ExpectReady c (now transition) (now observation) (now outcomes) ⌝ }
     requires { ⌜ c .actions * c .states ≤ length (now reward) ⌝ }
     ensures { λ r. ⌜ r ≡ expectedVerdict c (now (transition .entry)) (now (observation .entry)) (now (outcomes .entry)) ⌝ }
     ensures { λ _. ⌜ now (reward .exit) ≡ left (expectedVerdict c (now (transition .entry)) (now (observation .entry)) (now (outcomes .entry)))

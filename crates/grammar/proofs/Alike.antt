@@ -6,7 +6,7 @@ use Rattle.numerals.specs.declared.Amount.the-variants.{Is, Not}
 use Rattle.numerals.specs.declared.Form.{Form}
 use Rattle.numerals.specs.Numeral.{amountOf, unsigned, signed}
 use Rattle.numerals.proofs.Before.{Keeps}
-use Rattle.grammar.specs.Grammar.{Answer, got, refused, _then_, answered, limited, number, magnitude, minus, signedNumber, named, field}
+use Rattle.grammar.specs.Grammar.{Answer, got, refused, _then_, answered, limited, number, magnitude, minus, signedNumber, keyNamed, field}
 
 -- where the first is a value, the second is the same
 abbrev pub Alike : {A : Type 0} → Answer A → Answer A → Type 0
@@ -53,5 +53,5 @@ module _ (f g : Form) (h : Wider f g) where
   pub field-alike : (name : List ℕ) (least most : ℕ) (ws : Words) → Alike (field name f least most ws) (field name g least most ws)
   unfolding field
   field-alike name least most ws =
-      alike-then (named name ws) (named name ws) (λ _ ws. number f least most ws) (λ _ ws. number g least most ws) (alike-same (named name ws))
+      alike-then (keyNamed name ws) (keyNamed name ws) (λ _ ws. number f least most ws) (λ _ ws. number g least most ws) (alike-same (keyNamed name ws))
       (λ _ ws. number-alike least most ws)

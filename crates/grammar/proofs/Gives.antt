@@ -3,7 +3,7 @@ use Rattle.integers.proofs.Kit.{_≡_, sym, subst, List, ℕ, _≤_}
 use Rattle.words.specs.Words.{Words, word, end}
 use Rattle.numerals.specs.declared.Form.{Form}
 use Rattle.numerals.specs.Numeral.{amountOf, unsigned}
-use Rattle.grammar.specs.Grammar.{Answer, got, refused, _then_, Finding, fits, unfit, outside, answered, oneWord, limited, number, magnitude, named}
+use Rattle.grammar.specs.Grammar.{Answer, got, refused, _then_, Finding, fits, unfit, outside, answered, oneWord, limited, number, magnitude, keyNamed}
 use Rattle.grammar.specs.Grammar.{field}
 use Rattle.grammar.proofs.Laws.{OfValue, limited-within, limited-below}
 
@@ -48,4 +48,4 @@ magnitude-gives form most ws =
 pub field-gives : (name : List ℕ) (form : Form) (least most : ℕ) (ws : Words) → Gives (λ v. (least ≤ v) × (v ≤ most)) (field name form least most ws)
 unfolding field
 field-gives name form least most ws =
-    gives-after (λ v. (least ≤ v) × (v ≤ most)) (named name ws) (λ _ ws. number form least most ws) (λ _ ws. number-gives form least most ws)
+    gives-after (λ v. (least ≤ v) × (v ≤ most)) (keyNamed name ws) (λ _ ws. number form least most ws) (λ _ ws. number-gives form least most ws)

@@ -8,10 +8,10 @@ use Rattle.integers.proofs.Searches.{and-true}
 use Rattle.words.specs.declared.Word.{Word}
 use Rattle.words.specs.declared.Word.the-variants.{At, End}
 use Rattle.words.specs.Words.{Words, wordsIn, between, told}
-use Rattle.words.specs.Steps.{Inside, Worded}
+use Rattle.words.specs.Steps.{WordInside, Worded}
 use Rattle.words.proofs.Word as word-type
 use Rattle.reader.specs.declared.Pair.{Pair}
-use Rattle.reader.specs.Pair.{after, Paired}
+use Rattle.reader.specs.Pair.{pastWord, Paired}
 use Rattle.numerals.specs.declared.Amount.{Amount}
 use Rattle.numerals.specs.declared.Amount.the-variants.{Is, Not}
 use Rattle.grammar.specs.declared.Read.{Read}
@@ -54,19 +54,19 @@ pub takes-end : (find : List ℕ → Finding) (s : List ℕ) (w : Word) (most : 
 takes-end find s (At a b) most e = absurd (omega arith)
 takes-end find s End most e = record { is = refl; follows = tt }
 
-pub lies-in : (s : List ℕ) {w : Word} (a b : ℕ) → Inside s 0 w → w ≡ At a b → (a < b) × (b ≤ length s)
-lies-in s a b h e = subst (Inside s 0) e h .1
+pub lies-in : (s : List ℕ) {w : Word} (a b : ℕ) → WordInside s 0 w → w ≡ At a b → (a < b) × (b ≤ length s)
+lies-in s a b h e = subst (WordInside s 0) e h .1
 
 -- ---- the next word from an offset
 
-inside-from : (s : List ℕ) (at : ℕ) (w : Word) → Inside s at w → Inside s 0 w
+inside-from : (s : List ℕ) (at : ℕ) (w : Word) → WordInside s at w → WordInside s 0 w
 inside-from s at (At a b) (h, k) = (omega arith, k)
 inside-from s at End e = tt
 
-pub inside : {s : List ℕ} {at : ℕ} {w : Word} → Worded s at w → Inside s 0 w
+pub inside : {s : List ℕ} {at : ℕ} {w : Word} → Worded s at w → WordInside s 0 w
 inside {s} {at} {w} h = inside-from s at w (h .lies)
 
-pub onward : (s : List ℕ) (at most : ℕ) (w : Word) (r : Read) → Inside s at w → Follows w most r → Onward s at most r
+pub onward : (s : List ℕ) (at most : ℕ) (w : Word) (r : Read) → WordInside s at w → Follows w most r → Onward s at most r
 onward s at most (At a b) (Value v next) (h, (k, l)) (m, e) = (m, (omega arith, omega arith))
 onward s at most (At a b) (Refused n p) h f = tt
 onward s at most End (Value v next) h f = absurd f
@@ -78,11 +78,11 @@ takes-reads {s} {at} {most} {w} {r} f h t = record { is = t .is ∙ ap f (sym (h
 
 -- ---- two words after each other
 
-follows-next : (w : Word) (at most v next : ℕ) → Follows w most (Value v next) → next ≡ after w at
+follows-next : (w : Word) (at most v next : ℕ) → Follows w most (Value v next) → next ≡ pastWord w at
 follows-next (At a b) at most v next f = f .1
 follows-next End at most v next f = absurd f
 
-after-in : (s : List ℕ) (at : ℕ) (w : Word) → at ≤ length s → Inside s at w → after w at ≤ length s
+after-in : (s : List ℕ) (at : ℕ) (w : Word) → at ≤ length s → WordInside s at w → pastWord w at ≤ length s
 after-in s at (At a b) h k = k .1 .1
 after-in s at End h k = h
 

@@ -13,7 +13,7 @@ use Rattle.words.specs.Words.{Role, parts, alone, opens, belongs, roleOf, Words
 use Rattle.numerals.specs.declared.Form.{Form}
 use Rattle.numerals.specs.Numeral.{countForm}
 use Rattle.grammar.specs.Grammar.{Answer, got, refused, _then_, choose, Finding, fits, unfit, outside, answered, oneWord, number, key, keys, colon}
-use Rattle.grammar.specs.Grammar.{star, named, field, index, magnitude, signedNumber}
+use Rattle.grammar.specs.Grammar.{star, keyNamed, field, index, magnitude, signedNumber}
 
 -- ---- words: at most c of them, none past the end of a file of so many bytes
 
@@ -106,7 +106,7 @@ module _ (size : ℕ) where
     pub field-named : (name : List ℕ) (form : Form) (least most : ℕ) (ws : Words) → UpTo size c ws → Named c (field name form least most ws)
     unfolding field
     field-named name form least most ws h =
-        then-named c c (named name ws) (λ _ ws. number form least most ws) (keys-named name colon ws h) (λ _ ws. number-named c form least most ws)
+        then-named c c (keyNamed name ws) (λ _ ws. number form least most ws) (keys-named name colon ws h) (λ _ ws. number-named c form least most ws)
 
     pub index-named : (n : ℕ) (ws : Words) → UpTo size c ws → Named c (index n ws)
     unfolding index

@@ -92,12 +92,12 @@ unfoldable pub keys : List ℕ → List ℕ → Words → Answer ℕ
 keys first second ws = key first ws then λ _ ws. key second ws
 
 -- a name and a colon
-abbrev pub named : List ℕ → Words → Answer ℕ
-named name = keys name colon
+abbrev pub keyNamed : List ℕ → Words → Answer ℕ
+keyNamed name = keys name colon
 
 -- a name, a colon and a number
 unfoldable pub field : List ℕ → Form → ℕ → ℕ → Words → Answer ℕ
-field name form least most ws = named name ws then λ _ ws. number form least most ws
+field name form least most ws = keyNamed name ws then λ _ ws. number form least most ws
 
 -- one of n, by its number; n itself for a star, which stands for all of them
 unfoldable pub index : ℕ → Words → Answer ℕ

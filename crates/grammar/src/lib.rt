@@ -3,7 +3,7 @@ ghost use mathlib.Core.Path.{_≡_};
 ghost use Prim.Native.Nat.{_+_, _^_, _≤_, _<_};
 ghost use lib.ListN.{length, drop};
 ghost use Rattle.words.specs.Words.{wordsIn, between, told};
-ghost use Rattle.words.specs.Steps.{Inside};
+ghost use Rattle.words.specs.Steps.{WordInside};
 ghost use Rattle.numerals.specs.Numeral.{amountOf};
 ghost use Rattle.numerals.specs.Steps.{Short};
 ghost use Rattle.grammar.specs.Grammar.{number, magnitude, minus, signedNumber, same, key, keys, field, index, limited};
@@ -54,7 +54,7 @@ fn amount_in(
 
 // It as a number.
 pub fn number_of(file: &[u8], w: Word, form: Form, least: u64, most: u64) -> Read
-    requires { ⌜ (Inside (now file) 0 w) × (Short form) ⌝ }
+    requires { ⌜ (WordInside (now file) 0 w) × (Short form) ⌝ }
     ensures { λ r. ⌜ Takes (now (file .entry)) w most r (number form least most (told (now (file .entry)) w)) ⌝ }
 {
     let Word::At(start, stop) = w else {
@@ -65,7 +65,7 @@ pub fn number_of(file: &[u8], w: Word, form: Form, least: u64, most: u64) -> Rea
 
 // It as a number after an optional minus, without its sign.
 fn magnitude_of(file: &[u8], w: Word, form: Form, most: u64) -> Read
-    requires { ⌜ (Inside (now file) 0 w) × (Short form) ⌝ }
+    requires { ⌜ (WordInside (now file) 0 w) × (Short form) ⌝ }
     ensures { λ r. ⌜ Takes (now (file .entry)) w most r (magnitude form most (told (now (file .entry)) w)) ⌝ }
 {
     let Word::At(start, stop) = w else {
@@ -77,7 +77,7 @@ fn magnitude_of(file: &[u8], w: Word, form: Form, most: u64) -> Read
 
 // Whether it has a minus.
 fn minus_of(file: &[u8], w: Word) -> bool
-    requires { ⌜ Inside (now file) 0 w ⌝ }
+    requires { ⌜ WordInside (now file) 0 w ⌝ }
     ensures { λ r. ⌜ r ≡ minus (told (now (file .entry)) w) ⌝ }
 {
     let Word::At(start, stop) = w else {
@@ -105,7 +105,7 @@ pub fn is_same(a: &[u8], b: &[u8]) -> bool
 
 // It, where it is the one given.
 pub fn key_of(file: &[u8], w: Word, k: &[u8]) -> Read
-    requires { ⌜ Inside (now file) 0 w ⌝ }
+    requires { ⌜ WordInside (now file) 0 w ⌝ }
     ensures { λ r. ⌜ Takes (now (file .entry)) w 0 r (key (now (k .entry)) (told (now (file .entry)) w)) ⌝ }
 {
     let Word::At(start, stop) = w else {
@@ -119,7 +119,7 @@ pub fn key_of(file: &[u8], w: Word, k: &[u8]) -> Read
 
 // It as one of n by its number, or n for a star.
 pub fn index_of(file: &[u8], w: Word, n: usize) -> Read
-    requires { ⌜ (Inside (now file) 0 w) × (1 ≤ n) ⌝ }
+    requires { ⌜ (WordInside (now file) 0 w) × (1 ≤ n) ⌝ }
     ensures { λ r. ⌜ Takes (now (file .entry)) w n r (index n (told (now (file .entry)) w)) ⌝ }
 {
     let x = key_of(file, w, b"*");

@@ -14,23 +14,23 @@ use Rattle.entries.specs.Entries.{Outcome, wholly}
 use Rattle.entries.specs.Steps.{outcomeOf, Leaves}
 use Rattle.headers.specs.declared.Headed.{Headed}
 use Rattle.headers.specs.declared.Headed.the-variants.{Refused}
-use Rattle.headers.specs.Steps.{Heads, handed}
+use Rattle.headers.specs.Steps.{Heads, handedHeader}
 
 handed-heads : {A : Type 0} (f : ℕ → A) (s : List ℕ) (r : Read) {a : Answer A} (k : A → Words → Answer Counts) → tagOf read-type.the-type r ≡ 1
-    → answerOf f s r ≡ a → Heads s (handed r) (a then k)
+    → answerOf f s r ≡ a → Heads s (handedHeader r) (a then k)
 handed-heads f s (Value v next) k e h = absurd (omega arith)
 handed-heads {A} f s (NotRead number place) k e h = record { is = ap (λ (a : Answer A). a then k) h; within = tt }
 
 module _ {A : Type 0} {f : ℕ → A} {s : List ℕ} {at l : ℕ} {r : Read} {a : Answer A} {h : Headed} (k : A → Words → Answer Counts) (t : Tells f s at l r a) where
   -- a word that is refused, or read
-  pub heads-back : tagOf read-type.the-type r ≡ 1 → h ≡ handed r → Heads s h (a then k)
+  pub heads-back : tagOf read-type.the-type r ≡ 1 → h ≡ handedHeader r → Heads s h (a then k)
   heads-back e q = subst (λ (h : Headed). Heads s h (a then k)) (sym q) (handed-heads f s r k e (t .is))
 
   pub heads-on : (v next : ℕ) → r ≡ Value v next → Heads s h (k (f v) (wordsIn between s next)) → Heads s h (a then k)
   heads-on v next e g = record { is = g .is ∙ ap (λ (a : Answer A). a then k) (value-is v next t e); within = g .within }
 
 -- a value hands back nothing
-pub hands-none : (r : Read) → tagOf read-type.the-type r ≡ 0 → Refused 0 0 ≡ handed r
+pub hands-none : (r : Read) → tagOf read-type.the-type r ≡ 0 → Refused 0 0 ≡ handedHeader r
 hands-none (Value v next) e = refl
 hands-none (NotRead number place) e = absurd (omega arith)
 

@@ -7,7 +7,7 @@ use Rattle.tables.specs.Limits.{maxStates, maxActions, maxObservations, one}
 use Rattle.words.specs.Words.{Words}
 use Rattle.drafts.specs.Drafts.{stated}
 use Rattle.numerals.specs.Numeral.{countForm}
-use Rattle.grammar.specs.Grammar.{Answer, got, _then_, key, named, field}
+use Rattle.grammar.specs.Grammar.{Answer, got, _then_, key, keyNamed, field}
 use Rattle.entries.specs.Entries.{wholly, Forms, forms, startNumberBy, row}
 
 -- ---- the words of the headers, in bytes
@@ -42,23 +42,23 @@ startName = 115 ∷ 116 ∷ 97 ∷ 114 ∷ 116 ∷ []
 
 -- ---- with numbers of the forms f
 
-abbrev pub counts : ℕ → ℕ → ℕ → ℕ → Counts
-counts n m k d = record { states = n; actions = m; observations = k; discount = d }
+abbrev pub countsWith : ℕ → ℕ → ℕ → ℕ → Counts
+countsWith n m k d = record { states = n; actions = m; observations = k; discount = d }
 
 -- `states:`, `actions:` and `observations:`, beside a discount
-abbrev pub counted : ℕ → Words → Answer Counts
-counted d ws =
+abbrev pub headerCounts : ℕ → Words → Answer Counts
+headerCounts d ws =
     field statesName countForm 1 maxStates ws then λ n ws. field actionsName countForm 1 maxActions ws then λ m ws.
-    field observationsName countForm 1 maxObservations ws then λ k ws. got (counts n m k d) ws
+    field observationsName countForm 1 maxObservations ws then λ k ws. got (countsWith n m k d) ws
 
 -- `discount:` in thousandths, `values: reward`, and the counts
 unfoldable pub headerBy : Forms → Words → Answer Counts
 headerBy f ws =
-    field discountName (f .probability) 0 one ws then λ d ws. named valuesName ws then λ _ ws. key rewardWord ws then λ _ ws. counted d ws
+    field discountName (f .probability) 0 one ws then λ d ws. keyNamed valuesName ws then λ _ ws. key rewardWord ws then λ _ ws. headerCounts d ws
 
 -- `start:` with n numbers, in hundredths
 unfoldable pub startBy : Forms → ℕ → Words → Answer (List ℕ)
-startBy f n ws = named startName ws then λ _ ws. wholly (row (startNumberBy f) (stated 1 1 n 0 0) 0 n (replicate maxStates 0) ws)
+startBy f n ws = keyNamed startName ws then λ _ ws. wholly (row (startNumberBy f) (stated 1 1 n 0 0) 0 n (replicate maxStates 0) ws)
 
 -- ---- the same with the forms that numbers have
 

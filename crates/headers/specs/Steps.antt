@@ -13,7 +13,7 @@ use Rattle.grammar.specs.Grammar.{Answer, got, refused}
 use Rattle.headers.specs.declared.Headed.{Headed}
 use Rattle.headers.specs.declared.Headed.the-variants.{Refused}
 use Rattle.headers.specs.declared.Headed.the-variants.{Counts as Counted}
-use Rattle.headers.specs.Headers.{counts}
+use Rattle.headers.specs.Headers.{countsWith}
 
 -- counts within their limits
 pub record CountsFit (n m k d : ℕ) : Type 0 where
@@ -25,19 +25,19 @@ pub record CountsFit (n m k d : ℕ) : Type 0 where
 -- ---- an answer
 
 abbrev pub headedOf : List ℕ → Headed → Answer Counts
-headedOf s (Counted n m k d next) = got (counts n m k d) (wordsIn between s next)
+headedOf s (Counted n m k d next) = got (countsWith n m k d) (wordsIn between s next)
 headedOf s (Refused number place) = refused number place
 
 -- the counts are within their limits, and reading goes on inside the file
-abbrev pub Within : List ℕ → Headed → Type 0
-Within s (Counted n m k d next) = CountsFit n m k d × (next ≤ length s)
-Within s (Refused number place) = Unit
+abbrev pub PlacedWithin : List ℕ → Headed → Type 0
+PlacedWithin s (Counted n m k d next) = CountsFit n m k d × (next ≤ length s)
+PlacedWithin s (Refused number place) = Unit
 
 pub record Heads (s : List ℕ) (r : Headed) (a : Answer Counts) : Type 0 where
   pub is : headedOf s r ≡ a
-  pub within : Within s r
+  pub within : PlacedWithin s r
 
 -- what is handed back of a word that was refused; a value is never handed back
-abbrev pub handed : Read → Headed
-handed (Value v next) = Refused 0 0
-handed (NotRead number place) = Refused number place
+abbrev pub handedHeader : Read → Headed
+handedHeader (Value v next) = Refused 0 0
+handedHeader (NotRead number place) = Refused number place

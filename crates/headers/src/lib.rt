@@ -5,8 +5,8 @@ ghost use lib.ListN.{length, replicate};
 ghost use Rattle.words.specs.Words.{wordsIn, between};
 ghost use Rattle.tables.specs.Limits.{maxStates, one};
 ghost use Rattle.grammar.specs.Steps.{Tells};
-ghost use Rattle.headers.specs.Headers.{counted, header, startNumbers};
-ghost use Rattle.headers.specs.Steps.{handed, Heads};
+ghost use Rattle.headers.specs.Headers.{headerCounts, header, startNumbers};
+ghost use Rattle.headers.specs.Steps.{handedHeader, Heads};
 use grammar::Read;
 use numerals::Form;
 use tables::Tables;
@@ -31,7 +31,7 @@ const FIRST: usize = 0;
 
 // The refusal of a word, handed back.
 fn back(x: Read) -> Headed
-    ensures { λ r. ⌜ r ≡ handed x ⌝ }
+    ensures { λ r. ⌜ r ≡ handedHeader x ⌝ }
 {
     match x {
         Read::Refused(number, place) => Headed::Refused(number, place),
@@ -42,7 +42,7 @@ fn back(x: Read) -> Headed
 // From `states:` on.
 fn counted_at(file: &[u8], at: usize, discount: u64) -> Headed
     requires { ⌜ (at ≤ length (now file)) × (discount ≤ one) ⌝ }
-    ensures { λ r. ⌜ Heads (now (file .entry)) r (counted discount (wordsIn between (now (file .entry)) at)) ⌝ }
+    ensures { λ r. ⌜ Heads (now (file .entry)) r (headerCounts discount (wordsIn between (now (file .entry)) at)) ⌝ }
 {
     let x = grammar::field_at(
         file,

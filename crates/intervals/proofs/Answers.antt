@@ -25,7 +25,7 @@ use Rattle.bounds.proofs.Bounds.{counts-weights, some-counts-weights, Mixed, mi
 use Rattle.bounds.proofs.Bounds.{stands, roofed, counts-is, some-is, standing-holds}
 use Rattle.intervals.specs.declared.Within.{Within}
 use Rattle.intervals.specs.Intervals.{rangesHold, highsHold, withinVerdict, noTotals, withinBy, withinOf}
-use Rattle.intervals.specs.Steps.{Ranged, leastIn, lowerIn, upperIn, totalsIn, givenIf, answerIn, Asked}
+use Rattle.intervals.specs.Steps.{Ranged, leastIn, lowerInRanges, upperInRanges, totalsIn, givenIf, answerWithin, AskedWithin}
 
 -- ---- ranges that hold
 module _ (n : ℕ) (lows highs : List ℕ) (ordered : rangesHold n lows highs ≡ true) (limits : highsHold n lows highs ≡ true) where
@@ -52,7 +52,7 @@ module _ (n : ℕ) (lows highs : List ℕ) (ordered : rangesHold n lows highs �
   pub totals-given : (vectors : ℕ) (masks : List ℕ) (entries corners : List ℤ) {low high : List ℕ} {states : ℕ} {r : Within}
       → r ≡ totalsIn n vectors masks entries corners low high states → low ≡ widened n lows → high ≡ widened n highs
       → states ≡ supportIn n (widened n highs) → someIncludes masks vectors (supportIn n (widened n highs)) ≡ true
-      → r ≡ answerIn n vectors masks entries corners lows highs
+      → r ≡ answerWithin n vectors masks entries corners lows highs
   totals-given vectors masks entries corners e f g k some = e ∙ rw (f, g, k, ordered, limits, some)
 
 -- ---- a certifier that is not refused by 7
@@ -63,7 +63,7 @@ module _ (m : Tables) (x : Lent) (h : holds m x ≡ true) where
   abbrev L : Level
   L = levelOf m (standingIn x)
 
-  pub asked : Asked (m .states) (standingIn x .vectors) (x .cells .masks) (x .cells .entries) (x .cells .corners)
+  pub asked : AskedWithin (m .states) (standingIn x .vectors) (x .cells .masks) (x .cells .entries) (x .cells .corners)
   asked =
       let s = stands m x h in
       record {
@@ -93,14 +93,16 @@ module _ (m : Tables) (x : Lent) (h : holds m x ≡ true) where
         ≡ leastProduct (m .states) (weightIn lows) (weightIn highs) (L .entry v)
     least-is v = least-cong (m .states) _ _ (weightIn lows) (weightIn highs) (L .entry v) (L .entry v) (widened-at lows) (widened-at highs) (λ s l. refl)
 
-    lower-is : lowerIn (m .states) (standingIn x .vectors) (x .cells .masks) (x .cells .entries) (widened (m .states) lows) (widened (m .states) highs) states
+    lower-is : lowerInRanges (m .states) (standingIn x .vectors) (x .cells .masks) (x .cells .entries)
+        (widened (m .states) lows) (widened (m .states) highs) states
         ≡ lowerWithin M L (weightIn lows) (weightIn highs)
     unfolding lowerWithin surest
     lower-is =
         least-is _ ∙ ap (λ (v : ℕ). leastProduct (m .states) (weightIn lows) (weightIn highs) (L .entry v))
         (of-cong (L .vectors) _ _ _ _ (stands m x h .shaped .some-vectors) (λ v l. counts-high v) (λ v l c. least-is v))
 
-    upper-is : upperIn (m .states) (x .cells .corners) (widened (m .states) lows) (widened (m .states) highs) ≡ upperWithin M L (weightIn lows) (weightIn highs)
+    upper-is : upperInRanges (m .states) (x .cells .corners) (widened (m .states) lows) (widened (m .states) highs)
+        ≡ upperWithin M L (weightIn lows) (weightIn highs)
     unfolding upperWithin
     upper-is =
         least-cong (m .states) _ _ (weightIn highs) (weightIn lows) (L .corner) (L .corner) (widened-at highs) (widened-at lows) (λ s l. refl)
@@ -124,7 +126,7 @@ module _ (m : Tables) (x : Lent) (lows highs : List ℕ) where
   by-tests false e limits f some g s = rw (s, e)
 
   pub answered : standingVerdict m x ≡ Fine
-      → answerIn (m .states) (standingIn x .vectors) (x .cells .masks) (x .cells .entries) (x .cells .corners) lows highs ≡ withinOf m x lows highs
+      → answerWithin (m .states) (standingIn x .vectors) (x .cells .masks) (x .cells .entries) (x .cells .corners) lows highs ≡ withinOf m x lows highs
   answered s =
       let h = standing-holds m x s in
       rw (some-high m x h lows highs, lower-is m x h lows highs, upper-is m x h lows highs)

@@ -34,19 +34,19 @@ abbrev pub leastIn : ℕ → List ℕ → List ℤ → List ℕ → List ℕ →
 leastIn n masks entries lows highs v = leastProduct n (weightIn lows) (weightIn highs) (maskedIn n masks entries v)
 
 -- the largest of them, of the vectors whose masks have some states
-abbrev pub lowerIn : ℕ → ℕ → List ℕ → List ℤ → List ℕ → List ℕ → ℕ → ℤ
-lowerIn n vectors masks entries lows highs states =
+abbrev pub lowerInRanges : ℕ → ℕ → List ℕ → List ℤ → List ℕ → List ℕ → ℕ → ℤ
+lowerInRanges n vectors masks entries lows highs states =
     leastIn n masks entries lows highs
     (firstLargestOf vectors (λ v. includes (getD masks v 0) states) (leastIn n masks entries lows highs))
 
 -- the most product of the corners
-abbrev pub upperIn : ℕ → List ℤ → List ℕ → List ℕ → ℤ
-upperIn n corners lows highs = leastProduct n (weightIn highs) (weightIn lows) (cornerIn corners)
+abbrev pub upperInRanges : ℕ → List ℤ → List ℕ → List ℕ → ℤ
+upperInRanges n corners lows highs = leastProduct n (weightIn highs) (weightIn lows) (cornerIn corners)
 
 -- both totals
 abbrev pub totalsIn : ℕ → ℕ → List ℕ → List ℤ → List ℤ → List ℕ → List ℕ → ℕ → Within
 totalsIn n vectors masks entries corners lows highs states =
-    record { verdict = Fine; lower = lowerIn n vectors masks entries lows highs states; upper = upperIn n corners lows highs }
+    record { verdict = Fine; lower = lowerInRanges n vectors masks entries lows highs states; upper = upperInRanges n corners lows highs }
 
 -- an answer, or a refusal without a place where a test does not hold
 abbrev pub givenIf : Bool → ℕ → Within → Within
@@ -54,14 +54,14 @@ givenIf true number r = r
 givenIf false number r = noTotals (Refused number 0)
 
 -- the answer: 24, 17, then 22, else both totals
-abbrev pub answerIn : ℕ → ℕ → List ℕ → List ℤ → List ℤ → List ℕ → List ℕ → Within
-answerIn n vectors masks entries corners lows highs =
+abbrev pub answerWithin : ℕ → ℕ → List ℕ → List ℤ → List ℤ → List ℕ → List ℕ → Within
+answerWithin n vectors masks entries corners lows highs =
     let states = supportIn n (widened n highs) in
     givenIf (rangesHold n lows highs) 24 (givenIf (highsHold n lows highs) 17 (givenIf (someIncludes masks vectors states) 22
     (totalsIn n vectors masks entries corners (widened n lows) (widened n highs) states)))
 
 -- a standing level's vectors and corners in slices, within the limits
-pub record Asked (n vectors : ℕ) (masks : List ℕ) (entries corners : List ℤ) : Type 0 where
+pub record AskedWithin (n vectors : ℕ) (masks : List ℕ) (entries corners : List ℤ) : Type 0 where
   pub few-states : n ≤ maxStates
   pub some-vectors : 0 < vectors
   pub entries-fit : MaskedFit n vectors masks entries

@@ -16,7 +16,7 @@ ghost use Rattle.runs.specs.Demand3.{ModelAccepted, Event, certifier, after, st
 ghost use Rattle.bounds.specs.Steps.{supportIn};
 ghost use Rattle.intervals.specs.Intervals.{rangesHold, highsHold, noTotals, withinOf};
 ghost use Rattle.intervals.specs.Claim.{RangesHold, WithinHolds};
-ghost use Rattle.intervals.specs.Steps.{weightFor, Ranged, lowerIn, totalsIn, answerIn, Asked};
+ghost use Rattle.intervals.specs.Steps.{weightFor, Ranged, lowerInRanges, totalsIn, answerWithin, AskedWithin};
 use tables::Counts;
 use tables::Verdict;
 use tables::read;
@@ -102,7 +102,7 @@ fn surest_product(
     requires { ⌜ MaskedFit n vectors (now masks) (now entries) ⌝ }
     requires { ⌜ (states ≡ supportIn n (now highs)) × (someIncludes (now masks) vectors states ≡ true) ⌝ }
     ensures { λ r. ⌜ r
-        ≡ lowerIn n vectors (now (masks .entry)) (now (entries .entry)) (now (lows .entry)) (now (highs .entry)) states ⌝ }
+        ≡ lowerInRanges n vectors (now (masks .entry)) (now (entries .entry)) (now (lows .entry)) (now (highs .entry)) states ⌝ }
 {
     let mut found = false;
     let mut most: i64 = 0;
@@ -129,7 +129,7 @@ fn totals_at<'b>(
     vectors: usize,
     states: u64,
 ) -> Within
-    requires { ⌜ Asked n vectors (now masks) (now entries) (now corners) ⌝ }
+    requires { ⌜ AskedWithin n vectors (now masks) (now entries) (now corners) ⌝ }
     requires { ⌜ Ranged n (now lows) (now highs) ⌝ }
     requires { ⌜ (states ≡ supportIn n (now highs)) × (someIncludes (now masks) vectors states ≡ true) ⌝ }
     ensures { λ r. ⌜ r
@@ -163,8 +163,8 @@ fn answer<'b, 'c>(
     lows: &'c [u32],
     highs: &'c [u32],
 ) -> Within
-    requires { ⌜ Asked n vectors (now masks) (now entries) (now corners) ⌝ }
-    ensures { λ r. ⌜ r ≡ answerIn n vectors (now (masks .entry)) (now (entries .entry)) (now (corners .entry)) (now (lows .entry)) (now (highs .entry)) ⌝ }
+    requires { ⌜ AskedWithin n vectors (now masks) (now entries) (now corners) ⌝ }
+    ensures { λ r. ⌜ r ≡ answerWithin n vectors (now (masks .entry)) (now (entries .entry)) (now (corners .entry)) (now (lows .entry)) (now (highs .entry)) ⌝ }
 {
     if !ranges_hold(lows, highs, n) {
         return no_totals(Verdict::Refused(24, 0));

@@ -13,7 +13,7 @@ use Rattle.runs.specs.declared.Bounds.{Bounds}
 use Rattle.runs.specs.State.{totalsOf}
 use Rattle.runs.specs.State.{standingVerdict}
 use Rattle.tables.specs.Storage.{rowIn}
-use Rattle.mixtures.specs.Each.{Answers, answers, roomFor, refusalIn, written, eachVerdict, eachOf}
+use Rattle.mixtures.specs.Each.{Answers, answers, roomForAnswers, refusalIn, answersLaid, eachVerdict, eachOf}
 
 -- ---- the mixtures
 module _ {n : ℕ} (count long : ℕ) (some : 0 < n) where
@@ -37,7 +37,7 @@ pub record AnswersRoom (count : ℕ) (y : Answers) : Type 0 where
   pub advice : count ≤ length (y .advice)
 
 pub room-true : (count : ℕ) (y : Answers)
-    → roomFor count (length (y .verdicts)) (length (y .lower)) (length (y .upper)) (length (y .advice)) ≡ true → AnswersRoom count y
+    → roomForAnswers count (length (y .verdicts)) (length (y .lower)) (length (y .upper)) (length (y .advice)) ≡ true → AnswersRoom count y
 room-true count y e =
     let l = and-true _ _ e in
     let u = and-true _ _ (l .1) in
@@ -54,7 +54,7 @@ pub record AnswersAsLong (y z : Answers) : Type 0 where
   pub upper : length (z .upper) ≡ length (y .upper)
   pub advice : length (z .advice) ≡ length (y .advice)
 
-pub written-long : (answer : ℕ → Bounds) (y : Answers) {z : Answers} {i count : ℕ} → z ≡ written answer i y → AnswersRoom count y → i ≤ count
+pub written-long : (answer : ℕ → Bounds) (y : Answers) {z : Answers} {i count : ℕ} → z ≡ answersLaid answer i y → AnswersRoom count y → i ≤ count
     → AnswersAsLong y z
 written-long answer y {z} {i} e room b = rw e record {
   verdicts = laid-length i _ (y .verdicts) (omega (arith, room .verdicts));
@@ -64,13 +64,13 @@ written-long answer y {z} {i} e room b = rw e record {
 }
 
 module _ (answer : ℕ → Bounds) (v₀ : List ℕ) (l₀ u₀ : List ℤ) (a₀ : List ℕ) where
-  pub written-none : answers v₀ l₀ u₀ a₀ ≡ written answer 0 (answers v₀ l₀ u₀ a₀)
+  pub written-none : answers v₀ l₀ u₀ a₀ ≡ answersLaid answer 0 (answers v₀ l₀ u₀ a₀)
   written-none = sym (same (laid-none _ v₀) (laid-none _ l₀) (laid-none _ u₀) (laid-none _ a₀))
 
   pub written-more : {i count k w : ℕ} {v : List ℕ} {l u : List ℤ} {a : List ℕ} {x y : ℤ}
-      → answers v l u a ≡ written answer i (answers v₀ l₀ u₀ a₀) → AnswersRoom count (answers v₀ l₀ u₀ a₀) → i < count → k ≡ refusalIn (answer i .verdict)
+      → answers v l u a ≡ answersLaid answer i (answers v₀ l₀ u₀ a₀) → AnswersRoom count (answers v₀ l₀ u₀ a₀) → i < count → k ≡ refusalIn (answer i .verdict)
       → x ≡ answer i .lower → y ≡ answer i .upper → w ≡ answer i .action .0
-      → answers (set v i k) (set l i x) (set u i y) (set a i w) ≡ written answer (i + 1) (answers v₀ l₀ u₀ a₀)
+      → answers (set v i k) (set l i x) (set u i y) (set a i w) ≡ answersLaid answer (i + 1) (answers v₀ l₀ u₀ a₀)
   written-more {i} e room b k x y w = same
       (laid-turn _ i v₀ 0 (ap (λ (z : Answers). z .verdicts) e) k (omega (arith, room .verdicts)))
       (laid-turn _ i l₀ (pos 0) (ap (λ (z : Answers). z .lower) e) x (omega (arith, room .lower)))
@@ -78,7 +78,7 @@ module _ (answer : ℕ → Bounds) (v₀ : List ℕ) (l₀ u₀ : List ℤ) (a�
       (laid-turn _ i a₀ 0 (ap (λ (z : Answers). z .advice) e) w (omega (arith, room .advice)))
 
 -- alike, where the answers are
-pub written-same : (count : ℕ) (f g : ℕ → Bounds) (y : Answers) → ((i : ℕ) → f i ≡ g i) → written f count y ≡ written g count y
+pub written-same : (count : ℕ) (f g : ℕ → Bounds) (y : Answers) → ((i : ℕ) → f i ≡ g i) → answersLaid f count y ≡ answersLaid g count y
 written-same count f g y h = same
     (laid-cong count _ _ (y .verdicts) (λ i l. ap (λ (r : Bounds). refusalIn (r .verdict)) (h i)))
     (laid-cong count _ _ (y .lower) (λ i l. ap (λ (r : Bounds). r .lower) (h i)))
@@ -103,17 +103,17 @@ module _ (m : Tables) (x : Lent) (packed : List ℕ) (count : ℕ) (y : Answers)
       refused-17 g = goes e f (breaks _ g)
 
       module _ (g : leb (count * m .states) (length packed) ≡ true) where
-        pub refused-9 : roomFor count (length (y .verdicts)) (length (y .lower)) (length (y .upper)) (length (y .advice)) ≡ false
+        pub refused-9 : roomForAnswers count (length (y .verdicts)) (length (y .lower)) (length (y .upper)) (length (y .advice)) ≡ false
             → Refused 9 0 ≡ eachVerdict m x packed count y
         unfolding eachVerdict
         refused-9 h = goes e f (passes 17 0 g (rw h))
 
-        pub given : roomFor count (length (y .verdicts)) (length (y .lower)) (length (y .upper)) (length (y .advice)) ≡ true
+        pub given : roomForAnswers count (length (y .verdicts)) (length (y .lower)) (length (y .upper)) (length (y .advice)) ≡ true
             → Fine ≡ eachVerdict m x packed count y
         unfolding eachVerdict
         given h = goes e f (passes 17 0 g (rw h))
 
-  pub all-written : {z : Answers} → Fine ≡ eachVerdict m x packed count y → z ≡ written (λ i. totalsOf m x (rowIn (m .states) packed i)) count y
+  pub all-written : {z : Answers} → Fine ≡ eachVerdict m x packed count y → z ≡ answersLaid (λ i. totalsOf m x (rowIn (m .states) packed i)) count y
       → z ≡ eachOf m x packed count y
   unfolding eachOf
   all-written e z = z ∙ rw (sym e)

@@ -27,15 +27,15 @@ abbrev pub answers : List ℕ → List ℤ → List ℤ → List ℕ → Answers
 answers verdicts lower upper advice = record { verdicts = verdicts; lower = lower; upper = upper; advice = advice }
 
 -- slices of such lengths have a place for so many answers
-abbrev pub roomFor : ℕ → ℕ → ℕ → ℕ → ℕ → Bool
-roomFor count verdicts lower upper advice = leb count verdicts && (leb count lower && (leb count upper && leb count advice))
+abbrev pub roomForAnswers : ℕ → ℕ → ℕ → ℕ → ℕ → Bool
+roomForAnswers count verdicts lower upper advice = leb count verdicts && (leb count lower && (leb count upper && leb count advice))
 
 -- 7 and 16 of the certifier; then 17 where there are fewer weights than the mixtures have; then 9 where a slice is too short for the answers
 unfoldable pub eachVerdict : Tables → Lent → List ℕ → ℕ → Answers → Verdict
 eachVerdict m x packed count y =
     standingVerdict m x
     before unless (leb (count * m .states) (length packed)) 17 0
-    before unless (roomFor count (length (y .verdicts)) (length (y .lower)) (length (y .upper)) (length (y .advice))) 9 0
+    before unless (roomForAnswers count (length (y .verdicts)) (length (y .lower)) (length (y .upper)) (length (y .advice))) 9 0
 
 -- a refusal's number, and 0 where nothing is refused
 abbrev pub refusalIn : Verdict → ℕ
@@ -43,8 +43,8 @@ refusalIn Fine = 0
 refusalIn (Refused number place) = number
 
 -- answers over what the slices held: at place i, that of mixture i
-abbrev pub written : (ℕ → Bounds) → ℕ → Answers → Answers
-written answer count y = record {
+abbrev pub answersLaid : (ℕ → Bounds) → ℕ → Answers → Answers
+answersLaid answer count y = record {
   verdicts = laid count (λ i. refusalIn (answer i .verdict)) (y .verdicts);
   lower = laid count (λ i. answer i .lower) (y .lower);
   upper = laid count (λ i. answer i .upper) (y .upper);
@@ -52,4 +52,4 @@ written answer count y = record {
 }
 
 unfoldable pub eachOf : Tables → Lent → List ℕ → ℕ → Answers → Answers
-eachOf m x packed count y = left (eachVerdict m x packed count y) (written (λ i. totalsOf m x (rowIn (m .states) packed i)) count y) y
+eachOf m x packed count y = left (eachVerdict m x packed count y) (answersLaid (λ i. totalsOf m x (rowIn (m .states) packed i)) count y) y

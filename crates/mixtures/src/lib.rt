@@ -6,7 +6,7 @@ ghost use lib.ListN.{length};
 ghost use Rattle.tables.specs.Storage.{tablesIn, rowIn};
 ghost use Rattle.levels.specs.Storage.{cells, rows, lent};
 ghost use Rattle.bounds.specs.Steps.{answerIn, Asked};
-ghost use Rattle.mixtures.specs.Each.{answers, roomFor, refusalIn, written, eachVerdict, eachOf};
+ghost use Rattle.mixtures.specs.Each.{answers, roomForAnswers, refusalIn, answersLaid, eachVerdict, eachOf};
 use levels::shape;
 use tables::Counts;
 use tables::Verdict;
@@ -23,7 +23,7 @@ fn refusal_of(v: Verdict) -> u8
 
 // Whether slices of such lengths have a place for so many answers.
 fn room_for(count: usize, verdicts: usize, lower: usize, upper: usize, advice: usize) -> bool
-    ensures { λ r. ⌜ r ≡ roomFor count verdicts lower upper advice ⌝ }
+    ensures { λ r. ⌜ r ≡ roomForAnswers count verdicts lower upper advice ⌝ }
 {
     if verdicts < count {
         return false;
@@ -61,7 +61,7 @@ fn write_answers<'b>(
     requires { ⌜ count * n ≤ length (now mixtures) ⌝ }
     requires { ⌜ (count ≤ length (now verdicts)) × ((count ≤ length (now lower)) × ((count ≤ length (now upper)) × (count ≤ length (now advice)))) ⌝ }
     ensures { λ _. ⌜ answers (now (verdicts .exit)) (now (lower .exit)) (now (upper .exit)) (now (advice .exit))
-        ≡ written (λ i. answerIn n m vectors points (now (actions .entry)) (now (masks .entry)) (now (entries .entry)) (now (corners .entry))
+        ≡ answersLaid (λ i. answerIn n m vectors points (now (actions .entry)) (now (masks .entry)) (now (entries .entry)) (now (corners .entry))
         (now (weights .entry)) (now (informed .entry)) (now (gains .entry)) (rowIn n (now (mixtures .entry)) i)) count
         (answers (now (verdicts .entry)) (now (lower .entry)) (now (upper .entry)) (now (advice .entry))) ⌝ }
 {

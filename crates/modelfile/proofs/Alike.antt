@@ -8,12 +8,12 @@ use Rattle.words.specs.Words.{Words, wordsIn, between}
 use Rattle.drafts.specs.Drafts.{stated}
 use Rattle.numerals.specs.Numeral.{probabilityForm, startForm, rewardForm}
 use Rattle.numerals.proofs.Before.{plain-keeps}
-use Rattle.grammar.specs.Grammar.{Answer, got, refused, _then_, key, named, field}
+use Rattle.grammar.specs.Grammar.{Answer, got, refused, _then_, key, keyNamed, field}
 use Rattle.grammar.proofs.Alike.{Alike, alike-same, alike-then, field-alike}
 use Rattle.entries.specs.Entries.{wholly, Forms, forms, startNumberBy, row}
 use Rattle.statements.specs.Statements.{statementsBy}
 use Rattle.statements.proofs.Alike.{AllWider, wholly-alike, row-alike, start-alike, statements-alike}
-use Rattle.headers.specs.Headers.{discountName, valuesName, rewardWord, startName, counted, headerBy, startBy}
+use Rattle.headers.specs.Headers.{discountName, valuesName, rewardWord, startName, headerCounts, headerBy, startBy}
 use Rattle.modelfile.specs.ModelFile.{maxBytes, Text, noCells, bodyBy, Room, roomFor, roomedBy, textBy, refusedFile, ended, modelFileBy, modelFile}
 use Rattle.modelfile.specs.Before.{formsBefore}
 
@@ -25,7 +25,7 @@ module _ (f g : Forms) (h : AllWider f g) where
   numbers-alike : (n : ℕ) (ws : Words) → Alike (startBy f n ws) (startBy g n ws)
   unfolding startBy
   numbers-alike n ws =
-      after (named startName ws) _ _ (λ _ ws.
+      after (keyNamed startName ws) _ _ (λ _ ws.
       wholly-alike (row (startNumberBy f) (stated 1 1 n 0 0) 0 n (replicate maxStates 0) ws)
       (row (startNumberBy g) (stated 1 1 n 0 0) 0 n (replicate maxStates 0) ws)
       (row-alike (startNumberBy f) (startNumberBy g) (stated 1 1 n 0 0) (start-alike f g h) 0 n (replicate maxStates 0) ws))
@@ -52,7 +52,7 @@ module _ (f g : Forms) (h : AllWider f g) where
   header-alike ws =
       alike-then (field discountName (f .probability) 0 one ws) (field discountName (g .probability) 0 one ws) _ _
       (field-alike (f .probability) (g .probability) (h .probabilities) discountName 0 one ws)
-      (λ d ws. alike-same (named valuesName ws then λ _ ws. key rewardWord ws then λ _ ws. counted d ws))
+      (λ d ws. alike-same (keyNamed valuesName ws then λ _ ws. key rewardWord ws then λ _ ws. headerCounts d ws))
 
   text-alike : (r : Room) (fuel : ℕ) (ws : Words) → Alike (textBy f r fuel ws) (textBy g r fuel ws)
   unfolding roomedBy

@@ -17,37 +17,37 @@ use Rattle.statements.specs.Statements.{draft}
 use Rattle.headers.specs.declared.Headed.{Headed}
 use Rattle.headers.specs.declared.Headed.the-variants.{Counts as Counted}
 use Rattle.headers.specs.declared.Headed.the-variants.{Refused as NotHeaded}
-use Rattle.headers.specs.Headers.{counts}
-use Rattle.headers.specs.Steps.{CountsFit, headedOf, Within, Heads}
+use Rattle.headers.specs.Headers.{countsWith}
+use Rattle.headers.specs.Steps.{CountsFit, headedOf, PlacedWithin, Heads}
 use Rattle.modelfile.specs.declared.TablesRead.{TablesRead}
 use Rattle.modelfile.specs.ModelFile.{maxBytes, textBy, modelFile, modelFileBy, refusing}
 use Rattle.modelfile.specs.ModelFile.{Text, textOf, sumsVerdict, ModelFile, refusedFile, judgedFile, ended, Room, roomFor, roomed, bodyBy, roomedBy}
-use Rattle.modelfile.specs.Steps.{told, fileIn, handed}
+use Rattle.modelfile.specs.Steps.{fileAnswer, fileIn, handedFile}
 
 -- a value hands back nothing
-pub hands-none : (r : Read) → tagOf read-type.the-type r ≡ 0 → refusing (Refused 0 0) ≡ handed r
+pub hands-none : (r : Read) → tagOf read-type.the-type r ≡ 0 → refusing (Refused 0 0) ≡ handedFile r
 hands-none (Value v next) e = refl
 hands-none (NotRead number place) e = absurd (omega arith)
 
-pub headed-within : (s : List ℕ) {r : Headed} (n m k d next : ℕ) → Within s r → r ≡ Counted n m k d next → CountsFit n m k d × (next ≤ length s)
-headed-within s n m k d next h e = subst (Within s) e h
+pub headed-within : (s : List ℕ) {r : Headed} (n m k d next : ℕ) → PlacedWithin s r → r ≡ Counted n m k d next → CountsFit n m k d × (next ≤ length s)
+headed-within s n m k d next h e = subst (PlacedWithin s) e h
 
 module _ (transition observation : List ℕ) (reward : List ℤ) (start : List ℕ) where
   -- h is the answer on a file, and where it is not refused the slices hold it
   abbrev pub Answers : ModelFile → TablesRead → Type 0
-  Answers x h = (h ≡ told x) × (h .verdict ≡ Fine → fileIn h transition observation reward start ≡ x)
+  Answers x h = (h ≡ fileAnswer x) × (h .verdict ≡ Fine → fileIn h transition observation reward start ≡ x)
 
   pub answers-refused : (number place : ℕ) {h : TablesRead} → h ≡ refusing (Refused number place) → Answers (refusedFile number place) h
   answers-refused number place e = (e, λ v. never (sym (ap (λ (h : TablesRead). h .verdict) e) ∙ v))
 
   module _ {A : Type 0} (size : ℕ) (k : A → Words → Answer Text) {h : TablesRead} where
-    handed-answers : (f : ℕ → A) (s : List ℕ) (r : Read) → tagOf read-type.the-type r ≡ 1 → h ≡ handed r → Answers (ended size (answerOf f s r then k)) h
+    handed-answers : (f : ℕ → A) (s : List ℕ) (r : Read) → tagOf read-type.the-type r ≡ 1 → h ≡ handedFile r → Answers (ended size (answerOf f s r then k)) h
     handed-answers f s (Value v next) e q = absurd (omega arith)
     handed-answers f s (NotRead number place) e q = answers-refused number place q
 
     module _ (f : ℕ → A) (s : List ℕ) (r : Read) {a : Answer A} (is : answerOf f s r ≡ a) where
       -- words that are refused, or read
-      pub answers-back : tagOf read-type.the-type r ≡ 1 → h ≡ handed r → Answers (ended size (a then k)) h
+      pub answers-back : tagOf read-type.the-type r ≡ 1 → h ≡ handedFile r → Answers (ended size (a then k)) h
       answers-back e q = subst (λ (a : Answer A). Answers (ended size (a then k)) h) is (handed-answers f s r e q)
 
       pub answers-on : (v next : ℕ) → r ≡ Value v next → Answers (ended size (k (f v) (wordsIn between s next))) h → Answers (ended size (a then k)) h
@@ -59,7 +59,7 @@ module _ (transition observation : List ℕ) (reward : List ℤ) (start : List �
     answers-unheaded number place e q =
         subst (λ (a : Answer Counts). Answers (ended size (a then k)) h) (sym (ap (headedOf s) e) ∙ t .is) (answers-refused number place q)
 
-    pub answers-headed : (n m o d next : ℕ) → r ≡ Counted n m o d next → Answers (ended size (k (counts n m o d) (wordsIn between s next))) h
+    pub answers-headed : (n m o d next : ℕ) → r ≡ Counted n m o d next → Answers (ended size (k (countsWith n m o d) (wordsIn between s next))) h
         → Answers (ended size (a then k)) h
     answers-headed n m o d next e g = subst (λ (a : Answer Counts). Answers (ended size (a then k)) h) (sym (ap (headedOf s) e) ∙ t .is) g
 

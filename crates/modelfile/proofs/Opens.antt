@@ -17,12 +17,12 @@ use Rattle.tables.proofs.Accepted.{valid}
 use Rattle.tables.proofs.Refusals.{never, before-fine, unless-fine}
 use Rattle.words.specs.Words.{Words, wordsIn, between}
 use Rattle.numerals.specs.Numeral.{countForm, probabilityForm}
-use Rattle.grammar.specs.Grammar.{Answer, got, refused, _then_, key, named, field}
+use Rattle.grammar.specs.Grammar.{Answer, got, refused, _then_, key, keyNamed, field}
 use Rattle.grammar.proofs.Gives.{Gives, gives-then, gives-after, field-gives}
 use Rattle.entries.specs.Entries.{wholly, forms}
 use Rattle.statements.specs.Statements.{Draft, draft, statements}
 use Rattle.statements.proofs.Small.{Small, fills-gives, statements-small}
-use Rattle.headers.specs.Headers.{discountName, valuesName, rewardWord, statesName, actionsName, observationsName, counts, counted, header}
+use Rattle.headers.specs.Headers.{discountName, valuesName, rewardWord, statesName, actionsName, observationsName, countsWith, headerCounts, header}
 use Rattle.headers.specs.Headers.{headerBy, startNumbers}
 use Rattle.headers.specs.Steps.{CountsFit}
 use Rattle.modelfile.specs.ModelFile.{maxBytes, rewardCells, Text, textOf, noCells, Room, roomFor, roomed, textBy, placed, sumsVerdict, ModelFile}
@@ -42,7 +42,7 @@ cellsOf m = draft (m .transition) (m .observation) (m .reward)
 
 -- tables of such counts, with no cell past its limit
 pub record SmallTables (c : Counts) (m : Tables) : Type 0 where
-  pub counts : countsOf m ≡ c
+  pub countsWith : countsOf m ≡ c
   pub small : Small (cellsOf m)
 
 record Limited (r : Room) (t : Text) : Type 0 where
@@ -106,16 +106,16 @@ roomed-limited : (r : Room) (fuel : ℕ) (c : Counts) (ws : Words) → Fits c �
 unfolding roomedBy
 roomed-limited r fuel c ws h = room-limited r fuel c ws h (roomFor r c) refl
 
-counted-fits : (d : ℕ) (ws : Words) → d ≤ one → Gives Fits (counted d ws)
+counted-fits : (d : ℕ) (ws : Words) → d ≤ one → Gives Fits (headerCounts d ws)
 counted-fits d ws hd =
     gives-then (Within maxStates) Fits (field statesName countForm 1 maxStates ws)
     (λ n ws. field actionsName countForm 1 maxActions ws then λ m ws. field observationsName countForm 1 maxObservations ws then λ k ws.
-    got (counts n m k d) ws)
+    got (countsWith n m k d) ws)
     (field-gives statesName countForm 1 maxStates ws)
     (λ n ws hn. gives-then (Within maxActions) Fits (field actionsName countForm 1 maxActions ws)
-    (λ m ws. field observationsName countForm 1 maxObservations ws then λ k ws. got (counts n m k d) ws)
+    (λ m ws. field observationsName countForm 1 maxObservations ws then λ k ws. got (countsWith n m k d) ws)
     (field-gives actionsName countForm 1 maxActions ws)
-    (λ m ws hm. gives-then (Within maxObservations) Fits (field observationsName countForm 1 maxObservations ws) (λ k ws. got (counts n m k d) ws)
+    (λ m ws hm. gives-then (Within maxObservations) Fits (field observationsName countForm 1 maxObservations ws) (λ k ws. got (countsWith n m k d) ws)
     (field-gives observationsName countForm 1 maxObservations ws)
     (λ k ws hk. record { states = hn; actions = hm; observations = hk; discount = hd })))
 
@@ -123,10 +123,10 @@ pub header-fits : (ws : Words) → Gives Fits (header ws)
 unfolding headerBy
 header-fits ws =
     gives-then (λ v. (0 ≤ v) × (v ≤ one)) Fits (field discountName probabilityForm 0 one ws)
-    (λ d ws. named valuesName ws then λ _ ws. key rewardWord ws then λ _ ws. counted d ws)
+    (λ d ws. keyNamed valuesName ws then λ _ ws. key rewardWord ws then λ _ ws. headerCounts d ws)
     (field-gives discountName probabilityForm 0 one ws)
-    (λ d ws hd. gives-after Fits (named valuesName ws) (λ _ ws. key rewardWord ws then λ _ ws. counted d ws)
-    (λ _ ws. gives-after Fits (key rewardWord ws) (λ _ ws. counted d ws) (λ _ ws. counted-fits d ws (hd .1))))
+    (λ d ws hd. gives-after Fits (keyNamed valuesName ws) (λ _ ws. key rewardWord ws then λ _ ws. headerCounts d ws)
+    (λ _ ws. gives-after Fits (key rewardWord ws) (λ _ ws. headerCounts d ws) (λ _ ws. counted-fits d ws (hd .1))))
 
 text-limited : (r : Room) (fuel : ℕ) (ws : Words) → Gives (Limited r) (textBy forms r fuel ws)
 text-limited r fuel ws =

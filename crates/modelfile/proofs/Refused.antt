@@ -12,7 +12,7 @@ use Rattle.tables.specs.Judged.{rowsTotal}
 use Rattle.words.specs.Words.{Words, word, end, between, wordsOf, wordsIn}
 use Rattle.drafts.specs.Drafts.{stated}
 use Rattle.numerals.specs.Numeral.{countForm, probabilityForm, startForm, rewardForm}
-use Rattle.grammar.specs.Grammar.{Answer, got, refused, choose, key, colon, star, named, field, index}
+use Rattle.grammar.specs.Grammar.{Answer, got, refused, choose, key, colon, star, keyNamed, field, index}
 use Rattle.grammar.proofs.Named.{UpTo, up-more, words-up, Word-refused, Named, then-named, key-named, number-named, keyed, keys-named, field-named}
 use Rattle.grammar.proofs.Named.{index-named, signed-named}
 use Rattle.entries.specs.Entries.{Outcome, filled, stopped, upon, wholly, forms, probability, startNumber, indexed, row, entry, table}
@@ -133,7 +133,7 @@ module _ (size : ℕ) where
     start-named : (n : ℕ) (ws : Words) → UpTo size c ws → Named size c (startNumbers n ws)
     unfolding startBy
     start-named n ws h =
-        then-named size c c (named startName ws) _ (keys-named size c startName colon ws h) (λ _ ws h.
+        then-named size c c (keyNamed startName ws) _ (keys-named size c startName colon ws h) (λ _ ws h.
         wholly-named c (row startNumber (stated 1 1 n 0 0) 0 n (replicate maxStates 0) ws)
         (row-left c startNumber (stated 1 1 n 0 0) (λ ws. number-named size c startForm 0 startTotal ws) 0 n (replicate maxStates 0) ws h))
 
@@ -156,7 +156,7 @@ module _ (size : ℕ) where
     unfolding headerBy
     header-named ws h =
         then-named size c c (field _ probabilityForm 0 _ ws) _ (field-named size c _ probabilityForm 0 _ ws h) (λ d ws h.
-        then-named size c c (named _ ws) _ (keys-named size c _ colon ws h) (λ _ ws h.
+        then-named size c c (keyNamed _ ws) _ (keys-named size c _ colon ws h) (λ _ ws h.
         then-named size c c (key _ ws) _ (keyed size c _ ws h) (λ _ ws h.
         then-named size c c (field _ countForm 1 _ ws) _ (field-named size c _ countForm 1 _ ws h) (λ n ws h.
         then-named size c c (field _ countForm 1 _ ws) _ (field-named size c _ countForm 1 _ ws h) (λ m ws h.

@@ -11,8 +11,8 @@ use Rattle.modelfile.specs.declared.TablesRead.{TablesRead}
 use Rattle.modelfile.specs.ModelFile.{ModelFile, refusing}
 
 -- what is answered of a file: its refusal and its counts
-abbrev pub told : ModelFile → TablesRead
-told x = record { verdict = x .verdict; counts = countsOf (x .tables) }
+abbrev pub fileAnswer : ModelFile → TablesRead
+fileAnswer x = record { verdict = x .verdict; counts = countsOf (x .tables) }
 
 -- the file of which an answer and slices are read
 abbrev pub fileIn : TablesRead → List ℕ → List ℕ → List ℤ → List ℕ → ModelFile
@@ -20,6 +20,6 @@ fileIn r transition observation reward start =
     record { verdict = r .verdict; tables = tablesIn (r .counts) transition observation reward; start = start }
 
 -- what is handed back of a word that was refused. A value is never handed back; proofs/Refused.antt says that no file is answered by number 0.
-abbrev pub handed : Read → TablesRead
-handed (Value v next) = refusing (Refused 0 0)
-handed (NotRead number place) = refusing (Refused number place)
+abbrev pub handedFile : Read → TablesRead
+handedFile (Value v next) = refusing (Refused 0 0)
+handedFile (NotRead number place) = refusing (Refused number place)

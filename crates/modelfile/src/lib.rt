@@ -8,10 +8,10 @@ ghost use Rattle.words.specs.Words.{wordsIn, between};
 ghost use Rattle.tables.specs.Limits.{maxStates, maxActions, maxObservations};
 ghost use Rattle.tables.specs.declared.Verdict.the-variants.{Fine};
 ghost use Rattle.statements.specs.Statements.{draft};
-ghost use Rattle.headers.specs.Headers.{counts};
+ghost use Rattle.headers.specs.Headers.{countsWith};
 ghost use Rattle.headers.specs.Steps.{CountsFit};
 ghost use Rattle.modelfile.specs.ModelFile.{textOf, placed, sumsVerdict, ended, rewardCells, body, room, roomed, modelFile, refusing};
-ghost use Rattle.modelfile.specs.Steps.{handed, told, fileIn};
+ghost use Rattle.modelfile.specs.Steps.{handedFile, fileAnswer, fileIn};
 use grammar::Read;
 use headers::Headed;
 use tables::Counts;
@@ -21,7 +21,7 @@ use tables::judge;
 // What a file is refused for, and the counts of its tables; with a refusal all of them are 0.
 pub struct TablesRead {
     pub verdict: Verdict,
-    pub counts: Counts,
+    pub countsWith: Counts,
 }
 
 impl TablesRead {
@@ -34,7 +34,7 @@ pub fn refusal(v: Verdict) -> TablesRead
 {
     TablesRead {
         verdict: v,
-        counts: Counts {
+        countsWith: Counts {
             states: 0,
             actions: 0,
             observations: 0,
@@ -45,7 +45,7 @@ pub fn refusal(v: Verdict) -> TablesRead
 
 // The refusal of a word, handed back.
 fn back(x: Read) -> TablesRead
-    ensures { λ r. ⌜ r ≡ handed x ⌝ }
+    ensures { λ r. ⌜ r ≡ handedFile x ⌝ }
 {
     match x {
         Read::Refused(number, place) => refusal(Verdict::Refused(number, place)),
@@ -76,7 +76,7 @@ pub fn totals_of(
     requires { ⌜ (m ≤ maxActions) × ((n ≤ maxStates) × (k ≤ maxObservations)) ⌝ }
     requires { ⌜ (m * n * n ≤ length (now transition)) × ((m * n * k ≤ length (now observation)) × (n ≤ length (now start))) ⌝ }
     ensures { λ r. ⌜ ((discount : ℕ) (reward : List ℤ) → r ≡ sumsVerdict size
-        (textOf (counts n m k discount) (now (start .entry)) (draft (now (transition .entry)) (now (observation .entry)) reward))) ⌝ }
+        (textOf (countsWith n m k discount) (now (start .entry)) (draft (now (transition .entry)) (now (observation .entry)) reward))) ⌝ }
 {
     if judge::row_total(start, 0, n) != Headed::START {
         return Verdict::Refused(4, size);
@@ -105,7 +105,7 @@ pub fn body_at(
     requires { ⌜ now observation ≡ replicate (maxActions * maxStates * maxObservations) 0 ⌝ }
     requires { ⌜ now reward ≡ replicate (rewardCells full) (pos 0) ⌝ }
     requires { ⌜ now start ≡ replicate maxStates 0 ⌝ }
-    ensures { λ r. ⌜ r ≡ told (ended (length (now (file .entry)))
+    ensures { λ r. ⌜ r ≡ fileAnswer (ended (length (now (file .entry)))
         (body full (length (now (file .entry)) + 1) c (wordsIn between (now (file .entry)) at))) ⌝ }
     ensures { λ r. ⌜ (r .verdict ≡ Fine
         → fileIn r (now (transition .exit)) (now (observation .exit)) (now (reward .exit)) (now (start .exit)) ≡ ended (length (now (file .entry)))
@@ -128,7 +128,7 @@ pub fn body_at(
     };
     TablesRead {
         verdict: Verdict::Fine,
-        counts: c,
+        countsWith: c,
     }
 }
 
@@ -151,7 +151,7 @@ fn roomed_at(
     requires { ⌜ now observation ≡ replicate (maxActions * maxStates * maxObservations) 0 ⌝ }
     requires { ⌜ now reward ≡ replicate (maxActions * maxStates) (pos 0) ⌝ }
     requires { ⌜ now start ≡ replicate maxStates 0 ⌝ }
-    ensures { λ r. ⌜ r ≡ told (ended (length (now (file .entry)))
+    ensures { λ r. ⌜ r ≡ fileAnswer (ended (length (now (file .entry)))
         (roomed (room transitions observations rewards) (length (now (file .entry)) + 1) c (wordsIn between (now (file .entry)) at))) ⌝ }
     ensures { λ r. ⌜ (r .verdict ≡ Fine
         → fileIn r (now (transition .exit)) (now (observation .exit)) (now (reward .exit)) (now (start .exit)) ≡ ended (length (now (file .entry)))
@@ -178,7 +178,7 @@ pub fn read(
     requires { ⌜ now observation ≡ replicate (maxActions * maxStates * maxObservations) 0 ⌝ }
     requires { ⌜ now reward ≡ replicate (maxActions * maxStates) (pos 0) ⌝ }
     requires { ⌜ now start ≡ replicate maxStates 0 ⌝ }
-    ensures { λ r. ⌜ r ≡ told (modelFile (room transitions observations rewards) (now (file .entry))) ⌝ }
+    ensures { λ r. ⌜ r ≡ fileAnswer (modelFile (room transitions observations rewards) (now (file .entry))) ⌝ }
     ensures { λ r. ⌜ (r .verdict ≡ Fine
         → fileIn r (now (transition .exit)) (now (observation .exit)) (now (reward .exit)) (now (start .exit))
         ≡ modelFile (room transitions observations rewards) (now (file .entry))) ⌝ }

@@ -12,7 +12,7 @@ use Rattle.words.specs.Class.{classOf}
 use Rattle.numerals.specs.declared.Amount.{Amount}
 use Rattle.numerals.specs.declared.Amount.the-variants.{Is, Not}
 use Rattle.numerals.specs.declared.Form.{Form}
-use Rattle.numerals.specs.Numeral.{isDigit, isPoint, digits, value, fitting, exponent, pointed, enough, decimal, fraction}
+use Rattle.numerals.specs.Numeral.{isDigit, isPoint, digits, value, fitting, exponent, pointed, enough, afterPoint, fraction}
 use Rattle.numerals.specs.Numeral.{amountOf}
 use Rattle.numerals.specs.Before.{plain, fractionBefore, amountBefore}
 use Rattle.numerals.proofs.Laws.{exponent-end, exponent-not}
@@ -64,7 +64,7 @@ same-whole true true a = refl
 module _ (form : Form) where
   pointed-plain : (d : Bool) (n whole : ℕ) (w : List ℕ)
       → fitting d (fraction (plain form) n whole w) ≡ fitting (leb 1 n && d) (fractionBefore (form .places) whole w)
-  unfolding fraction decimal exponent
+  unfolding fraction afterPoint exponent
   pointed-plain d n whole [] = same-whole d (leb 1 n) (Is whole)
   pointed-plain d n whole (b ∷ w) =
       let p = isPoint (classOf b) in
@@ -105,8 +105,8 @@ and-keeps true a b h e = h e
 and-keeps false a b h e = e
 
 module _ (form : Form) where
-  decimal-keeps : (n whole : ℕ) (w : List ℕ) → Keeps (decimal (plain form) n whole w) (decimal form n whole w)
-  unfolding decimal
+  decimal-keeps : (n whole : ℕ) (w : List ℕ) → Keeps (afterPoint (plain form) n whole w) (afterPoint form n whole w)
+  unfolding afterPoint
   decimal-keeps n whole w =
       fitting-keeps _ _ _ _ (and-keeps (leb (digits w) (form .places)) _ _ (enough-keeps (form .loose) n (digits w))) (exponent-keeps (form .loose) _ _)
 
@@ -114,8 +114,8 @@ module _ (form : Form) where
   unfolding fraction
   fraction-keeps n whole w = either (pointed w)
     where
-      either : (t : Bool) → Keeps (cond t (decimal (plain form) n whole (drop 1 w)) (fitting (leb 1 n) (exponent false whole w)))
-          (cond t (decimal form n whole (drop 1 w)) (fitting (leb 1 n) (exponent (form .loose) whole w)))
+      either : (t : Bool) → Keeps (cond t (afterPoint (plain form) n whole (drop 1 w)) (fitting (leb 1 n) (exponent false whole w)))
+          (cond t (afterPoint form n whole (drop 1 w)) (fitting (leb 1 n) (exponent (form .loose) whole w)))
       either true = decimal-keeps n whole (drop 1 w)
       either false = fitting-keeps (leb 1 n) (leb 1 n) (exponent false whole w) (exponent (form .loose) whole w) (λ e. e) (exponent-keeps (form .loose) whole w)
 

@@ -20,8 +20,8 @@ use Rattle.numerals.specs.declared.Amount.{Amount}
 use Rattle.numerals.specs.declared.Amount.the-variants.{Is, Not}
 use Rattle.numerals.specs.declared.Form.{Form}
 use Rattle.numerals.specs.Numeral.{isDigit, isPoint, digits, value, isMinus, negative, fitting}
-use Rattle.numerals.specs.Numeral.{unsigned, scaled, mostPower, exponentMark, powered, exponent, pointed, enough, decimal, fraction, amountOf}
-use Rattle.numerals.specs.Steps.{mostRead, mostDigits, mostPlaces, mostUnits, Short, Written}
+use Rattle.numerals.specs.Numeral.{unsigned, scaled, mostPower, exponentMark, powered, exponent, pointed, enough, afterPoint, fraction, amountOf}
+use Rattle.numerals.specs.Steps.{mostRead, mostDigits, mostPlaces, mostUnits, Short, WrittenDigits}
 
 -- ---- bytes
 never : {A : Type 0} → false ≡ true → A
@@ -105,7 +105,7 @@ module _ (w : List ℕ) (at : ℕ) (h : at < length w) where
   digit-here l = digit-first (isDigit (classOf (getD w at 0))) (digits (drop (at + 1) w)) (rw digits-in at l)
 
 -- ---- digits as they were read
-module _ (w : List ℕ) {from most end v : ℕ} (d : Written w from most end v) where
+module _ (w : List ℕ) {from most end v : ℕ} (d : WrittenDigits w from most end v) where
   -- no digit follows: they are all there
   pub written-all : digits (drop end w) ≡ 0 → (end ≡ from + digits (drop from w)) × (v ≡ value 0 (drop from w))
   written-all e = (omega (arith, d .count), sym (value-end v (drop end w) e) ∙ d .worth)
@@ -266,16 +266,16 @@ enough-both false n k h l = sym (and-is (le-leb 1 n (omega arith)) (le-leb 1 k (
 
 module _ (form : Form) (n whole : ℕ) (w : List ℕ) where
   pub decimal-is : digits w ≤ form .places → enough (form .loose) n (digits w) ≡ true
-      → decimal form n whole w ≡ exponent (form .loose) (whole + value 0 w * 10 ^ (form .places - digits w)) (drop (digits w) w)
-  unfolding decimal
+      → afterPoint form n whole w ≡ exponent (form .loose) (whole + value 0 w * 10 ^ (form .places - digits w)) (drop (digits w) w)
+  unfolding afterPoint
   decimal-is few some = accepted _ _ (and-is (le-leb _ _ few) some)
 
-  pub decimal-not : (digits w ≤ form .places → enough (form .loose) n (digits w) ≡ true → ⊥) → decimal form n whole w ≡ Not
-  unfolding decimal
+  pub decimal-not : (digits w ≤ form .places → enough (form .loose) n (digits w) ≡ true → ⊥) → afterPoint form n whole w ≡ Not
+  unfolding afterPoint
   decimal-not bad =
       refused _ _ (λ e. let p = and-eq-true-iff (leb (digits w) (form .places)) (enough (form .loose) n (digits w)) .0 e in bad (leb-true _ _ (p .0)) (p .1))
 
-  pub fraction-pointed : pointed w ≡ true → fraction form n whole w ≡ decimal form n whole (drop 1 w)
+  pub fraction-pointed : pointed w ≡ true → fraction form n whole w ≡ afterPoint form n whole (drop 1 w)
   unfolding fraction
   fraction-pointed e = rw e
 

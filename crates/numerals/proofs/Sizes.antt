@@ -16,7 +16,7 @@ use Rattle.words.specs.Class.{classOf}
 use Rattle.numerals.specs.declared.Amount.{Amount}
 use Rattle.numerals.specs.declared.Amount.the-variants.{Is, Not}
 use Rattle.numerals.specs.declared.Form.{Form}
-use Rattle.numerals.specs.Numeral.{isDigit, digits, value, fitting, exponent, pointed, enough, decimal, fraction, amountOf}
+use Rattle.numerals.specs.Numeral.{isDigit, digits, value, fitting, exponent, pointed, enough, afterPoint, fraction, amountOf}
 use Rattle.numerals.proofs.Laws.{digit-byte, power-least, power-some}
 
 -- ---- digits
@@ -80,8 +80,8 @@ module _ (form : Form) (plain : form .loose ≡ false) where
       ∙ pow-add 10 (digits w) (form .places - digits w) in
       omega (arith, whole, power-some (form .places - digits w), less-times (10 ^ digits w) (10 ^ (form .places - digits w)) (digits-below w))
 
-  decimal-below : (n whole : ℕ) (w : List ℕ) → whole + 10 ^ form .places ≤ limit → OfNumber (λ v. v < limit) (decimal form n whole w)
-  unfolding decimal
+  decimal-below : (n whole : ℕ) (w : List ℕ) → whole + 10 ^ form .places ≤ limit → OfNumber (λ v. v < limit) (afterPoint form n whole w)
+  unfolding afterPoint
   decimal-below n whole w h =
       of-fitting (λ v. v < limit) (leb (digits w) (form .places) && enough (form .loose) n (digits w))
       (exponent (form .loose) (whole + value 0 w * 10 ^ (form .places - digits w)) (drop (digits w) w)) (λ t.
@@ -92,7 +92,7 @@ module _ (form : Form) (plain : form .loose ≡ false) where
   fraction-below : (n whole : ℕ) (w : List ℕ) → whole + 10 ^ form .places ≤ limit → OfNumber (λ v. v < limit) (fraction form n whole w)
   unfolding fraction
   fraction-below n whole w h =
-      of-cond (λ v. v < limit) (pointed w) (decimal form n whole (drop 1 w)) (fitting (leb 1 n) (exponent (form .loose) whole w))
+      of-cond (λ v. v < limit) (pointed w) (afterPoint form n whole (drop 1 w)) (fitting (leb 1 n) (exponent (form .loose) whole w))
       (decimal-below n whole (drop 1 w) h)
       (of-fitting (λ v. v < limit) (leb 1 n) (exponent (form .loose) whole w) (λ _. of-exponent (λ v. v < limit) (form .loose) whole w plain
       (omega (arith, power-some (form .places)))))

@@ -14,8 +14,8 @@ use Rattle.numerals.specs.declared.Amount.{Amount}
 use Rattle.numerals.specs.declared.Amount.the-variants.{Is, Not}
 use Rattle.numerals.specs.declared.Form.{Form}
 use Rattle.numerals.specs.Numeral.{isDigit, isPoint, digits, value, negative, unsigned, fitting, scaled, isPower, powered, exponentMark, exponent}
-use Rattle.numerals.specs.Numeral.{enough, decimal, fraction, amountOf}
-use Rattle.numerals.specs.Worth.{mantissa, decimals, powerPart, raised, lowered, IsWorth}
+use Rattle.numerals.specs.Numeral.{enough, afterPoint, fraction, amountOf}
+use Rattle.numerals.specs.Worth.{mantissa, decimals, powerPart, powerUp, powerDown, IsWorth}
 use Rattle.numerals.proofs.Laws.{digit-byte, point-byte}
 
 -- ---- a word that is a number
@@ -78,7 +78,7 @@ scaled-worth true p v x e =
     let q : v / 10 ^ p ≡ x = ap unitsOf (f .1) in
     sym (ap (λ (n : ℕ). n * 10 ^ p) q) ∙ omega (arith, div-add-mod' v (10 ^ p), eqb-true (v % 10 ^ p) 0 (f .0)) ∙ sym (mul-one v)
 
-powered-worth : (v : ℕ) (w : List ℕ) (x : ℕ) → powered v w ≡ Is x → x * 10 ^ lowered w ≡ v * 10 ^ raised w
+powered-worth : (v : ℕ) (w : List ℕ) (x : ℕ) → powered v w ≡ Is x → x * 10 ^ powerDown w ≡ v * 10 ^ powerUp w
 unfolding powered
 powered-worth v w x e = scaled-worth (negative w) (value 0 (unsigned w)) v x (fitted (isPower (unsigned w)) _ e .1)
 
@@ -86,7 +86,7 @@ powered-worth v w x e = scaled-worth (negative w) (value 0 (unsigned w)) v x (fi
 record Scaled (v : ℕ) (t : List ℕ) (x : ℕ) : Type 0 where
   ends : (u : ℕ) → mantissa u t ≡ u
   none : decimals t ≡ 0
-  worth : x * 10 ^ lowered (powerPart t) ≡ v * 10 ^ raised (powerPart t)
+  worth : x * 10 ^ powerDown (powerPart t) ≡ v * 10 ^ powerUp (powerPart t)
 
 exponent-worth : (loose : Bool) (v : ℕ) (t : List ℕ) (x : ℕ) → exponent loose v t ≡ Is x → Scaled v t x
 unfolding exponent mantissa decimals powerPart value
@@ -131,15 +131,15 @@ step-power v b w e = ap (λ (t : Bool). cond t w (powerPart w)) (ne-eqb b expone
 
 module _ (form : Form) (u : ℕ) where
   abbrev Worth : List ℕ → ℕ → Type 0
-  Worth t x = x * (10 ^ decimals t * 10 ^ lowered (powerPart t)) ≡ mantissa u t * 10 ^ raised (powerPart t) * 10 ^ form .places
+  Worth t x = x * (10 ^ decimals t * 10 ^ powerDown (powerPart t)) ≡ mantissa u t * 10 ^ powerUp (powerPart t) * 10 ^ form .places
 
   plain-worth : (n : ℕ) (t : List ℕ) (x : ℕ) → fitting (leb 1 n) (exponent (form .loose) (u * 10 ^ form .places) t) ≡ Is x → Worth t x
   plain-worth n t x e =
       let s = exponent-worth (form .loose) (u * 10 ^ form .places) t x (fitted (leb 1 n) _ e .1) in
       rw (s .none, s .ends u) (alone x _ u (10 ^ form .places) _ (s .worth))
 
-  decimal-worth : (n : ℕ) (w : List ℕ) (x : ℕ) → decimal form n (u * 10 ^ form .places) w ≡ Is x → Worth (46 ∷ w) x
-  unfolding decimal mantissa decimals powerPart
+  decimal-worth : (n : ℕ) (w : List ℕ) (x : ℕ) → afterPoint form n (u * 10 ^ form .places) w ≡ Is x → Worth (46 ∷ w) x
+  unfolding afterPoint mantissa decimals powerPart
   decimal-worth n w x e =
       let k = digits w in
       let p = form .places in
@@ -158,7 +158,7 @@ module _ (form : Form) (u : ℕ) where
   fraction-worth n (b ∷ w) x e = either (isPoint (classOf b)) refl e
     where
       either : (t : Bool) → isPoint (classOf b) ≡ t
-          → cond t (decimal form n (u * 10 ^ form .places) w) (fitting (leb 1 n) (exponent (form .loose) (u * 10 ^ form .places) (b ∷ w))) ≡ Is x
+          → cond t (afterPoint form n (u * 10 ^ form .places) w) (fitting (leb 1 n) (exponent (form .loose) (u * 10 ^ form .places) (b ∷ w))) ≡ Is x
           → Worth (b ∷ w) x
       either true q e = subst (λ (b : ℕ). Worth (b ∷ w) x) (sym (point-byte b q)) (decimal-worth n w x e)
       either false q e = plain-worth n (b ∷ w) x e

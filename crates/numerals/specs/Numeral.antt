@@ -137,14 +137,14 @@ enough false n k = leb 1 n && leb 1 k
 enough true n k = leb 1 n || leb 1 k
 
 -- after a point, and before it n digits worth `whole` units
-unfoldable pub decimal : Form → ℕ → ℕ → List ℕ → Amount
-decimal form n whole w =
+unfoldable pub afterPoint : Form → ℕ → ℕ → List ℕ → Amount
+afterPoint form n whole w =
     fitting (leb (digits w) (form .places) && enough (form .loose) n (digits w))
     (exponent (form .loose) (whole + value 0 w * 10 ^ (form .places - digits w)) (drop (digits w) w))
 
 -- after n digits worth `whole` units
 unfoldable pub fraction : Form → ℕ → ℕ → List ℕ → Amount
-fraction form n whole w = cond (pointed w) (decimal form n whole (drop 1 w)) (fitting (leb 1 n) (exponent (form .loose) whole w))
+fraction form n whole w = cond (pointed w) (afterPoint form n whole (drop 1 w)) (fitting (leb 1 n) (exponent (form .loose) whole w))
 
 -- a word that has the form
 unfoldable pub amountOf : Form → List ℕ → Amount

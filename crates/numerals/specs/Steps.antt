@@ -33,7 +33,7 @@ pub record Short (form : Form) : Type 0 where
   pub few-places : form .places ≤ mostPlaces (form .loose)
 
 -- the digits of w from an offset on, up to `end`, write v: all of them, or the first `most`
-pub record Written (w : List ℕ) (from most end v : ℕ) : Type 0 where
+pub record WrittenDigits (w : List ℕ) (from most end v : ℕ) : Type 0 where
   pub up : from ≤ end
   pub low : end ≤ length w
   pub few : end ≤ from + most

@@ -23,18 +23,18 @@ powerPart [] = []
 powerPart (b ∷ w) = cond (eqb b exponentMark) w (powerPart w)
 
 -- the power of 10 that multiplies the number, and the one that divides it
-abbrev pub raised : List ℕ → ℕ
-raised e = cond (negative e) 0 (value 0 (unsigned e))
+abbrev pub powerUp : List ℕ → ℕ
+powerUp e = cond (negative e) 0 (value 0 (unsigned e))
 
-abbrev pub lowered : List ℕ → ℕ
-lowered e = cond (negative e) (value 0 (unsigned e)) 0
+abbrev pub powerDown : List ℕ → ℕ
+powerDown e = cond (negative e) (value 0 (unsigned e)) 0
 
 -- the numerator and the denominator of what a word writes
 abbrev pub numerator : List ℕ → ℕ
-numerator w = mantissa 0 w * 10 ^ raised (powerPart w)
+numerator w = mantissa 0 w * 10 ^ powerUp (powerPart w)
 
 abbrev pub denominator : List ℕ → ℕ
-denominator w = 10 ^ decimals w * 10 ^ lowered (powerPart w)
+denominator w = 10 ^ decimals w * 10 ^ powerDown (powerPart w)
 
 -- v units, of which 10 ^ places make 1, are that fraction
 abbrev pub IsWorth : ℕ → List ℕ → ℕ → Type 0

@@ -3,7 +3,7 @@ ghost use mathlib.Core.Path.{_≡_};
 ghost use Prim.Native.Nat.{_+_, _^_, _≤_, _<_};
 ghost use lib.ListN.{length};
 ghost use Rattle.numerals.specs.Numeral.{negative, signed};
-ghost use Rattle.numerals.specs.Steps.{mostRead, Written};
+ghost use Rattle.numerals.specs.Steps.{mostRead, WrittenDigits};
 use words::Class;
 
 // How a number is written: up to `digits` digits, then optionally a point and up to `places` digits. It counts in units of which
@@ -82,7 +82,7 @@ fn bounded(length: usize, from: usize, most: usize) -> usize
 // The digits from an offset on, `most` of them at most. Bytes below them are told first, so that the class takes one test more.
 pub fn digits_from(w: &[u8], from: usize, most: usize) -> Digits
     requires { ⌜ (from ≤ length (now w)) × (most ≤ mostRead) ⌝ }
-    ensures { λ r. ⌜ Written (now (w .entry)) from most (r .end) (r .value) ⌝ }
+    ensures { λ r. ⌜ WrittenDigits (now (w .entry)) from most (r .end) (r .value) ⌝ }
 {
     let stop = bounded(w.len(), from, most);
     let mut v: u64 = 0;

@@ -1,4 +1,4 @@
--- The numbers of document 01 that bound levels, each in its one place.
+-- The numbers that bound levels, each in its one place.
 use Prim.Native.Nat.{ℕ, _*_}
 use Rattle.tables.specs.Limits.{one, maxReward}
 

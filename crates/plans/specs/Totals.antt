@@ -19,9 +19,11 @@ someCounts M L b = some (L .vectors) (counts (M .states) L b)
 unfoldable pub best : Model → Level → (ℕ → ℕ) → ℕ
 best M L b = firstLargestOf (L .vectors) (counts (M .states) L b) (λ v. product (M .states) b (L .entry v))
 
+-- the lower total: that vector's product
 unfoldable pub lower : Model → Level → (ℕ → ℕ) → ℤ
 lower M L b = product (M .states) b (L .entry (best M L b))
 
+-- the action that is given with it
 unfoldable pub advice : Model → Level → (ℕ → ℕ) → ℕ
 advice M L b = L .action (best M L b)
 

@@ -28,7 +28,7 @@ use Rattle.levels.proofs.Over.{cells-same, lent-same}
 use Rattle.runs.specs.Prices.{pricesVerdict, overNumbers, pricedOf}
 use Rattle.runs.proofs.Judged.{Held}
 use Rattle.runs.proofs.Prices.{Priced}
-use Rattle.pricing.specs.Steps.{maxMove, changeAt, Vectors, Points, loweredIn, raisedIn, valueIn}
+use Rattle.pricing.specs.Steps.{maxMove, changeAt, Vectors, PricedPoints, loweredIn, raisedIn, valueIn}
 use Rattle.pricing.proofs.Moved.{rows-laid}
 
 within-rows : (r w limit : ℕ) (xs : List ℤ) → 0 < w → r * w ≤ length xs
@@ -82,7 +82,7 @@ module _ (m : Tables) (x : Lent) (h : Held maxVectors m x) {s : Standing} (e : s
     pub corners-ask : Within limit (m .states) (x .cells .corners)
     corners-ask = rw (el, e) record { long = h .read .corners; within = h .shaped .corner-in }
 
-    pub points-ask : Points (m .states) (s .points) limit (x .cells .weights) (x .cells .values)
+    pub points-ask : PricedPoints (m .states) (s .points) limit (x .cells .weights) (x .cells .values)
     points-ask = rw (el, e) record {
       few-states = h .valid-tables .few-states;
       few-points = h .shaped .few-points;

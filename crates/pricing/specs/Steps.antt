@@ -39,7 +39,7 @@ pub record Vectors (n vectors limit : ℕ) (masks : List ℕ) (entries : List �
   pub entry : (v : ℕ) → v < vectors → (s : ℕ) → s < n → natAbs (maskedIn n masks entries v s) ≤ limit
 
 -- points with values within a range, times the totals of their weights
-pub record Points (n points limit : ℕ) (weights : List ℕ) (values : List ℤ) : Type 0 where
+pub record PricedPoints (n points limit : ℕ) (weights : List ℕ) (values : List ℤ) : Type 0 where
   pub few-states : n ≤ maxStates
   pub few-points : points ≤ maxPoints
   pub weights-long : points * n ≤ length weights

@@ -16,7 +16,7 @@ ghost use Rattle.masks.specs.Masks.{covered};
 ghost use Rattle.plans.specs.Prices.{fallen, risen};
 ghost use Rattle.levels.specs.Storage.{cells, rows, lent};
 ghost use Rattle.runs.specs.Prices.{countsSame, samePlans, pricesVerdict, pricedOf};
-ghost use Rattle.pricing.specs.Steps.{maxMove, changeAt, Chances, Vectors, Points, loweredIn, raisedIn, valueIn};
+ghost use Rattle.pricing.specs.Steps.{maxMove, changeAt, Chances, Vectors, PricedPoints, loweredIn, raisedIn, valueIn};
 use tables::Counts;
 use tables::State;
 use tables::Verdict;
@@ -223,7 +223,7 @@ fn raise_cells(cells: &mut [i64], count: usize, limit: u64, k: u64)
 
 // The points' values, higher by k times the totals of their weights.
 fn raise_values(weights: &[u32], values: &mut [i64], n: usize, points: usize, limit: u64, k: u64)
-    requires { ⌜ Points n points limit (now weights) (now values) ⌝ }
+    requires { ⌜ PricedPoints n points limit (now weights) (now values) ⌝ }
     requires { ⌜ (limit ≤ maxEntry) × (k ≤ maxMove) ⌝ }
     ensures { λ _. ⌜ now (values .exit) ≡ laid points (valueIn n limit k (now (weights .entry)) (now (values .entry))) (now (values .entry)) ⌝ }
 {

@@ -1,7 +1,7 @@
 // A file and an offset in it, carried from word to word.
 ghost use mathlib.Core.Path.{_≡_};
 ghost use Rattle.words.specs.Steps.{Next};
-ghost use Rattle.reader.specs.Pair.{after, Paired};
+ghost use Rattle.reader.specs.Pair.{pastWord, Paired};
 use words::Word;
 
 pub struct Reader<'a> {
@@ -30,7 +30,7 @@ pub fn moved<'a>(r: Reader<'a>, at: usize) -> Reader<'a>
 
 // The offset after a word that was looked for from `at` on.
 pub fn past(w: Word, at: usize) -> usize
-    ensures { λ r. ⌜ r ≡ after w at ⌝ }
+    ensures { λ r. ⌜ r ≡ pastWord w at ⌝ }
 {
     let Word::At(_, stop) = w else {
         return at;

@@ -7,7 +7,7 @@ use Rattle.tables.specs.Storage.{cellPlace}
 use Rattle.words.specs.Words.{Words}
 use Rattle.drafts.specs.Drafts.{stated}
 use Rattle.numerals.specs.Numeral.{countForm}
-use Rattle.grammar.specs.Grammar.{Answer, got, _then_, key, named, field}
+use Rattle.grammar.specs.Grammar.{Answer, got, _then_, key, keyNamed, field}
 use Rattle.entries.specs.Entries.{wholly, startNumber, row}
 use Rattle.headers.specs.Headers.{discountName, valuesName, rewardWord, statesName, actionsName, observationsName, startName}
 use Rattle.headers.specs.Headers.{header, headerBy, startNumbers, startBy}
@@ -28,7 +28,7 @@ pub record CountsWithin (c : Counts) : Type 0 where
 
 -- a line of a name and a word
 word-line : {B : Type 0} {E : List ℕ → Type 0} (name w : List ℕ) (h : ℕ → Words → Answer B) → IsWord name → IsWord w
-    → Through E (λ ws. named name ws then λ _ ws. key w ws then h) (line name w) (h 0)
+    → Through E (λ ws. keyNamed name ws then λ _ ws. key w ws then h) (line name w) (h 0)
 unfolding line
 word-line name w h p q = named-on name (λ _ ws. key w ws then h) p (past-space (past-line (then-on h (key-word w q))))
 

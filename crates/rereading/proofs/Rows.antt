@@ -5,7 +5,7 @@ use mathlib.Core.List.{_++_}
 use Rattle.words.specs.Words.{Words, wordsOf}
 use Rattle.numerals.specs.declared.Form.{Form}
 use Rattle.numerals.specs.Numeral.{countForm, amountOf}
-use Rattle.grammar.specs.Grammar.{Answer, got, _then_, fits, unfit, limited, number, same, key, keys, named, colon, field, index}
+use Rattle.grammar.specs.Grammar.{Answer, got, _then_, fits, unfit, limited, number, same, key, keys, keyNamed, colon, field, index}
 use Rattle.grammar.proofs.Laws.{limit-in}
 use Rattle.entries.specs.Entries.{Outcome, filled, upon, indexed, row}
 use Rattle.written.specs.Text.{partsTo, whole, line, opening}
@@ -30,7 +30,7 @@ colon-alone = record { onto = λ at s e. record { to = at + 1; is = refl } }
 
 -- a name, a colon and what follows them
 pub named-on : {A : Type 0} {E : List ℕ → Type 0} {k : Words → Answer A} {t : List ℕ} (name : List ℕ) (h : ℕ → Words → Answer A) → IsWord name
-    → Through E (h 0) t k → Through E (λ ws. named name ws then h) (name ++ (58 ∷ t)) k
+    → Through E (h 0) t k → Through E (λ ws. keyNamed name ws then h) (name ++ (58 ∷ t)) k
 unfolding keys
 named-on {A} name h p a =
     and-then (after (λ (x : Answer ℕ). (x then λ _ ws. key colon ws) then h) (key-word name p)) (and-then (then-on h colon-alone) a (λ s e. tt)) (λ s e. refl)

@@ -2,7 +2,7 @@
 use Rattle.integers.proofs.Kit.{_≡_, _∙_, refl, ap, sym, subst, true, false, Bool, cond, List, [], _∷_, ℕ, _<_, _+_, suc, zero, arith, false≢true, length}
 use mathlib.Core.List.{_++_, append-assoc}
 use Rattle.words.specs.Class.{classOf}
-use Rattle.words.specs.Words.{Role, parts, alone, opens, belongs, roleOf, Words, word, run, whereBelongs, between, inside, step, wordsOf}
+use Rattle.words.specs.Words.{Role, parts, alone, opens, belongs, roleOf, Words, word, wordRun, whereBelongs, between, inside, step, wordsOf}
 use Rattle.words.specs.Steps.{isEnd}
 use Rattle.words.proofs.Laws.{no-end}
 use Rattle.grammar.specs.Grammar.{Answer, got, refused, _then_, choose, unlessEnd, Finding, fits, unfit, answered, oneWord}
@@ -77,12 +77,12 @@ after g a = record { onto = λ at s e. let r = a .onto at s e in record { to = r
 
 -- ---- a word
 
-ends-run : (s : List ℕ) → Ends s → run s ≡ []
-unfolding run
+ends-run : (s : List ℕ) → Ends s → wordRun s ≡ []
+unfolding wordRun
 ends-run [] e = refl
 ends-run (b ∷ s) e = by (roleOf (classOf b)) e
   where
-    by : (r : Role) → isEnd r ≡ true → whereBelongs r (b ∷ run s) ≡ []
+    by : (r : Role) → isEnd r ≡ true → whereBelongs r (b ∷ wordRun s) ≡ []
     by parts e = refl
     by alone e = refl
     by opens e = refl
@@ -107,12 +107,12 @@ first-plain : (b : ℕ) (w : List ℕ) → plain (b ∷ w) ≡ true → (roleOf 
 unfolding plain
 first-plain b w e = let h = both-plain (isEnd (roleOf (classOf b))) (plain w) e in (no-end (roleOf (classOf b)) (h .0), h .1)
 
-rest-run : (w s : List ℕ) → plain w ≡ true → Ends s → run (w ++ s) ≡ w
-unfolding run
+rest-run : (w s : List ℕ) → plain w ≡ true → Ends s → wordRun (w ++ s) ≡ w
+unfolding wordRun
 rest-run [] s p e = ends-run s e
 rest-run (b ∷ w) s p e =
     let h = first-plain b w p in
-    ap (λ (r : Role). whereBelongs r (b ∷ run (w ++ s))) (h .0) ∙ ap (λ (l : List ℕ). b ∷ l) (rest-run w s (h .1) e)
+    ap (λ (r : Role). whereBelongs r (b ∷ wordRun (w ++ s))) (h .0) ∙ ap (λ (l : List ℕ). b ∷ l) (rest-run w s (h .1) e)
 
 -- where a word ends that goes on from `at`
 abbrev past : ℕ → List ℕ → ℕ

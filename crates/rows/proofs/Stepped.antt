@@ -27,7 +27,7 @@ use Rattle.plans.specs.Rows.{highest, bestRow, informedBackup, informedNext, qm
 use Rattle.plans.proofs.Agreement.{product-cong}
 use Rattle.plans.proofs.Built.{range-limit}
 use Rattle.plans.proofs.Rows.{RowsWithin, highest-ind, highest-cong}
-use Rattle.rows.specs.Steps.{bestIn, topIn, Ready, Seen}
+use Rattle.rows.specs.Steps.{bestRowIn, topIn, Ready, Seen}
 
 -- ---- what tables that are not refused have
 module _ (c : Counts) (T O : List ℕ) (R : List ℤ) (valid : Valid (modelIn c T O R)) (stored : Stored c T O R) where
@@ -68,8 +68,8 @@ module _ {n k m a : ℕ} {observation u : List ℕ} {rows : List ℤ} (few : n �
   pub reached-below : (o : ℕ) → o < k → {q : List ℕ} → q ≡ padded 0 maxStates n (seenIn n k observation u a o) → Below maxReached n q
   reached-below o lo e = filled-below maxStates _ e few (λ s l. omega (arith, seen-limit o lo s l))
 
-  pub best-limit : 0 < m → (o : ℕ) → o < k → natAbs (bestIn n k m observation u rows a o) ≤ bestLimit
-  unfolding bestIn product
+  pub best-limit : 0 < m → (o : ℕ) → o < k → natAbs (bestRowIn n k m observation u rows a o) ≤ bestLimit
+  unfolding bestRowIn product
   best-limit some o lo =
       highest-ind (λ z. natAbs z ≤ bestLimit) m _ some (λ v lv. omega (arith, sum-bound n (one * one * maxEntry) (λ s. q s · entryIn n rows v s) (term v lv)))
     where
@@ -83,16 +83,16 @@ module _ {n k m a : ℕ} {observation u : List ℕ} {rows : List ℤ} (few : n �
 
   -- the sum so far, and one more
   pub ahead-limit : 0 < m → k ≤ maxObservations → (j : ℕ) → j ≤ k
-      → natAbs (sumTo j (bestIn n k m observation u rows a)) ≤ maxObservations * bestLimit
-  ahead-limit some less j l = omega (arith, sum-bound j bestLimit (bestIn n k m observation u rows a) (λ o lo. best-limit some o (omega arith)))
+      → natAbs (sumTo j (bestRowIn n k m observation u rows a)) ≤ maxObservations * bestLimit
+  ahead-limit some less j l = omega (arith, sum-bound j bestLimit (bestRowIn n k m observation u rows a) (λ o lo. best-limit some o (omega arith)))
 
-  pub sums-fit : 0 < m → k ≤ maxObservations → (o : ℕ) → o < k → {sum here : ℤ} → sum ≡ sumTo o (bestIn n k m observation u rows a)
-      → here ≡ bestIn n k m observation u rows a o → natAbs sum + natAbs here < 2 ^ 63
+  pub sums-fit : 0 < m → k ≤ maxObservations → (o : ℕ) → o < k → {sum here : ℤ} → sum ≡ sumTo o (bestRowIn n k m observation u rows a)
+      → here ≡ bestRowIn n k m observation u rows a o → natAbs sum + natAbs here < 2 ^ 63
   sums-fit some less o l e h = rw (e, h) (omega (arith, ahead-limit some less o (omega arith), best-limit some o l))
 
   -- the two parts of a backup
   pub parts-fit : 0 < m → k ≤ maxObservations → {g s : ℕ} {reward : List ℤ} → RewardsFit n reward a → s < n → g ≤ one
-      → {now later : ℤ} → now ≡ K · rewardIn n reward s a → later ≡ sumTo k (bestIn n k m observation u rows a) → natAbs now + g * natAbs later < 2 ^ 63
+      → {now later : ℤ} → now ≡ K · rewardIn n reward s a → later ≡ sumTo k (bestRowIn n k m observation u rows a) → natAbs now + g * natAbs later < 2 ^ 63
   unfolding K
   parts-fit some less {g} {s} {reward} small l g-limit e h =
       rw (e, h) (omega (
@@ -124,9 +124,9 @@ module _ (c : Counts) (T O : List ℕ) (R rows : List ℤ) (a s : ℕ) where
   F = entryIn (c .states) rows
 
   pub informed-made : 0 < c .actions → {u : List ℕ} → u ≡ padded 0 maxStates (c .states) (transitionIn (c .states) T s a)
-      → {later : ℤ} → later ≡ sumTo (c .observations) (bestIn (c .states) (c .observations) (c .actions) O u rows a)
+      → {later : ℤ} → later ≡ sumTo (c .observations) (bestRowIn (c .states) (c .observations) (c .actions) O u rows a)
       → ceilDiv (K · rewardIn (c .states) R s a +ℤ c .discount · later) K ≡ informedNext (modelIn c T O R) F a s
-  unfolding informedNext informedBackup bestIn bestRow
+  unfolding informedNext informedBackup bestRowIn bestRow
   informed-made some {u} moved {later} e =
       ap (λ (z : ℤ). ceilDiv (K · rewardIn (c .states) R s a +ℤ c .discount · z) K) (e ∙ sum-cong (c .observations) _ _ (λ o l.
       highest-cong (c .actions) _ _ some (λ v lv. product-cong (c .states) _ _ (F v) (F v) (weight o) (λ x b. refl))))

@@ -13,8 +13,8 @@ use Rattle.plans.specs.Level.{product}
 use Rattle.plans.specs.Rows.{highest}
 
 -- the best of m rows at what is seen with o, from what moved to each state
-unfoldable pub bestIn : ℕ → ℕ → ℕ → List ℕ → List ℕ → List ℤ → ℕ → ℕ → ℤ
-bestIn n k m observation moved rows a o =
+unfoldable pub bestRowIn : ℕ → ℕ → ℕ → List ℕ → List ℕ → List ℤ → ℕ → ℕ → ℤ
+bestRowIn n k m observation moved rows a o =
     highest m (λ v. product n (weightIn (padded 0 maxStates n (seenIn n k observation moved a o))) (entryIn n rows v))
 
 -- 1,000 × the largest entry at a state

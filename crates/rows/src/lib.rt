@@ -11,7 +11,7 @@ ghost use Rattle.tables.specs.Storage.{transitionIn, entryIn, modelIn};
 ghost use Rattle.tables.specs.Steps.{EntriesFit};
 ghost use Rattle.sums.specs.Steps.{TransitionsFit, ObservationsFit};
 ghost use Rattle.plans.specs.Rows.{highest, informedNext, qmdpNext};
-ghost use Rattle.rows.specs.Steps.{bestIn, topIn, Ready, Seen};
+ghost use Rattle.rows.specs.Steps.{bestRowIn, topIn, Ready, Seen};
 use integers::cells;
 use tables::Action;
 use tables::Counts;
@@ -49,7 +49,7 @@ fn ahead(
     requires { ⌜ Below one n (now u) ⌝ }
     requires { ⌜ ObservationsFit n k (now observation) (a .0) ⌝ }
     requires { ⌜ EntriesFit n m (now rows) ⌝ }
-    ensures { λ r. ⌜ r ≡ sumTo k (bestIn n k m (now (observation .entry)) (now (u .entry)) (now (rows .entry)) (a .0)) ⌝ }
+    ensures { λ r. ⌜ r ≡ sumTo k (bestRowIn n k m (now (observation .entry)) (now (u .entry)) (now (rows .entry)) (a .0)) ⌝ }
 {
     let mut sum: i64 = 0;
     for o in 0..k {

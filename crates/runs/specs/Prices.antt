@@ -1,4 +1,4 @@
--- New prices: what the fifth call answers, and what it leaves in the slices that it is lent. The certifier goes on under the new tables.
+-- New prices: what the call answers, and what it leaves in the slices that it is lent. The certifier goes on under the new tables.
 --
 --   samePlans M M'        whether two models differ in their rewards at most
 --   pricesVerdict m x m'  7, then 3, 5 and 6 of the new tables, then 23

@@ -1,4 +1,4 @@
--- What each of the four calls answers, and what it leaves in the slices that it is lent, on success and on refusal.
+-- What opening, offering, totals and building answer, and what they leave in the slices that they are lent, on success and on refusal.
 use Prim.Native.Nat.{ℕ, _+_}
 use mathlib.Core.Bool.{Bool, _&&_}
 use mathlib.Core.List.{List, _∷_}

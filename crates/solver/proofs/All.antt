@@ -18,10 +18,10 @@ use Rattle.words.specs.Steps.{Worded}
 use Rattle.words.proofs.Word as word-type
 use Rattle.grammar.specs.Grammar.{Answer, got, refused, _then_, unlessEnd}
 use Rattle.grammar.proofs.Arms.{no-word}
-use Rattle.alphas.specs.Alphas.{readable}
+use Rattle.alphas.specs.Alphas.{wordsVerdict}
 use Rattle.alphas.specs.Steps.{Gave}
 use Rattle.solver.specs.declared.Judged.{Judged}
-use Rattle.solver.specs.Files.{allFrom, allIn, listOf, withCount}
+use Rattle.solver.specs.Files.{allFrom, allIn, readList, withCount}
 use Rattle.solver.specs.Steps.{judgedFrom, GoesOn}
 
 module _ {A : Type 0} (one : ℕ → Words → Answer A) where
@@ -45,9 +45,9 @@ module _ {A : Type 0} (one : ℕ → Words → Answer A) where
   -- ---- read for the first time
 
   abbrev whole : List ℕ → Judged
-  whole file = withCount (readable (allIn one file)) (length (listOf (allIn one file)))
+  whole file = withCount (wordsVerdict (allIn one file)) (length (readList (allIn one file)))
 
-  judged-whole : (a : Answer (List A)) → judgedFrom 0 a ≡ withCount (readable a) (length (listOf a))
+  judged-whole : (a : Answer (List A)) → judgedFrom 0 a ≡ withCount (wordsVerdict a) (length (readList a))
   judged-whole (got xs ws) = ap (λ (n : ℕ). record { verdict = Fine; vectors = n }) (zero-add (length xs))
   judged-whole (refused number place) = refl
 
@@ -99,7 +99,7 @@ module _ {A : Type 0} (one : ℕ → Words → Answer A) where
         pub left-back : tagOf verdict-type.the-type verdict ≡ 1 → record { verdict = verdict; vectors = 0 } ≡ whole file
         left-back t = by verdict t gave ∙ next-one e
           where
-            refusing : (number place : ℕ) (a : Answer A) (k : A → Words → Answer (List A)) → Not number place ≡ readable a
+            refusing : (number place : ℕ) (a : Answer A) (k : A → Words → Answer (List A)) → Not number place ≡ wordsVerdict a
                 → record { verdict = Not number place; vectors = 0 } ≡ judgedFrom i (a then k)
             refusing number place (got y ws) k h = never h
             refusing number place (refused m p) k h = ap (λ (v : Verdict). record { verdict = v; vectors = 0 }) h
@@ -133,10 +133,10 @@ module _ {A : Type 0} (one : ℕ → Words → Answer A) where
     left : allFrom one fuel (i + 1) rest ≡ got xs last
 
   nothing : {X : Type 0} {x : A} {xs : List A} {ws last : Words} → got [] ws ≡ got (x ∷ xs) last → X
-  nothing {x = x} {xs} e = absurd (let z : 0 ≡ suc (length xs) = ap (λ (a : Answer (List A)). length (listOf a)) e in omega arith)
+  nothing {x = x} {xs} e = absurd (let z : 0 ≡ suc (length xs) = ap (λ (a : Answer (List A)). length (readList a)) e in omega arith)
 
   no-answer : {B X : Type 0} {number place : ℕ} {x : B} {ws : Words} → refused number place ≡ got x ws → X
-  no-answer e = never (ap readable e)
+  no-answer e = never (ap wordsVerdict e)
 
   module _ (i : ℕ) (ws : Words) (x : A) (xs : List A) (last : Words) where
     first-left : (fuel : ℕ) (y : A) (rest : Words) (a : Answer (List A)) → one i ws ≡ got y rest → allFrom one fuel (i + 1) rest ≡ a
@@ -144,7 +144,7 @@ module _ {A : Type 0} (one : ℕ → Words → Answer A) where
     first-left fuel y rest (got ys stop) p q e = record {
       fuel = fuel;
       rest = rest;
-      is = p ∙ ap (λ (z : A). got z rest) (ap (λ (a : Answer (List A)). getD (listOf a) 0 y) e);
+      is = p ∙ ap (λ (z : A). got z rest) (ap (λ (a : Answer (List A)). getD (readList a) 0 y) e);
       left = q ∙ ap (λ (a : Answer (List A)). tailOf a) e;
     }
       where
@@ -169,10 +169,10 @@ module _ {A : Type 0} (one : ℕ → Words → Answer A) where
   stands file all last e = record { inside = omega arith; fuel = length file + 1; last = last; left = e }
 
   -- a file that is not refused
-  pub stands-read : (file : List ℕ) → readable (allIn one file) ≡ Fine → GoesOn one file (listOf (allIn one file)) 0 0
+  pub stands-read : (file : List ℕ) → wordsVerdict (allIn one file) ≡ Fine → GoesOn one file (readList (allIn one file)) 0 0
   stands-read file e = by (allIn one file) refl e
     where
-      by : (a : Answer (List A)) → allIn one file ≡ a → readable a ≡ Fine → GoesOn one file (listOf a) 0 0
+      by : (a : Answer (List A)) → allIn one file ≡ a → wordsVerdict a ≡ Fine → GoesOn one file (readList a) 0 0
       by (got xs last) q e = stands file xs last q
       by (refused number place) q e = never e
 
@@ -213,4 +213,4 @@ module _ {A : Type 0} (one : ℕ → Words → Answer A) where
                     ∙ ap (λ (k : ℕ). got (drop k all) (standing .last)) (sym (add-one i));
               };
             }
-        by (Not number place) e = never (e ∙ ap readable (first x .is))
+        by (Not number place) e = never (e ∙ ap wordsVerdict (first x .is))

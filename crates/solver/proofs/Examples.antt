@@ -3,8 +3,8 @@ use Rattle.integers.proofs.Kit.{_≡_, refl, List, [], _∷_, ℕ, pos, negsuc}
 use Rattle.integers.specs.Whole.{floorDiv}
 use Rattle.integers.specs.Search.{every}
 use Rattle.tables.specs.declared.Verdict.the-variants.{Fine, Refused}
-use Rattle.words.specs.Words.{run, wordsOf, wordsIn}
-use Rattle.numerals.specs.Numeral.{digits, value, amountOf, fraction, decimal as afterPoint, exponent}
+use Rattle.words.specs.Words.{wordRun, wordsOf, wordsIn}
+use Rattle.numerals.specs.Numeral.{digits, value, amountOf, fraction, afterPoint, exponent}
 use Rattle.grammar.specs.Grammar.{number, magnitude, signedNumber, same, key}
 use Rattle.alphas.specs.Alphas.{action, decimal, noNode, nextNode, several, alpha, node}
 use Rattle.solver.specs.Files.{allFrom, allIn, vectorsIn, actionAt, ticksAt, nextAt, alike, filesVerdict}
@@ -110,8 +110,8 @@ pub record Examples : Type 0 where
   pub none-counted : vectorsIn 2 [] ≡ 0
 
 pub examples : Examples
-unfolding run wordsOf wordsIn digits value amountOf fraction afterPoint exponent number magnitude signedNumber same key floorDiv every action decimal nextNode
-    several alpha node allFrom allIn alike filesVerdict
+unfolding wordRun wordsOf wordsIn digits value amountOf fraction afterPoint exponent number magnitude signedNumber same key floorDiv every action
+    decimal nextNode several alpha node allFrom allIn alike filesVerdict
 examples = record {
   two = refl;
   two-counted = refl;

@@ -18,10 +18,10 @@ use Rattle.tables.proofs.Refusals.{before-fine, unless-fine}
 use Rattle.words.specs.Words.{wordsIn, between}
 use Rattle.alphas.specs.declared.AlphaAt.{AlphaAt}
 use Rattle.alphas.specs.declared.NodeAt.{NodeAt}
-use Rattle.alphas.specs.Alphas.{Alpha, Node, alpha, node, readable}
+use Rattle.alphas.specs.Alphas.{Alpha, Node, alpha, node, wordsVerdict}
 use Rattle.alphas.specs.Steps.{Gave, alphaOf, nodeOf}
 use Rattle.solver.specs.declared.Judged.{Judged}
-use Rattle.solver.specs.Files.{alphas, nodes, listOf, vectorsIn, nodeAt, actionAt, ticksAt, nextAt, alike, filesVerdict, withCount, filesJudged}
+use Rattle.solver.specs.Files.{alphas, nodes, readList, vectorsIn, nodeAt, actionAt, ticksAt, nextAt, alike, filesVerdict, withCount, filesJudged}
 use Rattle.solver.specs.Steps.{BothAt}
 use Rattle.solver.proofs.All.{stands-read, Onward, standing-on}
 
@@ -41,8 +41,8 @@ counted-refused (Refused number place) w vectors e = refl
 module _ (n k : ℕ) (alphaFile graphFile : List ℕ) where
   -- ---- vector by vector
 
-  pub both-start : {count : ℕ} → readable (alphas n alphaFile) ≡ Fine → readable (nodes k graphFile) ≡ Fine → count ≡ vectorsIn n alphaFile
-      → count ≡ length (listOf (nodes k graphFile)) → BothAt n k alphaFile graphFile count 0 0 0
+  pub both-start : {count : ℕ} → wordsVerdict (alphas n alphaFile) ≡ Fine → wordsVerdict (nodes k graphFile) ≡ Fine → count ≡ vectorsIn n alphaFile
+      → count ≡ length (readList (nodes k graphFile)) → BothAt n k alphaFile graphFile count 0 0 0
   both-start e f c d = record {
     as-many-vectors = c;
     as-many-nodes = d;
@@ -61,14 +61,14 @@ module _ (n k : ℕ) (alphaFile graphFile : List ℕ) where
   module _ {count v p q : ℕ} (both : BothAt n k alphaFile graphFile count v p q) (h : v < count) (x : AlphaAt) (y : NodeAt)
       (gx : Gave alphaFile p (x .verdict) (x .end) (alphaOf n x) (alpha n (wordsIn between alphaFile p)))
       (gy : Gave graphFile q (y .verdict) (y .end) (nodeOf k y) (node k v (wordsIn between graphFile q))) where
-    vector-on : Onward (λ _. alpha n) alphaFile (listOf (alphas n alphaFile)) v (x .verdict) (x .end) (alphaOf n x)
+    vector-on : Onward (λ _. alpha n) alphaFile (readList (alphas n alphaFile)) v (x .verdict) (x .end) (alphaOf n x)
     vector-on =
-        standing-on (λ _. alpha n) alphaFile (listOf (alphas n alphaFile)) (both .vectors-stand) (omega (arith, both .as-many-vectors)) (x .verdict) (x .end)
+        standing-on (λ _. alpha n) alphaFile (readList (alphas n alphaFile)) (both .vectors-stand) (omega (arith, both .as-many-vectors)) (x .verdict) (x .end)
         (alphaOf n x) gx
 
-    node-on : Onward (node k) graphFile (listOf (nodes k graphFile)) v (y .verdict) (y .end) (nodeOf k y)
+    node-on : Onward (node k) graphFile (readList (nodes k graphFile)) v (y .verdict) (y .end) (nodeOf k y)
     node-on =
-        standing-on (node k) graphFile (listOf (nodes k graphFile)) (both .nodes-stand) (omega (arith, both .as-many-nodes)) (y .verdict) (y .end)
+        standing-on (node k) graphFile (readList (nodes k graphFile)) (both .nodes-stand) (omega (arith, both .as-many-nodes)) (y .verdict) (y .end)
         (nodeOf k y) gy
 
     pub both-on : VectorAt count v x y
@@ -97,9 +97,9 @@ module _ (n k : ℕ) (alphaFile graphFile : List ℕ) where
   pub files-read : filesVerdict n k alphaFile graphFile ≡ Fine → FilesRead
   unfolding filesVerdict alike
   files-read e =
-      let p = before-fine (readable (alphas n alphaFile)) (readable (nodes k graphFile) before unless (alike n k alphaFile graphFile) 20 0) e in
-      let q = before-fine (readable (nodes k graphFile)) (unless (alike n k alphaFile graphFile) 20 0) (p .1) in
-      let a = and-true (eqb (vectorsIn n alphaFile) (length (listOf (nodes k graphFile))))
+      let p = before-fine (wordsVerdict (alphas n alphaFile)) (wordsVerdict (nodes k graphFile) before unless (alike n k alphaFile graphFile) 20 0) e in
+      let q = before-fine (wordsVerdict (nodes k graphFile)) (unless (alike n k alphaFile graphFile) 20 0) (p .1) in
+      let a = and-true (eqb (vectorsIn n alphaFile) (length (readList (nodes k graphFile))))
       (every (vectorsIn n alphaFile) (λ v. eqb (actionAt n alphaFile v) (nodeAt k graphFile v .action)))
       (unless-fine (alike n k alphaFile graphFile) 20 0 (q .1)) in
       record {
@@ -115,25 +115,25 @@ module _ (n k : ℕ) (alphaFile graphFile : List ℕ) where
   abbrev sameActions : ℕ → Bool
   sameActions count = every count (λ v. eqb (actionAt n alphaFile v) (nodeAt k graphFile v .action))
 
-  module _ {x : Judged} (ex : x ≡ withCount (readable (alphas n alphaFile)) (vectorsIn n alphaFile)) where
-    first-is : x .verdict ≡ readable (alphas n alphaFile)
-    first-is = ap (λ (j : Judged). j .verdict) ex ∙ counted-verdict (readable (alphas n alphaFile)) (vectorsIn n alphaFile)
+  module _ {x : Judged} (ex : x ≡ withCount (wordsVerdict (alphas n alphaFile)) (vectorsIn n alphaFile)) where
+    first-is : x .verdict ≡ wordsVerdict (alphas n alphaFile)
+    first-is = ap (λ (j : Judged). j .verdict) ex ∙ counted-verdict (wordsVerdict (alphas n alphaFile)) (vectorsIn n alphaFile)
 
     pub first-refuses : tagOf verdict-type.the-type (x .verdict) ≡ 1 → record { verdict = x .verdict; vectors = 0 } ≡ filesJudged n k alphaFile graphFile
     unfolding filesVerdict
     first-refuses t =
-        counted-refused (x .verdict) (readable (nodes k graphFile) before unless (alike n k alphaFile graphFile) 20 0) (vectorsIn n alphaFile) t
-        ∙ ap (λ (v : Verdict). judgedBy v (readable (nodes k graphFile)) (alike n k alphaFile graphFile)) first-is
+        counted-refused (x .verdict) (wordsVerdict (nodes k graphFile) before unless (alike n k alphaFile graphFile) 20 0) (vectorsIn n alphaFile) t
+        ∙ ap (λ (v : Verdict). judgedBy v (wordsVerdict (nodes k graphFile)) (alike n k alphaFile graphFile)) first-is
 
-    module _ (fx : x .verdict ≡ Fine) {y : Judged} (ey : y ≡ withCount (readable (nodes k graphFile)) (length (listOf (nodes k graphFile)))) where
-      second-is : y .verdict ≡ readable (nodes k graphFile)
-      second-is = ap (λ (j : Judged). j .verdict) ey ∙ counted-verdict (readable (nodes k graphFile)) (length (listOf (nodes k graphFile)))
+    module _ (fx : x .verdict ≡ Fine) {y : Judged} (ey : y ≡ withCount (wordsVerdict (nodes k graphFile)) (length (readList (nodes k graphFile)))) where
+      second-is : y .verdict ≡ wordsVerdict (nodes k graphFile)
+      second-is = ap (λ (j : Judged). j .verdict) ey ∙ counted-verdict (wordsVerdict (nodes k graphFile)) (length (readList (nodes k graphFile)))
 
       after-first : (same : Bool) → withCount (y .verdict before unless same 20 0) (vectorsIn n alphaFile)
-          ≡ judgedBy (readable (alphas n alphaFile)) (readable (nodes k graphFile)) same
+          ≡ judgedBy (wordsVerdict (alphas n alphaFile)) (wordsVerdict (nodes k graphFile)) same
       after-first same =
           ap (λ (v : Verdict). judgedBy v (y .verdict) same) (sym fx ∙ first-is)
-          ∙ ap (λ (v : Verdict). judgedBy (readable (alphas n alphaFile)) v same) second-is
+          ∙ ap (λ (v : Verdict). judgedBy (wordsVerdict (alphas n alphaFile)) v same) second-is
 
       pub second-refuses : tagOf verdict-type.the-type (y .verdict) ≡ 1 → record { verdict = y .verdict; vectors = 0 } ≡ filesJudged n k alphaFile graphFile
       unfolding filesVerdict
@@ -146,12 +146,12 @@ module _ (n k : ℕ) (alphaFile graphFile : List ℕ) where
         unfolding filesVerdict
         after-second same q =
             ap (λ (v : Verdict). withCount (v before unless same 20 0) (vectorsIn n alphaFile)) (sym fy) ∙ after-first same
-            ∙ ap (λ (b : Bool). judgedBy (readable (alphas n alphaFile)) (readable (nodes k graphFile)) b) (sym q)
+            ∙ ap (λ (b : Bool). judgedBy (wordsVerdict (alphas n alphaFile)) (wordsVerdict (nodes k graphFile)) b) (sym q)
 
         vectors-are : x .vectors ≡ vectorsIn n alphaFile
         vectors-are = count-of ex (sym first-is ∙ fx)
 
-        nodes-are : y .vectors ≡ length (listOf (nodes k graphFile))
+        nodes-are : y .vectors ≡ length (readList (nodes k graphFile))
         nodes-are = count-of ey (sym second-is ∙ fy)
 
         -- they differ in the number of vectors
@@ -159,7 +159,7 @@ module _ (n k : ℕ) (alphaFile graphFile : List ℕ) where
         unfolding alike
         unlike-counts h =
             after-second false (ap (λ (b : Bool). b && sameActions (vectorsIn n alphaFile))
-            (ne-eqb (vectorsIn n alphaFile) (length (listOf (nodes k graphFile))) (λ e. h (vectors-are ∙ e ∙ sym nodes-are))))
+            (ne-eqb (vectorsIn n alphaFile) (length (readList (nodes k graphFile))) (λ e. h (vectors-are ∙ e ∙ sym nodes-are))))
 
         module _ (e : x .vectors ≡ y .vectors) where
           pub both-files : BothAt n k alphaFile graphFile (x .vectors) 0 0 0
@@ -169,7 +169,7 @@ module _ (n k : ℕ) (alphaFile graphFile : List ℕ) where
           unfolding alike
           by-actions same q =
               ap (λ (b : Bool). b && sameActions (vectorsIn n alphaFile))
-              (eq-eqb (vectorsIn n alphaFile) (length (listOf (nodes k graphFile))) (sym vectors-are ∙ e ∙ nodes-are))
+              (eq-eqb (vectorsIn n alphaFile) (length (readList (nodes k graphFile))) (sym vectors-are ∙ e ∙ nodes-are))
               ∙ ap sameActions (sym vectors-are) ∙ q
 
           -- they differ in an action, or in nothing

@@ -12,7 +12,7 @@ use Rattle.tables.specs.declared.Verdict.the-variants.{Fine, Refused}
 use Rattle.tables.specs.Verdicts.{_before_, unless}
 use Rattle.words.specs.Words.{Words, wordsIn, between}
 use Rattle.grammar.specs.Grammar.{Answer, got, refused, _then_, unlessEnd}
-use Rattle.alphas.specs.Alphas.{Alpha, Node, alpha, node, readable}
+use Rattle.alphas.specs.Alphas.{Alpha, Node, alpha, node, wordsVerdict}
 use Rattle.solver.specs.declared.Judged.{Judged}
 
 -- the most bytes of a file
@@ -36,20 +36,20 @@ abbrev pub nodes : ℕ → List ℕ → Answer (List Node)
 nodes k = allIn (node k)
 
 -- what is read; nothing of a file that is refused
-abbrev pub listOf : {A : Type 0} → Answer (List A) → List A
-listOf (got xs ws) = xs
-listOf (refused number place) = []
+abbrev pub readList : {A : Type 0} → Answer (List A) → List A
+readList (got xs ws) = xs
+readList (refused number place) = []
 
 -- ---- what the two files say
 
 abbrev pub vectorsIn : ℕ → List ℕ → ℕ
-vectorsIn n file = length (listOf (alphas n file))
+vectorsIn n file = length (readList (alphas n file))
 
 abbrev pub alphaAt : ℕ → List ℕ → ℕ → Alpha
-alphaAt n file v = getD (listOf (alphas n file)) v (record { action = 0; ticks = [] })
+alphaAt n file v = getD (readList (alphas n file)) v (record { action = 0; ticks = [] })
 
 abbrev pub nodeAt : ℕ → List ℕ → ℕ → Node
-nodeAt k file v = getD (listOf (nodes k file)) v (record { action = 0; next = [] })
+nodeAt k file v = getD (readList (nodes k file)) v (record { action = 0; next = [] })
 
 -- of vector v its action, its entry at s before any backup, and what it chooses after o
 abbrev pub actionAt : ℕ → List ℕ → ℕ → ℕ
@@ -64,13 +64,13 @@ nextAt k file v o = getD (nodeAt k file v .next) o 0
 -- as many vectors as nodes, with the same actions
 unfoldable pub alike : ℕ → ℕ → List ℕ → List ℕ → Bool
 alike n k alphaFile graphFile =
-    eqb (vectorsIn n alphaFile) (length (listOf (nodes k graphFile)))
+    eqb (vectorsIn n alphaFile) (length (readList (nodes k graphFile)))
     && every (vectorsIn n alphaFile) (λ v. eqb (actionAt n alphaFile v) (nodeAt k graphFile v .action))
 
 -- 19 of the alpha file, then 19 of the graph file, then 20
 unfoldable pub filesVerdict : ℕ → ℕ → List ℕ → List ℕ → Verdict
 filesVerdict n k alphaFile graphFile =
-    readable (alphas n alphaFile) before readable (nodes k graphFile) before unless (alike n k alphaFile graphFile) 20 0
+    wordsVerdict (alphas n alphaFile) before wordsVerdict (nodes k graphFile) before unless (alike n k alphaFile graphFile) 20 0
 
 -- the number of vectors; 0 with a refusal
 abbrev pub withCount : Verdict → ℕ → Judged

@@ -9,7 +9,7 @@ use Rattle.words.specs.Words.{Words, wordsIn, between}
 use Rattle.grammar.specs.Grammar.{Answer, got, refused}
 use Rattle.alphas.specs.Alphas.{alpha, node}
 use Rattle.solver.specs.declared.Judged.{Judged}
-use Rattle.solver.specs.Files.{allFrom, alphas, nodes, listOf, vectorsIn}
+use Rattle.solver.specs.Files.{allFrom, alphas, nodes, readList, vectorsIn}
 
 -- ---- a file
 
@@ -30,6 +30,6 @@ pub record GoesOn {A : Type 0} (one : ℕ → Words → Answer A) (file : List �
 -- both files are read up to the vector v, of `count`: up to p and q
 pub record BothAt (n k : ℕ) (alphaFile graphFile : List ℕ) (count v p q : ℕ) : Type 0 where
   pub as-many-vectors : count ≡ vectorsIn n alphaFile
-  pub as-many-nodes : count ≡ length (listOf (nodes k graphFile))
-  pub vectors-stand : GoesOn (λ _. alpha n) alphaFile (listOf (alphas n alphaFile)) v p
-  pub nodes-stand : GoesOn (node k) graphFile (listOf (nodes k graphFile)) v q
+  pub as-many-nodes : count ≡ length (readList (nodes k graphFile))
+  pub vectors-stand : GoesOn (λ _. alpha n) alphaFile (readList (alphas n alphaFile)) v p
+  pub nodes-stand : GoesOn (node k) graphFile (readList (nodes k graphFile)) v q

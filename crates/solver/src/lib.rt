@@ -5,8 +5,8 @@ ghost use lib.Dec.{eqb};
 ghost use lib.ListN.{length};
 ghost use Rattle.integers.specs.Search.{every};
 ghost use Rattle.tables.specs.Limits.{maxStates, maxObservations};
-ghost use Rattle.alphas.specs.Alphas.{readable};
-ghost use Rattle.solver.specs.Files.{alphas, nodes, listOf, vectorsIn, actionAt, nodeAt, withCount, filesJudged};
+ghost use Rattle.alphas.specs.Alphas.{wordsVerdict};
+ghost use Rattle.solver.specs.Files.{alphas, nodes, readList, vectorsIn, actionAt, nodeAt, withCount, filesJudged};
 ghost use Rattle.solver.specs.Steps.{BothAt};
 use tables::Verdict;
 use words::Word;
@@ -20,7 +20,7 @@ pub struct Judged {
 // The vectors of an alpha file, counted.
 fn judge_alphas(file: &[u8], n: usize) -> Judged
     requires { ⌜ n ≤ maxStates ⌝ }
-    ensures { λ r. ⌜ r ≡ withCount (readable (alphas n (now (file .entry)))) (vectorsIn n (now (file .entry))) ⌝ }
+    ensures { λ r. ⌜ r ≡ withCount (wordsVerdict (alphas n (now (file .entry)))) (vectorsIn n (now (file .entry))) ⌝ }
 {
     let mut at: usize = 0;
     let mut v: usize = 0;
@@ -48,7 +48,7 @@ fn judge_alphas(file: &[u8], n: usize) -> Judged
 // The nodes of a graph file, counted.
 fn judge_nodes(file: &[u8], k: usize) -> Judged
     requires { ⌜ k ≤ maxObservations ⌝ }
-    ensures { λ r. ⌜ r ≡ withCount (readable (nodes k (now (file .entry)))) (length (listOf (nodes k (now (file .entry))))) ⌝ }
+    ensures { λ r. ⌜ r ≡ withCount (wordsVerdict (nodes k (now (file .entry)))) (length (readList (nodes k (now (file .entry))))) ⌝ }
 {
     let mut at: usize = 0;
     let mut v: usize = 0;

@@ -16,7 +16,7 @@ use Rattle.integers.specs.Search.{some}
 use Rattle.integers.proofs.Searches.{some-at, and-is, some-none}
 use Rattle.masks.specs.Masks.{covered}
 use Rattle.columns.specs.Columns.{stateOf, chanceOf, saidFor, turnedBack}
-use Rattle.columns.specs.Steps.{CellsFit, ColumnFits, ColumnsFit}
+use Rattle.columns.specs.Steps.{ColumnStored, ColumnFits, ColumnsFit}
 use Rattle.sums.specs.Steps.{foreseenLimit, onwardLimit}
 use Rattle.sparse.specs.Steps.{onwardSaid}
 
@@ -111,7 +111,7 @@ module _ (list : List ℕ) (first : ℕ) where
         ))
 
 -- ---- a state of a mask among the cells
-module _ (mask : ℕ) {n first count : ℕ} {list : List ℕ} (fit : CellsFit n list first count) where
+module _ (mask : ℕ) {n first count : ℕ} {list : List ℕ} (fit : ColumnStored n list first count) where
   abbrev here : ℕ → Bool
   here s = covered mask s && ltb 0 (saidFor list first count s)
 
@@ -138,7 +138,7 @@ module _ (mask : ℕ) {n first count : ℕ} {list : List ℕ} (fit : CellsFit n 
 -- ---- a column, from where its cells lie
 module _ (n : ℕ) (list : List ℕ) (a to : ℕ) {first count : ℕ} (starts : first ≡ getD list (rowPlace n a to) 0)
     (counts : count ≡ getD list (rowPlace n a to + 1) 0 - getD list (rowPlace n a to) 0) where
-  pub cells-fit : ColumnFits n list (rowPlace n a to) → CellsFit n list first count
+  pub cells-fit : ColumnFits n list (rowPlace n a to) → ColumnStored n list first count
   cells-fit h = rw (starts, counts) (h .cells)
 
   pub said-turned : (s : ℕ) → saidFor list first count s ≡ turnedBack n list s a to

@@ -12,7 +12,7 @@ ghost use Rattle.tables.specs.Limits.{maxStates, maxActions, one, maxWeight};
 ghost use Rattle.tables.specs.Storage.{rowPlace, weightIn};
 ghost use Rattle.masks.specs.Masks.{covered};
 ghost use Rattle.columns.specs.Columns.{stateOf, chanceOf, saidFor, turnedBack};
-ghost use Rattle.columns.specs.Steps.{CellsFit, ColumnFits, ColumnsFit};
+ghost use Rattle.columns.specs.Steps.{ColumnStored, ColumnFits, ColumnsFit};
 ghost use Rattle.sums.specs.Steps.{RewardsFit, foreseenLimit};
 ghost use Rattle.sparse.specs.Steps.{movedSaid, onwardSaid, backupSaid};
 use columns::List;
@@ -67,7 +67,7 @@ fn chance_of(w: u32) -> u64
 fn down(list: &[u32], first: usize, count: usize, n: usize, p: &[u64]) -> u64
     requires { ⌜ n ≤ maxStates ⌝ }
     requires { ⌜ Below maxWeight n (now p) ⌝ }
-    requires { ⌜ CellsFit n (now list) first count ⌝ }
+    requires { ⌜ ColumnStored n (now list) first count ⌝ }
     ensures { λ r. ⌜ r ≡ totalTo n (λ s. weightIn (now (p .entry)) s * saidFor (now (list .entry)) first count s) ⌝ }
 {
     let mut sum: u64 = 0;
@@ -107,7 +107,7 @@ pub fn moved(list: &[u32], n: usize, p: &[u64], a: Action) -> Weights
 // Adds T × x to the sum of each state that is among the cells from a word on, so many.
 fn add_cells(list: &[u32], first: usize, count: usize, n: usize, x: i64, sums: &mut [i64])
     requires { ⌜ n ≤ maxStates ⌝ }
-    requires { ⌜ CellsFit n (now list) first count ⌝ }
+    requires { ⌜ ColumnStored n (now list) first count ⌝ }
     requires { ⌜ n ≤ length (now sums) ⌝ }
     requires { ⌜ ((s : ℕ) → s < n → natAbs (getD (now sums) s (pos 0)) + saidFor (now list) first count s * natAbs x < 2 ^ 63) ⌝ }
     ensures { λ _. ⌜ now (sums .exit) ≡ laid n
@@ -167,7 +167,7 @@ pub fn backups(list: &[u32], reward: &[i64], f: &[i64], n: usize, g: u64, a: Act
 // Whether a state of the mask is among the cells from a word on, so many.
 fn some_covered(list: &[u32], first: usize, count: usize, n: usize, mask: u64) -> bool
     requires { ⌜ n ≤ maxStates ⌝ }
-    requires { ⌜ CellsFit n (now list) first count ⌝ }
+    requires { ⌜ ColumnStored n (now list) first count ⌝ }
     ensures { λ r. ⌜ r ≡ some n (λ s. covered mask s && ltb 0 (saidFor (now (list .entry)) first count s)) ⌝ }
 {
     for i in 0..count {

@@ -19,7 +19,7 @@ use Rattle.alphas.specs.Alphas.{noNode}
 use Rattle.solver.specs.Files.{actionAt}
 use Rattle.stated.specs.declared.Said.{Said}
 use Rattle.stated.specs.Stated.{chosenOver}
-use Rattle.stated.specs.Steps.{choicesAt, Says}
+use Rattle.stated.specs.Steps.{choicesAt, SaysVector}
 
 -- ---- what a next node stands for
 
@@ -37,7 +37,7 @@ over-first (suc t) next h e = absurd (omega arith)
 
 -- ---- 10 and 21 of one vector
 
-module _ {n k t v : ℕ} {alphaFile graphFile : List ℕ} {r : Said} (says : Says n k t alphaFile graphFile v r) where
+module _ {n k t v : ℕ} {alphaFile graphFile : List ℕ} {r : Said} (says : SaysVector n k t alphaFile graphFile v r) where
   pub chosen-said : (o : ℕ) → o < k → getD (r .chosen) o 0 ≡ choicesAt k t graphFile v o
   chosen-said o l = ap (λ (xs : List ℕ). getD xs o 0) (says .chosen) ∙ padded-at 0 maxObservations k (choicesAt k t graphFile v) o 0 l
 

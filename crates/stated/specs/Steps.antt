@@ -32,7 +32,7 @@ pub record Files (n k : ℕ) (alphaFile graphFile : List ℕ) (count : ℕ) : Ty
   pub start : ReadTo n k alphaFile graphFile 0 0 0
 
 -- what both files say of the vector v, and where they go on after it
-pub record Says (n k t : ℕ) (alphaFile graphFile : List ℕ) (v : ℕ) (r : Said) : Type 0 where
+pub record SaysVector (n k t : ℕ) (alphaFile graphFile : List ℕ) (v : ℕ) (r : Said) : Type 0 where
   pub action : r .action .0 ≡ actionAt n alphaFile v
   pub ticks : (s : ℕ) → s < n → getD (r .ticks) s (pos 0) ≡ ticksAt n alphaFile v s
   pub chosen : r .chosen ≡ padded 0 maxObservations k (choicesAt k t graphFile v)

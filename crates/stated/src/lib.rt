@@ -9,7 +9,7 @@ ghost use Rattle.tables.specs.Verdicts.{_before_, unless, firstOf};
 ghost use Rattle.levels.specs.Judged.{numbersIn};
 ghost use Rattle.solver.specs.Files.{vectorsIn, actionAt};
 ghost use Rattle.stated.specs.Stated.{chosenOver};
-ghost use Rattle.stated.specs.Steps.{choicesAt, ReadTo, Files, Says, Choosing, masksOver};
+ghost use Rattle.stated.specs.Steps.{choicesAt, ReadTo, Files, SaysVector, Choosing, masksOver};
 use alphas::NextNodes;
 use alphas::NodeAt;
 use alphas::Ticks;
@@ -70,7 +70,7 @@ pub fn said_at<'c>(
 ) -> Said
     requires { ⌜ (n ≤ maxStates) × (k ≤ maxObservations) ⌝ }
     requires { ⌜ (v < vectorsIn n (now alpha)) × (ReadTo n k (now alpha) (now graph) v p q) ⌝ }
-    ensures { λ r. ⌜ Says n k t (now (alpha .entry)) (now (graph .entry)) v r ⌝ }
+    ensures { λ r. ⌜ SaysVector n k t (now (alpha .entry)) (now (graph .entry)) v r ⌝ }
 {
     let x = alphas::alpha_at(alpha, p, n);
     let y = alphas::node_at(graph, q, v, k);

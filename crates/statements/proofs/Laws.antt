@@ -4,7 +4,7 @@ use denote.Enum.Declared.{tagOf}
 use Rattle.words.specs.declared.Word.{Word}
 use Rattle.words.specs.declared.Word.the-variants.{At, End}
 use Rattle.words.specs.Words.{Words, word, end, wordsIn, between, told}
-use Rattle.words.specs.Steps.{Inside, Worded}
+use Rattle.words.specs.Steps.{WordInside, Worded}
 use Rattle.words.proofs.Word as word-type
 use Rattle.grammar.specs.declared.Read.{Read}
 use Rattle.grammar.specs.declared.Read.the-variants.{Value, Refused}
@@ -31,11 +31,11 @@ pub leaves-within : {C D : Type 0} {s : List ℕ} {at : ℕ} {r : Read} {cells :
 leaves-within {s = s} {r = r} {cells} f h = record { is = within-is f cells s r ∙ ap (within f) (h .is); onward = h .onward }
 
 -- a word that was found, read from where it begins
-begins-in : (s : List ℕ) (w : Word) → Inside s 0 w → Inside s (begin w) w
+begins-in : (s : List ℕ) (w : Word) → WordInside s 0 w → WordInside s (begin w) w
 begins-in s (At a b) (h, k) = (omega arith, k)
 begins-in s End e = tt
 
-pub takes-begin : {s : List ℕ} {w : Word} {most : ℕ} {r : Read} {a : Answer ℕ} → Inside s 0 w → Takes s w most r a → Reads s (begin w) most r a
+pub takes-begin : {s : List ℕ} {w : Word} {most : ℕ} {r : Read} {a : Answer ℕ} → WordInside s 0 w → Takes s w most r a → Reads s (begin w) most r a
 takes-begin {s} {w} {most} {r} h t = record { is = t .is; onward = onward s (begin w) most w r (begins-in s w h) (t .follows) }
 
 -- cells that are as many

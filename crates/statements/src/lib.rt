@@ -4,7 +4,7 @@ ghost use mathlib.Core.Path.{_≡_};
 ghost use Prim.Native.Nat.{ℕ, _+_, _≤_};
 ghost use lib.ListN.{length};
 ghost use Rattle.words.specs.Words.{wordsIn, between, told};
-ghost use Rattle.words.specs.Steps.{Inside};
+ghost use Rattle.words.specs.Steps.{WordInside};
 ghost use Rattle.entries.specs.Steps.{CellsFit, outcomeOf, Leaves};
 ghost use Rattle.statements.specs.Statements.{reward, rewards, outcomeKept, outcome, outcomes, rewardsOrOutcomes, draft, rewardStatement};
 ghost use Rattle.statements.specs.Statements.{observationOrReward, oneStatement, statements};
@@ -172,7 +172,7 @@ fn reward_statement_at(
     k: usize,
     full: bool,
 ) -> Read
-    requires { ⌜ (Inside (now file) 0 w) × (RewardCells full m n k (now reward)) ⌝ }
+    requires { ⌜ (WordInside (now file) 0 w) × (RewardCells full m n k (now reward)) ⌝ }
     ensures { λ r. ⌜ ((t o : List ℕ) → Leaves (now (file .entry)) (begin w) r (draft t o (now (reward .exit)))
         (rewardStatement full m n k (draft t o (now (reward .entry))) (told (now (file .entry)) w))) ⌝ }
 {
@@ -193,7 +193,7 @@ fn other_statement_at(
     k: usize,
     full: bool,
 ) -> Read
-    requires { ⌜ (Inside (now file) 0 w) × ((CellsFit m n k (now observation)) × (RewardCells full m n k (now reward))) ⌝ }
+    requires { ⌜ (WordInside (now file) 0 w) × ((CellsFit m n k (now observation)) × (RewardCells full m n k (now reward))) ⌝ }
     ensures { λ r. ⌜ ((t : List ℕ) → Leaves (now (file .entry)) (begin w) r (draft t (now (observation .exit)) (now (reward .exit)))
         (observationOrReward full m n k (draft t (now (observation .entry)) (now (reward .entry))) (told (now (file .entry)) w))) ⌝ }
 {
@@ -215,7 +215,7 @@ fn statement_at(
     k: usize,
     full: bool,
 ) -> Read
-    requires { ⌜ (Inside (now file) 0 w) × ((CellsFit m n n (now transition)) × ((CellsFit m n k (now observation))
+    requires { ⌜ (WordInside (now file) 0 w) × ((CellsFit m n n (now transition)) × ((CellsFit m n k (now observation))
         × (RewardCells full m n k (now reward)))) ⌝ }
     ensures { λ r. ⌜ Leaves (now (file .entry)) (begin w) r (draft (now (transition .exit)) (now (observation .exit)) (now (reward .exit)))
         (oneStatement full m n k (draft (now (transition .entry)) (now (observation .entry)) (now (reward .entry))) (told (now (file .entry)) w)) ⌝ }

@@ -1,4 +1,4 @@
--- The numbers of document 01's first part, each in its one place.
+-- The numbers that bound a model and what a certifier holds, each in its one place.
 use Prim.Native.Nat.{ℕ, _*_}
 
 abbrev pub maxStates : ℕ

@@ -13,7 +13,7 @@ use lib.Seq.{drop-cons, drop-length}
 use Rattle.words.specs.declared.Class.{Class}
 use Rattle.words.specs.declared.Class.the-variants.{Space, Colon, Hash, Digit, Point, Minus, Star, Rest}
 use Rattle.words.specs.Class.{classOf}
-use Rattle.words.specs.Words.{Role, parts, alone, opens, belongs, roleOf, Words, word, end, run, whereBelongs, Mode, between, inside, comment, step}
+use Rattle.words.specs.Words.{Role, parts, alone, opens, belongs, roleOf, Words, word, end, wordRun, whereBelongs, Mode, between, inside, comment, step}
 use Rattle.words.specs.Words.{wordsOf, wordsIn}
 use Rattle.words.specs.Steps.{isSpace, isEnd, Run}
 
@@ -84,7 +84,7 @@ unfolding wordsIn wordsOf
 at-end m s at e = rw (e, drop-length)
 
 pub end-run : (s : List ℕ) (at : ℕ) → at ≡ length s → Run s at at
-unfolding run
+unfolding wordRun
 end-run s at e =
     let z : at - at ≡ 0 = omega arith in
     record { up = omega arith; low = omega arith; same = at-end inside s at e ∙ sym (at-end between s at e); bytes = rw (z, e, drop-length) }
@@ -116,9 +116,9 @@ module _ (s : List ℕ) (at : ℕ) (h : at < length s) where
       rw (e, from-here)
 
   -- a byte that belongs to a word lengthens the rest of it
-  run-on : roleIn s at ≡ belongs → run (drop at s) ≡ getD s at 0 ∷ run (drop (at + 1) s)
-  unfolding run
-  run-on e = ap run from-here ∙ ap (λ (r : Role). whereBelongs r (getD s at 0 ∷ run (drop (at + 1) s))) e
+  run-on : roleIn s at ≡ belongs → wordRun (drop at s) ≡ getD s at 0 ∷ wordRun (drop (at + 1) s)
+  unfolding wordRun
+  run-on e = ap wordRun from-here ∙ ap (λ (r : Role). whereBelongs r (getD s at 0 ∷ wordRun (drop (at + 1) s))) e
 
   pub run-more : {r : ℕ} → roleIn s at ≡ belongs → Run s (at + 1) r → Run s at r
   run-more {r} e w =
@@ -132,14 +132,14 @@ module _ (s : List ℕ) (at : ℕ) (h : at < length s) where
 
   -- any other ends it
   pub run-ends : isEnd (roleIn s at) ≡ true → Run s at at
-  unfolding run
+  unfolding wordRun
   run-ends e =
       let z : at - at ≡ 0 = omega arith in
       record {
         up = omega arith;
         low = omega arith;
         same = step-in inside ∙ ends-step (roleIn s at) at (getD s at 0) (drop (at + 1) s) (λ m'. wordsIn m' s (at + 1)) e ∙ sym (step-in between);
-        bytes = rw z (ap run from-here ∙ ends-run (roleIn s at) (getD s at 0 ∷ run (drop (at + 1) s)) e);
+        bytes = rw z (ap wordRun from-here ∙ ends-run (roleIn s at) (getD s at 0 ∷ wordRun (drop (at + 1) s)) e);
       }
 
   -- the word that begins here: a colon, or a byte that belongs to a word and the rest of it
@@ -158,5 +158,5 @@ module _ (s : List ℕ) (at : ℕ) (h : at < length s) where
 -- ---- a worked example: "T:0 #x" LF ".5"
 pub example : wordsOf between 0 (84 ∷ 58 ∷ 48 ∷ 32 ∷ 35 ∷ 120 ∷ 10 ∷ 46 ∷ 53 ∷ [])
     ≡ word 0 (84 ∷ []) (word 1 (58 ∷ []) (word 2 (48 ∷ []) (word 7 (46 ∷ 53 ∷ []) (end 9))))
-unfolding wordsOf run
+unfolding wordsOf wordRun
 example = refl

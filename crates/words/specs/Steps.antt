@@ -6,7 +6,7 @@ use mathlib.Core.List.{List}
 use lib.ListN.{length, take, drop}
 use Rattle.words.specs.declared.Word.{Word}
 use Rattle.words.specs.declared.Word.the-variants.{At, End}
-use Rattle.words.specs.Words.{Role, parts, alone, opens, belongs, run, wordsIn, between, inside, told}
+use Rattle.words.specs.Words.{Role, parts, alone, opens, belongs, wordRun, wordsIn, between, inside, told}
 
 -- a byte parts words
 abbrev pub isSpace : Role → Bool
@@ -27,16 +27,16 @@ pub record Run (s : List ℕ) (a r : ℕ) : Type 0 where
   pub up : a ≤ r
   pub low : r ≤ length s
   pub same : wordsIn inside s a ≡ wordsIn between s r
-  pub bytes : run (drop a s) ≡ take (r - a) (drop a s)
+  pub bytes : wordRun (drop a s) ≡ take (r - a) (drop a s)
 
-abbrev pub Inside : List ℕ → ℕ → Word → Type 0
-Inside s a (At start stop) = (a ≤ start) × ((start < stop) × (stop ≤ length s))
-Inside s a End = Unit
+abbrev pub WordInside : List ℕ → ℕ → Word → Type 0
+WordInside s a (At start stop) = (a ≤ start) × ((start < stop) × (stop ≤ length s))
+WordInside s a End = Unit
 
 -- w is the next word from a, and lies between a and the end of the file
 pub record Worded (s : List ℕ) (a : ℕ) (w : Word) : Type 0 where
   pub is : wordsIn between s a ≡ told s w
-  pub lies : Inside s a w
+  pub lies : WordInside s a w
 
 -- the next word from any offset; none from past the end
 pub record Next (s : List ℕ) (a : ℕ) (w : Word) : Type 0 where

@@ -39,9 +39,9 @@ whereBelongs alone w = []
 whereBelongs opens w = []
 
 -- the bytes up to the first that does not belong to a word
-unfoldable pub run : List ℕ → List ℕ
-run [] = []
-run (b ∷ s) = whereBelongs (roleOf (classOf b)) (b ∷ run s)
+unfoldable pub wordRun : List ℕ → List ℕ
+wordRun [] = []
+wordRun (b ∷ s) = whereBelongs (roleOf (classOf b)) (b ∷ wordRun s)
 
 pub data Mode : Type 0 where
   between inside comment : Mode
@@ -51,7 +51,7 @@ abbrev pub step : Mode → Role → ℕ → ℕ → List ℕ → (Mode → Words
 step between parts at b s next = next between
 step between alone at b s next = word at (b ∷ []) (next between)
 step between opens at b s next = next comment
-step between belongs at b s next = word at (b ∷ run s) (next inside)
+step between belongs at b s next = word at (b ∷ wordRun s) (next inside)
 step inside parts at b s next = next between
 step inside alone at b s next = word at (b ∷ []) (next between)
 step inside opens at b s next = next comment

@@ -30,10 +30,10 @@ worthVerdict m g v s d =
     before numbersIn 18 (G .nodes) (M .actions) (M .observations) (G .nodes) (G .action) (G .next)
     before unless (askedWithin (G .nodes) (M .states) v s d) 18 0
 
-abbrev pub worthBy : Verdict → Tables → LentGraph → ℕ → ℕ → ℕ → Valued
-worthBy Fine m g v s d = record { verdict = Fine; ticks = worthOf (modelOf m) (graphOf (m .observations) g) d v s }
-worthBy (Refused number place) m g v s d = record { verdict = Refused number place; ticks = pos 0 }
+abbrev pub valuedBy : Verdict → Tables → LentGraph → ℕ → ℕ → ℕ → Valued
+valuedBy Fine m g v s d = record { verdict = Fine; ticks = worthOf (modelOf m) (graphOf (m .observations) g) d v s }
+valuedBy (Refused number place) m g v s d = record { verdict = Refused number place; ticks = pos 0 }
 
 -- the worth of node v at state s with d steps left, of tables and a graph of any content
 unfoldable pub worthAnswer : Tables → LentGraph → ℕ → ℕ → ℕ → Valued
-worthAnswer m g v s d = worthBy (worthVerdict m g v s d) m g v s d
+worthAnswer m g v s d = valuedBy (worthVerdict m g v s d) m g v s d

@@ -6,7 +6,7 @@ ghost use Rattle.tables.specs.Limits.{maxStates, maxActions};
 ghost use Rattle.tables.specs.Storage.{cellIn, rewardIn};
 ghost use Rattle.tables.specs.Steps.{rowsTo, cellsTo};
 ghost use Rattle.written.specs.Text.{partsTo, rowText, tableText, rewardText, rewardsText, headerText, startText, fileText, maxText};
-ghost use Rattle.digits.specs.Steps.{Room, Wrote};
+ghost use Rattle.digits.specs.Steps.{HasRoom, Wrote};
 ghost use Rattle.written.specs.Steps.{numbers, Writable};
 use digits::put;
 use digits::put_fixed_line;
@@ -39,7 +39,7 @@ fn put_numbers(
     w: usize,
 ) -> usize
     requires { ⌜ (unit ≡ 10 ^ places) × (from + w ≤ length (now cells)) ⌝ }
-    requires { ⌜ Room at (numbers places (now cells) from w) (now out) ⌝ }
+    requires { ⌜ HasRoom at (numbers places (now cells) from w) (now out) ⌝ }
     ensures { λ r. ⌜ Wrote at (numbers places (now (cells .entry)) from w) (now (out .entry)) r (now (out .exit)) ⌝ }
 {
     let mut next = at;
@@ -61,7 +61,7 @@ fn put_row(
     w: usize,
 ) -> usize
     requires { ⌜ from + w ≤ length (now cells) ⌝ }
-    requires { ⌜ Room at (rowText key a s w (λ x. getD (now cells) (from + x) 0)) (now out) ⌝ }
+    requires { ⌜ HasRoom at (rowText key a s w (λ x. getD (now cells) (from + x) 0)) (now out) ⌝ }
     ensures { λ r. ⌜ Wrote at (rowText key a s w (λ x. getD (now (cells .entry)) (from + x) 0)) (now (out .entry)) r (now (out .exit)) ⌝ }
 {
     let x = put_opening(out, at, key, a, s);
@@ -81,7 +81,7 @@ fn put_block(
 ) -> usize
     requires { ⌜ (a < maxActions) × ((n ≤ maxStates) × (w ≤ maxStates)) ⌝ }
     requires { ⌜ cellsTo n w a ≤ length (now cells) ⌝ }
-    requires { ⌜ Room at (partsTo n (λ s. rowText key a s w (cellIn n w (now cells) a s))) (now out) ⌝ }
+    requires { ⌜ HasRoom at (partsTo n (λ s. rowText key a s w (cellIn n w (now cells) a s))) (now out) ⌝ }
     ensures { λ r. ⌜ Wrote at (partsTo n (λ s. rowText key a s w (cellIn n w (now (cells .entry)) a s))) (now (out .entry)) r (now (out .exit)) ⌝ }
 {
     let mut next = at;
@@ -104,7 +104,7 @@ fn put_table(
 ) -> usize
     requires { ⌜ (m ≤ maxActions) × ((n ≤ maxStates) × (w ≤ maxStates)) ⌝ }
     requires { ⌜ m * n * w ≤ length (now cells) ⌝ }
-    requires { ⌜ Room at (tableText key m n w (cellIn n w (now cells))) (now out) ⌝ }
+    requires { ⌜ HasRoom at (tableText key m n w (cellIn n w (now cells))) (now out) ⌝ }
     ensures { λ r. ⌜ Wrote at (tableText key m n w (cellIn n w (now (cells .entry)))) (now (out .entry)) r (now (out .exit)) ⌝ }
 {
     let mut next = at;
@@ -118,7 +118,7 @@ fn put_table(
 
 // "R: a : s : * : * v"
 fn put_reward(out: &mut [u8], at: usize, a: usize, s: usize, v: i64) -> usize
-    requires { ⌜ Room at (rewardText a s v) (now out) ⌝ }
+    requires { ⌜ HasRoom at (rewardText a s v) (now out) ⌝ }
     ensures { λ r. ⌜ Wrote at (rewardText a s v) (now (out .entry)) r (now (out .exit)) ⌝ }
 {
     let x = put_opening(out, at, b'R', a, s);
@@ -131,7 +131,7 @@ fn put_reward(out: &mut [u8], at: usize, a: usize, s: usize, v: i64) -> usize
 fn put_rewards_of(out: &mut [u8], at: usize, a: usize, n: usize, cells: &[i64]) -> usize
     requires { ⌜ (a < maxActions) × (n ≤ maxStates) ⌝ }
     requires { ⌜ rowsTo n a ≤ length (now cells) ⌝ }
-    requires { ⌜ Room at (partsTo n (λ s. rewardText a s (rewardIn n (now cells) s a))) (now out) ⌝ }
+    requires { ⌜ HasRoom at (partsTo n (λ s. rewardText a s (rewardIn n (now cells) s a))) (now out) ⌝ }
     ensures { λ r. ⌜ Wrote at (partsTo n (λ s. rewardText a s (rewardIn n (now (cells .entry)) s a))) (now (out .entry)) r (now (out .exit)) ⌝ }
 {
     let mut next = at;
@@ -146,7 +146,7 @@ fn put_rewards_of(out: &mut [u8], at: usize, a: usize, n: usize, cells: &[i64]) 
 fn put_rewards(out: &mut [u8], at: usize, m: usize, n: usize, cells: &[i64]) -> usize
     requires { ⌜ (m ≤ maxActions) × (n ≤ maxStates) ⌝ }
     requires { ⌜ m * n ≤ length (now cells) ⌝ }
-    requires { ⌜ Room at (rewardsText m n (rewardIn n (now cells))) (now out) ⌝ }
+    requires { ⌜ HasRoom at (rewardsText m n (rewardIn n (now cells))) (now out) ⌝ }
     ensures { λ r. ⌜ Wrote at (rewardsText m n (rewardIn n (now (cells .entry)))) (now (out .entry)) r (now (out .exit)) ⌝ }
 {
     let mut next = at;
@@ -160,7 +160,7 @@ fn put_rewards(out: &mut [u8], at: usize, m: usize, n: usize, cells: &[i64]) -> 
 
 // Discount and counts.
 fn put_header(out: &mut [u8], at: usize, c: Counts) -> usize
-    requires { ⌜ Room at (headerText c) (now out) ⌝ }
+    requires { ⌜ HasRoom at (headerText c) (now out) ⌝ }
     ensures { λ r. ⌜ Wrote at (headerText c) (now (out .entry)) r (now (out .exit)) ⌝ }
 {
     let x = put_fixed_line(out, at, b"discount", 3, 1_000, c.discount);
@@ -173,7 +173,7 @@ fn put_header(out: &mut [u8], at: usize, c: Counts) -> usize
 // The start numbers.
 fn put_start(out: &mut [u8], at: usize, n: usize, start: &[u16]) -> usize
     requires { ⌜ n ≤ length (now start) ⌝ }
-    requires { ⌜ Room at (startText n (now start)) (now out) ⌝ }
+    requires { ⌜ HasRoom at (startText n (now start)) (now out) ⌝ }
     ensures { λ r. ⌜ Wrote at (startText n (now (start .entry))) (now (out .entry)) r (now (out .exit)) ⌝ }
 {
     let x = put(out, at, b"start:");

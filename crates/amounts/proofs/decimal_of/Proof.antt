@@ -6,13 +6,13 @@ use native.Mathlib.Decide.{decLt}
 use borrow.Author.Tests.{not-true, not-false}
 use lib.Seq.{drop-drop}
 use Rattle.numerals.specs.Numeral.{enough, exponent}
-use Rattle.numerals.specs.Steps.{mostPlaces, mostUnits, Written}
+use Rattle.numerals.specs.Steps.{mostPlaces, mostUnits, WrittenDigits}
 use Rattle.numerals.proofs.Laws.{filled-up, room, places-read, decimal-is, decimal-not, written-all, digit-exponent}
 use Rattle.amounts.proofs.decimal_of.Statement.{statement}
 use Rattle.amounts.proofs.decimal_of.Tie as tie
 
 -- digits that are not too many are all read
-all-read : (w : List ℕ) {from most end v : ℕ} → Written w from most end v → digits (drop from w) ≤ most → end - from ≡ digits (drop from w)
+all-read : (w : List ℕ) {from most end v : ℕ} → WrittenDigits w from most end v → digits (drop from w) ≤ most → end - from ≡ digits (drop from w)
 all-read w {from} {most} {end} d few =
     elim (decLt 0 (digits (drop end w))) [
       | yes more ↦ absurd (omega (arith, d .count, d .cut more))

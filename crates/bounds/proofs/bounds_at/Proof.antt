@@ -8,7 +8,7 @@ use Rattle.plans.specs.Level.{product}
 use Rattle.products.proofs.Weighed.{product-masked}
 use Rattle.sawtooth.specs.Steps.{ceilingIn}
 use Rattle.integers.specs.Whole.{lesser}
-use Rattle.bounds.specs.Steps.{bestIn, lowerIn, rowIn, upperIn}
+use Rattle.bounds.specs.Steps.{bestIn, lowerIn, bestInformedIn, upperIn}
 use Rattle.bounds.proofs.Bounds.{below-reached, support-covers, best-below, best-covers, bounds-by}
 use Rattle.bounds.proofs.bounds_at.Statement.{statement}
 use Rattle.bounds.proofs.bounds_at.Tie as tie
@@ -59,7 +59,7 @@ at-sawtooth c = answer (c .ceiling .ok) (c .ceiling .ensures)
 
 at-row : (c : tie.After-largest-product)
     → let a = start (chosen (multiplied (of-row c))) .args in
-    toZ w64 (ofZ w64 (c .largest-product .result)) ≡ rowIn (a .n) (a .m) (a .informed .now) (a .q .now)
+    toZ w64 (ofZ w64 (c .largest-product .result)) ≡ bestInformedIn (a .n) (a .m) (a .informed .now) (a .q .now)
 at-row c = answer (c .largest-product .ok) (c .largest-product .ensures)
 
 at-upper : (c : tie.After-lesser)

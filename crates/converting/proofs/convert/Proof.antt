@@ -5,7 +5,7 @@ use Rattle.modelfile.specs.ModelFile.{maxBytes, ModelFile}
 use Rattle.modelfile.proofs.Laws.{headed-within}
 use Rattle.written.specs.Text.{maxText}
 use Rattle.conversion.specs.Convert.{said, expectVerdict, convertVerdict, converted}
-use Rattle.conversion.specs.Steps.{Answers, AnswersFile}
+use Rattle.conversion.specs.Steps.{AnswersText, AnswersFile}
 use Rattle.conversion.proofs.Converting.{answers-refused, short-output, long-file, short-file, unheaded, headed}
 use Rattle.conversion.proofs.Claim.{convert-answers}
 use Rattle.converting.proofs.convert.Statement.{statement}
@@ -62,7 +62,7 @@ returns-4 c =
     let n = g .0 .1 .1 in
     let r = f .from-counts .result in
     let after = f .from-counts .last .1 .1 .1 .0 in
-    convert-answers (a .file .now) (a .out .now) (subst (λ (v : Verdict). Answers v (converted (a .file .now)) (a .out .now) r after) (judged (of-header h))
+    convert-answers (a .file .now) (a .out .now) (subst (λ (v : Verdict). AnswersText v (converted (a .file .now)) (a .out .now) r after) (judged (of-header h))
     (subst (λ (x : ModelFile). AnswersFile x (a .out .now) r after)
     (headed (a .file .now) (h .header-at .ensures) (g .0 .0) (g .0 .1 .0) (n .0) (n .1 .0) (n .1 .1 .0) (g .1)) (f .from-counts .ensures)))
 

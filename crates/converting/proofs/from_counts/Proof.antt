@@ -5,7 +5,7 @@ use Rattle.words.specs.Words.{wordsIn, between}
 use Rattle.modelfile.specs.ModelFile.{ModelFile, body, ended}
 use Rattle.modelfile.proofs.Opens.{body-holds}
 use Rattle.conversion.specs.Convert.{expectedText}
-use Rattle.conversion.specs.Steps.{fileOf, Sound, Long, nothing, AnswersFile}
+use Rattle.conversion.specs.Steps.{fileOf, SoundFile, Long, nothing, AnswersFile}
 use Rattle.conversion.proofs.Converting.{answers-refused, body-sound, read-refused}
 use Rattle.converting.proofs.from_counts.Statement.{statement}
 use Rattle.converting.proofs.from_counts.Tie as tie
@@ -30,7 +30,7 @@ same c =
     let e = c .enum-told .given .1 in
     ap (λ (v : Verdict). record { verdict = v; tables = x .tables; start = x .start }) (sym e) ∙ of-body c .body-at .ensures .1 e
 
-sound : (c : tie.After-enum-told) → Sound (read (of-body c))
+sound : (c : tie.After-enum-told) → SoundFile (read (of-body c))
 sound c =
     let s = start (of-body c) in
     let f = s .args .file .now in

@@ -1,5 +1,5 @@
 use Rattle.digits.proofs.Prelude.{_≡_, ℕ, List, _∷_, _++_, _≤_, _<_, _/_, _%_, _^_, arith, needs, subst, subst⁻¹, lastDigits, whole, fixed}
-use Rattle.digits.proofs.Prelude.{Room, Wrote, room-first, room-then, wrote-then}
+use Rattle.digits.proofs.Prelude.{HasRoom, Wrote, room-first, room-then, wrote-then}
 use native.Mathlib.Nat.{pow-le-pow-right, pow-zero}
 use Rattle.digits.proofs.put_fixed.Statement.{statement}
 use Rattle.digits.proofs.put_fixed.Tie as tie
@@ -22,19 +22,19 @@ some-unit c =
     omega (arith, c .pre .0, pow-zero 10, least)
 
 -- room for each
-room : (c : tie.Start) → Room (c .args .at) (parts c) (c .args .out .now)
-room c = subst (λ (t : List ℕ). Room (c .args .at) t (c .args .out .now)) (same-parts c) (c .pre .1)
+room : (c : tie.Start) → HasRoom (c .args .at) (parts c) (c .args .out .now)
+room c = subst (λ (t : List ℕ). HasRoom (c .args .at) t (c .args .out .now)) (same-parts c) (c .pre .1)
 
 abbrev start : tie.After-put-whole → tie.Start
 start c = c .before .before .before
 
-room-point : (c : tie.After-put-whole) → Room (c .put-whole .result) (46 ∷ decimals (start c)) (c .put-whole .last .0)
+room-point : (c : tie.After-put-whole) → HasRoom (c .put-whole .result) (46 ∷ decimals (start c)) (c .put-whole .last .0)
 room-point c = room-then (room (start c)) (c .put-whole .ensures)
 
 abbrev wholly : tie.After-put → tie.After-put-whole
 wholly c = c .before .before .before .before .before
 
-room-decimals : (c : tie.After-put) → Room (c .put .result) (decimals (start (wholly c))) (c .put .last .0)
+room-decimals : (c : tie.After-put) → HasRoom (c .put .result) (decimals (start (wholly c))) (c .put .last .0)
 room-decimals c = room-then (room-point (wholly c)) (c .put .ensures)
 
 returns : tie.Need-returns

@@ -1,14 +1,14 @@
-use Rattle.digits.proofs.Prelude.{[], _∷_, needs, Room, room-first, room-then, wrote-then, fixed}
+use Rattle.digits.proofs.Prelude.{[], _∷_, needs, HasRoom, room-first, room-then, wrote-then, fixed}
 use Rattle.digits.proofs.put_number.Statement.{statement}
 use Rattle.digits.proofs.put_number.Tie as tie
 
-room : (c : tie.Start) → Room (c .args .at) (32 ∷ []) (c .args .out .now)
+room : (c : tie.Start) → HasRoom (c .args .at) (32 ∷ []) (c .args .out .now)
 room c = room-first (fixed (c .args .places) (c .args .v)) (c .pre .1)
 
 abbrev start : tie.After-put → tie.Start
 start c = c .before .before .before .before
 
-room-number : (c : tie.After-put) → Room (c .put .result) (fixed (start c .args .places) (start c .args .v)) (c .put .last .0)
+room-number : (c : tie.After-put) → HasRoom (c .put .result) (fixed (start c .args .places) (start c .args .v)) (c .put .last .0)
 room-number c = room-then (start c .pre .1) (c .put .ensures)
 
 returns : tie.Need-returns

@@ -1,4 +1,4 @@
-use Rattle.digits.proofs.Prelude.{ℕ, List, [], _∷_, _++_, needs, Room, room-first, room-then, wrote-then, whole, opening}
+use Rattle.digits.proofs.Prelude.{ℕ, List, [], _∷_, _++_, needs, HasRoom, room-first, room-then, wrote-then, whole, opening}
 use Rattle.digits.proofs.put_opening.Statement.{statement}
 use Rattle.digits.proofs.put_opening.Tie as tie
 
@@ -7,27 +7,27 @@ abbrev rest : tie.Start → List ℕ
 rest c = 32 ∷ 58 ∷ 32 ∷ whole (c .args .s)
 
 -- room for each part
-room : (c : tie.Start) → Room (c .args .at) (c .args .key ∷ 58 ∷ 32 ∷ []) (c .args .out .now)
+room : (c : tie.Start) → HasRoom (c .args .at) (c .args .key ∷ 58 ∷ 32 ∷ []) (c .args .out .now)
 unfolding opening
 room c = room-first (whole (c .args .a) ++ rest c) (c .pre)
 
 abbrev start : tie.After-put → tie.Start
 start c = c .before .before .before .before
 
-room-action : (c : tie.After-put) → Room (c .put .result) (whole (start c .args .a) ++ rest (start c)) (c .put .last .0)
+room-action : (c : tie.After-put) → HasRoom (c .put .result) (whole (start c .args .a) ++ rest (start c)) (c .put .last .0)
 unfolding opening
 room-action c = room-then (start c .pre) (c .put .ensures)
 
 abbrev keyed : tie.After-put-whole → tie.After-put
 keyed c = c .before .before .before .before
 
-room-rest : (c : tie.After-put-whole) → Room (c .put-whole .result) (rest (start (keyed c))) (c .put-whole .last .0)
+room-rest : (c : tie.After-put-whole) → HasRoom (c .put-whole .result) (rest (start (keyed c))) (c .put-whole .last .0)
 room-rest c = room-then (room-action (keyed c)) (c .put-whole .ensures)
 
 abbrev acted : tie.After-put2 → tie.After-put-whole
 acted c = c .before .before .before .before .before
 
-room-state : (c : tie.After-put2) → Room (c .put2 .result) (whole (start (keyed (acted c)) .args .s)) (c .put2 .last .0)
+room-state : (c : tie.After-put2) → HasRoom (c .put2 .result) (whole (start (keyed (acted c)) .args .s)) (c .put2 .last .0)
 room-state c = room-then (room-rest (acted c)) (c .put2 .ensures)
 
 returns : tie.Need-returns

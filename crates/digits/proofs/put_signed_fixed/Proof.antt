@@ -1,5 +1,5 @@
 use Rattle.digits.proofs.Prelude.{_≡_, _∙_, ap, ℕ, List, _∷_, arith, needs, subst, subst⁻¹, fixed, signedFixed}
-use Rattle.digits.proofs.Prelude.{Room, Wrote, room-first, room-then, wrote-then}
+use Rattle.digits.proofs.Prelude.{HasRoom, Wrote, room-first, room-then, wrote-then}
 use Rattle.integers.proofs.Kit.{true, false, ℤ, pos, negsuc, natAbs, ltZ, toZ-ofZ}
 use Rattle.integers.proofs.Parts.{ltZ-true, ltZ-false}
 use Rattle.digits.proofs.put_signed_fixed.Statement.{statement}
@@ -24,13 +24,13 @@ minus : (c : tie.Then1) → let a = asked c .args in signedFixed (a .places) (a 
 minus c = below (asked c .args .places) (asked c .args .v) (rw (toZ-ofZ (asked c .fits .v)) at (c .if1 .taken))
     (c .before .magnitude .ensures ∙ ap natAbs (toZ-ofZ (asked c .fits .v)))
 
-room : (c : tie.Then1) → let a = asked c .args in Room (a .at) (45 ∷ fixed (a .places) (c .before .magnitude .result)) (a .out .now)
-room c = subst (λ (t : List ℕ). Room (asked c .args .at) t (asked c .args .out .now)) (minus c) (asked c .pre .1)
+room : (c : tie.Then1) → let a = asked c .args in HasRoom (a .at) (45 ∷ fixed (a .places) (c .before .magnitude .result)) (a .out .now)
+room c = subst (λ (t : List ℕ). HasRoom (asked c .args .at) t (asked c .args .out .now)) (minus c) (asked c .pre .1)
 
 abbrev then : tie.After-put → tie.Then1
 then c = c .before .before .before
 
-room-size : (c : tie.After-put) → Room (c .put .result) (fixed (asked (then c) .args .places) (then c .before .magnitude .result)) (c .put .last .0)
+room-size : (c : tie.After-put) → HasRoom (c .put .result) (fixed (asked (then c) .args .places) (then c .before .magnitude .result)) (c .put .last .0)
 room-size c = room-then (room (then c)) (c .put .ensures)
 
 returns : tie.Need-returns
@@ -49,8 +49,8 @@ plain : (c : tie.Else1) → let a = asked-2 c .args in signedFixed (a .places) (
 plain c = other (asked-2 c .args .places) (asked-2 c .args .v) (rw (toZ-ofZ (asked-2 c .fits .v)) at (c .if1 .left))
     (c .before .magnitude .ensures ∙ ap natAbs (toZ-ofZ (asked-2 c .fits .v)))
 
-room-2 : (c : tie.Else1) → let a = asked-2 c .args in Room (a .at) (fixed (a .places) (c .before .magnitude .result)) (a .out .now)
-room-2 c = subst (λ (t : List ℕ). Room (asked-2 c .args .at) t (asked-2 c .args .out .now)) (plain c) (asked-2 c .pre .1)
+room-2 : (c : tie.Else1) → let a = asked-2 c .args in HasRoom (a .at) (fixed (a .places) (c .before .magnitude .result)) (a .out .now)
+room-2 c = subst (λ (t : List ℕ). HasRoom (asked-2 c .args .at) t (asked-2 c .args .out .now)) (plain c) (asked-2 c .pre .1)
 
 returns-2 : tie.Need-returns-2
 returns-2 c =

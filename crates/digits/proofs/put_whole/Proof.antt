@@ -1,4 +1,4 @@
-use Rattle.digits.proofs.Prelude.{ℕ, subst, sym, needs, Room, Wrote, lastDigits, whole}
+use Rattle.digits.proofs.Prelude.{ℕ, subst, sym, needs, HasRoom, Wrote, lastDigits, whole}
 use Rattle.digits.proofs.put_whole.Statement.{statement}
 use Rattle.digits.proofs.put_whole.Tie as tie
 
@@ -6,7 +6,7 @@ put-last-digits-requires : tie.Need-put-last-digits-requires
 unfolding whole
 put-last-digits-requires c κs =
     let s = c .before .before .before in
-    subst (λ (k : ℕ). Room (s .args .at) (lastDigits k (s .args .v)) (s .args .out .now)) (sym (c .digits-for .ensures)) (s .pre)
+    subst (λ (k : ℕ). HasRoom (s .args .at) (lastDigits k (s .args .v)) (s .args .out .now)) (sym (c .digits-for .ensures)) (s .pre)
 
 returns : tie.Need-returns
 unfolding whole

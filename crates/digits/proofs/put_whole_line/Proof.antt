@@ -1,4 +1,4 @@
-use Rattle.digits.proofs.Prelude.{ℕ, List, [], _∷_, _++_, needs, Room, room-first, room-then, wrote-then, whole, line}
+use Rattle.digits.proofs.Prelude.{ℕ, List, [], _∷_, _++_, needs, HasRoom, room-first, room-then, wrote-then, whole, line}
 use Rattle.digits.proofs.put_whole_line.Statement.{statement}
 use Rattle.digits.proofs.put_whole_line.Tie as tie
 
@@ -7,27 +7,27 @@ abbrev rest : tie.Start → List ℕ
 rest c = whole (c .args .v) ++ (10 ∷ [])
 
 -- room for each part
-room : (c : tie.Start) → Room (c .args .at) (c .args .name .now) (c .args .out .now)
+room : (c : tie.Start) → HasRoom (c .args .at) (c .args .name .now) (c .args .out .now)
 unfolding line
 room c = room-first (58 ∷ 32 ∷ rest c) (c .pre)
 
 abbrev start : tie.After-put → tie.Start
 start c = c .before .before .before .before
 
-room-colon : (c : tie.After-put) → Room (c .put .result) (58 ∷ 32 ∷ rest (start c)) (c .put .last .0)
+room-colon : (c : tie.After-put) → HasRoom (c .put .result) (58 ∷ 32 ∷ rest (start c)) (c .put .last .0)
 unfolding line
 room-colon c = room-then (start c .pre) (c .put .ensures)
 
 abbrev named : tie.After-put2 → tie.After-put
 named c = c .before .before .before .before .before
 
-room-number : (c : tie.After-put2) → Room (c .put2 .result) (rest (start (named c))) (c .put2 .last .0)
+room-number : (c : tie.After-put2) → HasRoom (c .put2 .result) (rest (start (named c))) (c .put2 .last .0)
 room-number c = room-then (room-colon (named c)) (c .put2 .ensures)
 
 abbrev spaced : tie.After-put-whole → tie.After-put2
 spaced c = c .before .before .before .before
 
-room-end : (c : tie.After-put-whole) → Room (c .put-whole .result) (10 ∷ []) (c .put-whole .last .0)
+room-end : (c : tie.After-put-whole) → HasRoom (c .put-whole .result) (10 ∷ []) (c .put-whole .last .0)
 room-end c = room-then (room-number (spaced c)) (c .put-whole .ensures)
 
 returns : tie.Need-returns

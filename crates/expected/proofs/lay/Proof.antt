@@ -5,14 +5,14 @@ use Rattle.integers.specs.Cells.{laid, laidRows}
 use Rattle.integers.proofs.Lists.{laid-long, laid-none, laid-turn}
 use Rattle.tables.specs.declared.Counts.{Counts}
 use Rattle.tables.specs.Limits.{maxConverted, maxActions}
-use Rattle.expected.specs.Expected.{expectedReward}
+use Rattle.expected.specs.Expected.{expectedTicks}
 use Rattle.expected.proofs.Expected.{action-in, state-in, places-few}
 use Rattle.expected.proofs.lay.Statement.{statement}
 use Rattle.expected.proofs.lay.Tie as tie
 
 -- the reward at a place
 abbrev made : Counts → List ℕ → List ℕ → List ℤ → ℕ → ℤ
-made c T O cells i = expectedReward c T O cells (i % c .states) (i / c .states)
+made c T O cells i = expectedTicks c T O cells (i % c .states) (i / c .states)
 
 abbrev Inv-loop : tie.InvT-loop
 Inv-loop T O outcomes c reward₀ n cells i₀ reward i = (i ≤ c .actions * c .states) × (reward ≡ laid i (made c T O outcomes) reward₀)

@@ -2,14 +2,14 @@ use Rattle.expected.proofs.Prelude.{_≡_, _∙_, _≤_, _-_, sym, arit
 use Rattle.expected.proofs.Prelude.{answer}
 use Rattle.integers.proofs.Kit.{mul-le-mul-right}
 use Rattle.tables.specs.Storage.{transitionIn}
-use Rattle.expected.specs.Steps.{seenIn, seenLimit}
+use Rattle.expected.specs.Steps.{outcomesIn, seenLimit}
 use Rattle.expected.proofs.Expected.{expected-seen, ready-seen, ready-terms}
 use Rattle.expected.proofs.millionths.Statement.{statement}
 use Rattle.expected.proofs.millionths.Tie as tie
 
 abbrev Inv-loop : tie.InvT-loop
 Inv-loop transition observation outcomes a s n k sum₀ to₀ sum to =
-    (to ≤ n) × (toZ w64 sum ≡ sumTo to (λ i. transitionIn n transition (s .0) (a .0) i · seenIn n k observation outcomes (a .0) (s .0) i))
+    (to ≤ n) × (toZ w64 sum ≡ sumTo to (λ i. transitionIn n transition (s .0) (a .0) i · outcomesIn n k observation outcomes (a .0) (s .0) i))
 
 abbrev μ-loop : tie.MeasureT-loop
 μ-loop transition observation outcomes a s n k sum₀ to₀ sum to = n - to
@@ -21,7 +21,7 @@ start c = c .before .before .before
 terms : (c : tie.Start Inv-loop μ-loop)
     → let a = c .args in
     Terms (a .c .states) one seenLimit (transitionIn (a .c .states) (a .transition .now) (a .s .0) (a .a .0))
-    (seenIn (a .c .states) (a .c .observations) (a .observation .now) (a .outcomes .now) (a .a .0) (a .s .0))
+    (outcomesIn (a .c .states) (a .c .observations) (a .observation .now) (a .outcomes .now) (a .a .0) (a .s .0))
 terms c = ready-terms (c .pre .1) (c .pre .0 .0) (c .pre .0 .1)
 
 transition-at-requires : tie.Need-transition-at-requires Inv-loop μ-loop
@@ -39,7 +39,8 @@ seen-requires c κs = let p = start (c .before .before) .pre in ready-seen (p .1
 value : (c : tie.After-seen Inv-loop μ-loop)
     → let l = c .before .before .before in
     let a = start l .args in
-    toZ w64 (ofZ w64 (c .seen .result)) ≡ seenIn (a .c .states) (a .c .observations) (a .observation .now) (a .outcomes .now) (a .a .0) (a .s .0) (l .loop .to)
+    toZ w64 (ofZ w64 (c .seen .result))
+    ≡ outcomesIn (a .c .states) (a .c .observations) (a .observation .now) (a .outcomes .now) (a .a .0) (a .s .0) (l .loop .to)
 value c = answer (c .seen .ok) (c .seen .ensures)
 
 add-scaled-requires : tie.Need-add-scaled-requires Inv-loop μ-loop

@@ -3,7 +3,7 @@ use Rattle.expected.proofs.Prelude.{answer}
 use Rattle.tables.specs.Limits.{maxReward}
 use Rattle.tables.specs.Storage.{observationIn}
 use Rattle.expected.specs.Expected.{outcomeIn}
-use Rattle.expected.specs.Steps.{seenIn}
+use Rattle.expected.specs.Steps.{outcomesIn}
 use Rattle.expected.proofs.Expected.{seen-terms}
 use Rattle.expected.proofs.seen.Statement.{statement}
 use Rattle.expected.proofs.seen.Tie as tie
@@ -58,7 +58,7 @@ loop-again c =
     )
 
 returns : tie.Need-returns Inv-loop μ-loop
-unfolding seenIn
+unfolding outcomesIn
 returns c =
     let e : c .before .loop .o ≡ start (c .before) .args .k = omega (arith, c .before .loop .inv .0, c .loop-test .left) in
     rw e at (c .before .loop .inv .1)

@@ -8,7 +8,7 @@ use Rattle.grammar.specs.Grammar.{_then_, got, field}
 use Rattle.grammar.specs.Steps.{Reads}
 use Rattle.grammar.proofs.Laws.{value-is, value-next}
 use Rattle.grammar.proofs.Gives.{given-value, field-gives}
-use Rattle.headers.specs.Headers.{statesName, actionsName, observationsName, counts}
+use Rattle.headers.specs.Headers.{statesName, actionsName, observationsName, countsWith}
 use Rattle.headers.proofs.Laws.{heads-back, heads-on}
 use Rattle.headers.proofs.counted_at.Statement.{statement}
 use Rattle.headers.proofs.counted_at.Tie as tie
@@ -34,7 +34,7 @@ returns : tie.Need-returns
 returns c =
     let d = before-field-at (c .before .before .before) .args .discount in
     heads-back (λ n ws. field actionsName countForm 1 maxActions ws then λ m ws. field observationsName countForm 1 maxObservations ws
-    then λ k ws. got (counts n m k d) ws) (c .before .before .before .field-at .ensures) (c .before .before .match .keys2) (c .back .ensures)
+    then λ k ws. got (countsWith n m k d) ws) (c .before .before .before .field-at .ensures) (c .before .before .match .keys2) (c .back .ensures)
 
 field-at-requires-2 : tie.Need-field-at-requires-2
 field-at-requires-2 c κs = (value-next _ _ (c .before .before .before .before .field-at .ensures) (c .before .before .x .given .1) .1 .1, omega arith)
@@ -44,8 +44,8 @@ returns-2 c =
     let d = before-field-at (before-field-at2 (c .before .before .before)) .args .discount in
     let g = c .before .before .before .before .before .before .x .given in
     heads-on (λ n ws. field actionsName countForm 1 maxActions ws then λ m ws. field observationsName countForm 1 maxObservations ws then λ k ws. got
-    (counts n m k d) ws) (before-field-at2 (c .before .before .before) .field-at .ensures) (g .0 .0) (g .0 .1 .0) (g .1)
-    (heads-back (λ m ws. field observationsName countForm 1 maxObservations ws then λ k ws. got (counts (g .0 .0) m k d) ws)
+    (countsWith n m k d) ws) (before-field-at2 (c .before .before .before) .field-at .ensures) (g .0 .0) (g .0 .1 .0) (g .1)
+    (heads-back (λ m ws. field observationsName countForm 1 maxObservations ws then λ k ws. got (countsWith (g .0 .0) m k d) ws)
     (c .before .before .before .field-at2 .ensures) (c .before .before .match2 .keys2) (c .back2 .ensures))
 
 field-at-requires-3 : tie.Need-field-at-requires-3
@@ -58,10 +58,10 @@ returns-3 c =
     let g = before-field-at3 z .before .before .before .x .given in
     let h = z .before .before .before .y .given in
     heads-on (λ n ws. field actionsName countForm 1 maxActions ws then λ m ws. field observationsName countForm 1 maxObservations ws then λ k ws. got
-    (counts n m k d) ws) (before-field-at2 (before-field-at3 z) .field-at .ensures) (g .0 .0) (g .0 .1 .0) (g .1)
-    (heads-on (λ m ws. field observationsName countForm 1 maxObservations ws then λ k ws. got (counts (g .0 .0) m k d) ws)
+    (countsWith n m k d) ws) (before-field-at2 (before-field-at3 z) .field-at .ensures) (g .0 .0) (g .0 .1 .0) (g .1)
+    (heads-on (λ m ws. field observationsName countForm 1 maxObservations ws then λ k ws. got (countsWith (g .0 .0) m k d) ws)
     (before-field-at3 z .field-at2 .ensures) (h .0 .0) (h .0 .1 .0) (h .1)
-    (heads-back (λ k ws. got (counts (g .0 .0) (h .0 .0) k d) ws) (z .field-at3 .ensures) (c .before .before .match3 .keys2) (c .back3 .ensures)))
+    (heads-back (λ k ws. got (countsWith (g .0 .0) (h .0 .0) k d) ws) (z .field-at3 .ensures) (c .before .before .match3 .keys2) (c .back3 .ensures)))
 
 returns-4 : tie.Need-returns-4
 returns-4 c =
@@ -72,10 +72,10 @@ returns-4 c =
     let h = z .before .before .before .y .given in
     let e = c .before .z .given in
     heads-on (λ n ws. field actionsName countForm 1 maxActions ws then λ m ws. field observationsName countForm 1 maxObservations ws then λ k ws. got
-    (counts n m k d) ws) (before-field-at2 (before-field-at3 z) .field-at .ensures) (g .0 .0) (g .0 .1 .0) (g .1)
-    (heads-on (λ m ws. field observationsName countForm 1 maxObservations ws then λ k ws. got (counts (g .0 .0) m k d) ws)
+    (countsWith n m k d) ws) (before-field-at2 (before-field-at3 z) .field-at .ensures) (g .0 .0) (g .0 .1 .0) (g .1)
+    (heads-on (λ m ws. field observationsName countForm 1 maxObservations ws then λ k ws. got (countsWith (g .0 .0) m k d) ws)
     (before-field-at3 z .field-at2 .ensures) (h .0 .0) (h .0 .1 .0) (h .1)
-    (heads-on (λ k ws. got (counts (g .0 .0) (h .0 .0) k d) ws) (z .field-at3 .ensures) (e .0 .0) (e .0 .1 .0) (e .1)
+    (heads-on (λ k ws. got (countsWith (g .0 .0) (h .0 .0) k d) ws) (z .field-at3 .ensures) (e .0 .0) (e .0 .1 .0) (e .1)
     (record {
       is = refl;
       within = (

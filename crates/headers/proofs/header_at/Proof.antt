@@ -1,9 +1,9 @@
 use Rattle.integers.proofs.Kit.{ℕ, needs}
 use Rattle.words.specs.Words.{Words}
 use Rattle.tables.specs.declared.Counts.{Counts}
-use Rattle.grammar.specs.Grammar.{Answer, _then_, key, named}
+use Rattle.grammar.specs.Grammar.{Answer, _then_, key, keyNamed}
 use Rattle.grammar.proofs.Laws.{value-next}
-use Rattle.headers.specs.Headers.{valuesName, rewardWord, counted, headerBy}
+use Rattle.headers.specs.Headers.{valuesName, rewardWord, headerCounts, headerBy}
 use Rattle.headers.proofs.Laws.{heads-back, heads-on}
 use Rattle.headers.proofs.header_at.Statement.{statement}
 use Rattle.headers.proofs.header_at.Tie as tie
@@ -17,10 +17,10 @@ before-key-at c = c .before .before .before .before .before
 
 -- what follows the discount, and `values:`
 abbrev after-discount : ℕ → Words → Answer Counts
-after-discount d ws = named valuesName ws then λ _ ws. key rewardWord ws then λ _ ws. counted d ws
+after-discount d ws = keyNamed valuesName ws then λ _ ws. key rewardWord ws then λ _ ws. headerCounts d ws
 
 abbrev after-values : ℕ → ℕ → Words → Answer Counts
-after-values d _ ws = key rewardWord ws then λ _ ws. counted d ws
+after-values d _ ws = key rewardWord ws then λ _ ws. headerCounts d ws
 
 returns : tie.Need-returns
 unfolding headerBy
@@ -49,7 +49,7 @@ returns-3 c =
     let h = z .before .before .before .y .given in
     heads-on after-discount (before-keys-at y .field-at .ensures) (g .0 .0) (g .0 .1 .0) (g .1)
     (heads-on (after-values (g .0 .0)) (y .keys-at .ensures) (h .0 .0) (h .0 .1 .0) (h .1)
-    (heads-back (λ _ ws. counted (g .0 .0) ws) (z .key-at .ensures) (c .before .before .match3 .keys2) (c .back3 .ensures)))
+    (heads-back (λ _ ws. headerCounts (g .0 .0) ws) (z .key-at .ensures) (c .before .before .match3 .keys2) (c .back3 .ensures)))
 
 counted-at-requires : tie.Need-counted-at-requires
 counted-at-requires c κs =
@@ -69,7 +69,7 @@ returns-4 c =
     let e = c .before .before .z .given in
     heads-on after-discount (before-keys-at y .field-at .ensures) (g .0 .0) (g .0 .1 .0) (g .1)
     (heads-on (after-values (g .0 .0)) (y .keys-at .ensures) (h .0 .0) (h .0 .1 .0) (h .1)
-    (heads-on (λ _ ws. counted (g .0 .0) ws) (z .key-at .ensures) (e .0 .0) (e .0 .1 .0) (e .1) (c .counted-at .ensures)))
+    (heads-on (λ _ ws. headerCounts (g .0 .0) ws) (z .key-at .ensures) (e .0 .0) (e .0 .1 .0) (e .1) (c .counted-at .ensures)))
 
 pub header-at-spec : {M : Type 1} → statement M
 header-at-spec =

@@ -3,7 +3,7 @@ use Rattle.integers.proofs.Words.{answer}
 use Rattle.tables.specs.Storage.{weightIn}
 use Rattle.plans.proofs.Intervals.{least-cong}
 use Rattle.levels.specs.Storage.{cornerIn}
-use Rattle.intervals.specs.Steps.{upperIn}
+use Rattle.intervals.specs.Steps.{upperInRanges}
 use Rattle.intervals.proofs.totals_at.Statement.{statement}
 use Rattle.intervals.proofs.totals_at.Tie as tie
 
@@ -22,7 +22,7 @@ sure-product-requires c κs =
 
 at-upper : (c : tie.After-sure-product)
     → let a = start (c .before) .args in
-    toZ w64 (ofZ w64 (c .sure-product .result)) ≡ upperIn (a .n) (a .corners .now) (a .lows .now) (a .highs .now)
+    toZ w64 (ofZ w64 (c .sure-product .result)) ≡ upperInRanges (a .n) (a .corners .now) (a .lows .now) (a .highs .now)
 at-upper c =
     let a = start (c .before) .args in
     let low = weightIn (a .lows .now) in

@@ -9,7 +9,7 @@ use Rattle.tables.specs.declared.Verdict.the-variants.{Fine, Refused}
 use Rattle.levels.specs.Judged.{holds}
 use Rattle.runs.specs.State.{standingVerdict}
 use Rattle.bounds.specs.Steps.{answerIn}
-use Rattle.mixtures.specs.Each.{Answers, answers, roomFor, eachVerdict}
+use Rattle.mixtures.specs.Each.{Answers, answers, roomForAnswers, eachVerdict}
 use Rattle.runs.specs.declared.Bounds.{Bounds}
 use Rattle.runs.specs.State.{totalsOf}
 use Rattle.bounds.proofs.Bounds.{stands, Gained, roofed, asked, gains-long, standing-holds, answered}
@@ -65,8 +65,8 @@ some-states c = stands (tables (of-certifier c)) (certifier (of-certifier c) [])
 packed : (c : tie.Else1) → let a = of-certifier (of-mixtures c) .args in leb (a .count * a .c .states) (length (a .mixtures .now)) ≡ true
 packed c = enough _ _ (some-states (of-mixtures c)) (c .if1 .left)
 
-room : (c : tie.Else2) → let y = lent-for (of-certifier (of-mixtures (of-room c))) in
-    roomFor (of-certifier (of-mixtures (of-room c)) .args .count) (length (y .verdicts)) (length (y .lower)) (length (y .upper)) (length (y .advice)) ≡ true
+room : (c : tie.Else2) → let a = of-certifier (of-mixtures (of-room c)) in let y = lent-for a in
+    roomForAnswers (a .args .count) (length (y .verdicts)) (length (y .lower)) (length (y .upper)) (length (y .advice)) ≡ true
 room c = sym (c .before .room-for .ensures) ∙ not-false _ (c .if2 .left)
 
 said : (c : tie.After-standing-in) → c .standing-in .result ≡ standingAt (of-standing c .args .state .now)

@@ -3,7 +3,7 @@ use Rattle.integers.proofs.Words.{back-small}
 use Rattle.runs.specs.declared.Bounds.{Bounds}
 use Rattle.bounds.specs.Steps.{answerIn}
 use Rattle.tables.specs.Storage.{rowIn}
-use Rattle.mixtures.specs.Each.{Answers, answers, refusalIn, written}
+use Rattle.mixtures.specs.Each.{Answers, answers, refusalIn, answersLaid}
 use Rattle.mixtures.proofs.Answers.{part-fits, part-is, AnswersRoom, AnswersAsLong, written-none, written-more, written-long}
 use Rattle.bounds.proofs.Bounds.{acts-within, sizes-within}
 use Rattle.mixtures.proofs.write_answers.Statement.{statement}
@@ -13,7 +13,7 @@ abbrev Inv-loop : tie.InvT-loop
 Inv-loop actions masks entries corners weights informed gains n m vectors points
     mixtures count verdicts₀ lower₀ upper₀ advice₀ i₀ verdicts lower upper advice i =
     (i ≤ count) × (answers verdicts lower upper advice
-    ≡ written (λ j. answerIn n m vectors points actions masks entries corners weights informed gains (rowIn n mixtures j))
+    ≡ answersLaid (λ j. answerIn n m vectors points actions masks entries corners weights informed gains (rowIn n mixtures j))
     i (answers verdicts₀ lower₀ upper₀ advice₀))
 
 abbrev μ-loop : tie.MeasureT-loop

@@ -1,5 +1,5 @@
 use Rattle.modelfile.proofs.Prelude.{sym, ap, _∙_, needs}
-use Rattle.modelfile.specs.Steps.{handed}
+use Rattle.modelfile.specs.Steps.{handedFile}
 use Rattle.modelfile.proofs.Laws.{hands-none}
 use Rattle.modelfile.proofs.back.Statement.{statement}
 use Rattle.modelfile.proofs.back.Tie as tie
@@ -9,4 +9,4 @@ returns-2 c = c .refusal2 .ensures ∙ hands-none (c .before .before .before .ar
 
 pub back-spec : {M : Type 1} → statement M
 back-spec = tie.close (tie.spec (λ c. search needs) (λ c κs. search needs) (λ c. search needs) (λ c κs. search needs)
-    (λ c. c .refusal .ensures ∙ sym (ap handed (c .before .before .x .given .1))) returns-2)
+    (λ c. c .refusal .ensures ∙ sym (ap handedFile (c .before .before .x .given .1))) returns-2)

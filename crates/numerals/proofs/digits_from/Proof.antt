@@ -10,7 +10,7 @@ use lib.ListN.{length, getD}
 use Rattle.words.specs.declared.Class.{Class}
 use Rattle.words.proofs.Keys.{by-keys}
 use Rattle.numerals.specs.Numeral.{isDigit}
-use Rattle.numerals.specs.Steps.{mostRead, Written}
+use Rattle.numerals.specs.Steps.{mostRead, WrittenDigits}
 use Rattle.numerals.proofs.Laws.{low-byte, digits-end, digits-stop, turn}
 use Rattle.numerals.proofs.digits_from.Statement.{statement}
 use Rattle.numerals.proofs.digits_from.Tie as tie
@@ -39,7 +39,7 @@ abbrev μ-loop : tie.MeasureT-loop
 
 -- no more digits, or no room for them
 module _ {w : List ℕ} {from most stop v at : ℕ} (r : Reading w from most stop v at) where
-  done : (0 < digits (drop at w) → at ≡ from + most) → Written w from most at v
+  done : (0 < digits (drop at w) → at ≡ from + most) → WrittenDigits w from most at v
   done cut = record {
     up = r .up;
     low = omega (arith, r .low, r .bound);

@@ -23,7 +23,7 @@ use denote.Triple.Statement.{Contract, Triple}
 use Rattle.words.proofs.Word as S
 use Rattle.words.proofs.Word.Laws as S′
 use Rattle.reader.specs.declared.Pair.{Pair}
-use Rattle.reader.specs.Pair.{after, Paired}
+use Rattle.reader.specs.Pair.{pastWord, Paired}
 use Rattle.reader.proofs.Pair as P
 use Rattle.reader.proofs.Pair.Laws as P′
 use Rattle.reader.proofs.Reader as R
@@ -149,8 +149,8 @@ module _ {M : Type 1} (𝓤 : URA M) (H : Heap 𝓤) (A : Atoms 𝓤) (W : Given
       (Passing 𝓤 H A mem run .pre (to-past w u))
   goes-past w u = qed W (‵ ftrue ∷ ‵ (owns (S.the-row ∷ usize ∷ []) (w, (n, tt)) (of-past w u)) ∷ []) ∵ join ! $ frame ! $ done !
 
-  past-said : (w : Word) (m : ℕ) → ent 𝓤 (ensured 𝓤 H A past.ended (past.clauses 𝓤 H A mem run) tt (w, (n, tt)) tt m) (fact 𝓤 (m ≡ after w n))
-  past-said w m = exE 𝓤 _ (λ ws. snd∗ 𝓤 (sem 𝓤 H A (lasts past.ended tt (w, (n, tt)) ws)) (fact 𝓤 (m ≡ after w n)))
+  past-said : (w : Word) (m : ℕ) → ent 𝓤 (ensured 𝓤 H A past.ended (past.clauses 𝓤 H A mem run) tt (w, (n, tt)) tt m) (fact 𝓤 (m ≡ pastWord w n))
+  past-said w m = exE 𝓤 _ (λ ws. snd∗ 𝓤 (sem 𝓤 H A (lasts past.ended tt (w, (n, tt)) ws)) (fact 𝓤 (m ≡ pastWord w n)))
 
   -- the call of `moved`, at the struct r and the offset m
   abbrev Went : Reader → ℕ → Reader → Type 0
@@ -192,14 +192,15 @@ module _ {M : Type 1} (𝓤 : URA M) (H : Heap 𝓤) (A : Atoms 𝓤) (W : Given
   carried : (r : Reader) (w : Word) (k : ℕ) → r .file ≡ s → r .at ≡ k → Found r w → Next (now s) k w
   carried r w k e d f = subst (λ (k : ℕ). Next (now s) k w) d (subst (λ (x : RefT (List ℕ)). Next (now x) (r .at) w) e f)
 
-  paired : {r r′ : Reader} {w x : Word} {m : ℕ} {a : Pair} → Made r → Found r w → m ≡ after w n → Went r m r′ → Found r′ x → Joined w x a → Paired (now s) n a
+  paired : {r r′ : Reader} {w x : Word} {m : ℕ} {a : Pair} → Made r → Found r w → m ≡ pastWord w n → Went r m r′ → Found r′ x → Joined w x a
+      → Paired (now s) n a
   paired {r} {r′} {w} {x} {m} {a} made first beyond went second joined =
       let one = carried r w n (made .0) (made .1) first in
-      let two = carried r′ x (after w n) (went .0 ∙ made .0) (went .1 ∙ beyond) second in
+      let two = carried r′ x (pastWord w n) (went .0 ∙ made .0) (went .1 ∙ beyond) second in
       record {
         first = subst (λ (y : Word). Next (now s) n y) (sym (joined .0)) one;
-        second = subst (λ (y : Word). Next (now s) (after y n) (a .second)) (sym (joined .0))
-            (subst (λ (y : Word). Next (now s) (after w n) y) (sym (joined .1)) two);
+        second = subst (λ (y : Word). Next (now s) (pastWord y n) (a .second)) (sym (joined .0))
+            (subst (λ (y : Word). Next (now s) (pastWord w n) y) (sym (joined .1)) two);
       }
 
   exits : (a : Pair) (u : Val) → Paired (now s) n a → ent 𝓤 (⋆ 𝓤 H A (‵ (P.the-row .own a (u ∷ [])) ∷ (‵ (flft κ q) ⊛ ‵ ftrue) ∷ ‵ Own ∷ [])) (Post u)
@@ -252,7 +253,7 @@ module _ {M : Type 1} (𝓤 : URA M) (H : Heap 𝓤) (A : Atoms 𝓤) (W : Given
         (and-then ! (load ! (from ! (stop !)) (look ! 16 refl)) (and-then ! (load ! (from ! (stop !)) (look ! 20 refl)) (no-more !))) (λ u₈.
         use1 W (later (some (λ (m : ℕ). (‵ ftrue ⊛ ‵ (usize .own m (u₈ ∷ []))) ⊛ raw
         (ensured 𝓤 H A past.ended (past.clauses 𝓤 H A mem run) tt (w, (n, tt)) tt m)))) (id⊢ 𝓤 _) $
-        await ! tt $ pick ! (λ m. split ! $ move ! (1 ∷ []) $ use1 W (raw (fact 𝓤 (m ≡ after w n))) (past-said w m) $ heard ! (m ≡ after w n)
+        await ! tt $ pick ! (λ m. split ! $ move ! (1 ∷ []) $ use1 W (raw (fact 𝓤 (m ≡ pastWord w n))) (past-said w m) $ heard ! (m ≡ pastWord w n)
         (λ beyond. split ! $ drop ! $
         -- [the offset; the token; what the struct owns; what the slice owns; the locals]
         peeks ! usize (Is usize) (shows 𝓤 H A usize) m (u₈ ∷ []) (λ is₈.

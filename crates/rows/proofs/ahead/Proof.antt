@@ -3,13 +3,13 @@ use Rattle.integers.specs.Whole.{sumTo}
 use Rattle.integers.proofs.Lists.{padded-length}
 use Rattle.integers.proofs.Sums.{sum-none, sum-step}
 use Rattle.tables.specs.Limits.{maxStates}
-use Rattle.rows.specs.Steps.{bestIn}
+use Rattle.rows.specs.Steps.{bestRowIn}
 use Rattle.rows.proofs.Stepped.{moved-below, reached-below, sums-fit}
 use Rattle.rows.proofs.ahead.Statement.{statement}
 use Rattle.rows.proofs.ahead.Tie as tie
 
 abbrev Inv-loop : tie.InvT-loop
-Inv-loop observation rows u n k m a sum₀ o₀ sum o = (o ≤ k) × (toZ w64 sum ≡ sumTo o (bestIn n k m observation u rows (a .0)))
+Inv-loop observation rows u n k m a sum₀ o₀ sum o = (o ≤ k) × (toZ w64 sum ≡ sumTo o (bestRowIn n k m observation u rows (a .0)))
 
 abbrev μ-loop : tie.MeasureT-loop
 μ-loop observation rows u n k m a sum₀ o₀ sum o = k - o
@@ -39,8 +39,8 @@ largest-product-requires c κs =
 met : (c : tie.After-largest-product Inv-loop μ-loop)
     → let a = c .before .before .before .before .before .before .before .args in
     toZ w64 (ofZ w64 (c .largest-product .result))
-    ≡ bestIn (a .n) (a .k) (a .m) (a .observation .now) (a .u .now) (a .rows .now) (a .a .0) (c .before .before .before .before .loop .o)
-unfolding bestIn
+    ≡ bestRowIn (a .n) (a .k) (a .m) (a .observation .now) (a .u .now) (a .rows .now) (a .a .0) (c .before .before .before .before .loop .o)
+unfolding bestRowIn
 met c = answer (c .largest-product .ok) (c .largest-product .ensures ∙ rw (c .before .before .successors .ensures))
 
 plus-requires : tie.Need-plus-requires Inv-loop μ-loop

@@ -4,7 +4,7 @@ use Rattle.integers.specs.Whole.{_·_, sumTo, ceilDiv}
 use Rattle.integers.proofs.Lists.{padded-length}
 use Rattle.tables.specs.Limits.{maxStates, K}
 use Rattle.tables.specs.Storage.{rewardIn}
-use Rattle.rows.specs.Steps.{bestIn}
+use Rattle.rows.specs.Steps.{bestRowIn}
 use Rattle.rows.proofs.Stepped.{moves-below, now-fits, parts-fit, informed-made}
 use Rattle.rows.proofs.informed_at.Statement.{statement}
 use Rattle.rows.proofs.informed_at.Tie as tie
@@ -60,7 +60,7 @@ later : (c : tie.After-ahead)
     → let a = c .before .before .before .before .before .before .before .args in
     let u = c .before .before .before .before .moves .result in
     toZ w64 (ofZ w64 (c .ahead .result))
-    ≡ sumTo (a .c .observations) (bestIn (a .c .states) (a .c .observations) (a .c .actions) (a .observation .now) u (a .rows .now) (a .a .0))
+    ≡ sumTo (a .c .observations) (bestRowIn (a .c .states) (a .c .observations) (a .c .actions) (a .observation .now) u (a .rows .now) (a .a .0))
 later c = answer (c .ahead .ok) (c .ahead .ensures)
 
 add-scaled-requires : tie.Need-add-scaled-requires

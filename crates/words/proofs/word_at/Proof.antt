@@ -5,7 +5,7 @@ use lib.ListN.{getD}
 use Rattle.words.specs.declared.Word.{Word}
 use Rattle.words.specs.declared.Word.the-variants.{At, End}
 use Rattle.words.specs.Class.{classOf}
-use Rattle.words.specs.Steps.{Inside, Worded, Next}
+use Rattle.words.specs.Steps.{WordInside, Worded, Next}
 use Rattle.words.proofs.Laws.{roleIn, space-parts, belongs-else, step-by, colon-word, plain-word}
 use Rattle.words.proofs.word_at.Statement.{statement}
 use Rattle.words.proofs.word_at.Tie as tie
@@ -27,7 +27,7 @@ further : {s : List ℕ} {from at to : ℕ} → Skipped s from at → at ≤ to 
 further k a b e = record { up = omega (arith, k .up); low = λ h. b; same = λ h. k .same h ∙ e }
 
 -- the same place, seen from before it
-earlier : (s : List ℕ) (from at : ℕ) (w : Word) → from ≤ at → Inside s at w → Inside s from w
+earlier : (s : List ℕ) (from at : ℕ) (w : Word) → from ≤ at → WordInside s at w → WordInside s from w
 earlier s from at (At start stop) h (a, b) = (omega arith, b)
 earlier s from at End h e = tt
 

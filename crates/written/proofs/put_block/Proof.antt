@@ -1,5 +1,5 @@
 use Rattle.written.proofs.Prelude.{_≡_, _∙_, ap, subst, subst⁻¹, List, ℕ, _≤_, _<_, _+_, _*_, _-_, arith, length, getD, partsTo, rowText}
-use Rattle.written.proofs.Prelude.{cellIn, Room, Wrote, wrote-long, parts-none, parts-room, parts-more, parts-end}
+use Rattle.written.proofs.Prelude.{cellIn, HasRoom, Wrote, wrote-long, parts-none, parts-room, parts-more, parts-end}
 use Rattle.integers.proofs.Lists.{row-below, cell-below}
 use Rattle.tables.specs.Storage.{rowStart, rowPlace}
 use Rattle.written.proofs.put_block.Statement.{statement}
@@ -44,7 +44,7 @@ put-row-requires c κs =
     let a = s .args in
     let l = placed .before .before .loop-test .taken in (
       subst⁻¹ (λ (k : ℕ). k + a .w ≤ length (a .cells .now)) (place placed) (row-in (a .n) (a .w) (a .a) (t .loop .s) l (s .pre .1 .0)),
-      subst⁻¹ (λ (k : ℕ). Room (t .loop .next) (row-from s (t .loop .s) k) (t .loop .out)) (place placed)
+      subst⁻¹ (λ (k : ℕ). HasRoom (t .loop .next) (row-from s (t .loop .s) k) (t .loop .out)) (place placed)
           (parts-room (a .n) (part s) (t .loop .s) l (s .pre .1 .1) (t .loop .inv .1)),
     )
 

@@ -1,5 +1,5 @@
 use Rattle.written.proofs.Prelude.{List, ℕ, _++_, arith, needs, cellIn, rewardIn, headerText, startText, tableText, rewardsText, fileText}
-use Rattle.written.proofs.Prelude.{Room, room-first, room-then, wrote-then}
+use Rattle.written.proofs.Prelude.{HasRoom, room-first, room-then, wrote-then}
 use Rattle.written.proofs.Sizes.{file-length}
 use Rattle.written.proofs.put_file.Statement.{statement}
 use Rattle.written.proofs.put_file.Tie as tie
@@ -30,7 +30,7 @@ abbrev begun : tie.Start → List ℕ
 begun c = begins c ++ moved c
 
 -- room for them
-room : (c : tie.Start) → Room 0 (headerText (c .args .c) ++ begun c) (c .args .out .now)
+room : (c : tie.Start) → HasRoom 0 (headerText (c .args .c) ++ begun c) (c .args .out .now)
 unfolding fileText
 room c =
     let a = c .args in
@@ -41,25 +41,25 @@ room c =
 abbrev start : tie.After-put-header → tie.Start
 start c = c .before .before .before .before .before .before
 
-room-start : (c : tie.After-put-header) → Room (c .put-header .result) (begun (start c)) (c .put-header .last .0)
+room-start : (c : tie.After-put-header) → HasRoom (c .put-header .result) (begun (start c)) (c .put-header .last .0)
 room-start c = room-then (room (start c)) (c .put-header .ensures)
 
 abbrev headed : tie.After-put-start → tie.After-put-header
 headed c = c .before .before .before .before
 
-room-transitions : (c : tie.After-put-start) → Room (c .put-start .result) (moved (start (headed c))) (c .put-start .last .0)
+room-transitions : (c : tie.After-put-start) → HasRoom (c .put-start .result) (moved (start (headed c))) (c .put-start .last .0)
 room-transitions c = room-then (room-start (headed c)) (c .put-start .ensures)
 
 abbrev started : tie.After-put-table → tie.After-put-start
 started c = c .before .before .before .before
 
-room-observations : (c : tie.After-put-table) → Room (c .put-table .result) (observed (start (headed (started c)))) (c .put-table .last .0)
+room-observations : (c : tie.After-put-table) → HasRoom (c .put-table .result) (observed (start (headed (started c)))) (c .put-table .last .0)
 room-observations c = room-then (room-transitions (started c)) (c .put-table .ensures)
 
 abbrev first : tie.After-put-table2 → tie.After-put-table
 first c = c .before .before .before .before
 
-room-rewards : (c : tie.After-put-table2) → Room (c .put-table2 .result) (rewards (start (headed (started (first c))))) (c .put-table2 .last .0)
+room-rewards : (c : tie.After-put-table2) → HasRoom (c .put-table2 .result) (rewards (start (headed (started (first c))))) (c .put-table2 .last .0)
 room-rewards c = room-then (room-observations (first c)) (c .put-table2 .ensures)
 
 put-start-requires : tie.Need-put-start-requires

@@ -1,5 +1,5 @@
 use Rattle.written.proofs.Prelude.{refl, List, ℕ, _++_, needs, line, headerText}
-use Rattle.written.proofs.Prelude.{Room, room-first, room-then, wrote-then}
+use Rattle.written.proofs.Prelude.{HasRoom, room-first, room-then, wrote-then}
 use Rattle.tables.specs.declared.Counts.{Counts}
 use Rattle.written.proofs.Lines.{valuesLine, statesLine, actionsLine, observationsLine}
 use Rattle.written.proofs.put_header.Statement.{statement}
@@ -23,7 +23,7 @@ put-fixed-line-requires c κs = let s = c .before .before .before in (refl, room
 abbrev start : tie.After-put-fixed-line → tie.Start
 start c = c .before .before .before .before
 
-room-values : (c : tie.After-put-fixed-line) → Room (c .put-fixed-line .result) (valued (start c .args .c)) (c .put-fixed-line .last .0)
+room-values : (c : tie.After-put-fixed-line) → HasRoom (c .put-fixed-line .result) (valued (start c .args .c)) (c .put-fixed-line .last .0)
 unfolding headerText
 room-values c = room-then (start c .pre) (c .put-fixed-line .ensures)
 
@@ -34,21 +34,21 @@ put-requires c κs = let f = c .before .before .before .before in room-first (st
 abbrev first : tie.After-put → tie.After-put-fixed-line
 first c = c .before .before .before .before .before
 
-room-states : (c : tie.After-put) → Room (c .put .result) (stated (start (first c) .args .c)) (c .put .last .0)
+room-states : (c : tie.After-put) → HasRoom (c .put .result) (stated (start (first c) .args .c)) (c .put .last .0)
 unfolding line
 room-states c = room-then (room-values (first c)) (c .put .ensures)
 
 abbrev second : tie.After-put-whole-line → tie.After-put
 second c = c .before .before .before .before .before
 
-room-actions : (c : tie.After-put-whole-line) → Room (c .put-whole-line .result) (acted (start (first (second c)) .args .c)) (c .put-whole-line .last .0)
+room-actions : (c : tie.After-put-whole-line) → HasRoom (c .put-whole-line .result) (acted (start (first (second c)) .args .c)) (c .put-whole-line .last .0)
 room-actions c = room-then (room-states (second c)) (c .put-whole-line .ensures)
 
 abbrev third : tie.After-put-whole-line2 → tie.After-put-whole-line
 third c = c .before .before .before .before .before
 
 room-observations : (c : tie.After-put-whole-line2)
-    → Room (c .put-whole-line2 .result) (observationsLine (start (first (second (third c))) .args .c)) (c .put-whole-line2 .last .0)
+    → HasRoom (c .put-whole-line2 .result) (observationsLine (start (first (second (third c))) .args .c)) (c .put-whole-line2 .last .0)
 room-observations c = room-then (room-actions (third c)) (c .put-whole-line2 .ensures)
 
 returns : tie.Need-returns

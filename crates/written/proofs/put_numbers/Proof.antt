@@ -1,5 +1,5 @@
 use Rattle.written.proofs.Prelude.{subst, subst⁻¹, List, ℕ, _≤_, _+_, _-_, arith, needs, getD, spaced, fixed, numbers}
-use Rattle.written.proofs.Prelude.{Room, Wrote, wrote-long, parts-none, parts-room, parts-more, parts-end}
+use Rattle.written.proofs.Prelude.{HasRoom, Wrote, wrote-long, parts-none, parts-room, parts-more, parts-end}
 use Rattle.written.proofs.put_numbers.Statement.{statement}
 use Rattle.written.proofs.put_numbers.Tie as tie
 
@@ -20,7 +20,7 @@ part c x = number c (getD (c .args .cells .now) (c .args .from + x) 0)
 abbrev start : tie.At-loop Inv-loop μ-loop → tie.Start Inv-loop μ-loop
 start c = c .before .before .before
 
-room : (c : tie.In-loop Inv-loop μ-loop) → let turn = c .before in Room (turn .loop .next) (part (start turn) (turn .loop .x)) (turn .loop .out)
+room : (c : tie.In-loop Inv-loop μ-loop) → let turn = c .before in HasRoom (turn .loop .next) (part (start turn) (turn .loop .x)) (turn .loop .out)
 room c =
     let turn = c .before in
     let s = start turn in
@@ -31,7 +31,7 @@ put-number-requires c κs =
     let in-loop = c .before .before .before in
     let turn = in-loop .before in
     let s = start turn in
-    (s .pre .0 .0, subst⁻¹ (λ (v : ℕ). Room (turn .loop .next) (number s v) (turn .loop .out)) (c .wide .ensures) (room in-loop))
+    (s .pre .0 .0, subst⁻¹ (λ (v : ℕ). HasRoom (turn .loop .next) (number s v) (turn .loop .out)) (c .wide .ensures) (room in-loop))
 
 loop-again : tie.Need-loop-again Inv-loop μ-loop
 loop-again c =

@@ -1,5 +1,5 @@
 use Rattle.written.proofs.Prelude.{refl, subst, subst⁻¹, List, ℕ, _++_, needs, newline, spaced, signedFixed, opening, rewardText}
-use Rattle.written.proofs.Prelude.{Room, Wrote, room-first, room-then, wrote-then}
+use Rattle.written.proofs.Prelude.{HasRoom, Wrote, room-first, room-then, wrote-then}
 use Rattle.integers.proofs.Kit.{ℤ, toZ, ofZ, toZ-ofZ, w64}
 use Rattle.written.specs.Text.{anyOutcome}
 use Rattle.written.proofs.put_reward.Statement.{statement}
@@ -16,26 +16,26 @@ abbrev parts : tie.Start → ℤ → List ℕ
 parts c v = opening 82 (c .args .a) (c .args .s) ++ (anyOutcome ++ spaced (amount v))
 
 -- room for each
-room : (c : tie.Start) → Room (c .args .at) (parts c (value c)) (c .args .out .now)
+room : (c : tie.Start) → HasRoom (c .args .at) (parts c (value c)) (c .args .out .now)
 unfolding rewardText
-room c = subst⁻¹ (λ (v : ℤ). Room (c .args .at) (parts c v) (c .args .out .now)) (toZ-ofZ (c .fits .v)) (c .pre)
+room c = subst⁻¹ (λ (v : ℤ). HasRoom (c .args .at) (parts c v) (c .args .out .now)) (toZ-ofZ (c .fits .v)) (c .pre)
 
 abbrev start : tie.After-put-opening → tie.Start
 start c = c .before .before .before
 
-room-outcome : (c : tie.After-put-opening) → Room (c .put-opening .result) (anyOutcome ++ spaced (amount (value (start c)))) (c .put-opening .last .0)
+room-outcome : (c : tie.After-put-opening) → HasRoom (c .put-opening .result) (anyOutcome ++ spaced (amount (value (start c)))) (c .put-opening .last .0)
 room-outcome c = room-then (room (start c)) (c .put-opening .ensures)
 
 abbrev opened : tie.After-put → tie.After-put-opening
 opened c = c .before .before .before .before .before
 
-room-amount : (c : tie.After-put) → Room (c .put .result) (amount (value (start (opened c)))) (c .put .last .0)
+room-amount : (c : tie.After-put) → HasRoom (c .put .result) (amount (value (start (opened c)))) (c .put .last .0)
 room-amount c = room-then (room-outcome (opened c)) (c .put .ensures)
 
 abbrev any : tie.After-put-signed-fixed → tie.After-put
 any c = c .before .before .before .before
 
-room-end : (c : tie.After-put-signed-fixed) → Room (c .put-signed-fixed .result) newline (c .put-signed-fixed .last .0)
+room-end : (c : tie.After-put-signed-fixed) → HasRoom (c .put-signed-fixed .result) newline (c .put-signed-fixed .last .0)
 room-end c = room-then (room-amount (any c)) (c .put-signed-fixed .ensures)
 
 returns : tie.Need-returns

@@ -1,5 +1,5 @@
 use Rattle.written.proofs.Prelude.{List, ℕ, _≤_, _-_, arith, partsTo, rewardText, rewardsText, rewardIn}
-use Rattle.written.proofs.Prelude.{Room, Wrote, wrote-long, parts-none, parts-room, parts-more, parts-end}
+use Rattle.written.proofs.Prelude.{HasRoom, Wrote, wrote-long, parts-none, parts-room, parts-more, parts-end}
 use Rattle.tables.proofs.Fitting.{rows-stored}
 use Rattle.written.proofs.put_rewards.Statement.{statement}
 use Rattle.written.proofs.put_rewards.Tie as tie
@@ -19,7 +19,7 @@ part c a = partsTo (c .args .n) (λ s. rewardText a s (rewardIn (c .args .n) (c 
 abbrev start : tie.At-loop Inv-loop μ-loop → tie.Start Inv-loop μ-loop
 start c = c .before .before
 
-room-all : (c : tie.Start Inv-loop μ-loop) → Room (c .args .at) (partsTo (c .args .m) (part c)) (c .args .out .now)
+room-all : (c : tie.Start Inv-loop μ-loop) → HasRoom (c .args .at) (partsTo (c .args .m) (part c)) (c .args .out .now)
 unfolding rewardsText
 room-all c = c .pre .1 .1
 

@@ -1,5 +1,5 @@
 use Rattle.written.proofs.Prelude.{_≡_, subst, subst⁻¹, List, ℕ, _≤_, _-_, arith, needs, partsTo, rewardText, rewardIn}
-use Rattle.written.proofs.Prelude.{Room, Wrote, wrote-long, parts-none, parts-room, parts-more, parts-end}
+use Rattle.written.proofs.Prelude.{HasRoom, Wrote, wrote-long, parts-none, parts-room, parts-more, parts-end}
 use Rattle.integers.proofs.Kit.{ℤ, toZ, ofZ, w64}
 use Rattle.integers.proofs.Words.{answer}
 use Rattle.written.proofs.put_rewards_of.Statement.{statement}
@@ -19,7 +19,7 @@ part c s = rewardText (c .args .a) s (rewardIn (c .args .n) (c .args .cells .now
 abbrev start : tie.At-loop Inv-loop μ-loop → tie.Start Inv-loop μ-loop
 start c = c .before .before
 
-room : (c : tie.In-loop Inv-loop μ-loop) → let turn = c .before in Room (turn .loop .next) (part (start turn) (turn .loop .s)) (turn .loop .out)
+room : (c : tie.In-loop Inv-loop μ-loop) → let turn = c .before in HasRoom (turn .loop .next) (part (start turn) (turn .loop .s)) (turn .loop .out)
 room c =
     let turn = c .before in
     let s = start turn in
@@ -35,7 +35,7 @@ put-reward-requires c κs =
     let read = c .before in
     let in-loop = read .before in
     let turn = in-loop .before in
-    subst⁻¹ (λ (v : ℤ). Room (turn .loop .next) (rewardText (start turn .args .a) (turn .loop .s) v) (turn .loop .out)) (value read) (room in-loop)
+    subst⁻¹ (λ (v : ℤ). HasRoom (turn .loop .next) (rewardText (start turn .args .a) (turn .loop .s) v) (turn .loop .out)) (value read) (room in-loop)
 
 loop-again : tie.Need-loop-again Inv-loop μ-loop
 loop-again c =

@@ -1,5 +1,5 @@
 use Rattle.written.proofs.Prelude.{refl, List, ℕ, _++_, needs, newline, numbers, opening, rowText}
-use Rattle.written.proofs.Prelude.{Room, room-first, room-then, wrote-then}
+use Rattle.written.proofs.Prelude.{HasRoom, room-first, room-then, wrote-then}
 use Rattle.written.proofs.put_row.Statement.{statement}
 use Rattle.written.proofs.put_row.Tie as tie
 
@@ -11,20 +11,20 @@ abbrev rest : tie.Start → List ℕ
 rest c = cells c ++ newline
 
 -- room for each part
-room : (c : tie.Start) → Room (c .args .at) (opening (c .args .key) (c .args .a) (c .args .s) ++ rest c) (c .args .out .now)
+room : (c : tie.Start) → HasRoom (c .args .at) (opening (c .args .key) (c .args .a) (c .args .s) ++ rest c) (c .args .out .now)
 unfolding rowText
 room c = c .pre .1
 
 abbrev start : tie.After-put-opening → tie.Start
 start c = c .before .before .before .before
 
-room-numbers : (c : tie.After-put-opening) → Room (c .put-opening .result) (rest (start c)) (c .put-opening .last .0)
+room-numbers : (c : tie.After-put-opening) → HasRoom (c .put-opening .result) (rest (start c)) (c .put-opening .last .0)
 room-numbers c = room-then (room (start c)) (c .put-opening .ensures)
 
 abbrev opened : tie.After-put-numbers → tie.After-put-opening
 opened c = c .before .before .before .before
 
-room-end : (c : tie.After-put-numbers) → Room (c .put-numbers .result) newline (c .put-numbers .last .0)
+room-end : (c : tie.After-put-numbers) → HasRoom (c .put-numbers .result) newline (c .put-numbers .last .0)
 room-end c = room-then (room-numbers (opened c)) (c .put-numbers .ensures)
 
 returns : tie.Need-returns

@@ -1,5 +1,5 @@
 use Rattle.written.proofs.Prelude.{_≡_, refl, ap, sym, subst, subst⁻¹, List, [], _∷_, ℕ, _++_, arith, needs, getD}
-use Rattle.written.proofs.Prelude.{newline, spaced, fixed, numbers, startText, Room, Wrote, room-first, room-then, wrote-then}
+use Rattle.written.proofs.Prelude.{newline, spaced, fixed, numbers, startText, HasRoom, Wrote, room-first, room-then, wrote-then}
 use Rattle.integers.proofs.Kit.{zero-add}
 use Rattle.digits.proofs.Over.{parts-cong}
 use Rattle.written.proofs.put_start.Statement.{statement}
@@ -23,19 +23,19 @@ same-parts c =
     ap (λ (t : List ℕ). name ++ (t ++ newline)) (parts-cong (c .args .n) _ _ (λ s. ap (λ (k : ℕ). spaced (fixed 2 (getD all k 0))) (sym (zero-add s))))
 
 -- room for each part
-room : (c : tie.Start) → Room (c .args .at) (name ++ rest c) (c .args .out .now)
-room c = subst (λ (t : List ℕ). Room (c .args .at) t (c .args .out .now)) (same-parts c) (c .pre .1)
+room : (c : tie.Start) → HasRoom (c .args .at) (name ++ rest c) (c .args .out .now)
+room c = subst (λ (t : List ℕ). HasRoom (c .args .at) t (c .args .out .now)) (same-parts c) (c .pre .1)
 
 abbrev start : tie.After-put → tie.Start
 start c = c .before .before .before .before .before
 
-room-numbers : (c : tie.After-put) → Room (c .put .result) (rest (start c)) (c .put .last .0)
+room-numbers : (c : tie.After-put) → HasRoom (c .put .result) (rest (start c)) (c .put .last .0)
 room-numbers c = room-then (room (start c)) (c .put .ensures)
 
 abbrev named : tie.After-put-numbers → tie.After-put
 named c = c .before .before .before .before
 
-room-end : (c : tie.After-put-numbers) → Room (c .put-numbers .result) newline (c .put-numbers .last .0)
+room-end : (c : tie.After-put-numbers) → HasRoom (c .put-numbers .result) newline (c .put-numbers .last .0)
 room-end c = room-then (room-numbers (named c)) (c .put-numbers .ensures)
 
 returns : tie.Need-returns

@@ -1,5 +1,5 @@
 use Rattle.written.proofs.Prelude.{List, ℕ, _≤_, _<_, _+_, _*_, _-_, arith, partsTo, rowText, tableText, cellIn}
-use Rattle.written.proofs.Prelude.{Room, Wrote, wrote-long, parts-none, parts-room, parts-more, parts-end}
+use Rattle.written.proofs.Prelude.{HasRoom, Wrote, wrote-long, parts-none, parts-room, parts-more, parts-end}
 use Rattle.tables.specs.Steps.{cellsTo}
 use Rattle.integers.proofs.Kit.{mul-le-mul-right}
 use Rattle.written.proofs.put_table.Statement.{statement}
@@ -24,7 +24,7 @@ part c a = partsTo (c .args .n) (λ s. rowText (c .args .key) a s (c .args .w) (
 abbrev start : tie.At-loop Inv-loop μ-loop → tie.Start Inv-loop μ-loop
 start c = c .before .before .before
 
-room-all : (c : tie.Start Inv-loop μ-loop) → Room (c .args .at) (partsTo (c .args .m) (part c)) (c .args .out .now)
+room-all : (c : tie.Start Inv-loop μ-loop) → HasRoom (c .args .at) (partsTo (c .args .m) (part c)) (c .args .out .now)
 unfolding tableText
 room-all c = c .pre .1 .1
 
