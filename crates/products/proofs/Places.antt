@@ -17,7 +17,7 @@ pub from-start : (q : List ℕ) (entries : List ℤ) (n v : ℕ) {at : ℕ} {r :
     → r ≡ product n (weightIn q) (λ s. getD entries (at + s) (pos 0)) → r ≡ worth q entries n v
 from-start q entries n v e h = h ∙ ap (λ (z : ℕ). product n (weightIn q) (λ s. getD entries (z + s) (pos 0))) e
 
--- vector v lies in the array, with entries within the limit where the weight is above 0
+-- vector v lies in the slice, with entries within the limit where the weight is above 0
 pub record Here (q : List ℕ) (entries : List ℤ) (n at : ℕ) : Type 0 where
   pub inside : at + n ≤ length entries
   pub within : (s : ℕ) → s < n → 0 < weightIn q s → natAbs (getD entries (at + s) (pos 0)) ≤ maxEntry

@@ -1,8 +1,8 @@
 -- The two files: refused in order, and read once more, vector by vector. Assumes nothing.
 --
 --   counted-verdict, count-of   what a verdict with a count has
---   both-start, both-on   where both files stand at the first vector, and at the next
---   files-read            files that are not refused stand at their first vector, and have the same actions
+--   both-start, both-on         where both files stand at the first vector, and at the next
+--   files-read                  files that are not refused stand at their first vector, and have the same actions
 --   first-refuses, second-refuses, unlike-counts, unlike-actions, all-alike   how they are judged
 use Rattle.integers.proofs.Kit.{_≡_, _∙_, refl, ap, sym, true, false, Bool, _&&_, List, [], ℕ, _<_, _+_, arith, ne-eqb, eq-eqb, eqb-true, eqb}
 use Rattle.integers.proofs.Kit.{length, getD, pos}

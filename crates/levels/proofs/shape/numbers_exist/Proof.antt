@@ -37,7 +37,7 @@ vectors-holds c = (omega arith, (refl, first-none _))
 shared-slice-read-action : tie.Need-shared-slice-read-action Inv-loop μ-loop Inv-vectors μ-vectors
 shared-slice-read-action c = omega (arith, c .before .before .before .before .before .pre)
 
--- the vector's choices lie in the array
+-- the vector's choices lie in the slice
 row-here : (c : tie.Else1 Inv-loop μ-loop Inv-vectors μ-vectors) →
     let a = c .before .before .before .before .before .before .before .args in rowsTo (a .k) (c .before .before .before .before .vectors .v) ≤ length
     (a .choices .now)
