@@ -16,7 +16,7 @@
  *
  * What is proved: whatever it is lent, a call ends without fault, answers, and leaves in every slice what the definitions say
  * (specs/ of crates/columns, runs, mixtures, intervals, worths, worth, headers, modelfile, reading, expected, written,
- * converting, solver, solved, adoption, replay and answers). Where a certifier was opened by biidhaqun_open, its slices were
+ * conversion, solver, solved, adoption, replay and answers). Where a certifier was opened by biidhaqun_open, its slices were
  * written by biidhaqun_offer, biidhaqun_replay and biidhaqun_reprice alone, whatever they were lent, and each call was lent
  * the tables in force (those of the opening, or the last new ones that were not refused), its totals bracket every plan of
  * these tables wherever they are given. A level that is built upon it, or adopted, is accepted if the certifier's slices have
