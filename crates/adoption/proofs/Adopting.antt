@@ -232,8 +232,7 @@ module _ (m : Tables) (x : Lent) (alphaFile graphFile : List ℕ) (count : ℕ) 
         )
 
         pub points-are : (i : ℕ) → i < count → IsPoint (m .states) (pointIn (m .states) (y .weights) i)
-        points-are =
-            weights-fine (m .states) count (pointIn (m .states) (y .weights)) (tests .1)
+        points-are = weights-fine (m .states) count (pointIn (m .states) (y .weights)) (tests .1)
 
         -- The level over the slices, from its parts: the vectors from the files over the standing vectors, least values from the standing corners and
         -- points; the weights of the points lie where they were given. Qed.

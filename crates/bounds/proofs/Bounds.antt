@@ -39,9 +39,8 @@ use Rattle.backups.specs.Steps.{Roofed}
 use Rattle.backups.proofs.Lent.{entries-lent, roof-lent}
 use Rattle.backups.proofs.Roofs.{corners-fit, points-fit, gains-below}
 use Rattle.runs.specs.declared.Bounds.{Bounds}
-use Rattle.runs.specs.State.{mixtureHolds, totalsVerdict, noBounds, boundsBy, totalsOf}
+use Rattle.runs.specs.State.{mixtureHolds, totalsVerdict, noBounds, boundsBy, totalsOf, standingVerdict}
 use Rattle.runs.proofs.Judged.{Held, standing-true}
-use Rattle.runs.specs.State.{standingVerdict}
 use Rattle.bounds.specs.Steps.{supportIn, bestIn, lowerIn, bestInformedIn, upperIn, boundsIn, widened, answeredIf, answerIn, Asked}
 
 product-range : (n r : ℕ) (q : ℕ → ℕ) (e : ℕ → ℤ) → ((s : ℕ) → s < n → natAbs (e s) ≤ r) → natAbs (product n q e) ≤ totalTo n q * r

@@ -1,6 +1,5 @@
 -- The calls of a certifier that climbs refuse nothing: demand 3 over the list of levels that it was offered. Assumes nothing.
-use Rattle.integers.proofs.Kit.{_≡_, _∙_, refl, ap, sym, subst, true, List, [], _∷_, ℕ, _≤_, _<_, _+_, _*_, arith, add-zero}
-use Rattle.integers.proofs.Kit.{le-leb, lt-ltb, length}
+use Rattle.integers.proofs.Kit.{_≡_, _∙_, refl, ap, sym, subst, true, List, [], _∷_, ℕ, _≤_, _<_, _+_, _*_, arith, add-zero, le-leb, lt-ltb, length}
 use mathlib.Core.List.{_++_}
 use Rattle.integers.specs.Whole.{totalTo}
 use Rattle.integers.proofs.Searches.{and-is, at-every, some-at}

@@ -12,8 +12,7 @@ use Rattle.words.specs.Words.{wordsIn, between}
 use Rattle.grammar.specs.Grammar.{Answer, got, refused, _then_}
 use Rattle.grammar.proofs.Gives.{Gives}
 use Rattle.headers.specs.declared.Headed.{Headed}
-use Rattle.headers.specs.declared.Headed.the-variants.{Counts as Counted}
-use Rattle.headers.specs.declared.Headed.the-variants.{Refused as NotHeaded}
+use Rattle.headers.specs.declared.Headed.the-variants.{Counts as Counted, Refused as NotHeaded}
 use Rattle.headers.specs.Headers.{countsWith, header}
 use Rattle.headers.specs.Steps.{headedOf, Heads}
 use Rattle.modelfile.specs.declared.TablesRead.{TablesRead}

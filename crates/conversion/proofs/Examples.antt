@@ -97,10 +97,9 @@ pub record Examples : Type 0 where
 
 pub examples : Examples
 unfolding _·_ sumTo totalTo floorDiv some listed laid laidRows firstOf rowsTotal wordRun wordsOf wordsIn digits value powered amountOf fraction afterPoint
-    exponent
-    markedFrom stated outcomed number magnitude signedNumber same key keys field index indexed row entryBy tableBy outcomeBy outcomesBy rewardStatementBy
-    observationOrRewardBy oneStatementBy statementsBy headerBy startBy bodyBy sumsVerdict expectedMillionths expectedVerdict partsTo lastDigits whole fixed
-    signedFixed line opening rowText tableText rewardText rewardsText headerText startText fileText expectVerdict convertVerdict
+    exponent markedFrom stated outcomed number magnitude signedNumber same key keys field index indexed row entryBy tableBy outcomeBy outcomesBy
+    rewardStatementBy observationOrRewardBy oneStatementBy statementsBy headerBy startBy bodyBy sumsVerdict expectedMillionths expectedVerdict partsTo
+    lastDigits whole fixed signedFixed line opening rowText tableText rewardText rewardsText headerText startText fileText expectVerdict convertVerdict
 examples = record {
   served = refl;
   text = refl;

@@ -4,8 +4,7 @@ use denote.Enum.Declared.{tagOf}
 use Rattle.tables.specs.declared.Counts.{Counts}
 use Rattle.words.specs.Words.{Words, wordsIn, between}
 use Rattle.grammar.specs.declared.Read.{Read}
-use Rattle.grammar.specs.declared.Read.the-variants.{Value}
-use Rattle.grammar.specs.declared.Read.the-variants.{Refused as NotRead}
+use Rattle.grammar.specs.declared.Read.the-variants.{Value, Refused as NotRead}
 use Rattle.grammar.specs.Grammar.{Answer, _then_}
 use Rattle.grammar.specs.Steps.{answerOf, Tells}
 use Rattle.grammar.proofs.Read as read-type

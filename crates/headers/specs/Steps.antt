@@ -7,12 +7,10 @@ use Rattle.tables.specs.declared.Counts.{Counts}
 use Rattle.tables.specs.Limits.{maxStates, maxActions, maxObservations, one}
 use Rattle.words.specs.Words.{wordsIn, between}
 use Rattle.grammar.specs.declared.Read.{Read}
-use Rattle.grammar.specs.declared.Read.the-variants.{Value}
-use Rattle.grammar.specs.declared.Read.the-variants.{Refused as NotRead}
+use Rattle.grammar.specs.declared.Read.the-variants.{Value, Refused as NotRead}
 use Rattle.grammar.specs.Grammar.{Answer, got, refused}
 use Rattle.headers.specs.declared.Headed.{Headed}
-use Rattle.headers.specs.declared.Headed.the-variants.{Refused}
-use Rattle.headers.specs.declared.Headed.the-variants.{Counts as Counted}
+use Rattle.headers.specs.declared.Headed.the-variants.{Refused, Counts as Counted}
 use Rattle.headers.specs.Headers.{countsWith}
 
 -- counts within their limits

@@ -1,13 +1,11 @@
 -- Laws of arrays of which the first cells count. Assumes nothing.
-use Rattle.integers.proofs.Kit.{_≡_, _∙_, refl, ap, sym, List, [], _∷_, ℕ, _≤_, _<_, _+_, _*_, suc, _-_, zero, _/_, _%_, arith, add-zero}
-use Rattle.integers.proofs.Kit.{zero-add, add-one, decLt, length, getD, drop, replicate, set, length-replicate, take, paste, drop-drop, ℤ, pos}
-use Rattle.integers.proofs.Kit.{natAbs, subst}
+use Rattle.integers.proofs.Kit.{_≡_, _∙_, refl, ap, sym, List, [], _∷_, ℕ, _≤_, _<_, _+_, _*_, suc, _-_, zero, _/_, _%_, arith, add-zero, zero-add}
+use Rattle.integers.proofs.Kit.{add-one, decLt, length, getD, drop, replicate, set, length-replicate, take, paste, drop-drop, ℤ, pos, natAbs, subst}
 use mathlib.Core.List.{_++_, append-assoc, append-nil}
 use native.Mathlib.Nat as NatL
 use native.Mathlib.Nat.{add-suc}
 use native.Mathlib.Decide.{ℕ-discrete}
-use lib.ListN.{length-append, length-set, length-drop, List·getD-append}
-use lib.ListN.{replicate-append-replicate, take-append-drop}
+use lib.ListN.{length-append, length-set, length-drop, List·getD-append, replicate-append-replicate, take-append-drop}
 use lib.Seq.{paste-zero, paste-suc, ext-getD, take-at, drop-append-add, drop-cons, set-at, getD-append-seam, getD-append-add, getD-take, getD-drop}
 use lib.Seq.{getD-set-same, getD-set-other, length-take-le}
 use lib.Arith.{digits-div, digits-mod}

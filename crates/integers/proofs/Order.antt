@@ -1,6 +1,5 @@
 -- The ordered group of whole numbers and its natural multiples. Assumes nothing.
-use Rattle.integers.proofs.Kit.{_≡_, refl, ap, subst, true, false, Bool, cond, ℕ, _<_, _+_, _*_, arith, ℤ, pos, _+ℤ_, _-ℤ_, negℤ, _≤ℤ_, leZ}
-use Rattle.integers.proofs.Kit.{_<ℤ_}
+use Rattle.integers.proofs.Kit.{_≡_, refl, ap, subst, true, false, Bool, cond, ℕ, _<_, _+_, _*_, arith, ℤ, pos, _+ℤ_, _-ℤ_, negℤ, _≤ℤ_, leZ, _<ℤ_}
 use native.Mathlib.Nat as NatL
 use Rattle.integers.specs.Whole.{_·_, lesser}
 use Rattle.integers.proofs.Parts.{add-parts, sub-parts-ℤ, neg-parts, times-parts, eq-by, le-by, le-parts, lt-parts, leZ-true, leZ-false, leZ-is}

@@ -1,6 +1,5 @@
 -- The program's own slices, and the file that it reads: the tables open, and each level has room. Assumes nothing.
-use Rattle.integers.proofs.Kit.{_≡_, _∙_, refl, sym, List, ℕ, _≤_, _+_, _*_, arith, mul-le-mul}
-use Rattle.integers.proofs.Kit.{le-leb, length, replicate, pos}
+use Rattle.integers.proofs.Kit.{_≡_, _∙_, refl, sym, List, ℕ, _≤_, _+_, _*_, arith, mul-le-mul, le-leb, length, replicate, pos}
 use Rattle.integers.proofs.Searches.{and-is}
 use Rattle.tables.specs.Tables.{Tables}
 use Rattle.tables.specs.declared.Verdict.the-variants.{Fine}

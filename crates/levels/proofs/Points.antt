@@ -100,9 +100,8 @@ record Table : Type 0 where
   rows-short : holds forms (rowed (1 ∷ 1 ∷ 1 ∷ []) (pos 0) (replicate 3 (pos 0)) (replicate 2 (pos 0))) ≡ false
 
 table : Table
-unfolding forms rowed standing withRows three two level told alone levelVerdict holdsUpTo tablesVerdict limitsHold rowsTotal
-    numbersIn rangesVerdict rowsWithin valuesWithin
-    weightsVerdict firstOf every totalTo range covered
+unfolding forms rowed standing withRows three two level told alone levelVerdict holdsUpTo tablesVerdict limitsHold rowsTotal numbersIn rangesVerdict rowsWithin
+    valuesWithin weightsVerdict firstOf every totalTo range covered
 table = record {
   thirds = refl;
   thirds-low = refl;

@@ -1,6 +1,5 @@
 -- Table and list give the same. Assumes nothing.
-use Rattle.integers.proofs.Kit.{_≡_, refl, ap, true, List, ℕ, _≤_, _<_, _*_, arith, le-leb, eqb, eq-eqb, leb, leb-true, length, getD, ℤ, or-true}
-use Rattle.integers.proofs.Kit.{_+ℤ_}
+use Rattle.integers.proofs.Kit.{_≡_, refl, ap, true, List, ℕ, _≤_, _<_, _*_, arith, le-leb, eqb, eq-eqb, leb, leb-true, length, getD, ℤ, or-true, _+ℤ_}
 use Rattle.integers.specs.Whole.{_·_, sumTo}
 use Rattle.integers.specs.Cells.{laid}
 use Rattle.integers.proofs.Lists.{laid-at, laid-length}

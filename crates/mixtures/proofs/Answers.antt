@@ -10,8 +10,7 @@ use Rattle.tables.specs.declared.Verdict.the-variants.{Fine, Refused}
 use Rattle.tables.proofs.Refusals.{stops, goes, breaks, passes}
 use Rattle.levels.specs.Storage.{Lent}
 use Rattle.runs.specs.declared.Bounds.{Bounds}
-use Rattle.runs.specs.State.{totalsOf}
-use Rattle.runs.specs.State.{standingVerdict}
+use Rattle.runs.specs.State.{totalsOf, standingVerdict}
 use Rattle.tables.specs.Storage.{rowIn}
 use Rattle.mixtures.specs.Each.{Answers, answers, roomForAnswers, refusalIn, answersLaid, eachVerdict, eachOf}
 

@@ -13,8 +13,7 @@ use Rattle.tables.specs.Storage.{rowIn}
 use Rattle.tables.specs.Verdicts.{_before_, unless, left}
 use Rattle.levels.specs.Storage.{Lent}
 use Rattle.runs.specs.declared.Bounds.{Bounds}
-use Rattle.runs.specs.State.{totalsOf}
-use Rattle.runs.specs.State.{standingVerdict}
+use Rattle.runs.specs.State.{totalsOf, standingVerdict}
 
 -- the slices that the answers are written to, with a place for each mixture
 pub record Answers : Type 0 where

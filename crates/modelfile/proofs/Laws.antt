@@ -7,16 +7,14 @@ use Rattle.tables.specs.declared.Verdict.the-variants.{Fine, Refused}
 use Rattle.tables.proofs.Refusals.{never}
 use Rattle.words.specs.Words.{Words, wordsIn, between}
 use Rattle.grammar.specs.declared.Read.{Read}
-use Rattle.grammar.specs.declared.Read.the-variants.{Value}
-use Rattle.grammar.specs.declared.Read.the-variants.{Refused as NotRead}
+use Rattle.grammar.specs.declared.Read.the-variants.{Value, Refused as NotRead}
 use Rattle.grammar.specs.Grammar.{Answer, refused, _then_}
 use Rattle.grammar.specs.Steps.{answerOf}
 use Rattle.grammar.proofs.Read as read-type
 use Rattle.entries.specs.Entries.{forms}
 use Rattle.statements.specs.Statements.{draft}
 use Rattle.headers.specs.declared.Headed.{Headed}
-use Rattle.headers.specs.declared.Headed.the-variants.{Counts as Counted}
-use Rattle.headers.specs.declared.Headed.the-variants.{Refused as NotHeaded}
+use Rattle.headers.specs.declared.Headed.the-variants.{Counts as Counted, Refused as NotHeaded}
 use Rattle.headers.specs.Headers.{countsWith}
 use Rattle.headers.specs.Steps.{CountsFit, headedOf, PlacedWithin, Heads}
 use Rattle.modelfile.specs.declared.TablesRead.{TablesRead}

@@ -15,8 +15,7 @@ use Rattle.numerals.specs.Numeral.{countForm, probabilityForm, startForm, rewar
 use Rattle.grammar.specs.Grammar.{Answer, got, refused, choose, key, colon, star, keyNamed, field, index}
 use Rattle.grammar.proofs.Named.{UpTo, up-more, words-up, Word-refused, Named, then-named, key-named, number-named, keyed, keys-named, field-named}
 use Rattle.grammar.proofs.Named.{index-named, signed-named}
-use Rattle.entries.specs.Entries.{Outcome, filled, stopped, upon, wholly, forms, probability, startNumber, indexed, row, entry, table}
-use Rattle.entries.specs.Entries.{entryBy, tableBy}
+use Rattle.entries.specs.Entries.{Outcome, filled, stopped, upon, wholly, forms, probability, startNumber, indexed, row, entry, table, entryBy, tableBy}
 use Rattle.statements.specs.Statements.{further, within, rewardNumber, starred, rewards, outcomes, rewardsOrOutcomes, Draft, oneStatement, statements}
 use Rattle.statements.specs.Statements.{observationOrRewardBy, oneStatementBy, rewardBy, rewardStatementBy, rewardsBy, outcomeBy, outcomesBy, statementsBy}
 use Rattle.headers.specs.Headers.{startName, header, startNumbers, headerBy, startBy}

@@ -5,8 +5,7 @@ use lib.IntN.{ℤ}
 use Rattle.tables.specs.declared.Verdict.the-variants.{Refused}
 use Rattle.tables.specs.Storage.{countsOf, tablesIn}
 use Rattle.grammar.specs.declared.Read.{Read}
-use Rattle.grammar.specs.declared.Read.the-variants.{Value}
-use Rattle.grammar.specs.declared.Read.the-variants.{Refused as NotRead}
+use Rattle.grammar.specs.declared.Read.the-variants.{Value, Refused as NotRead}
 use Rattle.modelfile.specs.declared.TablesRead.{TablesRead}
 use Rattle.modelfile.specs.ModelFile.{ModelFile, refusing}
 

@@ -12,8 +12,7 @@ use Rattle.words.specs.Class.{classOf}
 use Rattle.numerals.specs.declared.Amount.{Amount}
 use Rattle.numerals.specs.declared.Amount.the-variants.{Is, Not}
 use Rattle.numerals.specs.declared.Form.{Form}
-use Rattle.numerals.specs.Numeral.{isDigit, isPoint, digits, value, fitting, exponent, pointed, enough, afterPoint, fraction}
-use Rattle.numerals.specs.Numeral.{amountOf}
+use Rattle.numerals.specs.Numeral.{isDigit, isPoint, digits, value, fitting, exponent, pointed, enough, afterPoint, fraction, amountOf}
 use Rattle.numerals.specs.Before.{plain, fractionBefore, amountBefore}
 use Rattle.numerals.proofs.Laws.{exponent-end, exponent-not}
 

@@ -1,6 +1,5 @@
 -- The ceiling: no plan that fits the model earns more than the sawtooth ceiling of a certified level. Assumes nothing.
-use Rattle.integers.proofs.Kit.{_≡_, _∙_, refl, ap, sym, ℕ, _≤_, _<_, _+_, _*_, suc, _-_, zero, _^_, _/_, arith, decLt, ℤ, pos, _+ℤ_, negsuc, _-ℤ_}
-use Rattle.integers.proofs.Kit.{_≤ℤ_}
+use Rattle.integers.proofs.Kit.{_≡_, _∙_, refl, ap, sym, ℕ, _≤_, _<_, _+_, _*_, suc, _-_, zero, _^_, _/_, arith, decLt, ℤ, pos, _+ℤ_, negsuc, _-ℤ_, _≤ℤ_}
 use native.Mathlib.Nat as NatL
 use lib.IntN.{+ℤ-idl, +ℤ-idr}
 use Rattle.integers.specs.Whole.{_·_, sumTo, totalTo}
@@ -12,8 +11,7 @@ use Rattle.integers.proofs.Searches.{below-suc}
 use Rattle.tables.specs.Limits.{K}
 use Rattle.tables.specs.Model.{Model, successor, expectedReward}
 use Rattle.plans.specs.Plan.{Plan, stop, step, Fits, earns, earnsAt}
-use Rattle.plans.specs.Level.{Level, level0, Meets, product, ceiling, backupAt, corner-weight}
-use Rattle.plans.specs.Level.{Ratio, none, ratio, joined, smallest, orNone, drop, gain}
+use Rattle.plans.specs.Level.{Level, level0, Meets, product, ceiling, backupAt, corner-weight, Ratio, none, ratio, joined, smallest, orNone, drop, gain}
 use Rattle.plans.proofs.Certified.{Certified}
 use Rattle.plans.proofs.Floor.{pow-·}
 

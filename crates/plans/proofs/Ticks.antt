@@ -1,7 +1,6 @@
 -- How much rounding costs: an entry that is its backup over K rounded down lies less than a tick further below what its plan earns than the entries that it
 -- was backed up from. Assumes nothing.
-use Rattle.integers.proofs.Kit.{_≡_, _∙_, refl, ap, sym, true, false, Bool, List, _∷_, ℕ, _<_, _*_, suc, _^_, arith, length, ℤ, pos, _+ℤ_, _≤ℤ_, leZ}
-use Rattle.integers.proofs.Kit.{_<ℤ_}
+use Rattle.integers.proofs.Kit.{_≡_, _∙_, refl, ap, sym, true, false, Bool, List, _∷_, ℕ, _<_, _*_, suc, _^_, arith, length, ℤ, pos, _+ℤ_, _≤ℤ_, leZ, _<ℤ_}
 use native.Mathlib.Nat as NatL
 use Rattle.integers.specs.Whole.{_·_, sumTo, totalTo, floorDiv}
 use Rattle.integers.proofs.Parts.{add-parts, times-parts, eq-by, le-parts, le-by, lt-parts, lt-by, le-true, leZ-false}

@@ -3,8 +3,7 @@
 --   change-is               the largest change, cell by cell
 --   rows-laid               rows that are moved cell by cell
 --   counts-true, ..         23, counts first and then cell by cell
-use Rattle.integers.proofs.Kit.{_≡_, _∙_, refl, ap, sym, true, List, [], ℕ, _≤_, _<_, _+_, _*_, _/_, _%_, arith, getD, ℤ}
-use Rattle.integers.proofs.Kit.{natAbs, _-ℤ_, eqb, eqb-true}
+use Rattle.integers.proofs.Kit.{_≡_, _∙_, refl, ap, sym, true, List, [], ℕ, _≤_, _<_, _+_, _*_, _/_, _%_, arith, getD, ℤ, natAbs, _-ℤ_, eqb, eqb-true}
 use native.Mathlib.Nat as NatL
 use Rattle.integers.specs.Whole.{largestTo}
 use Rattle.integers.specs.Search.{every}

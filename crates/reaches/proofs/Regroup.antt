@@ -2,8 +2,7 @@
 --
 --   reached-regrouped   every state that a covered one reaches is covered by the vector chosen for each observation that is seen there
 --   reached-all         so it is where the chosen vectors cover all states
-use Rattle.integers.proofs.Kit.{_≡_, _∙_, refl, sym, true, false, Bool, _&&_, _||_, ℕ, _<_, _*_, suc, zero, arith, eqb, ltb, eq-eqb, or-true}
-use Rattle.integers.proofs.Kit.{lt-ltb, ltb-true}
+use Rattle.integers.proofs.Kit.{_≡_, _∙_, refl, sym, true, false, Bool, _&&_, _||_, ℕ, _<_, _*_, suc, zero, arith, eqb, ltb, eq-eqb, or-true, lt-ltb, ltb-true}
 use mathlib.Core.Bool.{not}
 use Rattle.integers.specs.Search.{every, some}
 use Rattle.integers.proofs.Parts.{is-T}

@@ -1,6 +1,5 @@
 -- Headers and start numbers of a written file, read again. Assumes nothing.
-use Rattle.integers.proofs.Kit.{_≡_, _∙_, refl, ap, List, _∷_, ℕ, _≤_, _<_, arith}
-use Rattle.integers.proofs.Kit.{getD, replicate, length-replicate}
+use Rattle.integers.proofs.Kit.{_≡_, _∙_, refl, ap, List, _∷_, ℕ, _≤_, _<_, arith, getD, replicate, length-replicate}
 use Rattle.tables.specs.declared.Counts.{Counts}
 use Rattle.tables.specs.Limits.{maxStates, maxActions, maxObservations, one, startTotal}
 use Rattle.tables.specs.Storage.{cellPlace}

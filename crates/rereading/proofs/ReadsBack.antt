@@ -1,6 +1,5 @@
 -- A written file reads back: its headers, its start numbers and its statements are read, and each cell is what was written. Assumes nothing.
-use Rattle.integers.proofs.Kit.{_≡_, _∙_, refl, ap, sym, true, List, [], ℕ, _≤_, _<_, _+_, _*_, suc, zero, _-_, arith, leb-true}
-use Rattle.integers.proofs.Kit.{length, getD, ℤ, natAbs}
+use Rattle.integers.proofs.Kit.{_≡_, _∙_, refl, ap, sym, true, List, [], ℕ, _≤_, _<_, _+_, _*_, suc, zero, _-_, arith, leb-true, length, getD, ℤ, natAbs}
 use mathlib.Core.List.{_++_, append-nil}
 use lib.ListN.{length-append}
 use Rattle.integers.proofs.Searches.{and-true, every-at}

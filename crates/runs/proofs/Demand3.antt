@@ -12,9 +12,8 @@ use Rattle.plans.proofs.Rows.{rows-roof, bestRow-cong}
 use Rattle.levels.specs.Storage.{Cells, LentLevel, Lent, rows}
 use Rattle.runs.specs.declared.Bounds.{Bounds}
 use Rattle.runs.specs.State.{opened, offered, totalsOf, buildVerdict, builtOf}
-use Rattle.runs.specs.Demand3.{ModelAccepted, Event, offer, offers, Certifier, certifier, handed, run, counted, acceptances}
-use Rattle.runs.specs.Demand3.{Claim, claimedBy, claimed, after, steps, claim0, claim}
-use Rattle.runs.specs.Demand3.{RowsAre, MixtureHolds, TotalsHold, BuildHolds, PointsHold, ClaimHolds, Demand3}
+use Rattle.runs.specs.Demand3.{ModelAccepted, Event, offer, offers, Certifier, certifier, handed, run, counted, acceptances, Claim, claimedBy, claimed}
+use Rattle.runs.specs.Demand3.{after, steps, claim0, claim, RowsAre, MixtureHolds, TotalsHold, BuildHolds, PointsHold, ClaimHolds, Demand3}
 use Rattle.runs.proofs.Judged.{Held}
 use Rattle.runs.proofs.Reached.{Reached, reached-open, reached-step, some-vectors, totals-fine, lower-is, sawtooth-is, best-row-is, upper-is, advice-is}
 use Rattle.runs.proofs.Reached.{level-built, build-fine, built-accepted}

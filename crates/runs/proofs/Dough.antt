@@ -263,13 +263,12 @@ record Table : Type 0 where
   d12 : totalsOf dough (standing 2 two) (mixture 0 0) .verdict ≡ Refused 17 0
 
 table : Table
-unfolding dough slices rowsAt blank fresh half one two three level standing alone changed mixture pair
-    openVerdict opened offered offerUpTo shapeUpTo levelVerdict backupsVerdict masksVerdict floorsVerdict cornersVerdict pointsVerdict numbersIn holdsUpTo over
-    level0 totalsOf totalsVerdict standingVerdict best lower upper advice builtOf buildVerdict tablesVerdict limitsHold rowsTotal
-    firstOf every totalTo rangesVerdict rowsWithin valuesWithin weightsVerdict range built seed bestAction chosen entryFor leastValue leastFor firstLargestOf
-    product successor sumTo backedUp backup follows floorDiv ceilDiv backupAt expectedReward ceiling largestTo drop gain smallest joined orNone
-    coversAll counts some covered maskOf corner-weight laid laidRows listed lesser highest bestRow informedBackup informedNext
-    qmdpBackup qmdpNext _·_ K
+unfolding dough slices rowsAt blank fresh half one two three level standing alone changed mixture pair openVerdict opened offered offerUpTo shapeUpTo
+    levelVerdict backupsVerdict masksVerdict floorsVerdict cornersVerdict pointsVerdict numbersIn holdsUpTo over level0 totalsOf totalsVerdict standingVerdict
+    best lower upper advice builtOf buildVerdict tablesVerdict limitsHold rowsTotal firstOf every totalTo rangesVerdict rowsWithin valuesWithin weightsVerdict
+    range built seed bestAction chosen entryFor leastValue leastFor firstLargestOf product successor sumTo backedUp backup follows floorDiv ceilDiv backupAt
+    expectedReward ceiling largestTo drop gain smallest joined orNone coversAll counts some covered maskOf corner-weight laid laidRows listed lesser highest
+    bestRow informedBackup informedNext qmdpBackup qmdpNext _·_ K
 table = record {
   opens = (refl, refl);
   one-built = (refl, refl);

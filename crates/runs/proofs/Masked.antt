@@ -88,12 +88,11 @@ record Table : Type 0 where
   from-the-other : offerVerdict dough stands (next 0 3 (pos 440)) ≡ Refused 21 0
 
 table : Table
-unfolding dough slices rowsAt fresh half offer baked stands next
-    offered offerUpTo shapeUpTo levelVerdict backupsVerdict masksVerdict floorsVerdict cornersVerdict pointsVerdict numbersIn holdsUpTo over
-    totalsOf totalsVerdict standingVerdict best lower upper advice buildVerdict tablesVerdict limitsHold rowsTotal
-    firstOf every totalTo rangesVerdict rowsWithin valuesWithin weightsVerdict range firstLargestOf
-    product successor sumTo backup follows floorDiv ceilDiv backupAt expectedReward ceiling largestTo drop gain smallest joined orNone
-    coversAll counts some covered maskOf corner-weight laid laidRows listed lesser highest bestRow informedBackup informedNext qmdpBackup qmdpNext _·_ K
+unfolding dough slices rowsAt fresh half offer baked stands next offered offerUpTo shapeUpTo levelVerdict backupsVerdict masksVerdict floorsVerdict
+    cornersVerdict pointsVerdict numbersIn holdsUpTo over totalsOf totalsVerdict standingVerdict best lower upper advice buildVerdict tablesVerdict limitsHold
+    rowsTotal firstOf every totalTo rangesVerdict rowsWithin valuesWithin weightsVerdict range firstLargestOf product successor sumTo backup follows floorDiv
+    ceilDiv backupAt expectedReward ceiling largestTo drop gain smallest joined orNone coversAll counts some covered maskOf corner-weight laid laidRows listed
+    lesser highest bestRow informedBackup informedNext qmdpBackup qmdpNext _·_ K
 table = record {
   accepted = (refl, refl);
   covered-range = refl;

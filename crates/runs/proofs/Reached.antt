@@ -27,15 +27,13 @@ use Rattle.levels.specs.Storage.{Cells, LentLevel, Lent, rows, stateSize, level
 use Rattle.levels.specs.Storage.{overRows, informedIn, qmdpIn}
 use Rattle.levels.specs.Judged.{holds}
 use Rattle.levels.proofs.Laws.{passed, fine-before}
-use Rattle.levels.proofs.Over.{read-elsewhere, covers-elsewhere, Complete, AsLong, long-long, complete-true, complete-is, complete-long}
-use Rattle.levels.proofs.Over.{over-agree, over-long, over-same}
-use Rattle.levels.proofs.Over.{informed-over, qmdp-over, informed-long, qmdp-long}
+use Rattle.levels.proofs.Over.{read-elsewhere, covers-elsewhere, Complete, AsLong, long-long, complete-true, complete-is, complete-long, over-agree, over-long}
+use Rattle.levels.proofs.Over.{over-same, informed-over, qmdp-over, informed-long, qmdp-long}
 use Rattle.tables.specs.Verdicts.{left}
 use Rattle.runs.specs.State.{at, openVerdict, opened, verdictOn, raised, offered, mixtureHolds, standingVerdict, totalsVerdict}
 use Rattle.runs.specs.State.{answerFor, buildVerdict, builtFrom}
 use Rattle.runs.specs.Prices.{pricesVerdict, moved, pricedOf}
-use Rattle.runs.specs.Demand3.{ModelAccepted, Event, offer, prices, certifier, handed, tally, counted}
-use Rattle.runs.specs.Demand3.{Claim, stepped, shifted, claimedBy, claim0}
+use Rattle.runs.specs.Demand3.{ModelAccepted, Event, offer, prices, certifier, handed, tally, counted, Claim, stepped, shifted, claimedBy, claim0}
 use Rattle.runs.specs.Demand3.{PointsHold}
 use Rattle.runs.proofs.Judged.{Held, Accepted, standing-is, accepted, weights-is}
 use Rattle.runs.proofs.Vectors.{accepted-1000}

@@ -7,8 +7,7 @@ use Rattle.integers.proofs.Kit.{getD, drop, take}
 use denote.Enum.Declared.{tagOf}
 use lib.Seq.{drop-cons}
 use Rattle.tables.specs.declared.Verdict.{Verdict}
-use Rattle.tables.specs.declared.Verdict.the-variants.{Fine}
-use Rattle.tables.specs.declared.Verdict.the-variants.{Refused as Not}
+use Rattle.tables.specs.declared.Verdict.the-variants.{Fine, Refused as Not}
 use Rattle.tables.proofs.Verdict as verdict-type
 use Rattle.tables.proofs.Refusals.{never}
 use Rattle.words.specs.declared.Word.{Word}

@@ -3,8 +3,7 @@ use Prim.Native.Nat.{ℕ, _+_, _≤_}
 use mathlib.Core.Path.{_≡_}
 use mathlib.Core.List.{List}
 use lib.ListN.{length, drop}
-use Rattle.tables.specs.declared.Verdict.the-variants.{Fine}
-use Rattle.tables.specs.declared.Verdict.the-variants.{Refused as Not}
+use Rattle.tables.specs.declared.Verdict.the-variants.{Fine, Refused as Not}
 use Rattle.words.specs.Words.{Words, wordsIn, between}
 use Rattle.grammar.specs.Grammar.{Answer, got, refused}
 use Rattle.alphas.specs.Alphas.{alpha, node}

@@ -1,7 +1,6 @@
 -- Laws of sums over the cells of a column, one cell after the other. Assumes nothing.
-use Rattle.integers.proofs.Kit.{_≡_, _∙_, refl, ap, sym, true, false, Bool, cond, List, ℕ, _≤_, _<_, _+_, _*_, _-_, suc, zero, arith, add-zero}
-use Rattle.integers.proofs.Kit.{mul-le-mul, mul-le-mul-right, decLt, getD, set, length, eqb, eq-eqb, ne-eqb, ℤ, pos, _+ℤ_, natAbs, _^_}
-use Rattle.integers.proofs.Kit.{_&&_, ltb, lt-ltb, false≢true}
+use Rattle.integers.proofs.Kit.{_≡_, _∙_, refl, ap, sym, true, false, Bool, cond, List, ℕ, _≤_, _<_, _+_, _*_, _-_, suc, zero, arith, add-zero, mul-le-mul}
+use Rattle.integers.proofs.Kit.{mul-le-mul-right, decLt, getD, set, length, eqb, eq-eqb, ne-eqb, ℤ, pos, _+ℤ_, natAbs, _^_, _&&_, ltb, lt-ltb, false≢true}
 use native.Mathlib.Nat as NatL
 use Rattle.integers.specs.Whole.{_·_, sumTo, totalTo, Within}
 use Rattle.integers.specs.Cells.{laid, padded}

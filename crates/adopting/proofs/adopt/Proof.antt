@@ -8,9 +8,8 @@ use Rattle.solver.specs.declared.Judged.{Judged}
 use Rattle.solver.specs.Files.{vectorsIn}
 use Rattle.solver.proofs.Files.{counted-verdict, count-of}
 use Rattle.adoption.specs.Adopt.{adoptVerdict}
-use Rattle.adoption.proofs.Adopting.{answered-back, answered-fine, startVerdict, endVerdict, Started, started}
-use Rattle.adoption.proofs.Adopting.{adopt-first, adopt-then, level-asks, level-said, roof-asks, vectors-ask, points-are, level-laid}
-use Rattle.adoption.proofs.Adopting.{adopted-refused, adopted-fine, adopt-demand}
+use Rattle.adoption.proofs.Adopting.{answered-back, answered-fine, startVerdict, endVerdict, Started, started, adopt-first, adopt-then, level-asks, level-said}
+use Rattle.adoption.proofs.Adopting.{roof-asks, vectors-ask, points-are, level-laid, adopted-refused, adopted-fine, adopt-demand}
 use Rattle.adopting.proofs.adopt.Statement.{statement}
 use Rattle.adopting.proofs.adopt.Tie as tie
 

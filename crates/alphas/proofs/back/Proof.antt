@@ -2,8 +2,7 @@ use Rattle.alphas.proofs.Prelude.{_≡_, refl, sym, ap, needs, arith}
 use denote.Enum.Declared.{tagOf}
 use Rattle.tables.specs.declared.Verdict.the-variants.{Refused}
 use Rattle.grammar.specs.declared.Read.{Read}
-use Rattle.grammar.specs.declared.Read.the-variants.{Value}
-use Rattle.grammar.specs.declared.Read.the-variants.{Refused as NotRead}
+use Rattle.grammar.specs.declared.Read.the-variants.{Value, Refused as NotRead}
 use Rattle.grammar.proofs.Read as read-type
 use Rattle.alphas.specs.Steps.{handedVerdict}
 use Rattle.alphas.proofs.back.Statement.{statement}
@@ -20,5 +19,4 @@ returns-2 : tie.Need-returns-2
 returns-2 c = of-value (c .before .before .args .x) (c .before .match .keys2)
 
 pub back-spec : {M : Type 1} → statement M
-back-spec =
-    tie.close (tie.spec (λ c. search needs) (λ c. search needs) returns returns-2)
+back-spec = tie.close (tie.spec (λ c. search needs) (λ c. search needs) returns returns-2)

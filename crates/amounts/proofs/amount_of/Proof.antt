@@ -1,9 +1,8 @@
 use Rattle.amounts.proofs.Prelude.{ℕ, _-_, _*_, _^_, _≤_, _≡_, sym, ap, _∙_, arith, needs, drop, digits, value}
-use Rattle.numerals.proofs.Laws.{product}
+use Rattle.numerals.proofs.Laws.{product, room, digits-read, places-read, amount-is, amount-not, written-all, digit-fraction}
 use native.Mathlib.Decide.{decLt}
 use lib.Seq.{drop-drop}
 use Rattle.numerals.specs.Steps.{mostWhole}
-use Rattle.numerals.proofs.Laws.{room, digits-read, places-read, amount-is, amount-not, written-all, digit-fraction}
 use Rattle.amounts.proofs.amount_of.Statement.{statement}
 use Rattle.amounts.proofs.amount_of.Tie as tie
 

@@ -2,9 +2,8 @@ use Rattle.bounds.proofs.Prelude.{ℕ, _≡_, sym, _∙_, List, needs, 
 use Rattle.tables.specs.declared.Verdict.the-variants.{Fine}
 use Rattle.backups.proofs.Roofs.{corners-fit, points-fit, values-fit}
 use Rattle.runs.specs.declared.Bounds.{Bounds}
-use Rattle.runs.specs.State.{totalsOf}
+use Rattle.runs.specs.State.{totalsOf, standingVerdict}
 use Rattle.runs.proofs.Demand3.{totals-demand}
-use Rattle.runs.specs.State.{standingVerdict}
 use Rattle.bounds.proofs.Bounds.{Gained, roofed, asked, gains-long, standing-holds, refused, answered}
 use Rattle.bounds.proofs.totals.Statement.{statement}
 use Rattle.bounds.proofs.totals.Tie as tie

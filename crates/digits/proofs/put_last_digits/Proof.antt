@@ -1,7 +1,6 @@
-use Rattle.digits.proofs.Prelude.{_≡_, _∙_, refl, sym, ap, ℕ, _≤_, _<_, _+_, _-_, arith, needs, length}
+use Rattle.digits.proofs.Prelude.{_≡_, _∙_, refl, sym, ap, ℕ, _≤_, _<_, _+_, _-_, arith, needs, length, lastDigits}
 use lib.ListN.{length-set}
 use Rattle.digits.proofs.Over.{over-none, digits-turn, digits-length}
-use Rattle.digits.proofs.Prelude.{lastDigits}
 use Rattle.digits.specs.Digits.{textOver}
 use Rattle.digits.proofs.put_last_digits.Statement.{statement}
 use Rattle.digits.proofs.put_last_digits.Tie as tie

@@ -1,5 +1,4 @@
-use Rattle.drafts.proofs.Prelude.{_+_, _-_, _≤_, arith, needs, eqb, w64, toZ, toZ-ofZ, write-marks, Marking, marking-start, marking-more}
-use Rattle.drafts.proofs.Prelude.{marking-end}
+use Rattle.drafts.proofs.Prelude.{_+_, _-_, _≤_, arith, needs, eqb, w64, toZ, toZ-ofZ, write-marks, Marking, marking-start, marking-more, marking-end}
 use Rattle.drafts.proofs.mark_i64.Statement.{statement}
 use Rattle.drafts.proofs.mark_i64.Tie as tie
 

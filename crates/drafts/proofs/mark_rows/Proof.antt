@@ -1,5 +1,4 @@
-use Rattle.drafts.proofs.Prelude.{_+_, _-_, _≤_, arith, needs, eqb, some, row-below, Marking}
-use Rattle.drafts.proofs.Prelude.{marking-start, marking-more, marking-end}
+use Rattle.drafts.proofs.Prelude.{_+_, _-_, _≤_, arith, needs, eqb, some, row-below, Marking, marking-start, marking-more, marking-end}
 use Rattle.tables.specs.Storage.{rowPlace}
 use Rattle.drafts.proofs.mark_rows.Statement.{statement}
 use Rattle.drafts.proofs.mark_rows.Tie as tie

@@ -1,5 +1,4 @@
-use Rattle.entries.proofs.Prelude.{arith, needs, stated, index, inside, takes-reads, second-word, value-next, probability, upon}
-use Rattle.entries.proofs.Prelude.{leaves-back, leaves-on}
+use Rattle.entries.proofs.Prelude.{arith, needs, stated, index, inside, takes-reads, second-word, value-next, probability, upon, leaves-back, leaves-on}
 use Rattle.entries.specs.Entries.{filled, entryBy}
 use Rattle.entries.proofs.Laws.{leaves-done}
 use Rattle.entries.proofs.entry_at.Statement.{statement}

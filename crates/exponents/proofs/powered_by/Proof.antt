@@ -1,10 +1,9 @@
 use Rattle.exponents.proofs.Prelude.{ℕ, _≤_, _≡_, sym, ap, subst, _∙_, arith, needs, drop}
-use Rattle.numerals.specs.Numeral.{value}
+use Rattle.numerals.specs.Numeral.{value, negative, unsigned, scaled}
 use mathlib.Core.Bool.{Bool}
 use mathlib.Core.List.{List}
 use lib.ListN.{length, length-drop}
 use mir.Val.{boolByte}
-use Rattle.numerals.specs.Numeral.{negative, unsigned, scaled}
 use Rattle.numerals.proofs.Laws.{past-minus, minus-within, written-end, powered-is, powered-not}
 use Rattle.exponents.proofs.powered_by.Statement.{statement}
 use Rattle.exponents.proofs.powered_by.Tie as tie

@@ -22,5 +22,4 @@ returns c =
     )
 
 pub biidhaqun-totals-spec : {M : Type 1} → statement M
-biidhaqun-totals-spec =
-    tie.close (tie.spec (λ c κs. search needs) (λ c κs. search needs) returns)
+biidhaqun-totals-spec = tie.close (tie.spec (λ c κs. search needs) (λ c κs. search needs) returns)

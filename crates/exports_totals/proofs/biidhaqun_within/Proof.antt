@@ -19,5 +19,4 @@ returns c =
     )
 
 pub biidhaqun-within-spec : {M : Type 1} → statement M
-biidhaqun-within-spec =
-    tie.close (tie.spec (λ c κs. search needs) (λ c κs. search needs) returns)
+biidhaqun-within-spec = tie.close (tie.spec (λ c κs. search needs) (λ c κs. search needs) returns)

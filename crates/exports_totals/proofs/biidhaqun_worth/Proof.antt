@@ -11,5 +11,4 @@ returns c =
     rw (back _ t, c .before .refusal-of .ensures) (ap worthBy (w .ensures))
 
 pub biidhaqun-worth-spec : {M : Type 1} → statement M
-biidhaqun-worth-spec =
-    tie.close (tie.spec (λ c κs. search needs) (λ c κs. search needs) returns)
+biidhaqun-worth-spec = tie.close (tie.spec (λ c κs. search needs) (λ c κs. search needs) returns)

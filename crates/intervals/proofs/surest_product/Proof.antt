@@ -1,5 +1,4 @@
-use Rattle.integers.proofs.Kit.{needs, ℕ, _+_, _≤_, _<_, _-_, _≡_, _∙_, sym, ap, arith, Bool, true, List, getD, pos, w64, toZ, ofZ, ⊎-elim, not-false}
-use Rattle.integers.proofs.Kit.{not-true}
+use Rattle.integers.proofs.Kit.{needs, ℕ, _+_, _≤_, _<_, _-_, _≡_, _∙_, sym, ap, arith, Bool, true, List, getD, pos, w64, toZ, ofZ, ⊎-elim, not-false, not-true}
 use Rattle.integers.proofs.Words.{answer}
 use Rattle.integers.specs.Search.{firstLargestOf}
 use Rattle.tables.specs.Storage.{weightIn, entryIn}

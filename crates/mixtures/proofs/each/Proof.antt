@@ -7,11 +7,10 @@ use Rattle.backups.proofs.Roofs.{corners-fit, points-fit, values-fit}
 use Rattle.tables.specs.declared.Verdict.{Verdict}
 use Rattle.tables.specs.declared.Verdict.the-variants.{Fine, Refused}
 use Rattle.levels.specs.Judged.{holds}
-use Rattle.runs.specs.State.{standingVerdict}
+use Rattle.runs.specs.State.{standingVerdict, totalsOf}
 use Rattle.bounds.specs.Steps.{answerIn}
 use Rattle.mixtures.specs.Each.{Answers, answers, roomForAnswers, eachVerdict}
 use Rattle.runs.specs.declared.Bounds.{Bounds}
-use Rattle.runs.specs.State.{totalsOf}
 use Rattle.bounds.proofs.Bounds.{stands, Gained, roofed, asked, gains-long, standing-holds, answered}
 use Rattle.mixtures.proofs.Answers.{enough, too-few, room-true, written-same, left-alone, refused-standing, refused-17, refused-9, given, all-written}
 use Rattle.mixtures.proofs.each.Statement.{statement}

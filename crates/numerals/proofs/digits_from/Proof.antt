@@ -1,15 +1,13 @@
 use Rattle.numerals.proofs.Prelude.{ℕ, suc, _^_, _<_, _≡_, refl, sym, _∙_, arith, needs}
 use Prim.Native.Nat.{_+_, _-_, _*_, _≤_}
-use lib.ListN.{drop}
-use Rattle.numerals.specs.Numeral.{digits, value}
+use lib.ListN.{drop, length, getD}
+use Rattle.numerals.specs.Numeral.{digits, value, isDigit}
 use mathlib.Core.Bool.{true, false}
 use mathlib.Core.List.{List, [], _∷_}
 use native.Mathlib.Decide.{decLt}
 use native.Mathlib.Nat.{pow-suc, pow-zero, pow-le-pow-right}
-use lib.ListN.{length, getD}
 use Rattle.words.specs.declared.Class.{Class}
 use Rattle.words.proofs.Keys.{by-keys}
-use Rattle.numerals.specs.Numeral.{isDigit}
 use Rattle.numerals.specs.Steps.{mostRead, WrittenDigits}
 use Rattle.numerals.proofs.Laws.{low-byte, digits-end, digits-stop, turn}
 use Rattle.numerals.proofs.digits_from.Statement.{statement}

@@ -1,5 +1,4 @@
-use Rattle.integers.proofs.Kit.{needs, ℕ, _+_, _*_, _≤_, _-_, _≡_, refl, sym, _∙_, arith, List, length, getD, ℤ, pos, _<_, not-false, not-true, leb}
-use Rattle.integers.proofs.Kit.{natAbs}
+use Rattle.integers.proofs.Kit.{needs, ℕ, _+_, _*_, _≤_, _-_, _≡_, refl, sym, _∙_, arith, List, length, getD, ℤ, pos, _<_, not-false, not-true, leb, natAbs}
 use Rattle.tables.proofs.Fitting.{row-stored, rows-stored}
 use Rattle.integers.proofs.Words.{back}
 use Rattle.tables.specs.declared.Verdict.{Verdict}

@@ -9,5 +9,4 @@ returns-2 : tie.Need-returns-2
 returns-2 c = rw (le-leb 1 (c .before .args .total) (c .if1 .left))
 
 pub total-holds-spec : {M : Type 1} → statement M
-total-holds-spec =
-    tie.close (tie.spec returns returns-2)
+total-holds-spec = tie.close (tie.spec returns returns-2)

@@ -31,5 +31,4 @@ returns-2 : tie.Need-returns-2
 returns-2 c = rw (held (c .before)) (c .within .ensures ∙ rw (toZ-ofZ (c .before .before .before .fits .value)))
 
 pub value-holds-spec : {M : Type 1} → statement M
-value-holds-spec =
-    tie.close (tie.spec (λ c κs. search needs) returns mul-within within-requires returns-2)
+value-holds-spec = tie.close (tie.spec (λ c κs. search needs) returns mul-within within-requires returns-2)

@@ -1,10 +1,9 @@
-use Rattle.reader.proofs.Prelude.{refl, [], _∷_, ℕ, _<_, _^_, URA, named, w64, Val, vint, SProp, ent, emp, via, fst∗, Lft, Share, Fml, ftrue}
-use Rattle.reader.proofs.Prelude.{flft, Memory, Routine, Heap, Calls, Loops, WpFn, Tables, Atoms, Lfts, Fun, givenOf, tables, tablesOf, Given}
-use Rattle.reader.proofs.Prelude.{‵, _⊛_, _$_, _∵_, !, qed, by, move, use1, split, fsplit, fjoin, suffices, frame, look, init, forget, stop}
-use Rattle.reader.proofs.Prelude.{from, load, and-then, no-more, assigns, returns, enter, alloc1, alloc0, params1, pass1, pass0, free1, free0}
-use Rattle.reader.proofs.Prelude.{WpFn-mono, RattleType, owns, Is, uint-vals, uint-tells, uint-makes, usize, namedLft, owned, Vals, onEntry}
-use Rattle.reader.proofs.Prelude.{Meets, tripleOf, entered, says, Stays, stay-none, walkOf, goes-none, Walks, ends-at, walked, walk-meets, yes}
-use Rattle.reader.proofs.Prelude.{Reader}
+use Rattle.reader.proofs.Prelude.{refl, [], _∷_, ℕ, _<_, _^_, URA, named, w64, Val, vint, SProp, ent, emp, via, fst∗, Lft, Share, Fml, ftrue, flft}
+use Rattle.reader.proofs.Prelude.{Memory, Routine, Heap, Calls, Loops, WpFn, Tables, Atoms, Lfts, Fun, givenOf, tables, tablesOf, Given, ‵, _⊛_, _$_}
+use Rattle.reader.proofs.Prelude.{_∵_, !, qed, by, move, use1, split, fsplit, fjoin, suffices, frame, look, init, forget, stop, from, load, and-then}
+use Rattle.reader.proofs.Prelude.{no-more, assigns, returns, enter, alloc1, alloc0, params1, pass1, pass0, free1, free0, WpFn-mono, RattleType, owns, Is}
+use Rattle.reader.proofs.Prelude.{uint-vals, uint-tells, uint-makes, usize, namedLft, owned, Vals, onEntry, Meets, tripleOf, entered, says, Stays}
+use Rattle.reader.proofs.Prelude.{stay-none, walkOf, goes-none, Walks, ends-at, walked, walk-meets, yes, Reader}
 -- A walk by hand: a struct is made anew of the slice that the one passed holds, and another offset.
 -- What the struct owns can be copied: one copy is kept for the exit, the other is what the result owns, with the number's facts in the place of the offset's.
 use lib.Dec.{T as Holds}

@@ -1,13 +1,12 @@
-use Rattle.reader.proofs.Prelude.{_≡_, refl, List, [], _∷_, ℕ, _<_, _^_, length, URA, named, w64, Val, vint, SProp, ent, sep, emp, via, fst∗}
-use Rattle.reader.proofs.Prelude.{snd∗, exE, id⊢, Lft, Share, Fml, ftrue, flft, Memory, Routine, Heap, Calls, Loops, WpFn, Tables, Atoms, sem}
-use Rattle.reader.proofs.Prelude.{Lfts, Fun, fact, givenOf, tables, tablesOf, Given, ‵, raw, _⊛_, ⋆, some, later, _$_, _∵_, !, qed, by, move}
-use Rattle.reader.proofs.Prelude.{use1, use2, split, join, pick, fsplit, fjoin, suffices, frame, await, done, look, init, forget, stop, from}
-use Rattle.reader.proofs.Prelude.{load, and-then, no-more, land, returns, enter, alloc1, alloc0, params1, pass1, pass0, free1, free0, FmC}
-use Rattle.reader.proofs.Prelude.{fmOf, WpFn-mono, RattleType, owns, Is, shows, uint-vals, uint-tells, uint-makes, u8, usize, RefT, NamedLft}
-use Rattle.reader.proofs.Prelude.{now, plain, namedLft, sliceVal, ShrSlice, slice-vals, shr-slice-tells, shr-slice-lawful, shr-slice-copy}
-use Rattle.reader.proofs.Prelude.{owned, peeks, heard, nothing, calls-at, ensured, lasts, Vals, onEntry, Meets, tripleOf, entered, cited, says}
-use Rattle.reader.proofs.Prelude.{Stays, stay-none, stay-none-slice, walkOf, goes-none, goes-none-slice, Walks, ends-at, walked, walk-meets}
-use Rattle.reader.proofs.Prelude.{yes, Word, Next, Reader, assigns}
+use Rattle.reader.proofs.Prelude.{_≡_, refl, List, [], _∷_, ℕ, _<_, _^_, length, URA, named, w64, Val, vint, SProp, ent, sep, emp, via, fst∗, snd∗, exE}
+use Rattle.reader.proofs.Prelude.{id⊢, Lft, Share, Fml, ftrue, flft, Memory, Routine, Heap, Calls, Loops, WpFn, Tables, Atoms, sem, Lfts, Fun, fact}
+use Rattle.reader.proofs.Prelude.{givenOf, tables, tablesOf, Given, ‵, raw, _⊛_, ⋆, some, later, _$_, _∵_, !, qed, by, move, use1, use2, split, join}
+use Rattle.reader.proofs.Prelude.{pick, fsplit, fjoin, suffices, frame, await, done, look, init, forget, stop, from, load, and-then, no-more, land}
+use Rattle.reader.proofs.Prelude.{returns, enter, alloc1, alloc0, params1, pass1, pass0, free1, free0, FmC, fmOf, WpFn-mono, RattleType, owns, Is, shows}
+use Rattle.reader.proofs.Prelude.{uint-vals, uint-tells, uint-makes, u8, usize, RefT, NamedLft, now, plain, namedLft, sliceVal, ShrSlice, slice-vals}
+use Rattle.reader.proofs.Prelude.{shr-slice-tells, shr-slice-lawful, shr-slice-copy, owned, peeks, heard, nothing, calls-at, ensured, lasts, Vals}
+use Rattle.reader.proofs.Prelude.{onEntry, Meets, tripleOf, entered, cited, says, Stays, stay-none, stay-none-slice, walkOf, goes-none, goes-none-slice}
+use Rattle.reader.proofs.Prelude.{Walks, ends-at, walked, walk-meets, yes, Word, Next, Reader, assigns}
 -- A walk by hand: the struct that `start` returns is held in a local, asked for a word, moved on past it and asked for the next, each call known only by its
 -- contract.
 -- What the struct owns can be copied, once for `next` and once for `moved`; what a word owns is made anew. In a local the struct's lifetime is erased.

@@ -1,11 +1,10 @@
-use Rattle.reader.proofs.Prelude.{refl, List, [], _∷_, ℕ, _<_, _^_, length, URA, named, w64, Val, vint, SProp, ent, emp, via, fst∗, Lft, Share}
-use Rattle.reader.proofs.Prelude.{Fml, ftrue, flft, Memory, Routine, Heap, Calls, Loops, WpFn, Tables, Atoms, Fun, givenOf, tables, tablesOf}
-use Rattle.reader.proofs.Prelude.{Given, ‵, raw, _⊛_, _$_, _∵_, !, qed, by, move, use1, split, fsplit, fjoin, suffices, frame, look, init}
-use Rattle.reader.proofs.Prelude.{forget, stop, from, load, and-then, no-more, assigns, returns, enter, alloc1, alloc0, params1, pass1, pass0}
-use Rattle.reader.proofs.Prelude.{free1, free0, WpFn-mono, owns, Is, uint-vals, uint-tells, uint-makes, u8, usize, RefT, NamedLft, plain}
-use Rattle.reader.proofs.Prelude.{namedLft, sliceVal, ShrSlice, slice-vals, shr-slice-tells, shr-slice-lawful, shr-slice-copy, nothing, owned}
-use Rattle.reader.proofs.Prelude.{Vals, onEntry, Meets, tripleOf, entered, says, Stays, stay-none, stay-none-slice, walkOf, goes-none}
-use Rattle.reader.proofs.Prelude.{goes-none-slice, Walks, ends-at, walked, walk-meets, yes, Reader}
+use Rattle.reader.proofs.Prelude.{refl, List, [], _∷_, ℕ, _<_, _^_, length, URA, named, w64, Val, vint, SProp, ent, emp, via, fst∗, Lft, Share, Fml}
+use Rattle.reader.proofs.Prelude.{ftrue, flft, Memory, Routine, Heap, Calls, Loops, WpFn, Tables, Atoms, Fun, givenOf, tables, tablesOf, Given, ‵, raw}
+use Rattle.reader.proofs.Prelude.{_⊛_, _$_, _∵_, !, qed, by, move, use1, split, fsplit, fjoin, suffices, frame, look, init, forget, stop, from, load}
+use Rattle.reader.proofs.Prelude.{and-then, no-more, assigns, returns, enter, alloc1, alloc0, params1, pass1, pass0, free1, free0, WpFn-mono, owns, Is}
+use Rattle.reader.proofs.Prelude.{uint-vals, uint-tells, uint-makes, u8, usize, RefT, NamedLft, plain, namedLft, sliceVal, ShrSlice, slice-vals}
+use Rattle.reader.proofs.Prelude.{shr-slice-tells, shr-slice-lawful, shr-slice-copy, nothing, owned, Vals, onEntry, Meets, tripleOf, entered, says}
+use Rattle.reader.proofs.Prelude.{Stays, stay-none, stay-none-slice, walkOf, goes-none, goes-none-slice, Walks, ends-at, walked, walk-meets, yes, Reader}
 -- A walk by hand: the struct is made of the slice and the offset passed, in the result's local.
 -- What the slice owns can be copied: it is had once for the parameter at exit and once inside the result.
 use types.Part.{agg}

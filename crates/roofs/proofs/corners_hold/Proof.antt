@@ -1,6 +1,5 @@
-use Rattle.roofs.proofs.Prelude.{ℕ, _≤_, _<_, _-_, _≡_, sym, _∙_, List, arith, not-true, not-false, ℤ, pos, getD, back, Counts, Verdict, Fine}
-use Rattle.roofs.proofs.Prelude.{maxStates, modelIn, unless, firstOf, first-none, first-more, first-here, roofIn, coversBackups, passed, failed}
-use Rattle.roofs.proofs.Prelude.{covers-by}
+use Rattle.roofs.proofs.Prelude.{ℕ, _≤_, _<_, _-_, _≡_, sym, _∙_, List, arith, not-true, not-false, ℤ, pos, getD, back, Counts, Verdict, Fine, maxStates}
+use Rattle.roofs.proofs.Prelude.{modelIn, unless, firstOf, first-none, first-more, first-here, roofIn, coversBackups, passed, failed, covers-by}
 use Rattle.integers.proofs.Lists.{padded-length}
 use Rattle.plans.specs.Limits.{maxPoints}
 use Rattle.plans.specs.Level.{corner-weight}

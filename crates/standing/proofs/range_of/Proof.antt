@@ -8,5 +8,4 @@ unfolding range
 returns c = search needs
 
 pub range-of-spec : {M : Type 1} → statement M
-range-of-spec =
-    tie.close (tie.spec (λ c. search needs) returns)
+range-of-spec = tie.close (tie.spec (λ c. search needs) returns)

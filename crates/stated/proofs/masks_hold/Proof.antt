@@ -1,5 +1,4 @@
-use Rattle.stated.proofs.Prelude.{arith, ℕ, _-_, _≤_, _≡_, sym, _∙_, List, Fine, firstOf, unless}
-use Rattle.stated.proofs.Prelude.{first-none, first-more, first-here}
+use Rattle.stated.proofs.Prelude.{arith, ℕ, _-_, _≤_, _≡_, sym, _∙_, List, Fine, firstOf, unless, first-none, first-more, first-here}
 use Rattle.integers.proofs.Kit.{true, Bool, refl, not-false, not-true}
 use Rattle.levels.proofs.Laws.{passed, failed}
 use Rattle.reaches.specs.Steps.{reachedIn}

@@ -1,5 +1,4 @@
-use Rattle.sums.proofs.Prelude.{_-_, _≤_, _≡_, _∙_, sym, ap, arith, needs, lit<, getD, pos, padded, padded-none, padded-turn, answer, back}
-use Rattle.sums.proofs.Prelude.{maxStates, K}
+use Rattle.sums.proofs.Prelude.{_-_, _≤_, _≡_, _∙_, sym, ap, arith, needs, lit<, getD, pos, padded, padded-none, padded-turn, answer, back, maxStates, K}
 use Rattle.integers.proofs.Kit.{ℤ}
 use Rattle.integers.specs.Whole.{floorDiv}
 use Rattle.sums.proofs.floored.Statement.{statement}

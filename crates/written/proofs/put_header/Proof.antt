@@ -1,5 +1,4 @@
-use Rattle.written.proofs.Prelude.{refl, List, ℕ, _++_, needs, line, headerText}
-use Rattle.written.proofs.Prelude.{HasRoom, room-first, room-then, wrote-then}
+use Rattle.written.proofs.Prelude.{refl, List, ℕ, _++_, needs, line, headerText, HasRoom, room-first, room-then, wrote-then}
 use Rattle.tables.specs.declared.Counts.{Counts}
 use Rattle.written.proofs.Lines.{valuesLine, statesLine, actionsLine, observationsLine}
 use Rattle.written.proofs.put_header.Statement.{statement}

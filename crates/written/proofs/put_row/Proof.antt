@@ -1,5 +1,4 @@
-use Rattle.written.proofs.Prelude.{refl, List, ℕ, _++_, needs, newline, numbers, opening, rowText}
-use Rattle.written.proofs.Prelude.{HasRoom, room-first, room-then, wrote-then}
+use Rattle.written.proofs.Prelude.{refl, List, ℕ, _++_, needs, newline, numbers, opening, rowText, HasRoom, room-first, room-then, wrote-then}
 use Rattle.written.proofs.put_row.Statement.{statement}
 use Rattle.written.proofs.put_row.Tie as tie
 

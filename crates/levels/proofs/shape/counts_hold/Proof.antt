@@ -10,5 +10,4 @@ returns-2 : tie.Need-returns-2
 returns-2 c = rw (sym (c .before .count-within .ensures) ∙ not-false _ (c .if1 .left))
 
 pub counts-hold-spec : {M : Type 1} → statement M
-counts-hold-spec =
-    tie.close (tie.spec (λ c κs. search needs) returns returns-2)
+counts-hold-spec = tie.close (tie.spec (λ c κs. search needs) returns returns-2)
