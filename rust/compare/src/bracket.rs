@@ -46,12 +46,29 @@ pub struct Seen {
     pub unpriced: u64,
 }
 
+impl Seen {
+    /// Adds what was seen in another list.
+    pub fn add(&mut self, other: &Seen) {
+        self.accepted += other.accepted;
+        self.refused += other.refused;
+        self.compared += other.compared;
+        self.thirds += other.thirds;
+        self.above_corners += other.above_corners;
+        self.informed += other.informed;
+        self.masked += other.masked;
+        self.uncounted += other.uncounted;
+        self.ranges += other.ranges;
+        self.priced += other.priced;
+        self.unpriced += other.unpriced;
+    }
+}
+
 /// Follows a list, and at each step compares what is answered with all plans of as many steps as levels were accepted:
 /// no plan is above the upper total, nor above either ceiling, some plan that opens with the action is at or above the lower
 /// one, no plan is above its own action's informed row, which is nowhere above the QMDP row, a built level is accepted, a
 /// refused one changes nothing. Totals are given exactly where a vector counts, and a level is built exactly where one covers all
-/// states. New prices put another model in force, of which the plans are from then on. The totals at multiples of a mixture and at its sum with another are held against those at the mixture, and those
-/// within ranges against all plans at mixtures inside.
+/// states. New prices put another model in force, of which the plans are from then on. The totals at multiples of a mixture and
+/// at its sum with another are held against those at the mixture, and those within ranges against all plans at mixtures inside.
 pub fn check(list: &List, by: &dyn Calls) -> Result<Seen, String> {
     let model = Model::of(&list.tables, &DOCUMENT).map_err(|refusal| refusal.to_string())?;
     let certifier = by.open(&list.tables).map_err(|refusal| format!("opening is {}", refusal))?;
