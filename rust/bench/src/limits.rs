@@ -5,6 +5,7 @@ pub use biidhaqun::slices::{
     VECTORS, WRITTEN_STATES,
 };
 use biidhaqun::slices::{Answers, Certifier, Graph, Level, Offers, Refusal, Replayed, Tables, Totals};
+use compare::gen::Question;
 
 pub const THOUSAND: i64 = 1_000;
 pub const REWARD: i64 = 100_000;
@@ -325,8 +326,8 @@ pub fn has_room(level: &Level, n: usize, k: usize, vectors: usize, values: usize
         && level.values.len() >= values
 }
 
-/// The actions and next nodes of a graph, cut to their counts; or 18.
-pub fn nodes<'a>(model: &Model, graph: &'a Graph) -> Answer<(&'a [u8], &'a [u16])> {
+/// The actions and next nodes of a graph, cut to their counts, if what is asked of it is within the limits too; or 18.
+pub fn nodes<'a>(model: &Model, graph: &'a Graph, asked: Question) -> Answer<(&'a [u8], &'a [u16])> {
     let nodes = graph.nodes;
     let cut = || Some((graph.actions.get(..nodes)?, graph.next.get(..nodes * model.k)?));
     let (actions, next) = match cut() {
@@ -337,5 +338,8 @@ pub fn nodes<'a>(model: &Model, graph: &'a Graph) -> Answer<(&'a [u8], &'a [u16]
         usize::from(action) >= model.m || next.iter().any(|&next| usize::from(next) >= nodes)
     };
     refuse(18, actions.iter().zip(next.chunks_exact(model.k)).position(missing))?;
+    if asked.node >= nodes as u64 || asked.state >= model.n as u64 || asked.steps > STEPS as u64 {
+        return refused(18, 0);
+    }
     Ok((actions, next))
 }
