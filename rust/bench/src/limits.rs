@@ -18,6 +18,9 @@ pub const K: i64 = 1_000_000_000;
 /// What a call answers, or its refusal.
 pub type Answer<Value> = Result<Value, Refusal>;
 
+/// A count, and the weights of so many mixtures or points.
+pub type Weighed<'a> = (usize, &'a [u32]);
+
 pub fn refused<Value>(number: u64, place: usize) -> Answer<Value> {
     Err(Refusal { number, place })
 }
@@ -294,7 +297,7 @@ pub fn ranges<'a>(lows: &'a [u32], highs: &'a [u32], n: usize) -> Answer<(&'a [u
 /// The answers at many mixtures.
 pub fn answer(
     n: usize,
-    (count, mixtures): (usize, &[u32]),
+    (count, mixtures): Weighed,
     answers: &mut Answers,
     totals: impl Fn(&[u32]) -> Answer<Totals>,
 ) -> Answer<()> {

@@ -234,7 +234,7 @@ fn totals(tables: &Tables, certifier: &Certifier, mixture: &[u32]) -> Answer<Tot
     totals_at(&model, &level, mixture)
 }
 
-fn each(tables: &Tables, certifier: &Certifier, mixtures: (usize, &[u32]), answers: &mut Answers) -> Answer<()> {
+fn each(tables: &Tables, certifier: &Certifier, mixtures: Weighed, answers: &mut Answers) -> Answer<()> {
     let (model, level) = standing(tables, certifier)?;
     answer(model.n, mixtures, answers, |mixture| totals_at(&model, &level, mixture))
 }
@@ -288,7 +288,7 @@ fn least_value(model: &Model, level: &Cut, p: &[i64]) -> i64 {
     (0..model.m).map(least).max().unwrap_or(0)
 }
 
-fn build(tables: &Tables, certifier: &Certifier, (count, points): (usize, &[u32]), level: &mut Level) -> Answer<()> {
+fn build(tables: &Tables, certifier: &Certifier, (count, points): Weighed, level: &mut Level) -> Answer<()> {
     let (model, number, standing) = examine(tables, certifier)?;
     let (n, k) = (model.n, model.k);
     if number == LEVELS {
@@ -321,7 +321,7 @@ fn build(tables: &Tables, certifier: &Certifier, (count, points): (usize, &[u32]
     Ok(())
 }
 
-fn adopt(upon: &Examined, files: &Files, points: (&[u32], usize), level: &mut Level) -> Answer<usize> {
+fn adopt(upon: &Examined, files: &Files, points: Weighed, level: &mut Level) -> Answer<usize> {
     let (model, number, standing) = upon;
     let backups = |action: usize, choices: &[u16], row: &mut [i64]| {
         for (s, entry) in row.iter_mut().enumerate() {

@@ -56,7 +56,7 @@ pub fn read(alpha: &[u8], graph: &[u8], n: usize, k: usize) -> Answer<Files> {
 pub fn adopt(
     (model, number, below): (&Model, usize, usize),
     files: &Files,
-    (points, count): (&[u32], usize),
+    (count, points): Weighed,
     level: &mut Level,
     loses: impl Fn(usize, &[u16]) -> bool,
     backups: impl Fn(usize, &[u16], &mut [i64]),

@@ -452,14 +452,14 @@ fn within(tables: &Tables, certifier: &Certifier, lows: &[u32], highs: &[u32]) -
     }
 }
 
-fn each(tables: &Tables, certifier: &Certifier, mixtures: (usize, &[u32]), answers: &mut Answers) -> Answer<()> {
+fn each(tables: &Tables, certifier: &Certifier, mixtures: Weighed, answers: &mut Answers) -> Answer<()> {
     let (model, level) = standing(tables, certifier)?;
     let mut weights = [0; POINTS * STATES];
     let sawtooth = Sawtooth::of(&level, &mut weights);
     answer(model.n, mixtures, answers, |mixture| totals_at(&level, &sawtooth, mixture))
 }
 
-fn build(tables: &Tables, certifier: &Certifier, (count, points): (usize, &[u32]), level: &mut Level) -> Answer<()> {
+fn build(tables: &Tables, certifier: &Certifier, (count, points): Weighed, level: &mut Level) -> Answer<()> {
     let (model, number, standing) = examine(tables, certifier)?;
     if number == LEVELS {
         return refused(8, 0);
@@ -519,7 +519,7 @@ fn put_vector(model: &Model, standing: &Cut, sawtooth: &Sawtooth, p: &[i64], v: 
     value
 }
 
-fn adopt(upon: &Examined, files: &Files, points: (&[u32], usize), level: &mut Level) -> Answer<usize> {
+fn adopt(upon: &Examined, files: &Files, points: Weighed, level: &mut Level) -> Answer<usize> {
     let (model, number, standing) = upon;
     let mut weights = [0; POINTS * STATES];
     let sawtooth = Sawtooth::of(standing, &mut weights);

@@ -24,9 +24,9 @@ pub struct Whole {
     pub offer: fn(&Tables, &mut Certifier, &Level) -> Answer<()>,
     pub totals: fn(&Tables, &Certifier, &[u32]) -> Answer<Totals>,
     pub within: fn(&Tables, &Certifier, &[u32], &[u32]) -> Answer<TotalsWithin>,
-    pub each: fn(&Tables, &Certifier, (usize, &[u32]), &mut Answers) -> Answer<()>,
-    pub build: fn(&Tables, &Certifier, (usize, &[u32]), &mut Level) -> Answer<()>,
-    pub adopt: fn(&Examined, &Files, (&[u32], usize), &mut Level) -> Answer<usize>,
+    pub each: fn(&Tables, &Certifier, Weighed, &mut Answers) -> Answer<()>,
+    pub build: fn(&Tables, &Certifier, Weighed, &mut Level) -> Answer<()>,
+    pub adopt: fn(&Examined, &Files, Weighed, &mut Level) -> Answer<usize>,
     pub worth: fn(&Tables, &Graph, Question) -> Answer<i64>,
 }
 
@@ -117,14 +117,14 @@ impl Library for Whole {
         tables: &Tables,
         certifier: &Certifier,
         (alpha, graph): (&[u8], &[u8]),
-        points: (&[u32], usize),
+        (points, count): (&[u32], usize),
         level: &mut Level,
     ) -> Adopted {
         let mut adopt = || {
             solver_file::lengths(alpha, graph)?;
             let upon = (self.examine)(tables, certifier)?;
             let files = solver_file::read(alpha, graph, upon.0.n, upon.0.k)?;
-            (self.adopt)(&upon, &files, points, level)
+            (self.adopt)(&upon, &files, (count, points), level)
         };
         match adopt() {
             Ok(vectors) => Adopted { vectors, ..Adopted::default() },
