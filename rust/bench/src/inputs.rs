@@ -287,6 +287,20 @@ pub fn outcome_file(rng: &mut Rng, counts: Counts, longest: usize) -> String {
     text
 }
 
+/// A level as a solver saves it: the alpha file and the policy graph.
+pub fn solver_files(level: &Level, n: usize, k: usize) -> (String, String) {
+    let decimal = |&ticks: &i64| {
+        let (minus, size) = (if ticks < 0 { "-" } else { "" }, ticks.unsigned_abs());
+        format!("{}{}.{:02}0000000000 ", minus, size / 100, size % 100)
+    };
+    let vectors = level.actions.iter().zip(level.entries.chunks(n)).take(level.vectors);
+    let alpha = vectors.map(|(action, row)| format!("{}\n{}\n\n", action, row.iter().map(decimal).collect::<String>()));
+    let nodes = level.actions.iter().zip(level.choices.chunks(k)).take(level.vectors).enumerate();
+    let next = |choices: &[u16]| choices.iter().map(|choice| format!("{} ", choice)).collect::<String>();
+    let graph = nodes.map(|(node, (action, choices))| format!("{} {}  {}\n", node, action, next(choices)));
+    (alpha.collect(), graph.collect())
+}
+
 #[cfg(test)]
 mod tests {
     use super::*;
@@ -342,18 +356,4 @@ mod tests {
         let read = TUNED.read_into(text.as_bytes(), &room).unwrap();
         assert_eq!((&read.tables, &read.start), (&tables, &start));
     }
-}
-
-/// A level as a solver saves it: the alpha file and the policy graph.
-pub fn solver_files(level: &Level, n: usize, k: usize) -> (String, String) {
-    let decimal = |&ticks: &i64| {
-        let (minus, size) = (if ticks < 0 { "-" } else { "" }, ticks.unsigned_abs());
-        format!("{}{}.{:02}0000000000 ", minus, size / 100, size % 100)
-    };
-    let vectors = level.actions.iter().zip(level.entries.chunks(n)).take(level.vectors);
-    let alpha = vectors.map(|(action, row)| format!("{}\n{}\n\n", action, row.iter().map(decimal).collect::<String>()));
-    let nodes = level.actions.iter().zip(level.choices.chunks(k)).take(level.vectors).enumerate();
-    let next = |choices: &[u16]| choices.iter().map(|choice| format!("{} ", choice)).collect::<String>();
-    let graph = nodes.map(|(node, (action, choices))| format!("{} {}  {}\n", node, action, next(choices)));
-    (alpha.collect(), graph.collect())
 }

@@ -5,6 +5,7 @@ pub use biidhaqun::slices::{
     VECTORS, WRITTEN_STATES,
 };
 use biidhaqun::slices::{Answers, Certifier, Graph, Level, Offers, Refusal, Replayed, Tables, Totals};
+use compare::gen::Question;
 
 pub const THOUSAND: i64 = 1_000;
 pub const REWARD: i64 = 100_000;
@@ -16,6 +17,9 @@ pub const K: i64 = 1_000_000_000;
 
 /// What a call answers, or its refusal.
 pub type Answer<Value> = Result<Value, Refusal>;
+
+/// A count, and the weights of so many mixtures or points.
+pub type Weighed<'a> = (usize, &'a [u32]);
 
 pub fn refused<Value>(number: u64, place: usize) -> Answer<Value> {
     Err(Refusal { number, place })
@@ -293,7 +297,7 @@ pub fn ranges<'a>(lows: &'a [u32], highs: &'a [u32], n: usize) -> Answer<(&'a [u
 /// The answers at many mixtures.
 pub fn answer(
     n: usize,
-    (count, mixtures): (usize, &[u32]),
+    (count, mixtures): Weighed,
     answers: &mut Answers,
     totals: impl Fn(&[u32]) -> Answer<Totals>,
 ) -> Answer<()> {
@@ -325,8 +329,8 @@ pub fn has_room(level: &Level, n: usize, k: usize, vectors: usize, values: usize
         && level.values.len() >= values
 }
 
-/// The actions and next nodes of a graph, cut to their counts; or 18.
-pub fn nodes<'a>(model: &Model, graph: &'a Graph) -> Answer<(&'a [u8], &'a [u16])> {
+/// The actions and next nodes of a graph, cut to their counts, if what is asked of it is within the limits too; or 18.
+pub fn nodes<'a>(model: &Model, graph: &'a Graph, asked: Question) -> Answer<(&'a [u8], &'a [u16])> {
     let nodes = graph.nodes;
     let cut = || Some((graph.actions.get(..nodes)?, graph.next.get(..nodes * model.k)?));
     let (actions, next) = match cut() {
@@ -337,5 +341,8 @@ pub fn nodes<'a>(model: &Model, graph: &'a Graph) -> Answer<(&'a [u8], &'a [u16]
         usize::from(action) >= model.m || next.iter().any(|&next| usize::from(next) >= nodes)
     };
     refuse(18, actions.iter().zip(next.chunks_exact(model.k)).position(missing))?;
+    if asked.node >= nodes as u64 || asked.state >= model.n as u64 || asked.steps > STEPS as u64 {
+        return refused(18, 0);
+    }
     Ok((actions, next))
 }

@@ -5,7 +5,7 @@
 
 use crate::limits::*;
 use crate::plain_file;
-use crate::solver_file;
+use crate::solver_file::{self, Files};
 use crate::whole::Whole;
 use biidhaqun::slices::{Answers, Certifier, Graph, Level, Tables, Totals, TotalsWithin};
 use compare::gen::Question;
@@ -234,7 +234,7 @@ fn totals(tables: &Tables, certifier: &Certifier, mixture: &[u32]) -> Answer<Tot
     totals_at(&model, &level, mixture)
 }
 
-fn each(tables: &Tables, certifier: &Certifier, mixtures: (usize, &[u32]), answers: &mut Answers) -> Answer<()> {
+fn each(tables: &Tables, certifier: &Certifier, mixtures: Weighed, answers: &mut Answers) -> Answer<()> {
     let (model, level) = standing(tables, certifier)?;
     answer(model.n, mixtures, answers, |mixture| totals_at(&model, &level, mixture))
 }
@@ -288,7 +288,7 @@ fn least_value(model: &Model, level: &Cut, p: &[i64]) -> i64 {
     (0..model.m).map(least).max().unwrap_or(0)
 }
 
-fn build(tables: &Tables, certifier: &Certifier, (count, points): (usize, &[u32]), level: &mut Level) -> Answer<()> {
+fn build(tables: &Tables, certifier: &Certifier, (count, points): Weighed, level: &mut Level) -> Answer<()> {
     let (model, number, standing) = examine(tables, certifier)?;
     let (n, k) = (model.n, model.k);
     if number == LEVELS {
@@ -321,34 +321,23 @@ fn build(tables: &Tables, certifier: &Certifier, (count, points): (usize, &[u32]
     Ok(())
 }
 
-fn adopt(
-    tables: &Tables,
-    certifier: &Certifier,
-    (alpha, graph): (&[u8], &[u8]),
-    points: (&[u32], usize),
-    level: &mut Level,
-) -> Answer<usize> {
-    solver_file::lengths(alpha, graph)?;
-    let (model, number, standing) = examine(tables, certifier)?;
-    let files = solver_file::read(alpha, graph, model.n, model.k)?;
+fn adopt(upon: &Examined, files: &Files, points: Weighed, level: &mut Level) -> Answer<usize> {
+    let (model, number, standing) = upon;
     let backups = |action: usize, choices: &[u16], row: &mut [i64]| {
         for (s, entry) in row.iter_mut().enumerate() {
             *entry = model.vector_backup(standing.entries, s, action, choices).div_euclid(K);
         }
     };
     let loses = |action: usize, choices: &[u16]| model.loses(standing.masks, action, full_mask(model.n), choices);
-    let least = |p: &[u32]| least_value(&model, &standing, &whole(p));
-    solver_file::adopt((&model, number, standing.actions.len()), &files, points, level, loses, backups, least)
+    let least = |p: &[u32]| least_value(model, standing, &whole(p));
+    solver_file::adopt((model, *number, standing.actions.len()), files, points, level, loses, backups, least)
 }
 
 /// The equation as it stands, for all nodes and states at each step.
 fn worth(tables: &Tables, graph: &Graph, asked: Question) -> Answer<i64> {
     let model = judge(tables)?;
-    let (actions, next) = nodes(&model, graph)?;
+    let (actions, next) = nodes(&model, graph, asked)?;
     let n = model.n;
-    if asked.node >= actions.len() as u64 || asked.state >= n as u64 || asked.steps > STEPS as u64 {
-        return refused(18, 0);
-    }
     let mut worths = vec![0; actions.len() * n];
     for _ in 0..asked.steps {
         let mut more = Vec::new();

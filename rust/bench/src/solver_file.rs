@@ -1,7 +1,7 @@
 //! A solver's two files, read and made into a level by a form's own backups.
 
 use crate::limits::*;
-use biidhaqun::slices::{Adopted, Level, Refusal};
+use biidhaqun::slices::Level;
 
 /// Digits of actions, of nodes, and of decimals before and behind the point.
 const ACTION: usize = 2;
@@ -56,7 +56,7 @@ pub fn read(alpha: &[u8], graph: &[u8], n: usize, k: usize) -> Answer<Files> {
 pub fn adopt(
     (model, number, below): (&Model, usize, usize),
     files: &Files,
-    (points, count): (&[u32], usize),
+    (count, points): Weighed,
     level: &mut Level,
     loses: impl Fn(usize, &[u16]) -> bool,
     backups: impl Fn(usize, &[u16], &mut [i64]),
@@ -109,13 +109,6 @@ pub fn adopt(
         *value = least(p);
     }
     Ok(vectors)
-}
-
-pub fn adopted(answer: Answer<usize>) -> Adopted {
-    match answer {
-        Ok(vectors) => Adopted { vectors, ..Adopted::default() },
-        Err(Refusal { number, place }) => Adopted { number, place, vectors: 0 },
-    }
 }
 
 /// The words of a file, each with the bytes before it.

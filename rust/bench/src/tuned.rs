@@ -5,7 +5,7 @@
 //! counts is one `&` of its mask with the mask of the weights.
 
 use crate::limits::*;
-use crate::solver_file;
+use crate::solver_file::{self, Files};
 use crate::tuned_file;
 use crate::whole::Whole;
 use biidhaqun::slices::{Answers, Certifier, Graph, Level, Tables, Totals, TotalsWithin};
@@ -452,14 +452,14 @@ fn within(tables: &Tables, certifier: &Certifier, lows: &[u32], highs: &[u32]) -
     }
 }
 
-fn each(tables: &Tables, certifier: &Certifier, mixtures: (usize, &[u32]), answers: &mut Answers) -> Answer<()> {
+fn each(tables: &Tables, certifier: &Certifier, mixtures: Weighed, answers: &mut Answers) -> Answer<()> {
     let (model, level) = standing(tables, certifier)?;
     let mut weights = [0; POINTS * STATES];
     let sawtooth = Sawtooth::of(&level, &mut weights);
     answer(model.n, mixtures, answers, |mixture| totals_at(&level, &sawtooth, mixture))
 }
 
-fn build(tables: &Tables, certifier: &Certifier, (count, points): (usize, &[u32]), level: &mut Level) -> Answer<()> {
+fn build(tables: &Tables, certifier: &Certifier, (count, points): Weighed, level: &mut Level) -> Answer<()> {
     let (model, number, standing) = examine(tables, certifier)?;
     if number == LEVELS {
         return refused(8, 0);
@@ -519,22 +519,14 @@ fn put_vector(model: &Model, standing: &Cut, sawtooth: &Sawtooth, p: &[i64], v: 
     value
 }
 
-fn adopt(
-    tables: &Tables,
-    certifier: &Certifier,
-    (alpha, graph): (&[u8], &[u8]),
-    points: (&[u32], usize),
-    level: &mut Level,
-) -> Answer<usize> {
-    solver_file::lengths(alpha, graph)?;
-    let (model, number, standing) = examine(tables, certifier)?;
-    let files = solver_file::read(alpha, graph, model.n, model.k)?;
+fn adopt(upon: &Examined, files: &Files, points: Weighed, level: &mut Level) -> Answer<usize> {
+    let (model, number, standing) = upon;
     let mut weights = [0; POINTS * STATES];
-    let sawtooth = Sawtooth::of(&standing, &mut weights);
+    let sawtooth = Sawtooth::of(standing, &mut weights);
     let below = |action: usize, choices: &[u16], row: &mut [i64]| {
         let mut room = [0; STATES];
-        let f = foreseen(&model, standing.entries, action, choices, &mut room);
-        for (entry, backup) in row.iter_mut().zip(backups(&model, action, f)) {
+        let f = foreseen(model, standing.entries, action, choices, &mut room);
+        for (entry, backup) in row.iter_mut().zip(backups(model, action, f)) {
             *entry = backup.div_euclid(K);
         }
     };
@@ -543,27 +535,24 @@ fn adopt(
         let p = whole(p, &mut room);
         let least = |a: usize| {
             let (mut room, mut next) = ([0; STATES], [0; STATES]);
-            let u = moved(&model, p, a, &mut room);
-            let ceilings: i64 = (0..model.k).map(|o| sawtooth.ceiling(successor(&model, u, a, o, &mut next))).sum();
-            -(-(earned(&model, p, a) + model.g * ceilings)).div_euclid(K)
+            let u = moved(model, p, a, &mut room);
+            let ceilings: i64 = (0..model.k).map(|o| sawtooth.ceiling(successor(model, u, a, o, &mut next))).sum();
+            -(-(earned(model, p, a) + model.g * ceilings)).div_euclid(K)
         };
         (0..model.m).map(least).max().unwrap_or(0)
     };
-    let reach = reach(&model, standing.masks);
+    let reach = reach(model, standing.masks);
     let loses = |action: usize, choices: &[u16]| {
         let all = full_mask(model.n);
-        reach.as_ref().map_or(false, |reach| reach.loses(&model, standing.masks, action, all, choices))
+        reach.as_ref().map_or(false, |reach| reach.loses(model, standing.masks, action, all, choices))
     };
-    solver_file::adopt((&model, number, standing.actions.len()), &files, points, level, loses, below, least)
+    solver_file::adopt((model, *number, standing.actions.len()), files, points, level, loses, below, least)
 }
 
 fn worth(tables: &Tables, graph: &Graph, asked: Question) -> Answer<i64> {
     let model = judge(tables)?;
-    let (actions, next) = nodes(&model, graph)?;
+    let (actions, next) = nodes(&model, graph, asked)?;
     let (n, k) = (model.n, model.k);
-    if asked.node >= actions.len() as u64 || asked.state >= n as u64 || asked.steps > STEPS as u64 {
-        return refused(18, 0);
-    }
     let (mut worths, mut more) = ([0; NODES * STATES], [0; NODES * STATES]);
     for _ in 0..asked.steps {
         for ((&a, next), row) in actions.iter().zip(next.chunks_exact(k)).zip(more.chunks_exact_mut(n)) {

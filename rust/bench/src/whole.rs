@@ -2,7 +2,7 @@
 
 use crate::limits::*;
 use crate::moved;
-use crate::solver_file::adopted;
+use crate::solver_file::{self, Files};
 use crate::whole_file::{converted, laid, outcome_zeros, zeros, Read, Zeros};
 use biidhaqun::slices::{
     Adopted, Answers, Certifier, Conversion, Graph, Level, Offers, Reading, Refusal, Replayed, Tables, Totals,
@@ -24,9 +24,9 @@ pub struct Whole {
     pub offer: fn(&Tables, &mut Certifier, &Level) -> Answer<()>,
     pub totals: fn(&Tables, &Certifier, &[u32]) -> Answer<Totals>,
     pub within: fn(&Tables, &Certifier, &[u32], &[u32]) -> Answer<TotalsWithin>,
-    pub each: fn(&Tables, &Certifier, (usize, &[u32]), &mut Answers) -> Answer<()>,
-    pub build: fn(&Tables, &Certifier, (usize, &[u32]), &mut Level) -> Answer<()>,
-    pub adopt: fn(&Tables, &Certifier, (&[u8], &[u8]), (&[u32], usize), &mut Level) -> Answer<usize>,
+    pub each: fn(&Tables, &Certifier, Weighed, &mut Answers) -> Answer<()>,
+    pub build: fn(&Tables, &Certifier, Weighed, &mut Level) -> Answer<()>,
+    pub adopt: fn(&Examined, &Files, Weighed, &mut Level) -> Answer<usize>,
     pub worth: fn(&Tables, &Graph, Question) -> Answer<i64>,
 }
 
@@ -116,11 +116,20 @@ impl Library for Whole {
         &self,
         tables: &Tables,
         certifier: &Certifier,
-        files: (&[u8], &[u8]),
-        points: (&[u32], usize),
+        (alpha, graph): (&[u8], &[u8]),
+        (points, count): (&[u32], usize),
         level: &mut Level,
     ) -> Adopted {
-        adopted((self.adopt)(tables, certifier, files, points, level))
+        let mut adopt = || {
+            solver_file::lengths(alpha, graph)?;
+            let upon = (self.examine)(tables, certifier)?;
+            let files = solver_file::read(alpha, graph, upon.0.n, upon.0.k)?;
+            (self.adopt)(&upon, &files, (count, points), level)
+        };
+        match adopt() {
+            Ok(vectors) => Adopted { vectors, ..Adopted::default() },
+            Err(Refusal { number, place }) => Adopted { number, place, vectors: 0 },
+        }
     }
 
     fn worth(&self, tables: &Tables, graph: &Graph, asked: Question) -> Worth {

@@ -19,19 +19,16 @@ pub fn zeros(states: usize, actions: usize, observations: usize, lent: &Tables) 
     if lent.transition.len() < t || lent.observation.len() < o || lent.reward.len() < rows {
         return refused(3, 0);
     }
-    Ok(Tables {
-        states,
-        actions,
-        observations,
-        discount: 0,
-        transition: vec![0; t],
-        observation: vec![0; o],
-        reward: vec![0; rows],
-    })
+    Ok(with_rewards(states, actions, observations, rows))
 }
 
 /// Zeros for tables whose rewards go by action, state, state reached and observation.
 pub fn outcome_zeros(states: usize, actions: usize, observations: usize) -> Tables {
+    with_rewards(states, actions, observations, actions * states * states * observations)
+}
+
+/// Zeros, and so many rewards of 0.
+fn with_rewards(states: usize, actions: usize, observations: usize, rewards: usize) -> Tables {
     let rows = actions * states;
     Tables {
         states,
@@ -40,7 +37,7 @@ pub fn outcome_zeros(states: usize, actions: usize, observations: usize) -> Tabl
         discount: 0,
         transition: vec![0; rows * states],
         observation: vec![0; rows * observations],
-        reward: vec![0; rows * states * observations],
+        reward: vec![0; rewards],
     }
 }
 

@@ -7,6 +7,7 @@ use num_bigint::BigInt;
 use reference::{
     all_plans, best, full_mask, scale, Certifier, Earned, Level, Model, Points, Refusal, Tables, Totals, STATES, WEIGHT,
 };
+use std::fmt::Debug;
 
 /// No list is followed further than this many levels.
 const LEVELS: u64 = 3;
@@ -46,12 +47,29 @@ pub struct Seen {
     pub unpriced: u64,
 }
 
+impl Seen {
+    /// Adds what was seen in another list.
+    pub fn add(&mut self, other: &Seen) {
+        self.accepted += other.accepted;
+        self.refused += other.refused;
+        self.compared += other.compared;
+        self.thirds += other.thirds;
+        self.above_corners += other.above_corners;
+        self.informed += other.informed;
+        self.masked += other.masked;
+        self.uncounted += other.uncounted;
+        self.ranges += other.ranges;
+        self.priced += other.priced;
+        self.unpriced += other.unpriced;
+    }
+}
+
 /// Follows a list, and at each step compares what is answered with all plans of as many steps as levels were accepted:
 /// no plan is above the upper total, nor above either ceiling, some plan that opens with the action is at or above the lower
 /// one, no plan is above its own action's informed row, which is nowhere above the QMDP row, a built level is accepted, a
 /// refused one changes nothing. Totals are given exactly where a vector counts, and a level is built exactly where one covers all
-/// states. New prices put another model in force, of which the plans are from then on. The totals at multiples of a mixture and at its sum with another are held against those at the mixture, and those
-/// within ranges against all plans at mixtures inside.
+/// states. New prices put another model in force, of which the plans are from then on. The totals at multiples of a mixture and
+/// at its sum with another are held against those at the mixture, and those within ranges against all plans at mixtures inside.
 pub fn check(list: &List, by: &dyn Calls) -> Result<Seen, String> {
     let model = Model::of(&list.tables, &DOCUMENT).map_err(|refusal| refusal.to_string())?;
     let certifier = by.open(&list.tables).map_err(|refusal| format!("opening is {}", refusal))?;
@@ -198,17 +216,30 @@ impl Run<'_> {
         self.masks().any(|mask| weighty & !mask == 0)
     }
 
+    /// What is answered at weights, which must be totals where a vector counts, and 22 where none does.
+    fn where_one_counts<Answer: Debug>(
+        &mut self,
+        weights: &[u64],
+        answer: Result<Answer, Refusal>,
+        what: &str,
+    ) -> Result<Option<Answer>, String> {
+        match (answer, self.counts(weights)) {
+            (Ok(answer), true) => Ok(Some(answer)),
+            (Ok(answer), false) => Err(format!("no vector counts at {:?}, and yet {:?}", weights, answer)),
+            (Err(Refusal { number: 22, .. }), false) => {
+                self.seen.uncounted += 1;
+                Ok(None)
+            }
+            (Err(refusal), _) => Err(format!("{} are {}", what, refusal)),
+        }
+    }
+
     /// The totals within ranges, against all plans at mixtures inside: each weight at its low or its high, or all between.
     fn inside(&mut self, lows: &[u64], highs: &[u64]) -> Result<(), String> {
-        let counts = self.counts(highs);
-        let within = match self.by.within(&self.certifier, lows, highs) {
-            Ok(within) if counts => within,
-            Ok(within) => return Err(format!("no vector counts at {:?}, and yet {:?}", highs, within)),
-            Err(Refusal { number: 22, .. }) if !counts => {
-                self.seen.uncounted += 1;
-                return Ok(());
-            }
-            Err(refusal) => return Err(format!("totals within ranges are {}", refusal)),
+        let within = self.by.within(&self.certifier, lows, highs);
+        let within = match self.where_one_counts(highs, within, "totals within ranges")? {
+            Some(within) => within,
+            None => return Ok(()),
         };
         let n = self.model.n;
         let unit = scale(self.seen.accepted as u32);
@@ -232,15 +263,10 @@ impl Run<'_> {
 
     /// The totals at one mixture, against all plans.
     fn compare(&mut self, mixture: &[u64]) -> Result<(), String> {
-        let counts = self.counts(mixture);
-        let totals = match self.by.totals(&self.certifier, mixture) {
-            Ok(totals) if counts => totals,
-            Ok(totals) => return Err(format!("no vector counts at {:?}, and yet {:?}", mixture, totals)),
-            Err(Refusal { number: 22, .. }) if !counts => {
-                self.seen.uncounted += 1;
-                return Ok(());
-            }
-            Err(refusal) => return Err(format!("totals are {}", refusal)),
+        let totals = self.by.totals(&self.certifier, mixture);
+        let totals = match self.where_one_counts(mixture, totals, "totals")? {
+            Some(totals) => totals,
+            None => return Ok(()),
         };
         let mixture = &mixture[..self.model.n];
         let unit = scale(self.seen.accepted as u32);

@@ -2,7 +2,8 @@
 //!
 //! A slice that is too short counts as one whose object breaks its first limit: tables without counts (3, or 7), a level
 //! without vectors (7 where it stands or its rows are too short, 9 where it is offered or has no room), too many points (9), no
-//! weights (17), no nodes (18); lows and highs are handed on as they lie. What is written is written at the front of the slices; the rest stays.
+//! weights (17), no nodes (18); lows and highs are handed on as they lie. What is written is written at the front of the
+//! slices; the rest stays.
 
 mod adopting;
 mod files;

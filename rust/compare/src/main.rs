@@ -303,17 +303,7 @@ impl Comparison<'_> {
         let list = bracket::random(&mut Rng::for_case(self.options.seed, "plans", number));
         match bracket::check(&list, &DOCUMENT) {
             Ok(seen) => {
-                self.plans.accepted += seen.accepted;
-                self.plans.refused += seen.refused;
-                self.plans.compared += seen.compared;
-                self.plans.thirds += seen.thirds;
-                self.plans.above_corners += seen.above_corners;
-                self.plans.informed += seen.informed;
-                self.plans.masked += seen.masked;
-                self.plans.ranges += seen.ranges;
-                self.plans.uncounted += seen.uncounted;
-                self.plans.priced += seen.priced;
-                self.plans.unpriced += seen.unpriced;
+                self.plans.add(&seen);
                 Ok(true)
             }
             Err(message) => {

@@ -171,8 +171,7 @@ impl Suites<'_> {
         match suite {
             "fixed" => {
                 let fixed = files::fixed_to_read();
-                let index = usize::try_from(number).unwrap_or(usize::MAX);
-                let case = fixed.get(index).ok_or_else(|| unknown("there is no such fixed file"))?;
+                let case = numbered(&fixed, number, "fixed file")?;
                 println!("{}\n{}", case.about, files::escaped(&case.file));
                 return self.call(&format!("fixed:{}", number), &single::reading(&case.file));
             }
@@ -183,13 +182,9 @@ impl Suites<'_> {
             "slices" => print!("{}", single::random(&mut rng)),
             "lengths" => print!("{}", single::lengths(&mut rng, number)[0].0),
             "ticks" => print!("{}", ticks::random(&mut rng).show()),
-            "adopted" => {
-                let index = usize::try_from(number).unwrap_or(usize::MAX);
-                print!("{}", self.adopted.get(index).ok_or_else(|| unknown("there is no such fixed case"))?.show());
-            }
+            "adopted" => print!("{}", numbered(&self.adopted, number, "fixed case")?.show()),
             "many" => {
-                let index = usize::try_from(number).unwrap_or(usize::MAX);
-                let case = self.many.get(index).ok_or_else(|| unknown("there is no such call"))?;
+                let case = numbered(&self.many, number, "call")?;
                 print!("{}\n{}", case.about, case.call);
             }
             "adopt" => print!("{}", adopting::random(&mut rng).show()),
@@ -198,12 +193,11 @@ impl Suites<'_> {
             "prices" => print!("{}", priced(&mut rng, number)),
             "convert" => print!("{}", converting::random(&mut rng)),
             "converted" => {
-                let index = usize::try_from(number).unwrap_or(usize::MAX);
-                let case = self.converted.get(index).ok_or_else(|| unknown("there is no such fixed file"))?;
+                let case = numbered(&self.converted, number, "fixed file")?;
                 println!("{}\n{}", case.about, files::escaped(&case.file));
             }
             "solved" => print!("{}", solved::random(&mut rng).show()),
-            _ => return Err(unknown("there is no such suite")),
+            _ => return Err(unknown("suite")),
         }
         self.one(suite, number)
     }
@@ -225,10 +219,8 @@ impl Suites<'_> {
             }
             "many" => {
                 let many = std::mem::take(&mut self.many);
-                let told = match many.get(number as usize) {
-                    Some(case) => self.ending(&name, &case.call, Some(case.ends)),
-                    None => Err(unknown("there is no such call")),
-                };
+                let told =
+                    numbered(&many, number, "call").and_then(|case| self.ending(&name, &case.call, Some(case.ends)));
                 self.many = many;
                 told
             }
@@ -239,11 +231,8 @@ impl Suites<'_> {
                 self.told(&name, found, || case.show())
             }
             "adopted" => {
-                let case = match self.adopted.get(number as usize) {
-                    Some(case) => case.clone(),
-                    None => return Err(unknown("there is no such fixed case")),
-                };
-                self.call(&name, &case.call(&mut rng))
+                let call = numbered(&self.adopted, number, "fixed case")?.call(&mut rng);
+                self.call(&name, &call)
             }
             "adopt" => {
                 let call = adopting::random(&mut rng).call(&mut rng);
@@ -262,7 +251,7 @@ impl Suites<'_> {
             "convert" => self.conversion(&name, &converting::random(&mut rng)),
             "converted" => match converting::fixed(&self.converted, number as usize) {
                 Some(call) => self.conversion(&name, &call),
-                None => Err(unknown("there is no such fixed file")),
+                None => Err(unknown("fixed file")),
             },
             "solved" => {
                 let climb = solved::random(&mut rng);
@@ -330,8 +319,13 @@ fn priced(rng: &mut Rng, number: u64) -> Call {
     single::half_touched(rng, call)
 }
 
+/// The case of this number.
+fn numbered<'a, Case>(cases: &'a [Case], number: u64, what: &str) -> io::Result<&'a Case> {
+    cases.get(usize::try_from(number).unwrap_or(usize::MAX)).ok_or_else(|| unknown(what))
+}
+
 fn unknown(what: &str) -> io::Error {
-    io::Error::new(io::ErrorKind::InvalidInput, what)
+    io::Error::new(io::ErrorKind::InvalidInput, format!("there is no such {}", what))
 }
 
 #[cfg(test)]

@@ -90,7 +90,7 @@ pub(super) fn starred(rng: &mut Rng, shape: Shape) -> Lines {
     for _ in 0..rng.below(10) {
         let (a, s) = (rng.index(m), rng.index(n));
         let (t, o) = (model.transition_cell(a, s, 0), model.sight_cell(a, s, 0));
-        state_row(rng, &mut lines, "O", a, s, &seen, &model.sights[o..o + k].to_vec());
+        state_row(rng, &mut lines, "O", a, s, &seen, &model.sights[o..o + k]);
         // Entry by entry: a row may have been stated before, and is then cleared first.
         lines.push(words(&["T", ":", &index(rng, a), ":", &index(rng, s), ":", "*", "0"]));
         for (s2, &chance) in model.transitions[t..t + n].iter().enumerate().filter(|(_, &chance)| chance > 0) {
