@@ -21,7 +21,7 @@ use tables::judge;
 // What a file is refused for, and the counts of its tables; with a refusal all of them are 0.
 pub struct TablesRead {
     pub verdict: Verdict,
-    pub countsWith: Counts,
+    pub counts: Counts,
 }
 
 impl TablesRead {
@@ -34,7 +34,7 @@ pub fn refusal(v: Verdict) -> TablesRead
 {
     TablesRead {
         verdict: v,
-        countsWith: Counts {
+        counts: Counts {
             states: 0,
             actions: 0,
             observations: 0,
@@ -128,7 +128,7 @@ pub fn body_at(
     };
     TablesRead {
         verdict: Verdict::Fine,
-        countsWith: c,
+        counts: c,
     }
 }
 
