@@ -42,7 +42,7 @@ cellsOf m = draft (m .transition) (m .observation) (m .reward)
 
 -- tables of such counts, with no cell past its limit
 pub record SmallTables (c : Counts) (m : Tables) : Type 0 where
-  pub countsWith : countsOf m ≡ c
+  pub counts : countsOf m ≡ c
   pub small : Small (cellsOf m)
 
 record Limited (r : Room) (t : Text) : Type 0 where
