@@ -1,4 +1,7 @@
 -- Small files, adopted by the prover over levels of the dough model of document 01: it computes the definitions that the contracts name. Assumes nothing.
+--
+-- In order: alpha files with two entries in a vector, then graph files with two observations; a slash stands for an LF; certifiers; what is adopted at the
+-- point (50, 50).
 use Rattle.integers.proofs.Kit.{_≡_, refl, List, [], _∷_, ℕ, replicate, pos, negsuc}
 use Rattle.integers.specs.Whole.{_·_, sumTo, totalTo, largestTo, lesser, floorDiv, ceilDiv}
 use Rattle.integers.specs.Search.{every, firstLargestOf}

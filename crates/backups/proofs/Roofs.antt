@@ -1,4 +1,7 @@
 -- The backup at weights over storage: it is the backup of the level that is stored, and nothing overflows on the way. Assumes nothing.
+--
+-- In order: sums; weight 1 on one state; the weights of a point, filled up to the size of an array; ceilings at the successor weights, as a loop adds them
+-- up; the parts of a backup over storage, of weights that total at most maxTotal; the corners and points of a level within its limits, in storage.
 use Rattle.integers.proofs.Kit.{_≡_, _∙_, refl, ap, List, ℕ, _≤_, _<_, _+_, _*_, suc, zero, _^_, arith, length, getD, replicate, set, length-replicate, ℤ}
 use Rattle.integers.proofs.Kit.{pos, natAbs, _+ℤ_, negsuc}
 use native.Mathlib.Nat as NatL

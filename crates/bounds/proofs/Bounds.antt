@@ -1,5 +1,8 @@
 -- Laws of the totals of a certifier that is not refused by 7: what is known of its parts, how large the totals are, and that they read weights of states only.
 -- Assumes nothing.
+--
+-- In order: the answer over storage; the totals read weights of states only; a mixture; an answer: its action exists or is 0, and its totals fit 64 bits;
+-- a certifier that is not refused by 7; each way out of totals.
 use Rattle.integers.proofs.Kit.{_≡_, _∙_, refl, ap, sym, true, false, Bool, List, ℕ, _≤_, _<_, _+_, _*_, _^_, arith, leb-true, leb, ltb, length, getD}
 use Rattle.integers.proofs.Kit.{_||_, suc, zero, eqb, lt-ltb, ne-eqb, ℤ, natAbs, _-ℤ_}
 use mathlib.Core.Bool.{not}

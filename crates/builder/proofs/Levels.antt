@@ -1,4 +1,7 @@
 -- Laws of the builder's level: the least values, the weights that vectors are made at, and the rows of vectors. Assumes nothing.
+--
+-- In order: the least value, from what each action allows; weights are read below the number of states only; the weights that vector v is made at; the
+-- rows of vectors, as a loop makes them.
 use Rattle.integers.proofs.Kit.{_≡_, _∙_, refl, ap, sym, true, List, [], ℕ, _≤_, _<_, _+_, _*_, _-_, _^_, arith, mul-le-mul-right, decLt, ltb}
 use Rattle.integers.proofs.Kit.{length, getD, set, paste, ℤ, pos, mag, w64, toZ, ofZ}
 use lib.Arith.{le→nltb}

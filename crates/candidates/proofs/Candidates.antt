@@ -1,4 +1,6 @@
 -- Laws of the candidates: over storage they are the model's, and what the steps are handed is within the limits. Assumes nothing.
+--
+-- In order: from storage to the model; the steps' turns.
 use Rattle.integers.proofs.Kit.{_≡_, _∙_, refl, ap, true, Bool, List, ℕ, _≤_, _<_, arith, getD, ℤ, pos}
 use Rattle.integers.specs.Whole.{floorDiv}
 use Rattle.integers.specs.Search.{firstLargestOf}

@@ -1,4 +1,6 @@
 -- The calls of a certifier that climbs refuse nothing: demand 3 over the list of levels that it was offered. Assumes nothing.
+--
+-- In order: one event more; a level that can be built upon; a mixture that is a point; climbing.
 use Rattle.integers.proofs.Kit.{_≡_, _∙_, refl, ap, sym, subst, true, List, [], _∷_, ℕ, _≤_, _<_, _+_, _*_, arith, add-zero, le-leb, lt-ltb, length}
 use mathlib.Core.List.{_++_}
 use Rattle.integers.specs.Whole.{totalTo}

@@ -1,4 +1,6 @@
 -- A conversion by stages: what is answered and left at each. Assumes nothing.
+--
+-- In order: a refusal, or a text that is written; what a file that is not refused by 2 to 6 says; 25, then 26; 27, then 1, then what the file says.
 use Rattle.tables.specs.Limits.{maxConverted}
 use Rattle.integers.proofs.Kit.{_≡_, _∙_, refl, ap, sym, true, false, List, ℕ, _+_, arith, leb, length}
 use Rattle.tables.specs.declared.Counts.{Counts}

@@ -1,4 +1,6 @@
 -- Small files, converted by the prover: it computes the definitions that the contract names. Assumes nothing.
+--
+-- In order: files and what they are written as; a slash stands for an LF; what they are converted to.
 use Rattle.integers.proofs.Kit.{_≡_, refl, sym, false, List, [], _∷_, ℕ, leb, length}
 use mathlib.Core.List.{_++_}
 use Rattle.integers.specs.Whole.{_·_, sumTo, totalTo, floorDiv}

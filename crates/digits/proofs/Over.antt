@@ -1,4 +1,6 @@
 -- Texts that are written one behind the other. Assumes nothing.
+--
+-- In order: one text; what functions that write one behind the other leave; parts one after the other; digits, of which the last is written first.
 use Rattle.integers.proofs.Kit.{_≡_, _∙_, refl, ap, sym, subst, List, [], _∷_, ℕ, _≤_, _<_, _+_, suc, zero, arith, add-zero, add-one, decLt, _/_, _%_}
 use Rattle.integers.proofs.Kit.{length, drop, set, take, paste, drop-drop}
 use mathlib.Core.List.{_++_, append-assoc, append-nil}

@@ -1,4 +1,6 @@
 -- What a statement says of each cell: the one number stated where the cell is meant, and what was there elsewhere. Assumes nothing.
+--
+-- In order: a cell of what is marked; one among those that an index stands for; where cells lie: each in its own place; what a statement says of a cell.
 use Rattle.integers.proofs.Kit.{_≡_, _∙_, refl, ap, sym, true, false, Bool, cond, _&&_, _||_, List, [], _∷_, ℕ, _≤_, _<_, _+_, _*_, suc, zero, arith}
 use Rattle.integers.proofs.Kit.{decLt, ne-eqb, eq-eqb, eqb-true, eqb, length, getD, ℤ, pos, or-false, and-comm, and-assoc}
 use borrow.Author.Tests.{eqb-false}

@@ -1,4 +1,6 @@
 -- What a part of a statement leaves, and rows number by number. Assumes nothing.
+--
+-- In order: a part of a statement, with the cells that it leaves; a row.
 use Rattle.integers.proofs.Kit.{_≡_, _∙_, refl, ap, sym, List, ℕ, _≤_, _<_, _+_, suc, _-_, arith, length}
 use denote.Enum.Declared.{tagOf}
 use Rattle.words.specs.Words.{Words, wordsIn, between}

@@ -1,4 +1,6 @@
 -- Expected rewards: how they are summed, how large they are, and that they are exact where they are whole. Assumes nothing.
+--
+-- In order: whole numbers of ticks; how it is summed; how large it is; what the code's sums read.
 use Rattle.integers.proofs.Kit.{_≡_, _∙_, ap, sym, true, List, ℕ, _≤_, _<_, _*_, suc, _%_, _/_, arith, mul-le-mul, mul-le-mul-right, eqb-true}
 use Rattle.integers.proofs.Kit.{ℤ, pos, negsuc, negℤ, natAbs, lit<}
 use native.Mathlib.Nat as NatL

@@ -1,4 +1,6 @@
 -- The test of an offered level's vectors as the loop over them makes it: every number is within its limit, and the test is the model's. Assumes nothing.
+--
+-- In order: verdicts; one vector; one entry, at a state that is covered.
 use Rattle.integers.proofs.Kit.{_≡_, _∙_, refl, sym, true, false, Bool, List, [], ℕ, _≤_, _<_, _||_, arith, getD, length, ℤ, pos, natAbs, leZ}
 use mathlib.Core.Bool.{not}
 use Rattle.integers.specs.Whole.{_·_, Within}

@@ -1,4 +1,7 @@
 -- One word, and several after each other. Assumes nothing.
+--
+-- In order: a word that was found; the next word from an offset; two words after each other; a number within its limits; the same bytes; several words
+-- after each other.
 use Rattle.integers.proofs.Kit.{_≡_, _∙_, refl, ap, sym, subst, subst⁻¹, true, false, Bool, cond, _&&_, List, [], _∷_, ℕ, _≤_, _<_, _+_, suc, arith}
 use Rattle.integers.proofs.Kit.{add-one, le-leb, leb-true, lt-leb, leb, eqb, length, getD, drop}
 use mathlib.Core.Bool.{and-false}

@@ -1,4 +1,6 @@
 -- Laws of arrays of which the first cells count. Assumes nothing.
+--
+-- In order: cells laid over others; rows laid over others; rows in an array of one's own; bounds on what an array is filled with.
 use Rattle.integers.proofs.Kit.{_≡_, _∙_, refl, ap, sym, List, [], _∷_, ℕ, _≤_, _<_, _+_, _*_, suc, _-_, zero, _/_, _%_, arith, add-zero, zero-add}
 use Rattle.integers.proofs.Kit.{add-one, decLt, length, getD, drop, replicate, set, length-replicate, take, paste, drop-drop, ℤ, pos, natAbs, subst}
 use mathlib.Core.List.{_++_, append-assoc, append-nil}

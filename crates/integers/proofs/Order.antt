@@ -1,4 +1,6 @@
 -- The ordered group of whole numbers and its natural multiples. Assumes nothing.
+--
+-- In order: order; the smaller of two; sums; multiples.
 use Rattle.integers.proofs.Kit.{_≡_, refl, ap, subst, true, false, Bool, cond, ℕ, _<_, _+_, _*_, arith, ℤ, pos, _+ℤ_, _-ℤ_, negℤ, _≤ℤ_, leZ, _<ℤ_}
 use native.Mathlib.Nat as NatL
 use Rattle.integers.specs.Whole.{_·_, lesser}

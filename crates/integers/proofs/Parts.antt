@@ -1,5 +1,7 @@
 -- A whole number is its positive part less its negative part, one of which is 0. Each operation has a law that is linear in the parts, so that omega
 -- proves what is to be shown of ℤ: list the laws of the operations at hand, and go back by `le-by`, `lt-by` or `eq-by`. Assumes nothing.
+--
+-- In order: operations; equality and order; tests, as a branch leaves them.
 use Rattle.integers.proofs.Kit.{_≡_, _∙_, refl, ap, sym, subst, true, false, Bool, cond, ℕ, _≤_, _<_, _+_, _*_, suc, _-_, zero, arith}
 use Rattle.integers.proofs.Kit.{ltb, T, ℤ, pos, natAbs, _+ℤ_, negsuc, _-ℤ_, negℤ, _≤ℤ_, ltZ, leZ, _<ℤ_}
 use mathlib.Core.Bool.{not}

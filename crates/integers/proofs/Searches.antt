@@ -1,4 +1,6 @@
 -- Laws of the searches: as a loop makes them, and what their answers say. Assumes nothing.
+--
+-- In order: one test; every; some; the first largest of those that p holds of; the first largest of all.
 use Rattle.integers.proofs.Kit.{_≡_, _∙_, refl, sym, true, false, Bool, cond, _&&_, ℕ, _<_, _+_, suc, zero, arith, add-one, decLt, T, ℤ, _≤ℤ_, and-assoc}
 use Rattle.integers.proofs.Kit.{_||_, ap, _≤_, _*_, _-_, add-zero, mul-le-mul, eqb, eq-eqb, ne-eqb, ltZ, _<ℤ_, or-true, or-false}
 use mathlib.Core.Bool.{not}

@@ -1,4 +1,6 @@
 -- The algebra of sums over an index: none, one more, term by term, split, scaled, swapped. Assumes nothing.
+--
+-- In order: as a loop makes them; term by term; split, scaled, swapped; the largest.
 use Rattle.integers.proofs.Kit.{_≡_, _∙_, refl, ap, sym, ℕ, _≤_, _<_, _+_, _*_, suc, zero, arith, add-one, decLt, ℤ, pos, _+ℤ_, _≤ℤ_}
 use Prim.Native.Nat.{max}
 use native.Mathlib.Nat as NatL

@@ -1,5 +1,7 @@
 -- Laws of the answer of a certifier that is not refused by 7: ranges that hold are within the limits, and what is worked out over storage is what the
 -- standing level says. Assumes nothing.
+--
+-- In order: ranges that hold; a certifier that is not refused by 7; each way out.
 use Rattle.integers.proofs.Kit.{_≡_, _∙_, refl, ap, sym, true, false, Bool, List, ℕ, _≤_, _<_, leb-true, leb, length, getD, ℤ}
 use native.Mathlib.Nat as NatL
 use Rattle.integers.proofs.Searches.{and-true, every-at, of-cong}

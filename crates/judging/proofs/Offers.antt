@@ -1,4 +1,6 @@
 -- An offer's tests in their two stages, and what the first leaves known for the second. Assumes nothing.
+--
+-- In order: the stages as the code goes through them; what is lent to the tests of 21 and 13 to 15.
 use Rattle.integers.proofs.Kit.{_≡_, [], ℕ, _≤_, _<_, _+_, arith, length}
 use Rattle.tables.specs.Tables.{Tables}
 use Rattle.tables.specs.declared.Verdict.{Verdict}

@@ -1,4 +1,6 @@
 -- The program's own slices, and the file that it reads: the tables open, and each level has room. Assumes nothing.
+--
+-- In order: the program's own slices; a file that is read.
 use Rattle.integers.proofs.Kit.{_≡_, _∙_, refl, sym, List, ℕ, _≤_, _+_, _*_, arith, mul-le-mul, le-leb, length, replicate, pos}
 use Rattle.integers.proofs.Searches.{and-is}
 use Rattle.tables.specs.Tables.{Tables}

@@ -1,4 +1,6 @@
 -- Laws of the answers at many mixtures. Assumes nothing.
+--
+-- In order: the mixtures; the slices that are written; each way out.
 use Rattle.integers.proofs.Kit.{_≡_, _∙_, ap, sym, true, false, List, ℕ, _≤_, _<_, _+_, _*_, _-_, _/_, arith, le-leb, leb-true, lt-leb, leb, length}
 use Rattle.integers.proofs.Kit.{drop, set, take, ℤ, pos}
 use native.Mathlib.Nat as NatL

@@ -1,4 +1,7 @@
 -- A file that is read opens: its tables are not refused and fit into the slices lent, and its start numbers are the weights of a point. Assumes nothing.
+--
+-- In order: what is read keeps the limits of 3; and the totals are those of 4, 5 and 6; what follows the counts, with rewards in full or not; the whole
+-- file.
 use Rattle.integers.proofs.Kit.{_≡_, _∙_, refl, ap, sym, subst, true, false, Bool, cond, List, ℕ, _≤_, _+_, _*_, arith, le-leb, eqb-true}
 use Rattle.integers.proofs.Kit.{leb, length, getD, replicate, pos, natAbs}
 use Rattle.integers.specs.Whole.{totalTo}

@@ -1,4 +1,6 @@
 -- What a refused file is answered: its number is 1 to 6, and where its place lies. Assumes nothing.
+--
+-- In order: a statement; the file; the totals; what a refusal says: its number, and its place in a file of so many bytes.
 use Rattle.integers.proofs.Kit.{_≡_, refl, sym, subst, true, false, Bool, cond, List, ℕ, _≤_, _+_, _*_, suc, zero, arith, add-one}
 use Rattle.integers.proofs.Kit.{leb, eqb, length, getD, replicate, ℤ}
 use Rattle.integers.specs.Whole.{totalTo}

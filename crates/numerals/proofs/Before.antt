@@ -1,4 +1,6 @@
 -- Words that were numbers before a part could be missing and an exponent follow are the same numbers. Assumes nothing.
+--
+-- In order: a plain form reads what it read before; and any form reads what a plain one reads.
 use Prim.Native.Nat.{ℕ, suc, _+_, _-_, _*_, _^_, _≤_}
 use mathlib.Core.Path.{_≡_, refl, sym, ap, subst, _∙_}
 use mathlib.Core.Bool.{Bool, true, false, false≢true, _&&_, _||_, cond, and-eq-true-iff}

@@ -1,4 +1,6 @@
 -- Laws of numbers in words: one digit more or less, and which words are numbers. Assumes nothing.
+--
+-- In order: bytes; digits; digits as they were read; room in 64 bits; an exponent; a point; which words are numbers.
 use Prim.Native.Nat.{ℕ, suc, _+_, _-_, _*_, _^_, _/_, _%_, _≤_, _<_}
 use mathlib.Core.Path.{_≡_, refl, sym, ap, subst, _∙_}
 use mathlib.Core.Bool.{Bool, true, false, false≢true, _&&_, _||_, cond, and-eq-true-iff}

@@ -2,6 +2,8 @@
 --
 -- n digits write less than 10 ^ n. So a whole part is worth at most (10 ^ digits - 1) × 10 ^ places units, and the k decimals, with a 0 for each of the
 -- others, less than 10 ^ k × 10 ^ (places - k) = 10 ^ places. Nothing follows them in a form that is not loose. Qed.
+--
+-- In order: digits; numbers.
 use Prim.Native.Nat.{ℕ, suc, _+_, _-_, _*_, _^_, _≤_, _<_}
 use mathlib.Core.Path.{_≡_, refl, sym, ap, _∙_}
 use mathlib.Core.Bool.{Bool, true, false, true≢false, _&&_, cond, and-eq-true-iff}

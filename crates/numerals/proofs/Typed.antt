@@ -1,4 +1,6 @@
 -- Every number that the rules let people type is read as what it is, or not at all if that is not whole. Assumes nothing.
+--
+-- In order: an exponent, or none; the whole word.
 use Prim.Native.Nat.{ℕ, zero, suc, _+_, _-_, _*_, _^_, _≤_}
 use mathlib.Core.Path.{_≡_, refl, sym, ap, subst⁻¹, _∙_}
 use mathlib.Core.Bool.{Bool, true, false, false≢true, _||_, cond}

@@ -1,4 +1,6 @@
 -- What is read is what the word writes, as an exact fraction. Assumes nothing.
+--
+-- In order: a word that is a number; its digits; its exponent; the whole word.
 use Prim.Native.Nat.{ℕ, zero, suc, _+_, _-_, _*_, _^_, _/_, _%_, _≤_}
 use mathlib.Core.Path.{_≡_, refl, sym, ap, subst, _∙_}
 use mathlib.Core.Bool.{Bool, true, false, false≢true, _&&_, cond, and-eq-true-iff}

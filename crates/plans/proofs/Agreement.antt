@@ -1,5 +1,7 @@
 -- Only the parts below the counts are read: levels that agree there meet the same inequalities, have the same limits, ceilings and totals, and weights
 -- that agree there have the same ceilings and backups. Assumes nothing.
+--
+-- In order: products, drops and ceilings; weights; levels; a level below that agrees.
 use Rattle.integers.proofs.Kit.{_≡_, _∙_, refl, ap, true, Bool, _||_, ℕ, _<_, suc, zero, arith, eqb, ne-eqb, ℤ, pos, _+ℤ_, negsuc, _-ℤ_, or-true}
 use Rattle.integers.specs.Whole.{_·_, sumTo, totalTo, largestTo}
 use Rattle.integers.specs.Search.{some, firstLargestOf}

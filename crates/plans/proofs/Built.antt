@@ -1,5 +1,7 @@
 -- The builder's level lies within the limits of its level and meets its inequalities. The laws of how large successor weights, backups and ceilings grow,
 -- of which that is made, also rule out overflow in code. Assumes nothing.
+--
+-- In order: totals of tables; the next level's range; what the builder makes; ranges grow with the level.
 use Rattle.integers.proofs.Kit.{_≡_, _∙_, ap, true, ℕ, _≤_, _+_, _<_, _*_, suc, arith, ℤ, pos, natAbs, _+ℤ_, negℤ, _≤ℤ_}
 use native.Mathlib.Nat as NatL
 use Rattle.integers.specs.Whole.{_·_, sumTo, totalTo, largestTo}

@@ -1,4 +1,7 @@
 -- The ceiling: no plan that fits the model earns more than the sawtooth ceiling of a certified level. Assumes nothing.
+--
+-- In order: the smallest ratio; products; one point; every point; weight 1 on one state; the backup at weights p; the ceiling of a certified level;
+-- corners and points.
 use Rattle.integers.proofs.Kit.{_≡_, _∙_, refl, ap, sym, ℕ, _≤_, _<_, _+_, _*_, suc, _-_, zero, _^_, _/_, arith, decLt, ℤ, pos, _+ℤ_, negsuc, _-ℤ_, _≤ℤ_}
 use native.Mathlib.Nat as NatL
 use lib.IntN.{+ℤ-idl, +ℤ-idr}

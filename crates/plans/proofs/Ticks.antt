@@ -1,5 +1,7 @@
 -- How much rounding costs: an entry that is its backup over K rounded down lies less than a tick further below what its plan earns than the entries that it
 -- was backed up from. Assumes nothing.
+--
+-- In order: strict order; backups; one level more.
 use Rattle.integers.proofs.Kit.{_≡_, _∙_, refl, ap, sym, true, false, Bool, List, _∷_, ℕ, _<_, _*_, suc, _^_, arith, length, ℤ, pos, _+ℤ_, _≤ℤ_, leZ, _<ℤ_}
 use native.Mathlib.Nat as NatL
 use Rattle.integers.specs.Whole.{_·_, sumTo, totalTo, floorDiv}

@@ -1,4 +1,6 @@
 -- Cells after each of them was stated. Assumes nothing.
+--
+-- In order: what is done one after the other; an index that is no star stands for itself; a table of which each cell was stated; rewards.
 use Rattle.integers.proofs.Kit.{_≡_, _∙_, refl, ap, sym, subst, true, false, Bool, cond, _&&_, _||_, List, ℕ, _≤_, _<_, _*_, suc, zero, arith}
 use Rattle.integers.proofs.Kit.{decLt, eqb, eq-eqb, ne-eqb, eqb-true, length, ℤ}
 use Rattle.integers.proofs.Searches.{and-true}

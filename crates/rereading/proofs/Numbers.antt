@@ -1,4 +1,6 @@
 -- Numbers that are written are read as what they are. Assumes nothing.
+--
+-- In order: digits; the words that digits make; what they are read as; the numbers of a model file.
 use Rattle.integers.proofs.Kit.{_≡_, _∙_, refl, ap, sym, subst, subst⁻¹, true, false, Bool, cond, _&&_, List, [], _∷_, ℕ, _≤_, _<_, _+_, _*_, suc, zero, _^_}
 use Rattle.integers.proofs.Kit.{_/_, _%_, _-_, arith, length, drop, ltb, ne-eqb, le-leb, lt-ltb, le-ltb, decLt, ℤ, pos, negsuc, natAbs}
 use mathlib.Core.List.{_++_, append-nil}

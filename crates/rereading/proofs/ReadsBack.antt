@@ -1,4 +1,6 @@
 -- A written file reads back: its headers, its start numbers and its statements are read, and each cell is what was written. Assumes nothing.
+--
+-- In order: numbers within their limits; the whole file.
 use Rattle.integers.proofs.Kit.{_≡_, _∙_, refl, ap, sym, true, List, [], ℕ, _≤_, _<_, _+_, _*_, suc, zero, _-_, arith, leb-true, length, getD, ℤ, natAbs}
 use mathlib.Core.List.{_++_, append-nil}
 use lib.ListN.{length-append}

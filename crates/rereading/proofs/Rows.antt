@@ -1,4 +1,6 @@
 -- Names, numbers, indices and rows of numbers as they are written, read again. Assumes nothing.
+--
+-- In order: names and numbers; an index; a row.
 use Rattle.integers.proofs.Kit.{_≡_, _∙_, refl, ap, subst, subst⁻¹, true, Bool, cond, _&&_, List, [], _∷_, ℕ, _≤_, _<_, _+_, suc, zero, _-_, arith}
 use Rattle.integers.proofs.Kit.{add-one, eq-eqb}
 use mathlib.Core.List.{_++_}

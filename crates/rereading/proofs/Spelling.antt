@@ -1,4 +1,6 @@
 -- How a reading goes through a text, part by part: it takes the words of the text, and goes on as what is left to read. Assumes nothing.
+--
+-- In order: texts; a reading goes through a text; a word; a word that is not taken; what follows an answer.
 use Rattle.integers.proofs.Kit.{_≡_, _∙_, refl, ap, sym, subst, true, false, Bool, cond, List, [], _∷_, ℕ, _<_, _+_, suc, zero, arith, false≢true, length}
 use mathlib.Core.List.{_++_, append-assoc}
 use Rattle.words.specs.Class.{classOf}

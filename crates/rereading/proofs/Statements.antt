@@ -1,4 +1,6 @@
 -- The statements of a written file, read again: a row of T or O, a reward, and all of them one after the other. Assumes nothing.
+--
+-- In order: a row of a table; a reward; one part after the other; statements; there are more bytes than statements.
 use Rattle.integers.proofs.Kit.{_≡_, _∙_, refl, ap, subst, subst⁻¹, true, false, Bool, cond, List, [], _∷_, ℕ, _≤_, _<_, _+_, _*_, suc, zero, _-_, arith}
 use Rattle.integers.proofs.Kit.{length, ℤ, natAbs}
 use mathlib.Core.List.{_++_, append-assoc}

@@ -1,4 +1,6 @@
 -- A written file, read whole: it is not refused, and its tables and start numbers are those that were written. Assumes nothing.
+--
+-- In order: what a valid model has; the totals; the file.
 use Rattle.integers.proofs.Kit.{_≡_, _∙_, ap, subst, subst⁻¹, true, false, Bool, cond, List, ℕ, _≤_, _*_, _+_, mul-le-mul, le-leb, eq-eqb}
 use Rattle.integers.proofs.Kit.{length, getD, length-replicate, ℤ, pos}
 use Rattle.integers.specs.Whole.{totalTo}

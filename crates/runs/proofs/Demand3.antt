@@ -1,4 +1,6 @@
 -- Demand 3, proved over the definitions that the contracts name: what one event keeps (`Reached.antt`) holds of a list. Assumes nothing.
+--
+-- In order: a list after a list; offers alone; a list of events; what holds then; an answer that meets its equation has what demand 3 says of it.
 use Rattle.integers.proofs.Kit.{_≡_, _∙_, refl, ap, sym, subst, true, List, [], _∷_, ℕ, _<_, _+_, add-zero, zero-add}
 use mathlib.Core.List.{_++_}
 use native.Mathlib.Nat.{add-assoc}

@@ -1,5 +1,7 @@
 -- The dough model of document 01: its table D1 to D12, on the levels that the builder makes and the certifier accepts, with D10 as document 02's Job 6 has
 -- it. The prover computes the definitions that the contracts name. Assumes nothing.
+--
+-- In order: the levels that are built, written out; D9, over all two-step plans; the table.
 use Rattle.integers.proofs.Kit.{_≡_, refl, List, [], _∷_, ℕ, _<_, _+_, _*_, suc, zero, _^_, arith, replicate, ℤ, pos, _+ℤ_, negsuc, _≤ℤ_}
 use lib.IntN.{+ℤ-idr}
 use lib.Signed.{leZ-yes}

@@ -1,5 +1,7 @@
 -- From verdicts to facts, and back: what a standing level that holds, and an offer that is fine, are known to have, where a level has at most `most`
 -- vectors. Assumes nothing.
+--
+-- In order: one test; a level by itself; a certifier, and an offer to it.
 use Rattle.integers.proofs.Kit.{_≡_, refl, true, false, Bool, _||_, List, ℕ, _≤_, _<_, _+_, _*_, arith, le-leb, leb-true, lt-ltb, ltb-true, leb}
 use Rattle.integers.proofs.Kit.{length, ℤ, natAbs, _≤ℤ_}
 use mathlib.Core.Bool.{not}

@@ -1,4 +1,6 @@
 -- What holds of a certifier in every run: after opening, after one event more, and what totals and buildings then say. Assumes nothing.
+--
+-- In order: opening; one event; totals; building.
 use Rattle.integers.proofs.Kit.{_≡_, _∙_, refl, ap, sym, subst, true, List, [], _∷_, ℕ, _≤_, _<_, _+_, _*_, suc, arith, add-zero, add-one, le-leb}
 use Rattle.integers.proofs.Kit.{leb-true, lt-ltb, leb, length, drop}
 use Rattle.integers.proofs.Searches.{and-true, and-is}

@@ -1,4 +1,6 @@
 -- How much rounding costs, proved over the same definitions as demand 3. Assumes nothing.
+--
+-- In order: a level that agrees with a built one; the levels so far, the last of them the one that is claimed.
 use Rattle.integers.proofs.Kit.{_≡_, _∙_, refl, ap, sym, subst, List, [], _∷_, ℕ, _<_, _+_, suc, _^_, arith, add-zero, add-one, length}
 use Rattle.integers.proofs.Kit.{ℤ, pos, _+ℤ_, _≤ℤ_, _<ℤ_}
 use Rattle.integers.specs.Whole.{_·_, floorDiv}

@@ -1,5 +1,8 @@
 -- Laws for the sawtooth's loops: the least quotient q / p found by cross products and the drop read off it, points that cannot beat the largest drop so
 -- far, and how large drops and gains are. Assumes nothing.
+--
+-- In order: the least quotient; the largest drop; sizes; the corners, as they are handed to a product; the positive part, by the test z < 0; the weights
+-- of a point.
 use Rattle.integers.proofs.Kit.{_≡_, _∙_, refl, ap, sym, true, false, Bool, _&&_, List, ℕ, _≤_, _<_, _+_, _*_, suc, zero, _/_, arith, leb, T, length}
 use Rattle.integers.proofs.Kit.{getD, ℤ, pos, natAbs, negsuc, _-ℤ_, ltZ}
 use native.Mathlib.Nat as NatL

@@ -1,4 +1,6 @@
 -- Small files, read by the prover: it computes the definitions that the contracts name. Assumes nothing.
+--
+-- In order: alpha files with two entries in a vector, and graph files with two observations; a slash stands for an LF; what they are read as.
 use Rattle.integers.proofs.Kit.{_≡_, refl, List, [], _∷_, ℕ, pos, negsuc}
 use Rattle.integers.specs.Whole.{floorDiv}
 use Rattle.integers.specs.Search.{every}

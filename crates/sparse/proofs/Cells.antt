@@ -1,4 +1,7 @@
 -- Laws of sums over the cells of a column, one cell after the other. Assumes nothing.
+--
+-- In order: sums of states, to each of which the first cells have added T × x; a state of a mask among the cells; a column, from where its cells lie; sums
+-- onward, one column after the other.
 use Rattle.integers.proofs.Kit.{_≡_, _∙_, refl, ap, sym, true, false, Bool, cond, List, ℕ, _≤_, _<_, _+_, _*_, _-_, suc, zero, arith, add-zero, mul-le-mul}
 use Rattle.integers.proofs.Kit.{mul-le-mul-right, decLt, getD, set, length, eqb, eq-eqb, ne-eqb, ℤ, pos, _+ℤ_, natAbs, _^_, _&&_, ltb, lt-ltb, false≢true}
 use native.Mathlib.Nat as NatL

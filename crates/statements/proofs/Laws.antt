@@ -1,4 +1,6 @@
 -- A statement's cells as a part of more, and statements one after the other. Assumes nothing.
+--
+-- In order: a statement's word and cells; statements.
 use Rattle.integers.proofs.Kit.{_≡_, _∙_, refl, ap, sym, subst, Bool, List, ℕ, _≤_, _<_, _+_, suc, _-_, zero, arith, length, drop, take, ℤ}
 use denote.Enum.Declared.{tagOf}
 use Rattle.words.specs.declared.Word.{Word}

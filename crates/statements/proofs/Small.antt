@@ -1,4 +1,6 @@
 -- What is read into cells keeps the limits of its words. Assumes nothing.
+--
+-- In order: what holds of the cells that are read whole; numbers, rows and tables; rewards; statements.
 use Rattle.integers.proofs.Kit.{true, false, Bool, cond, List, ℕ, _≤_, _+_, suc, zero, arith, leb, getD, ℤ, pos, natAbs}
 use Rattle.words.specs.Words.{Words, word, end}
 use Rattle.tables.specs.Limits.{maxConverted, one, maxReward}

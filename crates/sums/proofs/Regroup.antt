@@ -1,4 +1,6 @@
 -- The partial sums of storage: how they join to the model's sums, and how large they are. Assumes nothing.
+--
+-- In order: to the model's sums; how large they are.
 use Rattle.integers.proofs.Kit.{_≡_, _∙_, refl, ap, sym, List, ℕ, _≤_, _<_, _+_, _*_, _^_, arith, mul-le-mul, mul-le-mul-right, getD, ℤ, pos, natAbs, _+ℤ_}
 use Rattle.integers.specs.Whole.{_·_, sumTo, totalTo, Below, Within}
 use Rattle.integers.proofs.Sums.{sum-cong, sum-spread, total-bound, total-mul-right}

@@ -1,4 +1,7 @@
 -- Laws of the words of a file: the class of a byte, and what the byte at a place does to the words from there on. Assumes nothing.
+--
+-- In order: the class of a byte, by its tests; what the byte at a place does; at the end of the file; at a byte of the file; a worked example: "T:0 #x" LF
+-- ".5".
 use Prim.Native.Nat.{ℕ, suc, _+_, _-_, _≤_, _<_}
 use mathlib.Core.Path.{_≡_, refl, sym, ap, _∙_}
 use mathlib.Core.Bool.{Bool, true, false, _&&_, _||_, cond, and-eq-true-iff, true≢false}

@@ -1,4 +1,6 @@
 -- How large worths are, and how one step makes them of those with a step less. Assumes nothing.
+--
+-- In order: one node, which exists, with its action a, over numbers within the limits; all nodes; steps.
 use Rattle.integers.proofs.Kit.{_≡_, _∙_, refl, ap, sym, List, ℕ, _≤_, _<_, _+_, _*_, _-_, _^_, suc, zero, arith, mul-le-mul, add-one}
 use Rattle.integers.proofs.Kit.{length, getD, replicate, length-replicate, paste, ℤ, pos, natAbs}
 use lib.ListN.{getD-replicate}

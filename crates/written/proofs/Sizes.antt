@@ -1,4 +1,6 @@
 -- How long the text of a model is at most. Assumes nothing.
+--
+-- In order: numbers; parts and lines; statements; the file.
 use Rattle.integers.proofs.Kit.{_≡_, _∙_, List, _∷_, ℕ, _≤_, _<_, _+_, _*_, _/_, _%_, _^_, suc, zero, arith, decLt, length, getD}
 use Rattle.integers.proofs.Kit.{Bool, true, false, cond, mul-le-mul-right, lt-ltb, le-ltb, ltb, ℤ, pos, negsuc}
 use mathlib.Core.List.{_++_}
