@@ -558,7 +558,8 @@ struct biidhaqun_value biidhaqun_worth(
     const uint16_t *next, size_t next_length, size_t node, size_t state, size_t steps);
 
 /*
- * The stack that a call takes at most, whatever it is lent, in kilobytes of 1,024 bytes:
+ * The stack that a call takes, in kilobytes of 1,024 bytes. It is measured, not proved: the most that was seen on small models
+ * and on the largest (64 states, 1,000 vectors, 32 points), rounded up; no call calls itself.
  *
  *     biidhaqun_convert   208          biidhaqun_build      12          biidhaqun_within      4
  *     biidhaqun_read       80          biidhaqun_adopt      12          biidhaqun_reprice     4
