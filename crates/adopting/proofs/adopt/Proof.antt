@@ -32,6 +32,9 @@ of-corners c = c .before .before .before .before .before .before .before .before
 abbrev of-values : tie.After-build-values-arg → tie.After-build-corners
 of-values c = c .before .before .before
 
+abbrev after-write-vectors-arg : tie.After-write-vectors-arg4 → tie.After-write-vectors-arg
+after-write-vectors-arg c = c .before .before .before
+
 -- what is lent
 abbrev tables : tie.Start → Tables
 tables c = tablesIn (c .args .c) (c .args .transition .now) (c .args .observation .now) (c .args .reward .now)
@@ -135,12 +138,10 @@ returns-2 c =
 
 write-vectors-requires : tie.Need-write-vectors-requires
 write-vectors-requires c κs =
-    let t = c .before .before .before .before in
-    let n = of-level t .before in
-    let e = n .before in
-    let s = start (of-files e) in
-    let a = s .args in
-    vectors-ask (tables s) (certifier s []) (a .alpha .now) (a .graph .now) (a .count) (answer s) (known e []) (stands n) (vectors-are e) (second-fine t [])
+    let t = after-write-vectors-arg c .before in let n = of-level t .before in let e = n .before in
+    let s = start (of-files e) in let a = s .args in
+    vectors-ask (tables s) (certifier s []) (a .alpha .now) (a .graph .now) (a .count) (answer s) (known e []) (stands n) (vectors-are e)
+    (second-fine t [])
 
 build-corners-requires : tie.Need-build-corners-requires
 build-corners-requires c κs =

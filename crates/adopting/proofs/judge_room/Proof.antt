@@ -7,6 +7,10 @@ use Rattle.tables.specs.Judged.{countWithin}
 use Rattle.adopting.proofs.judge_room.Statement.{statement}
 use Rattle.adopting.proofs.judge_room.Tie as tie
 
+-- places of the code, each from a later one
+abbrev start : tie.Else2 → tie.Start
+start c = c .before .before .before
+
 -- the first of three tests that fails, or none
 first-fails : {a : Bool} (w : Bool) → a ≡ false → Refused 9 0 ≡ unless (a && w) 9 0
 first-fails w e = rw e
@@ -21,12 +25,11 @@ none-fails : {a b w : Bool} → a ≡ true → b ≡ true → w ≡ true → Fin
 none-fails e f g = rw (e, f, g)
 
 -- what each test says
-vectors-within : (c : tie.Else2) → countWithin maxVectors (c .before .before .before .args .vectors) ≡ true
+vectors-within : (c : tie.Else2) → countWithin maxVectors (start c .args .vectors) ≡ true
 vectors-within c = sym (c .before .count-within .ensures) ∙ not-false _ (c .if2 .left)
 
-few-vectors : (c : tie.Else2) → c .before .before .before .args .vectors ≤ maxVectors
-few-vectors c =
-    let v = c .before .before .before .args .vectors in leb-true v maxVectors (and-true (leb 1 v) (leb v maxVectors) (vectors-within c) .1)
+few-vectors : (c : tie.Else2) → start c .args .vectors ≤ maxVectors
+few-vectors c = let v = start c .args .vectors in leb-true v maxVectors (and-true (leb 1 v) (leb v maxVectors) (vectors-within c) .1)
 
 returns : tie.Need-returns
 returns c = breaks _ (le-ltb _ _ (c .if1 .taken))
@@ -40,20 +43,19 @@ returns-3 c =
     passes 8 0 (lt-ltb _ _ (c .before .before .before .if1 .left)) (second-fails _ (vectors-within (c .before)) (lt-leb _ _ (c .if3 .taken)))
 
 complete-requires : tie.Need-complete-requires
-complete-requires c κs =
-    let p = c .before .before .before .before .pre in (p .0, (p .1, (few-vectors (c .before), omega (arith, c .if3 .left))))
+complete-requires c κs = let p = start (c .before) .pre in (p .0, (p .1, (few-vectors (c .before), omega (arith, c .if3 .left))))
 
 returns-4 : tie.Need-returns-4
 returns-4 c =
-    let e = c .before .before in
-    passes 8 0 (lt-ltb _ _ (e .before .before .before .if1 .left)) (third-fails (vectors-within (e .before)) (le-leb _ _ (e .if3 .left))
-    (sym (c .before .complete .ensures) ∙ not-true _ (c .if4 .taken)))
+    let p = c .before .before .before in let e = c .before .before in
+    passes 8 0 (lt-ltb _ _ (p .before .before .if1 .left))
+    (third-fails (vectors-within p) (le-leb _ _ (e .if3 .left)) (sym (c .before .complete .ensures) ∙ not-true _ (c .if4 .taken)))
 
 returns-5 : tie.Need-returns-5
 returns-5 c =
-    let e = c .before .before in
-    passes 8 0 (lt-ltb _ _ (e .before .before .before .if1 .left)) (none-fails (vectors-within (e .before)) (le-leb _ _ (e .if3 .left))
-    (sym (c .before .complete .ensures) ∙ not-false _ (c .if4 .left)))
+    let p = c .before .before .before in let e = c .before .before in
+    passes 8 0 (lt-ltb _ _ (p .before .before .if1 .left))
+    (none-fails (vectors-within p) (le-leb _ _ (e .if3 .left)) (sym (c .before .complete .ensures) ∙ not-false _ (c .if4 .left)))
 
 pub judge-room-spec : {M : Type 1} → statement M
 judge-room-spec = tie.close (tie.spec returns (λ c κs. search needs) returns-2 returns-3 complete-requires returns-4 returns-5)

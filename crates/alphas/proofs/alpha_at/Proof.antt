@@ -15,35 +15,34 @@ after n a ws = several decimal n ws then made a
 returns : tie.Need-returns
 unfolding alpha action
 returns c =
-    let a = c .before .before .before .before .before .before .args in
-    let x = c .before .before .before .before .number-at in
-    gave-back (λ v. v) (a .file .now) (a .at) _ _ (x .result) (after (a .n)) (c .no-alpha .ensures ∙ c .before .back .ensures)
-    (c .before .before .before .match .keys2) (x .ensures .is) refl
+    let m = c .before .before .before in let a = m .before .before .before .args in
+    let x = m .before .number-at in
+    gave-back (λ v. v) (a .file .now) (a .at) _ _ (x .result) (after (a .n)) (c .no-alpha .ensures ∙ c .before .back .ensures) (m .match .keys2)
+    (x .ensures .is) refl
 
 ticks-at-requires : tie.Need-ticks-at-requires
 ticks-at-requires c κs =
-    (value-next _ _ (c .before .before .before .number-at .ensures) (c .before .x .given .1) .1 .1, c .before .before .before .before .before .pre .1)
+    let n = c .before .before .before in (value-next _ _ (n .number-at .ensures) (c .before .x .given .1) .1 .1, n .before .before .pre .1)
 
 returns-2 : tie.Need-returns-2
 unfolding alpha action
 returns-2 c =
-    let a = c .before .before .before .before .before .before .before .before .before .before .args in
-    let g = c .before .before .before .before .before .before .x .given in
-    let x = c .before .before .before .before .before .before .before .before .number-at .ensures in
-    let y = c .before .before .before .before .ticks-at in
+    let m = c .before .before .before in let p = m .before .before .before in
+    let a = p .before .before .before .before .args in let g = p .x .given in
+    let x = p .before .before .number-at .ensures in let y = m .before .ticks-at in
     gave-back (λ _. take (a .n) (y .result .ticks)) (a .file .now) (a .at) _ _ (y .result .read) (made (g .0 .0))
-    (c .no-alpha2 .ensures ∙ c .before .back2 .ensures) (c .before .before .before .match2 .keys2) (y .ensures .is)
+    (c .no-alpha2 .ensures ∙ c .before .back2 .ensures) (m .match2 .keys2) (y .ensures .is)
     (ap (λ (x : Answer ℕ). x then after (a .n)) (value-is (g .0 .0) (g .0 .1 .0) x (g .1)))
 
 returns-3 : tie.Need-returns-3
 unfolding alpha action
 returns-3 c =
-    let a = c .before .before .before .before .before .before .before .before .before .before .args in
-    let g = c .before .before .before .before .before .before .x .given in
+    let ti = c .before .before .before .before in let n = ti .before .before .before .before in let a = n .before .before .args in
+    let g = ti .before .before .x .given in
     let h = c .before .before .y .given in
-    let x = c .before .before .before .before .before .before .before .before .number-at .ensures in
+    let x = n .number-at .ensures in
     let first = value-next (g .0 .0) (g .0 .1 .0) x (g .1) in
-    let last = lists-value (h .0 .0) (h .0 .1 .0) (c .before .before .before .before .ticks-at .ensures) (h .1) in (
+    let last = lists-value (h .0 .0) (h .0 .1 .0) (ti .ticks-at .ensures) (h .1) in (
       ap (λ (t : Answer (List ℤ)). t then made (g .0 .0)) (last .0) ∙ ap (λ (x : Answer ℕ). x then after (a .n)) (value-is (g .0 .0) (g .0 .1 .0) x (g .1)),
       (omega (arith, first, last .1), last .1 .1),
     )

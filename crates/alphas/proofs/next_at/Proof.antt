@@ -8,27 +8,29 @@ use Rattle.alphas.specs.Alphas.{noNode}
 use Rattle.alphas.proofs.next_at.Statement.{statement}
 use Rattle.alphas.proofs.next_at.Tie as tie
 
+-- places of the code, each from a later one
+abbrev after-word-from : tie.After-enum-told → tie.After-word-from
+after-word-from c = c .before .before .before .before
+
 worded : (c : tie.After-word-from) → Worded (c .before .before .args .file .now) (c .before .before .args .at) (c .word-from .result)
 worded c = c .word-from .ensures .within (c .before .before .pre)
 
 number-of-requires : tie.Need-number-of-requires
-number-of-requires c κs = (inside (worded (c .before .before .before .before)), record { few-digits = omega arith; few-places = omega arith })
+number-of-requires c κs = (inside (worded (after-word-from c)), record { few-digits = omega arith; few-places = omega arith })
 
 returns : tie.Need-returns
 unfolding nextNode
 returns c =
-    takes-reads nextNode (worded (c .before .before .before .before .before))
-    (takes-choose (λ ws. got noNode ws) (c .before .before .before .key-of .ensures) (c .before .before .match .keys2)
-    (takes-most noNode (omega arith) (c .number-of .ensures)))
+    takes-reads nextNode (worded (after-word-from (c .before))) (takes-choose (λ ws. got noNode ws) (c .before .before .before .key-of .ensures)
+    (c .before .before .match .keys2) (takes-most noNode (omega arith) (c .number-of .ensures)))
 
 returns-2 : tie.Need-returns-2
 unfolding nextNode
 returns-2 c =
-    let g = c .before .x .given in
-    let a = c .before .before .before .before .before .before .before .args in
-    takes-reads nextNode (worded (c .before .before .before .before .before))
-    (takes-on noNode (number nodeForm 0 (noNode - 1) (told (a .file .now) (c .before .before .before .before .before .word-from .result)))
-    (g .0 .0) (g .0 .1 .0) (c .before .before .before .key-of .ensures) (g .1))
+    let k = c .before .before .before in let g = c .before .x .given in
+    let a = k .before .before .before .before .args in
+    takes-reads nextNode (worded (k .before .before)) (takes-on noNode
+    (number nodeForm 0 (noNode - 1) (told (a .file .now) (k .before .before .word-from .result))) (g .0 .0) (g .0 .1 .0) (k .key-of .ensures) (g .1))
 
 pub next-at-spec : {M : Type 1} → statement M
 next-at-spec =

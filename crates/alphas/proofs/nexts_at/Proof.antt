@@ -9,20 +9,25 @@ Inv-loop file from k nodes₀ at₀ o₀ nodes at o = Filled nextNode maxObserva
 abbrev μ-loop : tie.MeasureT-loop
 μ-loop file from k nodes₀ at₀ o₀ nodes at o = k - o
 
+-- places of the code, each from a later one
+abbrev at-loop : tie.After-known-told Inv-loop μ-loop → tie.At-loop Inv-loop μ-loop
+at-loop c = c .before .before .before .before .before
+
 loop-holds : tie.Need-loop-holds Inv-loop μ-loop
 loop-holds c = filled-none _ _ _ _ _ _ (c .before .pre .0) (c .before .pre .1) refl
 
 returns : tie.Need-returns Inv-loop μ-loop
-returns c = filled-back _ _ _ _ _ (c .before .before .before .before .loop .inv) (c .before .before .next-at .ensures) (c .before .match .keys2) (omega arith)
+returns c =
+    let l = c .before .before .before .before in
+    filled-back _ _ _ _ _ (l .loop .inv) (c .before .before .next-at .ensures) (c .before .match .keys2) (omega arith)
 
-below : (c : tie.After-known-told Inv-loop μ-loop) → c .before .before .before .before .before .loop .o < maxObservations
-below c = omega (arith, c .before .before .before .before .before .loop .inv .few)
+below : (c : tie.After-known-told Inv-loop μ-loop) → at-loop c .loop .o < maxObservations
+below c = omega (arith, at-loop c .loop .inv .few)
 
 loop-again : tie.Need-loop-again Inv-loop μ-loop
 loop-again c =
     let g = c .before .x .given in
-    filled-more _ _ _ _ _ (c .before .before .before .before .before .loop .inv) (c .before .before .before .next-at .ensures) (g .0 .0) (g .0 .1 .0)
-    (g .1) refl (omega arith)
+    filled-more _ _ _ _ _ (at-loop c .loop .inv) (c .before .before .before .next-at .ensures) (g .0 .0) (g .0 .1 .0) (g .1) refl (omega arith)
 
 returns-2 : tie.Need-returns-2 Inv-loop μ-loop
 returns-2 c = filled-end _ _ _ _ _ (c .before .loop .inv) (omega (arith, c .before .loop .inv .low))

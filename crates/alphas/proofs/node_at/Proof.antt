@@ -27,33 +27,31 @@ numbered k _ ws = action ws then after k
 returns : tie.Need-returns
 unfolding node
 returns c =
-    let a = before-number (c .before .before .before .before) .args in
-    let x = c .before .before .before .before .number-at in
-    gave-back (λ v. v) (a .file .now) (a .at) _ _ (x .result) (numbered (a .k)) (c .no-node .ensures ∙ c .before .back .ensures)
-    (c .before .before .before .match .keys2) (x .ensures .is) refl
+    let m = c .before .before .before in let a = before-number (m .before) .args in
+    let x = m .before .number-at in
+    gave-back (λ v. v) (a .file .now) (a .at) _ _ (x .result) (numbered (a .k)) (c .no-node .ensures ∙ c .before .back .ensures) (m .match .keys2)
+    (x .ensures .is) refl
 
 number-at-requires-2 : tie.Need-number-at-requires-2
 number-at-requires-2 c κs = (
   value-next _ _ (c .before .before .before .number-at .ensures) (c .before .x .given .1) .1 .1,
-  record { few-digits = omega arith; few-places = omega arith },
+  record
+      { few-digits = omega arith; few-places = omega arith },
 )
 
 returns-2 : tie.Need-returns-2
 unfolding node action
 returns-2 c =
-    let y = c .before .before .before .before .number-at2 in
-    let x = before-action (c .before .before .before .before) .number-at .ensures in
-    let a = before-number (before-action (c .before .before .before .before)) .args in
-    let g = c .before .before .before .before .before .before .x .given in
-    gave-back (λ v. v) (a .file .now) (a .at) _ _ (y .result) (after (a .k)) (c .no-node2 .ensures ∙ c .before .back2 .ensures)
-    (c .before .before .before .match2 .keys2) (y .ensures .is)
-    (ap (λ (x : Answer ℕ). x then numbered (a .k)) (value-is (g .0 .0) (g .0 .1 .0) x (g .1)))
+    let m = c .before .before .before in let y = m .before .number-at2 in
+    let x = before-action (m .before) .number-at .ensures in
+    let a = before-number (before-action (m .before)) .args in let g = m .before .before .before .x .given in
+    gave-back (λ v. v) (a .file .now) (a .at) _ _ (y .result) (after (a .k)) (c .no-node2 .ensures ∙ c .before .back2 .ensures) (m .match2 .keys2)
+    (y .ensures .is) (ap (λ (x : Answer ℕ). x then numbered (a .k)) (value-is (g .0 .0) (g .0 .1 .0) x (g .1)))
 
 nexts-at-requires : tie.Need-nexts-at-requires
-nexts-at-requires c κs = (
-  value-next _ _ (c .before .before .before .number-at2 .ensures) (c .before .y .given .1) .1 .1,
-  before-number (before-action (c .before .before .before)) .pre .1,
-)
+nexts-at-requires c κs =
+    let n = c .before .before .before in
+    (value-next _ _ (n .number-at2 .ensures) (c .before .y .given .1) .1 .1, before-number (before-action n) .pre .1)
 
 -- the number and the action were read: what is left
 module _ (c : tie.After-nexts-at) where
@@ -70,17 +68,17 @@ module _ (c : tie.After-nexts-at) where
 
 returns-3 : tie.Need-returns-3
 returns-3 c =
-    let z = c .before .before .before .before .nexts-at in
-    let a = before-number (before-action (before-nexts (c .before .before .before .before))) .args in
-    let h = c .before .before .before .before .before .before .y .given in
+    let m = c .before .before .before in let z = m .before .nexts-at in
+    let a = before-number (before-action (before-nexts (m .before))) .args in
+    let h = m .before .before .before .y .given in
     gave-back (λ _. take (a .k) (z .result .next)) (a .file .now) (a .at) _ _ (z .result .read) (made (h .0 .0))
-    (c .no-node3 .ensures ∙ c .before .back3 .ensures) (c .before .before .before .match3 .keys2) (z .ensures .is) (left (c .before .before .before .before))
+    (c .no-node3 .ensures ∙ c .before .back3 .ensures) (m .match3 .keys2) (z .ensures .is) (left (m .before))
 
 returns-4 : tie.Need-returns-4
 returns-4 c =
-    let d = c .before .before .before .before in
+    let y = c .before .before .before .before .before .before in let d = c .before .before .before .before in
     let g = before-nexts d .before .before .x .given in
-    let h = d .before .before .y .given in
+    let h = y .y .given in
     let e = c .before .before .z .given in
     let first = value-next (g .0 .0) (g .0 .1 .0) (before-action (before-nexts d) .number-at .ensures) (g .1) in
     let second = value-next (h .0 .0) (h .0 .1 .0) (before-nexts d .number-at2 .ensures) (h .1) in

@@ -6,22 +6,23 @@ use Rattle.numerals.specs.Steps.{mostWhole}
 use Rattle.amounts.proofs.amount_of.Statement.{statement}
 use Rattle.amounts.proofs.amount_of.Tie as tie
 
+-- places of the code, each from a later one
+abbrev after-digits-from : tie.After-struct-known2 → tie.After-digits-from
+after-digits-from c = c .before .before .before
+
 -- the whole part is small
-small : (c : tie.After-struct-known2) → c .before .before .before .digits-from .result .value * c .before .scale .result
-    ≤ mostWhole (c .before .before .before .before .before .args .form .loose)
+small : (c : tie.After-struct-known2)
+    → after-digits-from c .digits-from .result .value * c .before .scale .result ≤ mostWhole (after-digits-from c .before .before .args .form .loose)
 small c =
-    let d = c .before .before .before .digits-from .ensures in
-    let short = c .before .before .before .before .before .pre .1 in
+    let d = after-digits-from c .digits-from .ensures in
+    let short = after-digits-from c .before .before .pre .1 in
     product _ _ (d .small) (omega (arith, d .few, short .few-digits)) (c .before .scale .ensures) (short .few-places)
 
 mul-fraction-of : tie.Need-mul-fraction-of
-mul-fraction-of c = omega (arith, small c, room (c .before .before .before .before .before .args .form .loose))
+mul-fraction-of c = omega (arith, small c, room (after-digits-from c .before .before .args .form .loose))
 
 fraction-of-requires : tie.Need-fraction-of-requires
-fraction-of-requires c κs = (
-  c .before .before .before .digits-from .ensures .low,
-  (c .before .before .before .before .before .pre .1, small c),
-)
+fraction-of-requires c κs = (after-digits-from c .digits-from .ensures .low, (after-digits-from c .before .before .pre .1, small c))
 
 returns : tie.Need-returns
 returns c =

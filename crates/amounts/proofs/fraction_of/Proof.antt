@@ -7,8 +7,8 @@ use Rattle.amounts.proofs.fraction_of.Tie as tie
 
 decimal-of-requires : tie.Need-decimal-of-requires
 decimal-of-requires c κs =
-    let a = c .before .before .before .args in
-    (omega (arith, pointed-low (a .w .now) (a .from) (sym (c .before .is-pointed .ensures) ∙ c .if1 .taken)), c .before .before .before .pre .1)
+    let from = c .before .before .before in let a = from .args in
+    (omega (arith, pointed-low (a .w .now) (a .from) (sym (c .before .is-pointed .ensures) ∙ c .if1 .taken)), from .pre .1)
 
 returns : tie.Need-returns
 returns c =
@@ -24,9 +24,9 @@ returns-2 c =
 
 returns-3 : tie.Need-returns-3
 returns-3 c =
-    let a = c .before .before .before .before .before .args in
+    let i = c .before .before .before in let a = i .before .before .args in
     c .exponent-of .ensures ∙ sym (fraction-plain (a .form) (a .n) (a .whole) (drop (a .from) (a .w .now))
-    (sym (c .before .before .before .is-pointed .ensures) ∙ c .before .before .if1 .left) (omega arith))
+    (sym (i .is-pointed .ensures) ∙ c .before .before .if1 .left) (omega arith))
 
 pub fraction-of-spec : {M : Type 1} → statement M
 fraction-of-spec =

@@ -15,9 +15,13 @@ Inv-loop T list O R corners weights gains p c points actions backups₀ a₀ bac
 abbrev μ-loop : tie.MeasureT-loop
 μ-loop T list O R corners weights gains p c points actions backups₀ a₀ backups a = c .actions - a
 
+-- places of the code, each from a later one
+abbrev start : tie.At-loop Inv-loop μ-loop → tie.Start Inv-loop μ-loop
+start c = c .before .before .before .before .before .before .before
+
 backup-at-requires : tie.Need-backup-at-requires Inv-loop μ-loop
 backup-at-requires c κs =
-    let s = c .before .before .before .before .before .before .before .before in
+    let s = start (c .before) in
     let m = s .args .c in
     let T = s .args .transition .now in
     let O = s .args .observation .now in
@@ -40,7 +44,7 @@ backup-at-requires c κs =
     )
 
 few : (c : tie.In-loop Inv-loop μ-loop) → c .before .loop .a < maxActions
-few c = omega (arith, c .loop-test .taken, c .before .before .before .before .before .before .before .before .pre .0 .valid .few-actions)
+few c = omega (arith, c .loop-test .taken, start (c .before) .pre .0 .valid .few-actions)
 
 loop-again : tie.Need-loop-again Inv-loop μ-loop
 loop-again c = (
@@ -49,8 +53,7 @@ loop-again c = (
 )
 
 returns : tie.Need-returns Inv-loop μ-loop
-returns c = let e : c .before .loop .a ≡ c .before .before .before .before .before .before .before .before .args .c .actions = omega arith in rw e at
-    (c .before .loop .inv .1)
+returns c = let e : c .before .loop .a ≡ start (c .before) .args .c .actions = omega arith in rw e at (c .before .loop .inv .1)
 
 pub backups-at-spec : {M : Type 1} → statement M
 backups-at-spec =

@@ -13,19 +13,23 @@ Inv-loop observation u corners weights gains n k points a sum₀ o₀ sum o =
 abbrev μ-loop : tie.MeasureT-loop
 μ-loop observation u corners weights gains n k points a sum₀ o₀ sum o = k - o
 
+-- places of the code, each from a later one
+abbrev start : tie.At-loop Inv-loop μ-loop → tie.Start Inv-loop μ-loop
+start c = c .before .before .before .before .before
+
+abbrev in-loop : tie.After-ceiling Inv-loop μ-loop → tie.In-loop Inv-loop μ-loop
+in-loop c = c .before .before .before
+
 successors-requires : tie.Need-successors-requires Inv-loop μ-loop
 successors-requires c κs =
-    let pre = c .before .before .before .before .before .before .pre in
-    ((pre .0 .0, (pre .0 .1 .0, (pre .0 .1 .1, c .loop-test .taken))), (pre .1 .0, pre .1 .1 .0))
+    let pre = start (c .before) .pre in ((pre .0 .0, (pre .0 .1 .0, (pre .0 .1 .1, c .loop-test .taken))), (pre .1 .0, pre .1 .1 .0))
 
 slice-aggregate-ceiling : tie.Need-slice-aggregate-ceiling Inv-loop μ-loop
-slice-aggregate-ceiling c = sym (rw (c .before .successors .ensures)
-    (padded-length 0 maxStates _ _ (c .before .before .before .before .before .before .before .before .pre .0 .0)))
+slice-aggregate-ceiling c = sym (rw (c .before .successors .ensures) (padded-length 0 maxStates _ _ (start (c .before .before .before) .pre .0 .0)))
 
 ceiling-requires : tie.Need-ceiling-requires Inv-loop μ-loop
 ceiling-requires c κs =
-    let pre = c .before .before .before .before .before .before .before .before .pre in
-    let level = pre .1 .1 .1 in (
+    let pre = start (c .before .before .before) .pre in let level = pre .1 .1 .1 in (
       pre .0 .0,
       (
         ahead-below (level .1 .1 .1) _ (c .before .before .loop-test .taken) (c .before .successors .ensures) (pre .0 .0),
@@ -35,25 +39,22 @@ ceiling-requires c κs =
 
 -- the ceiling at the successor weights
 here : (c : tie.After-ceiling Inv-loop μ-loop)
-    → let l = c .before .before .before .before in
-    let a = l .before .before .before .before .before .args in
-    toZ w64 (ofZ w64 (c .ceiling .result))
-    ≡ aheadAt (a .n) (a .k) (a .observation .now) (a .u .now) (ceilingIn (a .n) (a .corners .now) (a .weights .now) (a .gains .now) (a .points)) (a .a .0)
-    (l .loop .o)
+    → let l = c .before .before .before .before in let a = l .before .before .before .before .before .args in
+    toZ w64 (ofZ w64 (c .ceiling .result)) ≡ aheadAt (a .n) (a .k) (a .observation .now) (a .u .now)
+    (ceilingIn (a .n) (a .corners .now) (a .weights .now) (a .gains .now) (a .points)) (a .a .0) (l .loop .o)
 here c = answer (c .ceiling .ok) (c .ceiling .ensures ∙ rw (c .before .before .successors .ensures))
 
 plus-requires : tie.Need-plus-requires Inv-loop μ-loop
 plus-requires c κs =
-    let l = c .before .before .before .before in
-    ahead-fits (l .before .before .before .before .before .pre .1 .1 .1 .1 .1 .1) _ (c .before .before .before .loop-test .taken) (l .loop .inv .1) (here c)
+    let l = in-loop c .before in ahead-fits (start l .pre .1 .1 .1 .1 .1 .1) _ (in-loop c .loop-test .taken) (l .loop .inv .1) (here c)
 
 loop-again : tie.Need-loop-again Inv-loop μ-loop
 loop-again c =
-    let l = c .before .before .before .before .before in
+    let l = in-loop (c .before) .before in
     (search needs, answer (c .plus .ok) (c .plus .ensures ∙ rw (here (c .before)) (sum-step _ _ (l .loop .inv .1))))
 
 returns : tie.Need-returns Inv-loop μ-loop
-returns c = let e : c .before .loop .o ≡ c .before .before .before .before .before .before .args .k = omega arith in rw e at (c .before .loop .inv .1)
+returns c = let e : c .before .loop .o ≡ start (c .before) .args .k = omega arith in rw e at (c .before .loop .inv .1)
 
 pub ceilings-spec : {M : Type 1} → statement M
 ceilings-spec =

@@ -56,8 +56,8 @@ To10 s w = let a = s .args in To9 s (leb (a .count * (a .p * a .n)) (a .weights)
 -- after tests that were passed, what is left is the whole
 on-4 : (c : tie.Else4) {r w : Bool} → r ≡ w → r ≡ To4 (of-counts c) w
 on-4 c e =
-    holds-on (le-leb _ _ (c .before .before .before .if1 .left)) (holds-on (le-leb _ _ (c .before .before .if2 .left))
-    (holds-on (le-leb _ _ (c .before .if3 .left)) (holds-on (le-leb _ _ (c .if4 .left)) e)))
+    holds-on (le-leb _ _ (c .before .before .before .if1 .left))
+    (holds-on (le-leb _ _ (c .before .before .if2 .left)) (holds-on (le-leb _ _ (c .before .if3 .left)) (holds-on (le-leb _ _ (c .if4 .left)) e)))
 
 on-5 : (c : tie.Else5) {r w : Bool} → r ≡ w → r ≡ To5 (of-counts (of-actions c)) w
 on-5 c e = on-4 (of-actions c) (holds-on (sym (c .before .enough .ensures) ∙ not-false _ (c .if5 .left)) e)
@@ -99,8 +99,8 @@ returns-3 c =
 
 returns-4 : tie.Need-returns-4
 returns-4 c =
-    holds-on (le-leb _ _ (c .before .before .before .if1 .left)) (holds-on (le-leb _ _ (c .before .before .if2 .left))
-    (holds-on (le-leb _ _ (c .before .if3 .left)) (fails _ (lt-leb _ _ (c .if4 .taken)))))
+    holds-on (le-leb _ _ (c .before .before .before .if1 .left))
+    (holds-on (le-leb _ _ (c .before .before .if2 .left)) (holds-on (le-leb _ _ (c .before .if3 .left)) (fails _ (lt-leb _ _ (c .if4 .taken)))))
 
 returns-5 : tie.Need-returns-5
 returns-5 c = on-4 (c .before .before) (fails _ (sym (c .before .enough .ensures) ∙ not-true _ (c .if5 .taken)))

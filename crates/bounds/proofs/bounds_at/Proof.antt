@@ -29,6 +29,9 @@ of-row c = c .before
 abbrev of-upper : tie.After-lesser → tie.After-largest-product
 of-upper c = c .before
 
+abbrev start-of-after-shared-slice-known5 : tie.After-shared-slice-known5 → tie.Start
+start-of-after-shared-slice-known5 c = c .before .before .before .before .before
+
 -- what is known there
 at-best : (c : tie.After-best-vector)
     → let a = start c .args in c .best-vector .result .0 ≡ bestIn (a .n) (a .vectors) (a .masks .now) (a .entries .now) (a .q .now)
@@ -73,13 +76,9 @@ below c = let a = start c in best-below (a .args .n) (a .args .masks .now) (a .a
 
 best-vector-requires : tie.Need-best-vector-requires
 best-vector-requires c κs =
-    let a = c .before .before .before .before .before in
-    let h = a .pre in (
+    let a = start-of-after-shared-slice-known5 c in let h = a .pre in (
       (h .0 .few-states, h .0 .some-vectors),
-      (
-        below-reached (h .1 .0),
-        (h .0 .entries-fit, λ s l above. rw (h .1 .1 .0) (support-covers (a .args .n) (a .args .q .now) s l above)),
-      ),
+      (below-reached (h .1 .0), (h .0 .entries-fit, λ s l above. rw (h .1 .1 .0) (support-covers (a .args .n) (a .args .q .now) s l above))),
     )
 
 start-requires : tie.Need-start-requires
@@ -120,13 +119,11 @@ action-stored c =
 
 returns : tie.Need-returns
 returns c =
-    let u = c .before .before .before in
-    let r = of-upper u in
-    let p = multiplied (of-row r) in
-    let a = start (chosen p) .args in
-    bounds-by (a .n) (a .m) (a .vectors) (a .points) (a .actions .now) (a .masks .now) (a .entries .now) (a .corners .now) (a .weights .now) (a .informed .now)
-    (a .gains .now) (a .q .now) (at-best (chosen p)) (at-lower p) (at-sawtooth (of-row r)) (at-row r) (answer (u .lesser .ok) (u .lesser .ensures))
-    (answer (c .before .before .minus .ok) (c .before .before .minus .ensures)) (c .action .ensures)
+    let ce = of-upper (c .before .before .before) .before in let u = c .before .before .before in
+    let r = u .before in let p = ce .before in let a = start (chosen p) .args in
+    bounds-by (a .n) (a .m) (a .vectors) (a .points) (a .actions .now) (a .masks .now) (a .entries .now) (a .corners .now) (a .weights .now)
+    (a .informed .now) (a .gains .now) (a .q .now) (at-best (chosen p)) (at-lower p) (at-sawtooth ce) (at-row r)
+    (answer (u .lesser .ok) (u .lesser .ensures)) (answer (c .before .before .minus .ok) (c .before .before .minus .ensures)) (c .action .ensures)
 
 pub bounds-at-spec : {M : Type 1} → statement M
 bounds-at-spec =

@@ -15,6 +15,10 @@ Inv-loop mixture n total₀ s₀ total s =
 abbrev μ-loop : tie.MeasureT-loop
 μ-loop mixture n total₀ s₀ total s = n - s
 
+-- places of the code, each from a later one
+abbrev at-loop : tie.After-weight Inv-loop μ-loop → tie.At-loop Inv-loop μ-loop
+at-loop c = c .before .before .before
+
 returns : tie.Need-returns Inv-loop μ-loop
 returns c =
     let a = c .before .before .args in
@@ -29,8 +33,7 @@ long c = le-leb _ _ (c .if1 .left)
 
 returns-2 : tie.Need-returns-2 Inv-loop μ-loop
 returns-2 c =
-    let l = c .before .before .before .before in
-    let a = l .before .before .before .args in
+    let l = at-loop (c .before) in let a = l .before .before .before .args in
     rw (
       long (l .before),
       every-not (a .n) (λ x. leb (weightIn (a .mixture .now) x) maxWeight) (l .loop .s) (omega arith)
@@ -39,7 +42,7 @@ returns-2 c =
 
 loop-again : tie.Need-loop-again Inv-loop μ-loop
 loop-again c =
-    let so-far = c .before .before .before .before .loop .inv .1 in (
+    let so-far = at-loop (c .before) .loop .inv .1 in (
       omega arith,
       (
         every-more _ _ (so-far .0) (le-leb _ maxWeight (rw (c .before .weight .ensures) at (c .if2 .left))),
@@ -49,9 +52,8 @@ loop-again c =
 
 returns-3 : tie.Need-returns-3 Inv-loop μ-loop
 returns-3 c =
-    let e : c .before .loop .s ≡ c .before .before .before .before .args .n = omega arith in
-    let so-far = c .before .loop .inv .1 in
-    rw (long (c .before .before), rw e at (so-far .0), ← e, ← so-far .1 .0)
+    let a = c .before .before .before .before in let e : c .before .loop .s ≡ a .args .n = omega arith in
+    let so-far = c .before .loop .inv .1 in rw (long (c .before .before), rw e at (so-far .0), ← e, ← so-far .1 .0)
 
 pub mixture-holds-spec : {M : Type 1} → statement M
 mixture-holds-spec =

@@ -44,8 +44,7 @@ Said s r = (choices : List ℕ) → r ≡ totalsOf (tables s) (certifier s choic
 
 returns : tie.Need-returns
 returns c =
-    let j = c .before .before .before in
-    let s = start j in
+    let j = c .before .before .before in let s = start j in
     let e : Said s (c .no-bounds .result) = λ choices. c .no-bounds .ensures ∙ refused (tables s) (certifier s choices) (s .args .mixture .now)
     (j .judge-standing .ensures choices) (c .before .enum-told2 .given .1) in
     (e, λ choices. totals-demand (tables s) (certifier s choices) (s .args .mixture .now) _ (e choices))

@@ -24,8 +24,14 @@ start k = k .before .before .before .before .before .before .before
 abbrev of-least : tie.After-least-of Inv-loop μ-loop → tie.In-loop Inv-loop μ-loop
 of-least c = c .before .before .before .before .before .before
 
+abbrev start-of-after-shared-slice-known4 : tie.After-shared-slice-known4 Inv-loop μ-loop → tie.Start Inv-loop μ-loop
+start-of-after-shared-slice-known4 c = c .before .before .before .before
+
+abbrev after-corner-weights : tie.After-backups-at Inv-loop μ-loop → tie.After-corner-weights Inv-loop μ-loop
+after-corner-weights c = c .before .before .before
+
 gains-requires : tie.Need-gains-requires Inv-loop μ-loop
-gains-requires c κs = let h = c .before .before .before .before .pre .0 in (h .valid .few-states, (corners-fit h, (points-fit h, values-fit h)))
+gains-requires c κs = let h = start-of-after-shared-slice-known4 c .pre .0 in (h .valid .few-states, (corners-fit h, (points-fit h, values-fit h)))
 
 below : (k : tie.In-loop Inv-loop μ-loop) → k .before .loop .s < maxStates
 below k = omega (arith, k .loop-test .taken, start k .pre .0 .valid .few-states)
@@ -40,25 +46,25 @@ gains-long c =
     sym (rw (k .before .before .gains .ensures) (padded-length 0 maxPoints _ _ (start k .pre .0 .shaped .few-points)))
 
 weights-long : tie.Need-slice-aggregate-backups-at-2 Inv-loop μ-loop
-weights-long c = sym (corner-long (c .before .before .before .before .loop .s) (c .before .before .corner-weights .ensures))
+weights-long c = let l = c .before .before .before .before in sym (corner-long (l .loop .s) (c .before .before .corner-weights .ensures))
 
 backups-at-requires : tie.Need-backups-at-requires Inv-loop μ-loop
 backups-at-requires c κs =
-    let k = c .before .before .before in
+    let g = c .before .before .before .before .before in let k = c .before .before .before in
     let h = start k .pre .0 in
     let light = corner-light (c .before .before .corner-weights .ensures) (k .loop-test .taken) (h .valid .few-states) in
-    (roof-holds h (k .before .before .gains .ensures), (light, start k .pre .1 .1))
+    (roof-holds h (g .gains .ensures), (light, start k .pre .1 .1))
 
 long : tie.Need-slice-aggregate-least-of Inv-loop μ-loop
 long c =
-    let k = c .before .before .before .before .before in
-    sym (backups-long (start k .pre .0) (k .before .before .gains .ensures) _ (c .before .backups-at .ensures))
+    let g = after-corner-weights (c .before) .before .before .before in
+    let k = after-corner-weights (c .before) .before in sym (backups-long (start k .pre .0) (g .gains .ensures) _ (c .before .backups-at .ensures))
 
 least-of-requires : tie.Need-least-of-requires Inv-loop μ-loop
 least-of-requires c κs =
-    let k = c .before .before .before .before .before in
-    let h = start k .pre .0 in
-    (h .valid .some-actions, omega (arith, h .valid .few-actions, backups-long h (k .before .before .gains .ensures) _ (c .before .backups-at .ensures)))
+    let g = after-corner-weights (c .before) .before .before .before in
+    let k = after-corner-weights (c .before) .before in let h = start k .pre .0 in
+    (h .valid .some-actions, omega (arith, h .valid .few-actions, backups-long h (g .gains .ensures) _ (c .before .backups-at .ensures)))
 
 loop-again : tie.Need-loop-again Inv-loop μ-loop
 loop-again c =
@@ -67,7 +73,7 @@ loop-again c =
     let b = c .before .before .backups-at in (
       omega (arith, k .loop-test .taken),
       laid-turn _ _ _ (pos 0) (k .before .loop .inv .1)
-          (value-at _ _ _ _ (λ i l. corner-at (c .before .before .before .before .before .corner-weights .ensures) (below k) i) (h .valid .some-actions)
+          (value-at _ _ _ _ (λ i l. corner-at (after-corner-weights (c .before .before) .corner-weights .ensures) (below k) i) (h .valid .some-actions)
           (c .least-of .ok)
           (c .least-of .ensures ∙ least-is _ _ _ (b .result) (backups-at h (k .before .before .gains .ensures) _ (b .ensures)) (h .valid .some-actions)))
           (room k),
@@ -79,13 +85,14 @@ slice-set c =
     omega (arith, laid-long _ _ _ (l .before .loop .inv .1) (omega (arith, room l)), room l)
 
 same-length : tie.Need-same-length Inv-loop μ-loop
-same-length c = laid-long _ _ _ (c .before .loop .inv .1)
-    (omega (arith, c .before .loop .inv .0, c .before .before .before .before .before .before .before .pre .1 .0))
+same-length c =
+    laid-long _ _ _ (c .before .loop .inv .1)
+    (omega (arith, c .before .loop .inv .0, start-of-after-shared-slice-known4 (c .before .before .before) .pre .1 .0))
 
 returns : tie.Need-returns Inv-loop μ-loop
 returns c =
-    let e : c .before .loop .s ≡ c .before .before .before .before .before .before .before .args .c .states = omega
-    (arith, c .loop-test .left, c .before .loop .inv .0) in
+    let e : c .before .loop .s ≡ start-of-after-shared-slice-known4 (c .before .before .before) .args .c .states =
+    omega (arith, c .loop-test .left, c .before .loop .inv .0) in
     rw e at (c .before .loop .inv .1)
 
 pub build-corners-spec : {M : Type 1} → statement M

@@ -24,8 +24,14 @@ start k = k .before .before .before .before .before .before .before .before
 abbrev of-least : tie.After-least-of Inv-loop μ-loop → tie.In-loop Inv-loop μ-loop
 of-least c = c .before .before .before .before .before .before
 
+abbrev start-of-after-shared-slice-known5 : tie.After-shared-slice-known5 Inv-loop μ-loop → tie.Start Inv-loop μ-loop
+start-of-after-shared-slice-known5 c = c .before .before .before .before .before
+
+abbrev after-point-weights : tie.After-backups-at Inv-loop μ-loop → tie.After-point-weights Inv-loop μ-loop
+after-point-weights c = c .before .before .before
+
 gains-requires : tie.Need-gains-requires Inv-loop μ-loop
-gains-requires c κs = let h = c .before .before .before .before .before .pre .0 in (h .valid .few-states, (corners-fit h, (points-fit h, values-fit h)))
+gains-requires c κs = let h = start-of-after-shared-slice-known5 c .pre .0 in (h .valid .few-states, (corners-fit h, (points-fit h, values-fit h)))
 
 below : (k : tie.In-loop Inv-loop μ-loop) → k .before .loop .i < maxBuilt
 below k = omega (arith, k .loop-test .taken, start k .pre .1 .0 .0)
@@ -48,32 +54,32 @@ gains-long c =
 
 weights-long : tie.Need-slice-aggregate-backups-at-2 Inv-loop μ-loop
 weights-long c =
-    let k = c .before .before .before in
-    let s = start k in
-    sym (point-long (s .args .c .states) (s .args .given .now) (k .before .loop .i) (c .before .before .point-weights .ensures) (s .pre .0 .valid .few-states))
+    let l = c .before .before .before .before in let k = c .before .before .before in let s = start k in
+    sym
+    (point-long (s .args .c .states) (s .args .given .now) (l .loop .i) (c .before .before .point-weights .ensures) (s .pre .0 .valid .few-states))
 
 backups-at-requires : tie.Need-backups-at-requires Inv-loop μ-loop
 backups-at-requires c κs =
-    let k = c .before .before .before in
+    let l = c .before .before .before .before in let k = c .before .before .before in
     let s = start k in (
-      roof-holds (s .pre .0) (k .before .before .gains .ensures),
+      roof-holds (s .pre .0) (l .before .gains .ensures),
       (
-        point-light (s .args .c .states) (s .args .given .now) (k .before .loop .i) (c .before .before .point-weights .ensures) (s .pre .0 .valid .few-states)
-            (s .pre .1 .1 .0 (k .before .loop .i) (k .loop-test .taken)),
+        point-light (s .args .c .states) (s .args .given .now) (l .loop .i) (c .before .before .point-weights .ensures) (s .pre .0 .valid .few-states)
+            (s .pre .1 .1 .0 (l .loop .i) (k .loop-test .taken)),
         s .pre .1 .1 .1 .1,
       ),
     )
 
 long : tie.Need-slice-aggregate-least-of Inv-loop μ-loop
 long c =
-    let k = c .before .before .before .before .before in
-    sym (backups-long (start k .pre .0) (k .before .before .gains .ensures) _ (c .before .backups-at .ensures))
+    let g = after-point-weights (c .before) .before .before .before in
+    let k = after-point-weights (c .before) .before in sym (backups-long (start k .pre .0) (g .gains .ensures) _ (c .before .backups-at .ensures))
 
 least-of-requires : tie.Need-least-of-requires Inv-loop μ-loop
 least-of-requires c κs =
-    let k = c .before .before .before .before .before in
-    let h = start k .pre .0 in
-    (h .valid .some-actions, omega (arith, h .valid .few-actions, backups-long h (k .before .before .gains .ensures) _ (c .before .backups-at .ensures)))
+    let g = after-point-weights (c .before) .before .before .before in
+    let k = after-point-weights (c .before) .before in let h = start k .pre .0 in
+    (h .valid .some-actions, omega (arith, h .valid .few-actions, backups-long h (g .gains .ensures) _ (c .before .backups-at .ensures)))
 
 loop-again : tie.Need-loop-again Inv-loop μ-loop
 loop-again c =
@@ -84,7 +90,7 @@ loop-again c =
       omega (arith, k .loop-test .taken),
       laid-turn _ _ _ (pos 0) (k .before .loop .inv .1)
           (value-at _ _ _ _ (point-at (s .args .c .states) (s .args .given .now) (k .before .loop .i)
-          (c .before .before .before .before .before .point-weights .ensures)) (h .valid .some-actions) (c .least-of .ok)
+          (after-point-weights (c .before .before) .point-weights .ensures)) (h .valid .some-actions) (c .least-of .ok)
           (c .least-of .ensures ∙ least-is _ _ _ (b .result) (backups-at h (k .before .before .gains .ensures) _ (b .ensures)) (h .valid .some-actions)))
           (room k),
     )
@@ -95,13 +101,14 @@ slice-set c =
     omega (arith, laid-long _ _ _ (l .before .loop .inv .1) (omega (arith, room l)), room l)
 
 same-length : tie.Need-same-length Inv-loop μ-loop
-same-length c = laid-long _ _ _ (c .before .loop .inv .1)
-    (omega (arith, c .before .loop .inv .0, c .before .before .before .before .before .before .before .before .pre .1 .1 .1 .0))
+same-length c =
+    laid-long _ _ _ (c .before .loop .inv .1)
+    (omega (arith, c .before .loop .inv .0, start-of-after-shared-slice-known5 (c .before .before .before) .pre .1 .1 .1 .0))
 
 returns : tie.Need-returns Inv-loop μ-loop
 returns c =
-    let e : c .before .loop .i ≡ c .before .before .before .before .before .before .before .before .args .count = omega
-    (arith, c .loop-test .left, c .before .loop .inv .0) in
+    let e : c .before .loop .i ≡ start-of-after-shared-slice-known5 (c .before .before .before) .args .count =
+    omega (arith, c .loop-test .left, c .before .loop .inv .0) in
     rw e at (c .before .loop .inv .1)
 
 pub build-values-spec : {M : Type 1} → statement M

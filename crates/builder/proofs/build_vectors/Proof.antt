@@ -35,6 +35,12 @@ of-best c = c .before .before .before
 abbrev of-row : tie.After-row Inv-loop μ-loop → tie.After-best-candidate Inv-loop μ-loop
 of-row c = c .before .before .before
 
+abbrev start-of-after-slice-known3 : tie.After-slice-known3 Inv-loop μ-loop → tie.Start Inv-loop μ-loop
+start-of-after-slice-known3 c = c .before .before .before .before .before .before .before .before
+
+abbrev after-paste-i64-arg : tie.After-entries Inv-loop μ-loop → tie.After-paste-i64-arg Inv-loop μ-loop
+after-paste-i64-arg c = c .before .before .before .before
+
 abbrev of-choices : tie.After-paste-u16-arg Inv-loop μ-loop → tie.After-best-candidate Inv-loop μ-loop
 of-choices c = of-row (c .before .before)
 
@@ -42,12 +48,10 @@ abbrev of-entries : tie.After-paste-i64-arg Inv-loop μ-loop → tie.After-best-
 of-entries c = of-choices (c .before .before .before .before .before .before)
 
 add-count : tie.Need-add-count Inv-loop μ-loop
-add-count c = let p = c .before .before .before .before .before .before .before .before .pre in omega (arith, p .0 .valid .few-states, p .1 .0 .0)
+add-count c = let p = start-of-after-slice-known3 c .pre in omega (arith, p .0 .valid .few-states, p .1 .0 .0)
 
 all-requires : tie.Need-all-requires Inv-loop μ-loop
-all-requires c κs =
-    let v = c .before .before .before .before .before .before .before .before .pre .0 .valid in
-    (omega (arith, v .some-states), omega (arith, v .few-states))
+all-requires c κs = let v = start-of-after-slice-known3 c .pre .0 .valid in (omega (arith, v .some-states), omega (arith, v .few-states))
 
 below : (c : tie.In-loop Inv-loop μ-loop) → c .before .loop .v < maxVectors
 below c = let p = start (c .before) .pre in omega (arith, c .loop-test .taken, p .0 .valid .few-states, p .1 .0 .0)
@@ -123,16 +127,17 @@ paste-i64-requires c κs =
 
 loop-again : tie.Need-loop-again Inv-loop μ-loop
 loop-again c =
-    let b = of-entries (c .before .before .before .before) in
+    let s = c .before .before .before in let pa = s .before .before .before .before in let n = pa .before .before .before .before in
+    let b = of-entries (s .before) in
     let i = of-best b in
     let l = i .before in
     let p = start l .pre in (
       omega (arith, i .loop-test .taken),
       filled-more _ _ _ (p .1 .1 .1 .0) (l .loop .inv .1) (i .loop-test .taken) (made b) (p .0 .valid .few-observations) (p .0 .valid .few-states)
-          (c .before .before .before .before .before .before .before .before .before .before .before .number .ensures) (l .before .all .ensures)
-          (rw (c .before .before .before .before .before .before .before .before .before .start .ensures) at
-          (c .before .before .before .before .before .before .before .paste-u16 .ensures))
-          (rw (c .before .before .before .start2 .ensures) at (c .before .paste-i64 .ensures)),
+          (n .number .ensures) (l .before .all .ensures)
+          (rw (pa .before .before .start .ensures) at
+          (pa .paste-u16 .ensures))
+          (rw (s .start2 .ensures) at (c .before .paste-i64 .ensures)),
     )
 
 -- the slices are as long as they were
@@ -153,9 +158,9 @@ pub build-vectors-spec : {M : Type 1} → statement M
 build-vectors-spec =
     tie.close (tie.spec Inv-loop μ-loop add-count all-requires (λ c. (omega arith, filled-none _ _ _)) seed-weights-requires
     (λ c. sym (c .before .seed-weights .ensures .1)) best-candidate-requires (λ c κs. made (of-row c) .action-in)
-    (λ c. room (of-row (c .before)) .actions-fit) (λ c. omega (arith, below (of-best (of-row (c .before))))) (λ c. room (of-row (c .before)) .masks-fit)
-    start-requires (λ c. sym (made (of-choices (c .before .before)) .chosen-long)) paste-u16-requires
+    (λ c. room (of-row (c .before)) .actions-fit) (λ c. omega (arith, below (of-best (of-row (c .before)))))
+    (λ c. room (of-row (c .before)) .masks-fit) start-requires (λ c. sym (made (of-choices (c .before .before)) .chosen-long)) paste-u16-requires
     start-requires-2 (λ c. sym (made (of-entries (c .before .before)) .entries-long)) paste-i64-requires
-    (λ c. omega (arith, below (of-best (of-entries (c .before .before .before .before)))))
-    (λ c. omega (arith, of-best (of-entries (c .before .before .before .before)) .loop-test .taken)) loop-again
-    (λ c. long c .actions-long) (λ c. long c .choices-long) (λ c. long c .masks-long) (λ c. long c .entries-long) returns)
+    (λ c. omega (arith, below (of-best (of-entries (after-paste-i64-arg c)))))
+    (λ c. omega (arith, of-best (of-entries (after-paste-i64-arg c)) .loop-test .taken)) loop-again (λ c. long c .actions-long)
+    (λ c. long c .choices-long) (λ c. long c .masks-long) (λ c. long c .entries-long) returns)

@@ -17,6 +17,10 @@ Inv-loop backups actions most₀ a₀ most a = ((1 ≤ a) × (a ≤ actions)) ×
 abbrev μ-loop : tie.MeasureT-loop
 μ-loop backups actions most₀ a₀ most a = actions - a
 
+-- places of the code, each from a later one
+abbrev start : tie.At-loop Inv-loop μ-loop → tie.Start Inv-loop μ-loop
+start c = c .before .before .before
+
 -- the least value of the first action
 most-first : (c : tie.After-ceil-div Inv-loop μ-loop) → toZ w64 (ofZ w64 (c .ceil-div .result)) ≡ leastFrom (c .before .before .args .backups .now) 0
 unfolding K
@@ -26,17 +30,17 @@ loop-holds : tie.Need-loop-holds Inv-loop μ-loop
 loop-holds c = ((omega arith, omega arith), most-first c ∙ ap (leastFrom (c .before .before .args .backups .now)) (sym (largest-first _)))
 
 -- the least value of the turn's action
-here : (c : tie.After-ceil-div2 Inv-loop μ-loop) → toZ w64 (ofZ w64 (c .ceil-div2 .result)) ≡ leastFrom
-    (c .before .before .before .before .before .before .args .backups .now) (c .before .before .before .loop .a)
+here : (c : tie.After-ceil-div2 Inv-loop μ-loop)
+    → let l = c .before .before .before in toZ w64 (ofZ w64 (c .ceil-div2 .result)) ≡ leastFrom (start l .args .backups .now) (l .loop .a)
 unfolding K
 here c = answer (c .ceil-div2 .ok) (c .ceil-div2 .ensures ∙ ap (λ (z : ℤ). ceilDiv z K) (back _ (c .before .ceil-div-arg2 .given)))
 
 loop-again : tie.Need-loop-again Inv-loop μ-loop
 unfolding highest
 loop-again c =
-    let l = c .before .before .before .before .loop in
-    let f = leastFrom (c .before .before .before .before .before .before .before .args .backups .now) in (
-      (omega arith, omega (arith, c .before .before .before .loop-test .taken)),
+    let t = c .before .before .before in let l = t .before .loop in
+    let f = leastFrom (start (t .before) .args .backups .now) in (
+      (omega arith, omega (arith, t .loop-test .taken)),
       ⊎-elim
           (λ w. ap (toZ w64) (w .1) ∙ highest-later f (l .a) (l .inv .1) (here (c .before)) (w .0 .taken))
           (λ w. ap (toZ w64) (w .1) ∙ highest-same f (l .a) (l .inv .1) (here (c .before)) (w .0 .left))
@@ -44,7 +48,7 @@ loop-again c =
     )
 
 returns : tie.Need-returns Inv-loop μ-loop
-returns c = let e : c .before .loop .a ≡ c .before .before .before .before .args .actions = omega arith in rw e at (c .before .loop .inv .1)
+returns c = let e : c .before .loop .a ≡ start (c .before) .args .actions = omega arith in rw e at (c .before .loop .inv .1)
 
 pub least-of-spec : {M : Type 1} → statement M
 least-of-spec =

@@ -6,9 +6,9 @@ use Rattle.builder.proofs.seed_weights.Tie as tie
 
 returns : tie.Need-returns
 returns c =
-    let a = c .before .before .before .args in (
+    let from = c .before .before .before in let a = from .args in (
       λ s l. rw (seed-corner (a .n) (pointIn (a .n) (a .weights .now)) (a .v .0) (c .before .if1 .taken))
-          (corner-at (c .corner-weights .ensures) (omega (arith, c .before .if1 .taken, c .before .before .before .pre .0)) s),
+          (corner-at (c .corner-weights .ensures) (omega (arith, c .before .if1 .taken, from .pre .0)) s),
       corner-long (a .v .0) (c .corner-weights .ensures),
     )
 
@@ -19,10 +19,10 @@ point-weights-requires c κs =
 
 returns-2 : tie.Need-returns-2
 returns-2 c =
-    let a = c .before .before .before .args in (
+    let from = c .before .before .before in let a = from .args in (
       λ s l. rw (seed-point (a .n) (pointIn (a .n) (a .weights .now)) (a .v .0) (c .before .if1 .left))
           (point-at (a .n) (a .weights .now) (a .v .0 - a .n) (c .point-weights .ensures) s l),
-      point-long (a .n) (a .weights .now) (a .v .0 - a .n) (c .point-weights .ensures) (c .before .before .before .pre .0 .0),
+      point-long (a .n) (a .weights .now) (a .v .0 - a .n) (c .point-weights .ensures) (from .pre .0 .0),
     )
 
 pub seed-weights-spec : {M : Type 1} → statement M

@@ -22,6 +22,9 @@ use Rattle.building.proofs.build.Tie as tie
 abbrev begun : tie.After-holds → tie.Start
 begun c = c .before .before .before .before .before .before .before .before .before .before .before .before
 
+abbrev after-build-level-arg : tie.After-build-level-arg6 → tie.After-build-level-arg
+after-build-level-arg c = c .before .before .before .before .before
+
 abbrev start : tie.After-judge-build → tie.Start
 start c = begun (c .before .before)
 
@@ -119,7 +122,7 @@ standing-in-requires c κs = known c .standing .state-long
 
 build-level-requires : tie.Need-build-level-requires
 build-level-requires c κs =
-    let n = c .before .before .before .before .before .before in
+    let n = after-build-level-arg c .before in
     let b = known (n .before) in
     let s = start (of-verdict (n .before)) in
     let shaped = shaped-mono (modelOf (tables s)) (level s []) (numberIn (certifier s [])) topBuilt (omega (arith, b .room)) (b .standing .shaped) in

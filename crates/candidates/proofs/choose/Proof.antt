@@ -20,6 +20,9 @@ abbrev μ-loop : tie.MeasureT-loop
 abbrev start : tie.At-loop Inv-loop μ-loop → tie.Start Inv-loop μ-loop
 start c = c .before .before .before .before .before
 
+abbrev in-loop : tie.After-chosen Inv-loop μ-loop → tie.In-loop Inv-loop μ-loop
+in-loop c = c .before .before .before .before
+
 all-requires : tie.Need-all-requires Inv-loop μ-loop
 all-requires c κs = let p = c .before .before .before .pre .0 in (omega (arith, p .1 .1 .1 .0), omega (arith, p .0))
 
@@ -28,14 +31,14 @@ weights-long c = sym (rw (c .before .successors .ensures) (padded-length 0 maxSt
 
 best-vector-requires : tie.Need-best-vector-requires Inv-loop μ-loop
 best-vector-requires c κs =
-    let l = c .before .before .before in
-    let a = start l .args in
-    let p = start l .pre in (
+    let al = c .before .before .before .before in let from = start (c .before .before .before) in let l = c .before .before .before in
+    let a = from .args in
+    let p = from .pre in (
       (p .0 .0, p .0 .1 .1 .1 .1),
       (
         filled-below maxStates (seenIn (a .n) (a .k) (a .observation .now) (a .u .now) (a .a .0) (l .loop .o)) (c .before .successors .ensures) (p .0 .0)
             (p .1 .1 .1 .0 (l .loop .o) (omega arith)),
-        (p .1 .1 .1 .1, λ s b above. rw (l .before .all .ensures) (mask-covers (a .n) (λ s. true) s b)),
+        (p .1 .1 .1 .1, λ s b above. rw (al .all .ensures) (mask-covers (a .n) (λ s. true) s b)),
       ),
     )
 
@@ -45,16 +48,15 @@ long c = rw (c .before .loop .inv .1) (padded-length 0 maxObservations _ _ (omeg
 
 put-choice-requires : tie.Need-put-choice-requires Inv-loop μ-loop
 put-choice-requires c κs =
-    let i = c .before .before .before .before in
-    let p = start (i .before) .pre in (
+    let i = in-loop c in let p = start (i .before) .pre in (
       (p .0 .1 .0, (omega arith, omega arith)),
       (omega (arith, long i, p .0 .1 .0), found-in _ _ _ (c .before .best-vector .ensures) (p .0 .1 .1 .1 .1) (p .1 .1 .1 .1 .few)),
     )
 
 loop-again : tie.Need-loop-again Inv-loop μ-loop
 loop-again c =
-    let best = c .before .before .before in
-    let i = best .before .before .before in
+    let s = c .before .before .before .before .before in let best = c .before .before .before in
+    let i = s .before in
     let l = i .before in
     let a = start l .args in (
       search needs,
@@ -62,7 +64,7 @@ loop-again c =
           ∙ ap (λ (i : ℕ). set (l .loop .chosen) i (best .best-vector .result .0)) (row-alone (a .k) (l .loop .o))
           ∙ padded-turn _ _ _ _ (l .loop .inv .1)
           (picked-from (a .n) (a .k) (a .observation .now) (a .u .now) (a .masks .now) (a .entries .now) (a .count) (a .a .0) (l .loop .o)
-          (best .before .before .successors .ensures) (l .before .all .ensures) (best .best-vector .ensures))
+          (s .successors .ensures) (l .before .all .ensures) (best .best-vector .ensures))
           (omega (arith, i .loop-test .taken, start l .pre .0 .1 .0)),
     )
 
@@ -72,4 +74,4 @@ returns c = let e : c .before .loop .o ≡ start (c .before) .args .k = omega ar
 pub choose-spec : {M : Type 1} → statement M
 choose-spec =
     tie.close (tie.spec Inv-loop μ-loop all-requires (λ c. (search needs, sym (padded-none _ _ _))) (λ c κs. search needs) weights-long
-    best-vector-requires (λ c. sym (long (c .before .before .before .before))) put-choice-requires (λ c. search needs) (λ c. search needs) loop-again returns)
+    best-vector-requires (λ c. sym (long (in-loop c))) put-choice-requires (λ c. search needs) (λ c. search needs) loop-again returns)

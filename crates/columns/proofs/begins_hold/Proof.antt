@@ -28,6 +28,9 @@ abbrev μ-loop : tie.MeasureT-loop
 abbrev start : tie.At-loop Inv-loop μ-loop → tie.Start Inv-loop μ-loop
 start c = c .before .before .before
 
+abbrev at-loop : tie.After-word Inv-loop μ-loop → tie.At-loop Inv-loop μ-loop
+at-loop c = c .before .before .before
+
 loop-holds : tie.Need-loop-holds Inv-loop μ-loop
 unfolding cellsBefore
 loop-holds c = (omega arith, (omega arith, every-none _))
@@ -41,17 +44,14 @@ word-small c = rw (c .loop .inv .1 .0) (begins-few (start c .pre .0) (c .loop .c
 
 returns : tie.Need-returns Inv-loop μ-loop
 returns c =
-    let turn = c .before .before .before .before in
-    let a = start turn .args in
+    let turn = at-loop (c .before) in let a = start turn .args in
     sym (every-not (a .m * a .n + 1) (says (a .n) (a .m) (a .cells .now) (a .list .now)) (turn .loop .c) (omega (arith, turn .loop .inv .0))
     (ne-eqb _ _ (λ e. c .if1 .taken (e ∙ sym (c .before .word .ensures ∙ turn .loop .inv .1 .0)))))
 
 count-requires : tie.Need-count-requires Inv-loop μ-loop
 count-requires c κs =
-    let turn = c .before .before .before .before in
-    let h = start turn .pre .0 in
-    let l = c .before .before .before .loop-test .taken in
-    (column-in h (turn .loop .c) l, column-stored h (turn .loop .c) l)
+    let turn = at-loop (c .before) in let h = start turn .pre .0 in
+    let l = c .before .before .before .loop-test .taken in (column-in h (turn .loop .c) l, column-stored h (turn .loop .c) l)
 
 -- the turn of a column whose cells are counted
 abbrev turned : tie.After-count Inv-loop μ-loop → tie.In-loop Inv-loop μ-loop
@@ -84,23 +84,20 @@ loop-again c =
 
 returns-2 : tie.Need-returns-2 Inv-loop μ-loop
 returns-2 c =
-    let turn = c .before .before .before in
-    let a = start turn .args in
+    let turn = c .before .before .before in let a = start turn .args in
     let e : turn .loop .c ≡ a .m * a .n = omega (arith, c .before .before .loop-test .left, turn .loop .inv .0) in
     let holds : ℕ → Bool = says (a .n) (a .m) (a .cells .now) (a .list .now) in
     ap (eqb (getD (a .list .now) (a .m * a .n) 0))
-    (c .word2 .ensures ∙ turn .loop .inv .1 .0 ∙ ap (begins (a .n) (a .m) (transitionIn (a .n) (a .cells .now))) e)
-    ∙ decides (a .m * a .n) holds (ap (λ (k : ℕ). every k holds) (sym e) ∙ turn .loop .inv .1 .1)
+    (c .word2 .ensures ∙ turn .loop .inv .1 .0 ∙ ap (begins (a .n) (a .m) (transitionIn (a .n) (a .cells .now))) e) ∙ decides (a .m * a .n) holds
+    (ap (λ (k : ℕ). every k holds) (sym e) ∙ turn .loop .inv .1 .1)
 
 pub begins-hold-spec : {M : Type 1} → statement M
 begins-hold-spec =
     tie.close (tie.spec Inv-loop μ-loop (λ c. omega (arith, columns-few (c .before .before .pre .0)))
     (λ c. omega (arith, columns-few (c .before .before .pre .0))) loop-holds
     (λ c. omega (arith, columns-few (start (c .before) .pre .0), c .before .loop .inv .0)) (λ c. room (c .before .before))
-    (λ c κs. word-small (c .before .before)) returns
-    (λ c. omega (arith, start (c .before .before .before .before) .pre .0 .some-states))
-    (λ c. omega (arith, start (c .before .before .before .before) .pre .0 .some-states)) count-requires add-at-2
-    (λ c. omega (arith, turned c .loop-test .taken, columns-few (start (turned c .before) .pre .0)))
-    (λ c. omega (arith, turned c .loop-test .taken)) loop-again
-    (λ c. omega (arith, columns-few (start (c .before) .pre .0))) (λ c. omega (arith, start (c .before .before) .pre .1))
+    (λ c κs. word-small (c .before .before)) returns (λ c. omega (arith, start (at-loop (c .before)) .pre .0 .some-states))
+    (λ c. omega (arith, start (at-loop (c .before)) .pre .0 .some-states)) count-requires add-at-2
+    (λ c. omega (arith, turned c .loop-test .taken, columns-few (start (turned c .before) .pre .0))) (λ c. omega (arith, turned c .loop-test .taken))
+    loop-again (λ c. omega (arith, columns-few (start (c .before) .pre .0))) (λ c. omega (arith, start (c .before .before) .pre .1))
     (λ c κs. word-small (c .before .before)) returns-2)

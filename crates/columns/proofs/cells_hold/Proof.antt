@@ -70,17 +70,14 @@ next c =
 
 returns : tie.Need-returns Inv-loop μ-loop
 returns c =
-    let turn = c .before .before .before in
-    let a = start turn .args in
-    let up = before-shorter (a .n) (T (start turn)) (turn .loop .c + 1) (a .m * a .n) (omega (arith, c .before .before .loop-test .taken)) in
+    let from = start (c .before .before .before) in let turn = c .before .before .before in let a = from .args in
+    let up = before-shorter (a .n) (T from) (turn .loop .c + 1) (a .m * a .n) (omega (arith, c .before .before .loop-test .taken)) in
     sym (every-short _ _ _ up (next (c .before) ∙ rw (turn .loop .inv .1 .1) (not-true (c .before .column-holds .result) (c .if1 .taken))))
 
 count-requires : tie.Need-count-requires Inv-loop μ-loop
 count-requires c κs =
-    let turn = c .before .before .before in
-    let h = start turn .pre .0 in
-    let l = c .before .before .loop-test .taken in
-    (column-in h (turn .loop .c) l, column-stored h (turn .loop .c) l)
+    let turn = c .before .before .before in let h = start turn .pre .0 in
+    let l = c .before .before .loop-test .taken in (column-in h (turn .loop .c) l, column-stored h (turn .loop .c) l)
 
 -- the turn of a column whose cells are counted
 abbrev turned : tie.After-count Inv-loop μ-loop → tie.In-loop Inv-loop μ-loop

@@ -27,6 +27,13 @@ Inv-loop cells list n a to at next₀ s₀ next s =
 abbrev μ-loop : tie.MeasureT-loop
 μ-loop cells list n a to at next₀ s₀ next s = n - s
 
+-- places of the code, each from a later one
+abbrev at-start : tie.At-loop Inv-loop μ-loop → tie.Start Inv-loop μ-loop
+at-start c = c .before .before .before
+
+abbrev at-loop : tie.Then1 Inv-loop μ-loop → tie.At-loop Inv-loop μ-loop
+at-loop c = c .before .before .before
+
 -- the column that is tested
 abbrev column : tie.At-loop Inv-loop μ-loop → ℕ → ℕ
 column c s = let a = c .before .before .before .args in transitionIn (a .n) (a .cells .now) s (a .a .0) (a .to .0)
@@ -36,49 +43,43 @@ unfolding cellsOf
 loop-holds c = (omega arith, (omega arith, every-none _))
 
 -- T is above 0 at the state, so the column has a cell for it
-some-chance : (c : tie.Then1 Inv-loop μ-loop) → 0 < column (c .before .before .before) (c .before .before .before .loop .s)
+some-chance : (c : tie.Then1 Inv-loop μ-loop) → 0 < column (at-loop c) (at-loop c .loop .s)
 some-chance c = rw (c .before .transition-at .ensures) at (c .if1 .taken)
 
 -- its word lies in the slice
-word-in : (c : tie.Then1 Inv-loop μ-loop)
-    → let turn = c .before .before .before in turn .loop .next < length (turn .before .before .before .args .list .now)
+word-in : (c : tie.Then1 Inv-loop μ-loop) → let turn = at-loop c in turn .loop .next < length (at-start turn .args .list .now)
 word-in c =
-    let turn = c .before .before .before in
-    let start = turn .before .before .before in
+    let turn = at-loop c in let start = at-start turn in
     let below = cells-below (column turn) (turn .loop .s) (start .args .n) (c .before .before .loop-test .taken) (some-chance c) in
     omega (arith, turn .loop .inv .1 .0, start .pre .1 .1 .1, below)
 
 -- what the word is compared with
 asked : (c : tie.After-cell Inv-loop μ-loop)
-    → let turn = c .before .before .before .before .before in c .cell .result ≡ cell (turn .loop .s) (column turn (turn .loop .s))
-asked c = c .cell .ensures ∙ ap (cell (c .before .before .before .before .before .loop .s)) (c .before .before .before .transition-at .ensures)
+    → let turn = at-loop (c .before .before) in c .cell .result ≡ cell (turn .loop .s) (column turn (turn .loop .s))
+asked c = c .cell .ensures ∙ ap (cell (at-loop (c .before .before) .loop .s)) (c .before .before .before .transition-at .ensures)
 
 -- the word, by the place of the state's cell
 place : (c : tie.At-loop Inv-loop μ-loop)
-    → let a = c .before .before .before .args in
-    getD (a .list .now) (c .loop .next) 0 ≡ getD (a .list .now) (a .at + length (cellsOf (c .loop .s) (column c))) 0
-place c = ap (λ (k : ℕ). getD (c .before .before .before .args .list .now) k 0) (c .loop .inv .1 .0)
+    → let a = at-start c .args in getD (a .list .now) (c .loop .next) 0 ≡ getD (a .list .now) (a .at + length (cellsOf (c .loop .s) (column c))) 0
+place c = ap (λ (k : ℕ). getD (at-start c .args .list .now) k 0) (c .loop .inv .1 .0)
 
 cell-requires : tie.Need-cell-requires Inv-loop μ-loop
 cell-requires c κs =
-    let known = c .before .before in
-    let turn = known .before .before in
-    let start = turn .before .before .before in
+    let known = c .before .before in let turn = known .before .before in let start = at-start turn in
     let l = known .before .loop-test .taken in
     (omega (arith, l, start .pre .0 .0), rw (known .transition-at .ensures) (start .pre .1 .1 .0 (turn .loop .s) l))
 
 returns : tie.Need-returns Inv-loop μ-loop
 returns c =
-    let then = c .before .before .before in
-    let turn = then .before .before .before in
-    let a = turn .before .before .before .args in
-    sym (other (column turn) (a .list .now) (a .at) (turn .loop .s) (a .n) (then .before .before .loop-test .taken) (some-chance then)
+    let t = c .before .before .before .before .before in let then = c .before .before .before in
+    let turn = t .before in let a = at-start turn .args in
+    sym (other (column turn) (a .list .now) (a .at) (turn .loop .s) (a .n) (t .loop-test .taken) (some-chance then)
     (λ e. c .if2 .taken (place turn ∙ e ∙ sym (asked (c .before)))))
 
 loop-again : tie.Need-loop-again Inv-loop μ-loop
 loop-again c =
     let turn = c .before .before .before in
-    let a = turn .before .before .before .args in
+    let a = at-start turn .args in
     let s = turn .loop .s in
     let here = c .before .transition-at .ensures in (
       omega arith,
@@ -99,11 +100,9 @@ loop-again c =
     )
 
 returns-2 : tie.Need-returns-2 Inv-loop μ-loop
-returns-2 c =
-    let e : c .before .loop .s ≡ c .before .before .before .before .args .n = omega arith in
-    sym (rw e at (c .before .loop .inv .1 .1))
+returns-2 c = let e : c .before .loop .s ≡ at-start (c .before) .args .n = omega arith in sym (rw e at (c .before .loop .inv .1 .1))
 
 pub column-holds-spec : {M : Type 1} → statement M
 column-holds-spec =
-    tie.close (tie.spec Inv-loop μ-loop loop-holds (λ c κs. search needs) (λ c. omega (arith, word-in c)) (λ c. word-in (c .before)) cell-requires returns
-    (λ c. omega (arith, word-in (c .before .before .before))) (λ c. search needs) (λ c. search needs) loop-again returns-2)
+    tie.close (tie.spec Inv-loop μ-loop loop-holds (λ c κs. search needs) (λ c. omega (arith, word-in c)) (λ c. word-in (c .before)) cell-requires
+    returns (λ c. omega (arith, word-in (c .before .before .before))) (λ c. search needs) (λ c. search needs) loop-again returns-2)

@@ -34,9 +34,7 @@ loop-again c =
     )
 
 returns : tie.Need-returns Inv-loop μ-loop
-returns c =
-    let e : c .before .loop .s ≡ c .before .before .before .args .n = omega arith in
-    rw e at (c .before .loop .inv .1)
+returns c = let e : c .before .loop .s ≡ c .before .before .before .args .n = omega arith in rw e at (c .before .loop .inv .1)
 
 pub count-spec : {M : Type 1} → statement M
 count-spec =

@@ -37,5 +37,6 @@ returns-3 c =
     (c .cells-hold .ensures) ∙ rw (not-false (begun .begins-hold .result) (c .before .if2 .left)) refl)
 
 pub is-list-spec : {M : Type 1} → statement M
-is-list-spec = tie.close (tie.spec (λ c κs. search needs) returns begins-hold-requires returns-2
+is-list-spec =
+    tie.close (tie.spec (λ c κs. search needs) returns begins-hold-requires returns-2
     (λ c κs. (start (c .before .before .before) .pre, long (c .before .before))) returns-3)

@@ -21,6 +21,9 @@ abbrev μ-loop : tie.MeasureT-loop
 abbrev start : tie.At-loop Inv-loop μ-loop → tie.Start Inv-loop μ-loop
 start c = c .before .before .before
 
+abbrev at-loop : tie.After-count Inv-loop μ-loop → tie.At-loop Inv-loop μ-loop
+at-loop c = c .before .before .before
+
 loop-holds : tie.Need-loop-holds Inv-loop μ-loop
 unfolding cellsBefore
 loop-holds c = (omega arith, (omega arith, sym (laid-none _ _)))
@@ -48,28 +51,25 @@ count-requires c κs =
 
 -- the word behind the column's cells
 behind : (c : tie.After-count Inv-loop μ-loop)
-    → let turn = c .before .before .before in
-    let a = start turn .args in
+    → let turn = at-loop c in let a = start turn .args in
     turn .loop .at + c .count .result ≡ begins (a .n) (a .m) (transitionIn (a .n) (a .cells .now)) (turn .loop .c + 1)
 behind c =
-    let turn = c .before .before .before in
-    let a = start turn .args in
+    let turn = at-loop c in let a = start turn .args in
     begins-more (a .n) (transitionIn (a .n) (a .cells .now)) (a .m) (turn .loop .c) (turn .loop .inv .1 .0) (c .count .ensures)
 
 add-at-2 : tie.Need-add-at-2 Inv-loop μ-loop
 add-at-2 c =
-    let turn = c .before .before .before in
+    let turn = at-loop c in
     omega (arith, behind c, begins-few (start turn .pre .0) (turn .loop .c + 1) (omega (arith, c .before .before .loop-test .taken)))
 
 loop-again : tie.Need-loop-again Inv-loop μ-loop
 loop-again c =
-    let turn = c .before .before .before in
-    let l = c .before .before .loop-test .taken in (
+    let turn = at-loop c in let l = c .before .before .loop-test .taken in (
       omega (arith, l),
       (
         behind c,
-        laid-turn _ (turn .loop .c) (start turn .args .list .now) 0 (turn .loop .inv .1 .1) (c .before .word .ensures ∙ turn .loop .inv .1 .0)
-            (omega (arith, room turn, long turn)),
+        laid-turn _ (turn .loop .c) (start turn .args .list .now) 0 (turn .loop .inv .1 .1)
+            (c .before .word .ensures ∙ turn .loop .inv .1 .0) (omega (arith, room turn, long turn)),
       ),
     )
 
@@ -89,8 +89,8 @@ pub put-begins-spec : {M : Type 1} → statement M
 put-begins-spec =
     tie.close (tie.spec Inv-loop μ-loop (λ c. omega (arith, columns-few (c .before .before .pre .0)))
     (λ c. omega (arith, columns-few (c .before .before .pre .0))) loop-holds (λ c κs. word-small (c .before))
-    (λ c. omega (arith, index-small (c .before .before))) (λ c. room (c .before .before)) (λ c. omega (arith, start (c .before .before) .pre .0 .some-states))
-    (λ c. omega (arith, start (c .before .before) .pre .0 .some-states)) count-requires add-at-2
-    (λ c. omega (arith, index-small (c .before .before .before))) (λ c. omega (arith, c .before .before .loop-test .taken)) loop-again
+    (λ c. omega (arith, index-small (c .before .before))) (λ c. room (c .before .before))
+    (λ c. omega (arith, start (c .before .before) .pre .0 .some-states)) (λ c. omega (arith, start (c .before .before) .pre .0 .some-states))
+    count-requires add-at-2 (λ c. omega (arith, index-small (at-loop c))) (λ c. omega (arith, c .before .before .loop-test .taken)) loop-again
     (λ c κs. word-small (c .before)) (λ c. omega (arith, columns-few (start (c .before .before) .pre .0)))
     (λ c. omega (arith, long (c .before .before), start (c .before .before) .pre .1)) same-length returns)

@@ -31,6 +31,9 @@ abbrev μ-loop : tie.MeasureT-loop
 abbrev start : tie.At-loop Inv-loop μ-loop → tie.Start Inv-loop μ-loop
 start c = c .before .before .before
 
+abbrev in-loop : tie.After-slice-known2 Inv-loop μ-loop → tie.In-loop Inv-loop μ-loop
+in-loop c = c .before .before .before .before
+
 -- the table's T
 abbrev T : tie.Start Inv-loop μ-loop → ℕ → ℕ → ℕ → ℕ
 T c = transitionIn (c .args .n) (c .args .cells .now)
@@ -55,14 +58,14 @@ put-column-requires c κs =
 
 loop-again : tie.Need-loop-again Inv-loop μ-loop
 loop-again c =
-    let called = c .before .before in
-    let turn = called .before .before .before in
-    let a = start turn .args in
-    let l = called .before .before .loop-test .taken in (
+    let from = start (in-loop c .before) in let called = c .before .before in
+    let turn = in-loop c .before in
+    let a = from .args in
+    let l = in-loop c .loop-test .taken in (
       omega (arith, l),
       (
-        omega (arith, called .put-column .ensures .0, turn .loop .inv .1 .0, length-before (a .n) (T (start turn)) (turn .loop .c)),
-        more (a .n) (a .m) (T (start turn)) (a .list .now) (turn .loop .list) (turn .loop .c) l (start turn .pre .1) (turn .loop .inv .1 .0)
+        omega (arith, called .put-column .ensures .0, turn .loop .inv .1 .0, length-before (a .n) (T from) (turn .loop .c)),
+        more (a .n) (a .m) (T from) (a .list .now) (turn .loop .list) (turn .loop .c) l (from .pre .1) (turn .loop .inv .1 .0)
             (called .put-column .ensures .1) (turn .loop .inv .1 .1),
       ),
     )
@@ -80,8 +83,7 @@ returns c =
 pub put-cells-spec : {M : Type 1} → statement M
 put-cells-spec =
     tie.close (tie.spec Inv-loop μ-loop (λ c. omega (arith, columns-few (c .before .before .pre .0)))
-    (λ c. omega (arith, columns-few (c .before .before .pre .0))) loop-holds
-    (λ c. omega (arith, start (c .before) .pre .0 .some-states)) (λ c. omega (arith, start (c .before) .pre .0 .some-states))
-    put-column-requires
-    (λ c. omega (arith, c .before .before .before .before .loop-test .taken, columns-few (start (c .before .before .before .before .before) .pre .0)))
-    (λ c. omega (arith, c .before .before .before .before .loop-test .taken)) loop-again same-length returns)
+    (λ c. omega (arith, columns-few (c .before .before .pre .0))) loop-holds (λ c. omega (arith, start (c .before) .pre .0 .some-states))
+    (λ c. omega (arith, start (c .before) .pre .0 .some-states)) put-column-requires
+    (λ c. omega (arith, in-loop c .loop-test .taken, columns-few (start (in-loop c .before) .pre .0)))
+    (λ c. omega (arith, in-loop c .loop-test .taken)) loop-again same-length returns)

@@ -22,6 +22,10 @@ Inv-loop cells n a to at list₀ next₀ s₀ list next s =
 abbrev μ-loop : tie.MeasureT-loop
 μ-loop cells n a to at list₀ next₀ s₀ list next s = n - s
 
+-- places of the code, each from a later one
+abbrev at-start : tie.At-loop Inv-loop μ-loop → tie.Start Inv-loop μ-loop
+at-start c = c .before .before .before
+
 -- the column that is put
 abbrev column : tie.At-loop Inv-loop μ-loop → ℕ → ℕ
 column c s = let a = c .before .before .before .args in transitionIn (a .n) (a .cells .now) s (a .a .0) (a .to .0)
@@ -31,29 +35,26 @@ unfolding cellsOf
 loop-holds c = (omega arith, (omega arith, pasting-start _ _ _))
 
 -- T is above 0 at the state, so the column has a cell for it
-some-chance : (c : tie.Then1 Inv-loop μ-loop) → 0 < column (c .before .before .before) (c .before .before .before .loop .s)
+some-chance : (c : tie.Then1 Inv-loop μ-loop) → let l = c .before .before .before in 0 < column l (l .loop .s)
 some-chance c = rw (c .before .transition-at .ensures) at (c .if1 .taken)
 
 -- its word lies in the slice
 word-in : (c : tie.Then1 Inv-loop μ-loop) → let turn = c .before .before .before in turn .loop .next < length (turn .loop .list)
 word-in c =
-    let turn = c .before .before .before in
-    let start = turn .before .before .before in
+    let turn = c .before .before .before in let start = turn .before .before .before in
     let below = cells-below (column turn) (turn .loop .s) (start .args .n) (c .before .before .loop-test .taken) (some-chance c) in
     omega (arith, turn .loop .inv .1 .0, turn .loop .inv .1 .1 .long, start .pre .1 .1 .1, below)
 
 cell-requires : tie.Need-cell-requires Inv-loop μ-loop
 cell-requires c κs =
-    let known = c .before in
-    let turn = known .before .before in
-    let start = turn .before .before .before in
+    let known = c .before in let turn = known .before .before in let start = at-start turn in
     let l = known .before .loop-test .taken in
     (omega (arith, l, start .pre .0 .0), rw (known .transition-at .ensures) (start .pre .1 .1 .0 (turn .loop .s) l))
 
 loop-again : tie.Need-loop-again Inv-loop μ-loop
 loop-again c =
     let turn = c .before .before .before in
-    let start = turn .before .before .before in
+    let start = at-start turn in
     let a = start .args in
     let s = turn .loop .s in
     let l = c .before .before .loop-test .taken in
@@ -79,8 +80,7 @@ same-length c = c .before .loop .inv .1 .1 .long
 
 returns : tie.Need-returns Inv-loop μ-loop
 returns c =
-    let a = c .before .before .before .before .args in
-    let e : c .before .loop .s ≡ a .n = omega arith in
+    let a = at-start (c .before) .args in let e : c .before .loop .s ≡ a .n = omega arith in
     let put = column (c .before) in
     let all : length (cellsOf (c .before .loop .s) put) ≡ length (cellsOf (a .n) put) = ap (λ (k : ℕ). length (cellsOf k put)) e in
     (c .before .loop .inv .1 .0 ∙ ap (λ (k : ℕ). a .at + k) all, pasting-end (length (cellsOf (a .n) put)) (c .before .loop .inv .1 .1) all)

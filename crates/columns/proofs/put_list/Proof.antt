@@ -7,6 +7,13 @@ use Rattle.columns.proofs.Columns.{list-length, begins-at, cells-from}
 use Rattle.columns.proofs.put_list.Statement.{statement}
 use Rattle.columns.proofs.put_list.Tie as tie
 
+-- places of the code, each from a later one
+abbrev start : tie.After-put-begins-arg → tie.Start
+start c = c .before .before .before
+
+abbrev after-put-begins : tie.After-put-cells → tie.After-put-begins
+after-put-begins c = c .before .before .before .before
+
 -- the cells behind the words that say where the columns begin: the list
 joined : (n m : ℕ) (T : ℕ → ℕ → ℕ → ℕ) (xs : List ℕ) {ys zs : List ℕ} → length (listOf n m T) ≤ length xs → ys ≡ laid (m * n + 1) (begins n m T) xs
     → (let all = cellsBefore n T (m * n) in zs ≡ paste ys (m * n + 1) all (length all))
@@ -22,15 +29,11 @@ joined n m T xs room starts cells =
 
 put-begins-requires : tie.Need-put-begins-requires
 put-begins-requires c κs =
-    let s = c .before .before .before in
-    let a = s .args in
-    (s .pre .0, omega (arith, s .pre .1, list-length (a .n) (transitionIn (a .n) (a .cells .now)) (a .m)))
+    let s = start c in let a = s .args in (s .pre .0, omega (arith, s .pre .1, list-length (a .n) (transitionIn (a .n) (a .cells .now)) (a .m)))
 
 returns : tie.Need-returns
 returns c =
-    let put = c .before .before in
-    let begun = put .before .before .before .before in
-    let s = begun .before .before .before .before in
+    let put = c .before .before in let begun = after-put-begins put in let s = start (begun .before) in
     let a = s .args in
     joined (a .n) (a .m) (transitionIn (a .n) (a .cells .now)) (a .list .now) (s .pre .1) (begun .put-begins .ensures) (put .put-cells .ensures)
 

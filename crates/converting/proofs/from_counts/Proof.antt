@@ -17,6 +17,15 @@ start c = c .before .before .before .before .before .before .before
 abbrev of-body : tie.After-enum-told → tie.After-body-at
 of-body c = c .before .before .before .before .before .before
 
+abbrev after-transition3 : tie.After-write-expected-arg → tie.After-transition3
+after-transition3 c = c .before .before .before .before
+
+abbrev after-transition2 : tie.After-enum-told2 → tie.After-transition2
+after-transition2 c = c .before .before .before .before .before
+
+abbrev after-transition : tie.After-start → tie.After-transition
+after-transition c = c .before .before .before
+
 -- what the file says, and what is in the arrays
 abbrev file : tie.After-body-at → ModelFile
 file c = let a = start c .args in ended (length (a .file .now)) (body true (length (a .file .now) + 1) (a .c) (wordsIn between (a .file .now) (a .at)))
@@ -45,28 +54,23 @@ long c = let k = c .body-at .kept .1 .1 .1 .1 in record {
 }
 
 body-at-requires : tie.Need-body-at-requires
-body-at-requires c κs =
-    let p = c .before .before .before .before .before .before .pre in
-    (p .0, (p .1 .0, (refl, (refl, (refl, refl)))))
+body-at-requires c κs = let p = after-transition c .before .before .before .pre in (p .0, (p .1 .0, (refl, (refl, (refl, refl)))))
 
 returns : tie.Need-returns
 returns c =
-    let f = c .before .before .before .before .before .before .before in
-    let g = c .before .enum-told2 .given .1 in
+    let f = after-transition2 (c .before) .before in let g = c .before .enum-told2 .given .1 in
     answers-refused (expectedText (file f)) (start f .args .out .now) (read-refused (file f) (f .body-at .ensures .0) g)
     (c .refusal .ensures ∙ ap nothing g) refl
 
 write-expected-requires : tie.Need-write-expected-requires
-write-expected-requires c κs =
-    let t = c .before .before .before .before .before in
-    (sound t, (long (of-body t), start (of-body t) .pre .1 .1))
+write-expected-requires c κs = let t = after-transition3 c .before in (sound t, (long (of-body t), start (of-body t) .pre .1 .1))
 
 returns-2 : tie.Need-returns-2
 returns-2 c =
-    let w = c .before .before in
-    let t = w .before .before .before .before .before .before in
+    let w = c .before .before in let t = after-transition3 (w .before) .before in
     let after = w .write-expected .last .1 .1 .1 .1 .1 .0 in
-    subst (λ (x : ModelFile). AnswersFile x (start (of-body t) .args .out .now) (w .write-expected .result) after) (same t) (w .write-expected .ensures)
+    subst (λ (x : ModelFile). AnswersFile x (start (of-body t) .args .out .now) (w .write-expected .result) after) (same t)
+    (w .write-expected .ensures)
 
 pub from-counts-spec : {M : Type 1} → statement M
 from-counts-spec =

@@ -20,13 +20,19 @@ start c = c .before .before .before .before .before .before
 abbrev few : tie.After-expect → tie.Else1
 few c = c .before .before
 
+abbrev start-of-after-refusal : tie.After-refusal → tie.Start
+start-of-after-refusal c = c .before .before .before .before .before .before .before
+
+abbrev after-expect : tie.After-enum-told → tie.After-expect
+after-expect c = c .before .before .before
+
 -- what was read
 abbrev read : tie.Start → ModelFile
 read c = let a = c .args in fileOf (a .c) (a .transition .now) (a .observation .now) (a .outcomes .now) (a .start .now)
 
 returns : tie.Need-returns
 returns c =
-    let s = c .before .before .before .before .before .before .before in
+    let s = start-of-after-refusal c in
     answers-refused (expectedText (read s)) (s .args .out .now) (many-states (read s) (lt-leb _ maxConverted (c .before .if1 .taken)))
     (c .refusal .ensures) refl
 
@@ -44,8 +50,7 @@ judged c = few-states (read (start (few c))) (le-leb _ maxConverted (few c .if1 
 
 returns-2 : tie.Need-returns-2
 returns-2 c =
-    let x = c .before .before .before .before in
-    let s = start (few x) in
+    let x = c .before .before .before .before in let s = start (few x) in
     let e = c .before .enum-told2 .given .1 in
     answers-refused (expectedText (read s)) (s .args .out .now) (sym e ∙ judged x) (c .refusal2 .ensures ∙ ap nothing e) refl
 
@@ -57,22 +62,16 @@ laid c e =
 
 put-file-requires : tie.Need-put-file-requires
 put-file-requires c κs =
-    let x = c .before .before .before .before .before in
-    let s = start (few x) in (
-      writable _ _ _ _ _ (s .pre .0) (s .pre .1 .0) (few x .if1 .left) (laid x (c .before .before .enum-told .given .1)),
-      s .pre .1 .1,
-    )
+    let x = after-expect (c .before .before) in let s = start (few x) in
+    (writable _ _ _ _ _ (s .pre .0) (s .pre .1 .0) (few x .if1 .left) (laid x (c .before .before .enum-told .given .1)), s .pre .1 .1)
 
 returns-3 : tie.Need-returns-3
 returns-3 c =
-    let f = c .before .before in
-    let x = f .before .before .before .before .before .before in
-    let s = start (few x) in
-    let e = f .before .before .before .enum-told .given .1 in
-    let a = s .args in
-    answers-written (expectedText (read s)) (a .out .now) (sym e ∙ judged x)
-    (subst (λ (R : List ℤ). Wrote 0 (fileText (a .c) (a .transition .now) (a .observation .now) R (a .start .now)) (a .out .now) (f .put-file .result)
-    (f .put-file .last .0)) (laid x e) (f .put-file .ensures))
+    let en = c .before .before .before .before .before in let f = c .before .before in let x = after-expect en in
+    let s = start (few x) in let e = en .enum-told .given .1 in let a = s .args in
+    answers-written (expectedText (read s)) (a .out .now) (sym e ∙ judged x) (subst (λ (R : List ℤ). Wrote 0
+    (fileText (a .c) (a .transition .now) (a .observation .now) R (a .start .now)) (a .out .now) (f .put-file .result) (f .put-file .last .0))
+    (laid x e) (f .put-file .ensures))
 
 pub write-expected-spec : {M : Type 1} → statement M
 write-expected-spec =

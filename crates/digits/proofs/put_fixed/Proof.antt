@@ -4,6 +4,13 @@ use native.Mathlib.Nat.{pow-le-pow-right, pow-zero}
 use Rattle.digits.proofs.put_fixed.Statement.{statement}
 use Rattle.digits.proofs.put_fixed.Tie as tie
 
+-- places of the code, each from a later one
+abbrev after-put : tie.After-put-last-digits-arg → tie.After-put
+after-put c = c .before .before .before
+
+abbrev after-out : tie.After-put-arg2 → tie.After-out
+after-out c = c .before .before .before
+
 -- the point and the decimals, behind the whole part
 abbrev decimals : tie.Start → List ℕ
 decimals c = lastDigits (c .args .places) (c .args .v % c .args .unit)
@@ -39,15 +46,13 @@ room-decimals c = room-then (room-point (wholly c)) (c .put .ensures)
 
 returns : tie.Need-returns
 returns c =
-    let last = c .before .before in
-    let pointed = last .before .before .before .before in
-    let s = start (wholly pointed) in
-    subst⁻¹ (λ (t : List ℕ). Wrote (s .args .at) t (s .args .out .now) (last .put-last-digits .result) (last .put-last-digits .last .0)) (same-parts s)
-    (wrote-then (room s) (wholly pointed .put-whole .ensures)
-    (wrote-then (room-point (wholly pointed)) (pointed .put .ensures) (last .put-last-digits .ensures)))
+    let p = wholly (after-put (c .before .before .before)) in let last = c .before .before in
+    let pointed = after-put (last .before) in let s = start p in
+    subst⁻¹ (λ (t : List ℕ). Wrote (s .args .at) t (s .args .out .now) (last .put-last-digits .result) (last .put-last-digits .last .0))
+    (same-parts s) (wrote-then (room s) (p .put-whole .ensures) (wrote-then (room-point p) (pointed .put .ensures) (last .put-last-digits .ensures)))
 
 pub put-fixed-spec : {M : Type 1} → statement M
 put-fixed-spec =
     tie.close (tie.spec (λ c. some-unit (c .before .before)) (λ c κs. room-first (46 ∷ decimals (c .before .before)) (room (c .before .before)))
-    (λ c. search needs) (λ c κs. room-first (decimals (start (c .before .before .before .before))) (room-point (c .before .before .before .before)))
-    (λ c. some-unit (start (wholly (c .before .before .before)))) (λ c κs. room-decimals (c .before .before .before)) (λ c. search needs) returns)
+    (λ c. search needs) (λ c κs. room-first (decimals (start (after-out c .before))) (room-point (after-out c .before)))
+    (λ c. some-unit (start (wholly (after-put c)))) (λ c κs. room-decimals (after-put c)) (λ c. search needs) returns)

@@ -2,6 +2,13 @@ use Rattle.digits.proofs.Prelude.{ℕ, List, [], _∷_, _++_, needs, Ha
 use Rattle.digits.proofs.put_opening.Statement.{statement}
 use Rattle.digits.proofs.put_opening.Tie as tie
 
+-- places of the code, each from a later one
+abbrev after-put2 : tie.After-put-whole-arg2 → tie.After-put2
+after-put2 c = c .before .before .before
+
+abbrev after-out2 : tie.After-put-arg3 → tie.After-out2
+after-out2 c = c .before .before .before
+
 -- the state, behind the action
 abbrev rest : tie.Start → List ℕ
 rest c = 32 ∷ 58 ∷ 32 ∷ whole (c .args .s)
@@ -33,15 +40,14 @@ room-state c = room-then (room-rest (acted c)) (c .put2 .ensures)
 returns : tie.Need-returns
 unfolding opening
 returns c =
-    let last = c .before .before in
-    let spaced = last .before .before .before .before in
-    let a = acted spaced in
-    wrote-then (start (keyed a) .pre) (keyed a .put .ensures)
-    (wrote-then (room-action (keyed a)) (a .put-whole .ensures) (wrote-then (room-rest a) (spaced .put2 .ensures) (last .put-whole2 .ensures)))
+    let p = keyed (acted (after-put2 (c .before .before .before))) in let last = c .before .before in
+    let spaced = after-put2 (last .before) in let a = acted spaced in
+    wrote-then (start p .pre) (p .put .ensures)
+    (wrote-then (room-action p) (a .put-whole .ensures) (wrote-then (room-rest a) (spaced .put2 .ensures) (last .put-whole2 .ensures)))
 
 pub put-opening-spec : {M : Type 1} → statement M
 put-opening-spec =
     tie.close (tie.spec (λ c. search needs) (λ c κs. room (c .before .before .before))
     (λ c κs. let k = c .before .before .before in room-first (rest (start k)) (room-action k)) (λ c. search needs)
-    (λ c κs. let a = c .before .before .before .before in room-first (whole (start (keyed a) .args .s)) (room-rest a))
-    (λ c κs. room-state (c .before .before .before)) (λ c. search needs) returns)
+    (λ c κs. let a = after-out2 c .before in room-first (whole (start (keyed a) .args .s)) (room-rest a)) (λ c κs. room-state (after-put2 c))
+    (λ c. search needs) returns)

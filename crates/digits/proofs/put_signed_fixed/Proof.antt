@@ -5,6 +5,10 @@ use Rattle.integers.proofs.Parts.{ltZ-true, ltZ-false}
 use Rattle.digits.proofs.put_signed_fixed.Statement.{statement}
 use Rattle.digits.proofs.put_signed_fixed.Tie as tie
 
+-- places of the code, each from a later one
+abbrev after-put : tie.After-put-fixed-arg → tie.After-put
+after-put c = c .before .before .before
+
 -- a minus before the size of a number below 0, and of any other its size
 below : (places : ℕ) (v : ℤ) {size : ℕ} → ltZ v (pos 0) ≡ true → size ≡ natAbs v → signedFixed places v ≡ 45 ∷ fixed places size
 unfolding signedFixed
@@ -35,11 +39,10 @@ room-size c = room-then (room (then c)) (c .put .ensures)
 
 returns : tie.Need-returns
 returns c =
-    let last = c .before .before in
-    let signed = last .before .before .before .before in
-    let a = asked (then signed) .args in
-    subst⁻¹ (λ (t : List ℕ). Wrote (a .at) t (a .out .now) (last .put-fixed .result) (last .put-fixed .last .0)) (minus (then signed))
-    (wrote-then (room (then signed)) (signed .put .ensures) (last .put-fixed .ensures))
+    let p = then (after-put (c .before .before .before)) in let last = c .before .before in
+    let signed = after-put (last .before) in let a = asked p .args in
+    subst⁻¹ (λ (t : List ℕ). Wrote (a .at) t (a .out .now) (last .put-fixed .result) (last .put-fixed .last .0)) (minus p)
+    (wrote-then (room p) (signed .put .ensures) (last .put-fixed .ensures))
 
 -- not below 0
 abbrev asked-2 : tie.Else1 → tie.Start
@@ -63,5 +66,5 @@ pub put-signed-fixed-spec : {M : Type 1} → statement M
 put-signed-fixed-spec =
     tie.close (tie.spec (λ c κs. search needs) (λ c. search needs)
     (λ c κs. let t = c .before .before in room-first (fixed (asked t .args .places) (t .before .magnitude .result)) (room t))
-    (λ c κs. let s = c .before .before .before in (asked (then s) .pre .0, room-size s)) (λ c. search needs) returns
+    (λ c κs. let s = after-put c in (asked (then s) .pre .0, room-size s)) (λ c. search needs) returns
     (λ c κs. (asked-2 (c .before) .pre .0, room-2 (c .before))) (λ c. search needs) returns-2)

@@ -2,6 +2,13 @@ use Rattle.digits.proofs.Prelude.{ℕ, List, [], _∷_, _++_, needs, Ha
 use Rattle.digits.proofs.put_whole_line.Statement.{statement}
 use Rattle.digits.proofs.put_whole_line.Tie as tie
 
+-- places of the code, each from a later one
+abbrev after-put-whole : tie.After-put-arg5 → tie.After-put-whole
+after-put-whole c = c .before .before .before .before
+
+abbrev after-out : tie.After-put-arg3 → tie.After-out
+after-out c = c .before .before .before
+
 -- the number and the line's end
 abbrev rest : tie.Start → List ℕ
 rest c = whole (c .args .v) ++ (10 ∷ [])
@@ -33,16 +40,14 @@ room-end c = room-then (room-number (spaced c)) (c .put-whole .ensures)
 returns : tie.Need-returns
 unfolding line
 returns c =
-    let last = c .before .before in
-    let numbered = last .before .before .before .before .before in
-    let colon = spaced numbered in
-    wrote-then (start (named colon) .pre) (named colon .put .ensures)
-    (wrote-then (room-colon (named colon)) (colon .put2 .ensures)
-    (wrote-then (room-number colon) (numbered .put-whole .ensures) (last .put3 .ensures)))
+    let p = named (spaced (after-put-whole (c .before .before .before))) in let last = c .before .before in
+    let numbered = after-put-whole (last .before) in let colon = spaced numbered in
+    wrote-then (start p .pre) (p .put .ensures)
+    (wrote-then (room-colon p) (colon .put2 .ensures) (wrote-then (room-number colon) (numbered .put-whole .ensures) (last .put3 .ensures)))
 
 pub put-whole-line-spec : {M : Type 1} → statement M
 put-whole-line-spec =
     tie.close (tie.spec (λ c κs. room (c .before .before .before)) (λ c. search needs)
-    (λ c κs. let n = c .before .before .before .before in room-first (rest (start n)) (room-colon n))
-    (λ c κs. room-first (10 ∷ []) (room-number (c .before .before .before))) (λ c. search needs)
-    (λ c κs. room-end (c .before .before .before .before)) (λ c. search needs) returns)
+    (λ c κs. let n = after-out c .before in room-first (rest (start n)) (room-colon n))
+    (λ c κs. room-first (10 ∷ []) (room-number (c .before .before .before))) (λ c. search needs) (λ c κs. room-end (after-put-whole c))
+    (λ c. search needs) returns)

@@ -5,11 +5,11 @@ use Rattle.drafts.proofs.mark_all.Tie as tie
 
 mark-blocks-requires : tie.Need-mark-blocks-requires
 mark-blocks-requires c κs =
-    let a = c .before .before .before .before .before .before .before .before in
-    let blocks = stands-within (a .args .m) (a .args .a) (c .before .before .before .before .before .before .lowest-of .ensures)
-    (c .before .before .before .before .before .spread-of .ensures) (a .pre .1 .0 .0) in
-    let rows = stands-within (a .args .n) (a .args .s) (c .before .before .before .before .lowest-of2 .ensures)
-    (c .before .before .before .spread-of2 .ensures) (a .pre .1 .0 .1 .0) in
+    let s = c .before .before .before in let l = s .before .before .before in let a = l .before .before in
+    let blocks = stands-within (a .args .m) (a .args .a) (l .lowest-of .ensures)
+    (s .before .before .spread-of .ensures) (a .pre .1 .0 .0) in
+    let rows = stands-within (a .args .n) (a .args .s) (s .before .lowest-of2 .ensures)
+    (s .spread-of2 .ensures) (a .pre .1 .0 .1 .0) in
     let places = stands-within (a .args .w) (a .args .x) (c .before .before .lowest-of3 .ensures) (c .before .spread-of3 .ensures) (a .pre .1 .0 .1 .1) in (
       (omega (arith, a .pre .0 .0, blocks), a .pre .0 .1),
       ((rows, places), omega (arith, a .pre .1 .1, mul-le-mul-right (a .args .w) (mul-le-mul-right (a .args .n) blocks))),
@@ -17,13 +17,11 @@ mark-blocks-requires c κs =
 
 returns : tie.Need-returns
 returns c =
-    let a = c .before .before .before .before .before .before .before .before .before .before .before .args in
-    c .before .before .mark-blocks .ensures
-    ∙ stated-by (a .m) (a .n) (a .w) (a .a) (a .s) (a .x) (a .p) (a .cells .now)
-    (c .before .before .before .before .before .before .before .before .before .lowest-of .ensures)
-    (c .before .before .before .before .before .before .before .before .spread-of .ensures)
-    (c .before .before .before .before .before .before .before .lowest-of2 .ensures) (c .before .before .before .before .before .before .spread-of2 .ensures)
-    (c .before .before .before .before .before .lowest-of3 .ensures) (c .before .before .before .before .spread-of3 .ensures)
+    let s = c .before .before .before .before in let l = s .before .before .before in
+    let a = l .before .before .before .before .args in
+    c .before .before .mark-blocks .ensures ∙ stated-by (a .m) (a .n) (a .w) (a .a) (a .s) (a .x) (a .p) (a .cells .now)
+    (l .before .before .lowest-of .ensures) (l .before .spread-of .ensures) (l .lowest-of2 .ensures) (s .before .before .spread-of2 .ensures)
+    (s .before .lowest-of3 .ensures) (s .spread-of3 .ensures)
 
 pub mark-all-spec : {M : Type 1} → statement M
 mark-all-spec = tie.close (tie.spec (λ c κs. search needs) (λ c κs. search needs) (λ c κs. search needs) (λ c κs. search needs) (λ c κs. search needs)

@@ -17,21 +17,25 @@ Inv-loop cells₀ a blocks n s rows w x count v b₀ cells b =
 abbrev μ-loop : tie.MeasureT-loop
 μ-loop cells₀ a blocks n s rows w x count v b₀ cells b = blocks - b
 
+-- places of the code, each from a later one
+abbrev at-loop : tie.After-start Inv-loop μ-loop → tie.At-loop Inv-loop μ-loop
+at-loop c = c .before .before .before
+
 mark-rows-requires : tie.Need-mark-rows-requires Inv-loop μ-loop
 mark-rows-requires c κs =
-    let a = c .before .before .before .before .before in
+    let a = at-loop c .before .before in
     let g = a .args in
-    let under = below (g .a) (g .blocks) (g .n) (g .s) (g .rows) (c .before .before .before .loop .b) (omega arith) (a .pre .1 .0 .0) (a .pre .0 .0)
+    let under = below (g .a) (g .blocks) (g .n) (g .s) (g .rows) (at-loop c .loop .b) (omega arith) (a .pre .1 .0 .0) (a .pre .0 .0)
     (a .pre .0 .1 .0) in
     rw (c .start .ensures) (
       (omega (arith, under), (a .pre .0 .1 .1, a .pre .1 .0 .1)),
-      omega (arith, c .before .before .before .loop .inv .1 .long, a .pre .1 .1, mul-le-mul-right (a .args .w) (under .0)),
+      omega (arith, at-loop c .loop .inv .1 .long, a .pre .1 .1, mul-le-mul-right (a .args .w) (under .0)),
     )
 
 loop-again : tie.Need-loop-again Inv-loop μ-loop
 loop-again c =
-    let m = c .before .before in
-    (omega arith, marking-more (m .before .before .before .before .loop .inv .1) (rw (m .before .start .ensures) at (m .mark-rows .ensures)))
+    let st = c .before .before .before in let m = c .before .before in
+    (omega arith, marking-more (at-loop st .loop .inv .1) (rw (st .start .ensures) at (m .mark-rows .ensures)))
 
 pub mark-blocks-spec : {M : Type 1} → statement M
 mark-blocks-spec =

@@ -12,11 +12,15 @@ Inv-loop cells₀ a groups n s blocks y rows w x count v g₀ cells g =
 abbrev μ-loop : tie.MeasureT-loop
 μ-loop cells₀ a groups n s blocks y rows w x count v g₀ cells g = groups - g
 
+-- places of the code, each from a later one
+abbrev at-loop : tie.After-start Inv-loop μ-loop → tie.At-loop Inv-loop μ-loop
+at-loop c = c .before .before .before
+
 mark-reward-blocks-requires : tie.Need-mark-reward-blocks-requires Inv-loop μ-loop
 mark-reward-blocks-requires c κs =
-    let p = c .before .before .before .before .pre in
-    let a = c .before .before .before .before .args in
-    let l = c .before .before .before .loop in
+    let p = at-loop c .before .pre in
+    let a = at-loop c .before .args in
+    let l = at-loop c .loop in
     let under = row-below (a .a + l .g) (a .a + a .groups) (a .n) (omega arith) in
     let last : (a .a + l .g) * a .n + (a .s + a .blocks) ≤ (a .a + a .groups) * a .n = omega (arith, under, p .1 .0 .0) in
     rw (c .start .ensures) (
@@ -27,7 +31,7 @@ mark-reward-blocks-requires c κs =
 loop-again : tie.Need-loop-again Inv-loop μ-loop
 loop-again c =
     let m = c .before in
-    (omega arith, marking-more (m .before .before .before .before .loop .inv .1) (rw (m .before .start .ensures) at (m .mark-reward-blocks .ensures)))
+    (omega arith, marking-more (at-loop (m .before) .loop .inv .1) (rw (m .before .start .ensures) at (m .mark-reward-blocks .ensures)))
 
 returns : tie.Need-returns Inv-loop μ-loop
 returns c = rw (toZ-ofZ (c .before .before .fits .v)) at (marking-end (c .before .before .args .groups) (c .before .loop .inv .1) (omega arith))

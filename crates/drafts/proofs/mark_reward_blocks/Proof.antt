@@ -12,11 +12,15 @@ Inv-loop cells₀ group s blocks n y rows w x count v b₀ cells b =
 abbrev μ-loop : tie.MeasureT-loop
 μ-loop cells₀ group s blocks n y rows w x count v b₀ cells b = blocks - b
 
+-- places of the code, each from a later one
+abbrev at-loop : tie.After-start Inv-loop μ-loop → tie.At-loop Inv-loop μ-loop
+at-loop c = c .before .before .before
+
 mark-rewards-requires : tie.Need-mark-rewards-requires Inv-loop μ-loop
 mark-rewards-requires c κs =
-    let p = c .before .before .before .before .pre in
-    let a = c .before .before .before .before .args in
-    let l = c .before .before .before .loop in
+    let p = at-loop c .before .pre in
+    let a = at-loop c .before .args in
+    let l = at-loop c .loop in
     let under = row-below (a .group + (a .s + l .b)) (a .group + (a .s + a .blocks)) (a .n) (omega arith) in
     let last : (a .group + (a .s + l .b)) * a .n + (a .y + a .rows) ≤ (a .group + (a .s + a .blocks)) * a .n = omega (arith, under, p .1 .0 .0) in
     rw (c .start .ensures) (
@@ -27,7 +31,7 @@ mark-rewards-requires c κs =
 loop-again : tie.Need-loop-again Inv-loop μ-loop
 loop-again c =
     let m = c .before in
-    (omega arith, marking-more (m .before .before .before .before .loop .inv .1) (rw (m .before .start .ensures) at (m .mark-rewards .ensures)))
+    (omega arith, marking-more (at-loop (m .before) .loop .inv .1) (rw (m .before .start .ensures) at (m .mark-rewards .ensures)))
 
 returns : tie.Need-returns Inv-loop μ-loop
 returns c = rw (toZ-ofZ (c .before .before .fits .v)) at (marking-end (c .before .before .args .blocks) (c .before .loop .inv .1) (omega arith))

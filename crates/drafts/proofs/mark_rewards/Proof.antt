@@ -11,16 +11,18 @@ Inv-loop cells₀ block y rows w x count v r₀ cells r =
 abbrev μ-loop : tie.MeasureT-loop
 μ-loop cells₀ block y rows w x count v r₀ cells r = rows - r
 
+-- places of the code, each from a later one
+abbrev at-loop : tie.After-start Inv-loop μ-loop → tie.At-loop Inv-loop μ-loop
+at-loop c = c .before .before .before
+
 mark-i64-requires : tie.Need-mark-i64-requires Inv-loop μ-loop
 mark-i64-requires c κs =
-    let a = c .before .before .before .before .args in
-    let l = c .before .before .before .loop in
+    let a = at-loop c .before .args in let l = at-loop c .loop in
     rw (c .start .ensures) (omega (arith, l .inv .1 .long, row-below (a .block + (a .y + l .r)) (a .block + (a .y + a .rows)) (a .w) (omega arith)))
 
 loop-again : tie.Need-loop-again Inv-loop μ-loop
 loop-again c =
-    let m = c .before in
-    (omega arith, marking-more (m .before .before .before .before .loop .inv .1) (rw (m .before .start .ensures) at (m .mark-i64 .ensures)))
+    let m = c .before in (omega arith, marking-more (at-loop (m .before) .loop .inv .1) (rw (m .before .start .ensures) at (m .mark-i64 .ensures)))
 
 returns : tie.Need-returns Inv-loop μ-loop
 returns c = rw (toZ-ofZ (c .before .before .fits .v)) at (marking-end (c .before .before .args .rows) (c .before .loop .inv .1) (omega arith))

@@ -10,16 +10,19 @@ Inv-loop cells₀ block s rows w x count v r₀ cells r =
 abbrev μ-loop : tie.MeasureT-loop
 μ-loop cells₀ block s rows w x count v r₀ cells r = rows - r
 
+-- places of the code, each from a later one
+abbrev at-loop : tie.After-start Inv-loop μ-loop → tie.At-loop Inv-loop μ-loop
+at-loop c = c .before .before .before
+
 mark-u16-requires : tie.Need-mark-u16-requires Inv-loop μ-loop
 mark-u16-requires c κs =
-    let a = c .before .before .before .before .before .args in
-    let l = c .before .before .before .loop in
+    let a = at-loop c .before .before .args in let l = at-loop c .loop in
     rw (c .start .ensures) (omega (arith, l .inv .1 .long, row-below (a .block + (a .s + l .r)) (a .block + (a .s + a .rows)) (a .w) (omega arith)))
 
 loop-again : tie.Need-loop-again Inv-loop μ-loop
 loop-again c =
-    let m = c .before .before in
-    (omega arith, marking-more (m .before .before .before .before .loop .inv .1) (rw (m .before .start .ensures) at (m .mark-u16 .ensures)))
+    let s = c .before .before .before in let m = c .before .before in
+    (omega arith, marking-more (at-loop s .loop .inv .1) (rw (s .start .ensures) at (m .mark-u16 .ensures)))
 
 pub mark-rows-spec : {M : Type 1} → statement M
 mark-rows-spec =

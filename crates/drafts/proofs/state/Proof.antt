@@ -14,15 +14,14 @@ all-below a m s n x w e =
 
 mark-one-requires : tie.Need-mark-one-requires
 mark-one-requires c κs =
-    let s = c .before .before .before in
-    let a = s .args in
+    let s = c .before .before .before in let a = s .args in
     let l = all-below (a .a) (a .m) (a .s) (a .n) (a .x) (a .w) (c .before .if1 .taken) in
     ((omega (arith, l .0, s .pre .0 .0), s .pre .0 .1), (l .1, omega (arith, s .pre .1 .1, mul-le-mul-right (a .w) (mul-le-mul-right (a .n) (l .0)))))
 
 returns : tie.Need-returns
 returns c =
-    let a = c .before .before .before .before .before .before .args in
-    let l = all-below (a .a) (a .m) (a .s) (a .n) (a .x) (a .w) (c .before .before .before .before .if1 .taken) in
+    let p = c .before .before .before .before in let a = p .before .before .args in
+    let l = all-below (a .a) (a .m) (a .s) (a .n) (a .x) (a .w) (p .if1 .taken) in
     c .before .before .mark-one .ensures ∙ stated-one (a .m) (a .n) (a .w) (a .a) (a .s) (a .x) (a .p) (a .cells .now) (l .0) (l .1 .0) (l .1 .1)
 
 pub state-spec : {M : Type 1} → statement M

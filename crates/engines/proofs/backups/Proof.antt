@@ -6,16 +6,20 @@ use Rattle.engines.proofs.Same.{backup-same}
 use Rattle.engines.proofs.backups.Statement.{statement}
 use Rattle.engines.proofs.backups.Tie as tie
 
+-- places of the code, each from a later one
+abbrev start : tie.Else1 → tie.Start
+start c = c .before .before .before
+
 -- the list that is there says T
 says : (c : tie.Else1) → let a = c .before .before .before .args in Says (a .n) (a .transition .now) (a .list .now) (a .a .0)
 says c = c .before .before .before .pre .1 .0 .listed (omega (arith, c .if1 .left))
 
 backups-requires-2 : tie.Need-backups-requires-2
-backups-requires-2 c κs = let pre = c .before .before .before .pre in (pre .0, (says c .columns, (pre .1 .1 .0, pre .1 .1 .1)))
+backups-requires-2 c κs = let pre = start c .pre in (pre .0, (says c .columns, (pre .1 .1 .0, pre .1 .1 .1)))
 
 returns-2 : tie.Need-returns-2
 returns-2 c =
-    let a = c .before .before .before .before .args in
+    let a = start (c .before) .args in
     c .backups2 .ensures ∙ padded-cong (pos 0) maxStates (a .n) _ _ (backup-same (says (c .before)) (a .g) (a .reward .now) (a .f .now))
 
 pub backups-spec : {M : Type 1} → statement M

@@ -9,29 +9,26 @@ key-of-requires c κs = inside (c .before .pair-from .ensures .first .within (c 
 
 returns : tie.Need-returns
 unfolding indexed
-returns c = reads-back (λ v. v) (c .before .before .before .before .before .before .args .n)
-    (λ _ ws. index (c .before .before .before .before .before .before .args .n) ws)
-    (takes-reads (key colon) (c .before .before .before .before .pair-from .ensures .first .within
-    (c .before .before .before .before .before .before .pre .0)) (c .before .before .key-of .ensures)) (c .before .match .keys2)
+returns c =
+    let p = c .before .before .before .before in let a = p .before .before in
+    reads-back (λ v. v) (a .args .n) (λ _ ws. index (a .args .n) ws)
+    (takes-reads (key colon) (p .pair-from .ensures .first .within (a .pre .0)) (c .before .before .key-of .ensures)) (c .before .match .keys2)
 
 index-of-requires : tie.Need-index-of-requires
-index-of-requires c κs = (
-  inside (second-word _ _ (c .before .before .before .before .pair-from .ensures)
-      (c .before .before .before .before .before .before .pre .0) (c .before .before .key-of .ensures) (c .enum-told .given .1)),
-  c .before .before .before .before .before .before .pre .1,
-)
+index-of-requires c κs =
+    let p = c .before .before .before .before in (
+      inside (second-word _ _ (p .pair-from .ensures) (p .before .before .pre .0) (c .before .before .key-of .ensures) (c .enum-told .given .1)),
+      p
+          .before .before .pre .1,
+    )
 
 returns-2 : tie.Need-returns-2
 unfolding indexed
 returns-2 c =
-    let g = c .before .enum-told .given in
-    let p = c .before .before .before .before .before .pair-from .ensures in
-    reads-on (g .0 .0) (g .0 .1 .0) (λ _ ws. index (c .before .before .before .before .before .before .before .args .n) ws)
-    (takes-reads (key colon) (p .first .within (c .before .before .before .before .before .before .before .pre .0))
-    (c .before .before .before .key-of .ensures)) (g .1)
-    (takes-reads (index (c .before .before .before .before .before .before .before .args .n))
-    (second-word (g .0 .0) (g .0 .1 .0) p (c .before .before .before .before .before .before .before .pre .0) (c .before .before .before .key-of .ensures)
-    (g .1)) (c .index-of .ensures))
+    let k = c .before .before .before in let a = k .before .before .before .before in
+    let g = c .before .enum-told .given in let p = k .before .before .pair-from .ensures in
+    reads-on (g .0 .0) (g .0 .1 .0) (λ _ ws. index (a .args .n) ws) (takes-reads (key colon) (p .first .within (a .pre .0)) (k .key-of .ensures))
+    (g .1) (takes-reads (index (a .args .n)) (second-word (g .0 .0) (g .0 .1 .0) p (a .pre .0) (k .key-of .ensures) (g .1)) (c .index-of .ensures))
 
 pub indexed-at-spec : {M : Type 1} → statement M
 indexed-at-spec =

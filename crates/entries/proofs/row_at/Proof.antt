@@ -12,49 +12,49 @@ Inv-loop file from cells₀ m n w a s form most at₀ x₀ cells at x =
 abbrev μ-loop : tie.MeasureT-loop
 μ-loop file from cells₀ m n w a s form most at₀ x₀ cells at x = w - x
 
+-- places of the code, each from a later one
+abbrev at-loop : tie.After-state-arg Inv-loop μ-loop → tie.At-loop Inv-loop μ-loop
+at-loop c = c .before .before .before .before .before .before
+
+abbrev start : tie.At-loop Inv-loop μ-loop → tie.Start Inv-loop μ-loop
+start c = c .before .before .before
+
+abbrev after-number-at : tie.After-enum-told Inv-loop μ-loop → tie.After-number-at Inv-loop μ-loop
+after-number-at c = c .before .before
+
 number-at-requires : tie.Need-number-at-requires Inv-loop μ-loop
-number-at-requires c κs = (c .before .loop .inv .1 .inside, c .before .before .before .before .pre .1 .1 .1 .0)
+number-at-requires c κs = (c .before .loop .inv .1 .inside, start (c .before) .pre .1 .1 .1 .0)
 
 returns : tie.Need-returns Inv-loop μ-loop
-returns c = row-back _ _ _ _ _ _ (c .before .before .before .before .loop .inv .1) (omega arith) (c .before .before .number-at .ensures)
+returns c =
+    row-back _ _ _ _ _ _ (after-number-at c .before .before .loop .inv .1) (omega arith) (c .before .before .number-at .ensures)
     (c .before .match .keys2)
 
 cast-state : tie.Need-cast-state Inv-loop μ-loop
-cast-state c = omega (
-  arith,
-  c .before .before .before .before .before .before .before .before .before .pre .1 .1 .1 .1,
-  value-next _ _
-      (c .before .before .before .before .number-at .ensures) (c .before .before .p .given .1) .0,
-)
+cast-state c =
+    let n = c .before .before .before .before in
+    omega (arith, start (at-loop c) .pre .1 .1 .1 .1, value-next _ _ (n .number-at .ensures) (c .before .before .p .given .1) .0)
 
 state-requires : tie.Need-state-requires Inv-loop μ-loop
 state-requires c κs =
-    let r = c .before .before .before .before .before .before .before .before .before .pre .0 .1 in (
+    let a = start (at-loop c) in let r = a .pre .0 .1 in (
       (r .few-blocks, (r .few-rows, r .few-places)),
-      (
-        (
-          c .before .before .before .before .before .before .before .before .before .pre .1 .0,
-          (c .before .before .before .before .before .before .before .before .before .pre .1 .1 .0, omega arith),
-        ),
-        omega
-            (arith, r .long, c .before .before .before .before .before .before .loop .inv .1 .long),
-      ),
+      ((a .pre .1 .0, (a .pre .1 .1 .0, omega arith)), omega (arith, r .long, at-loop c .loop .inv .1 .long)),
     )
 
 loop-again : tie.Need-loop-again Inv-loop μ-loop
 loop-again c =
-    let g = c .before .before .before .before .before .p .given in (
+    let p = c .before .before .before .before .before in let g = p .p .given in (
       omega arith,
-      row-on _ _ _ _ _ _ (c .before .before .before .before .before .before .before .before .before .loop .inv .1) (g .0 .0) (g .0 .1 .0)
-          (omega arith) (c .before .before .before .before .before .before .before .number-at .ensures) (g .1) (c .before .before .state .ensures)
-          (c .before .before .state .kept .0),
+      row-on _ _ _ _ _ _ (at-loop (c .before .before .before) .loop .inv .1) (g .0 .0) (g .0 .1 .0) (omega arith)
+          (p .before .before .number-at .ensures) (g .1) (c .before .before .state .ensures) (c .before .before .state .kept .0),
     )
 
 returns-2 : tie.Need-returns-2 Inv-loop μ-loop
-returns-2 c = row-end _ _ _ _ _ _ (c .before .loop .inv .1) (omega arith) (c .before .before .before .before .pre .0 .1 .some-places)
+returns-2 c = row-end _ _ _ _ _ _ (c .before .loop .inv .1) (omega arith) (start (c .before) .pre .0 .1 .some-places)
 
 pub row-at-spec : {M : Type 1} → statement M
 row-at-spec =
     tie.close (tie.spec Inv-loop μ-loop (λ c. (omega arith, row-start _ _ _ _ _ _ (c .before .before .pre .0 .0))) number-at-requires
-    (λ c. search needs) (λ c. search needs) (λ c. c .before .before .before .before .loop .inv .1 .long) returns cast-state state-requires
+    (λ c. search needs) (λ c. search needs) (λ c. after-number-at c .before .before .loop .inv .1 .long) returns cast-state state-requires
     (λ c. search needs) (λ c. search needs) loop-again (λ c. c .before .loop .inv .1 .long) returns-2)

@@ -17,6 +17,9 @@ before-indexed-at2 c = c .before .before .before .before
 abbrev before-key-at : tie.After-key-at → tie.After-indexed-at2
 before-key-at c = c .before .before .before .before .before
 
+abbrev after-j : tie.After-key-at → tie.After-j
+after-j c = c .before .before .before
+
 -- what follows `: s`, and `: a`
 abbrev cells-after : ℕ → ℕ → ℕ → List ℕ → ℕ → ℕ → Words → Outcome (List ℕ)
 cells-after m n w cells a s ws = choose (key colon ws) (λ ws. entry m n w a s cells ws) (row probability (stated m n w a s) 0 w cells ws)
@@ -31,10 +34,9 @@ returns c =
     leaves-back (a .cells .now) (after (a .m) (a .n) (a .w) (a .cells .now)) (c .before .before .indexed-at .ensures) (c .before .match .keys2)
 
 indexed-at-requires-2 : tie.Need-indexed-at-requires-2
-indexed-at-requires-2 c κs = (
-  value-next _ _ (c .before .before .before .indexed-at .ensures) (c .before .i .given .1) .1 .1,
-  before-indexed-at (c .before .before .before) .pre .1 .some-rows,
-)
+indexed-at-requires-2 c κs =
+    let i = c .before .before .before in
+    (value-next _ _ (i .indexed-at .ensures) (c .before .i .given .1) .1 .1, before-indexed-at i .pre .1 .some-rows)
 
 returns-2 : tie.Need-returns-2
 unfolding tableBy
@@ -42,47 +44,43 @@ returns-2 c =
     let a = before-indexed-at (before-indexed-at2 (c .before .before)) .args in
     let g = c .before .before .before .before .i .given in
     leaves-on (a .cells .now) (g .0 .0) (g .0 .1 .0) (after (a .m) (a .n) (a .w) (a .cells .now))
-    (before-indexed-at2 (c .before .before) .indexed-at .ensures) (g .1)
-    (leaves-back (a .cells .now) (cells-after (a .m) (a .n) (a .w) (a .cells .now) (g .0 .0)) (c .before .before .indexed-at2 .ensures)
-    (c .before .match2 .keys2))
+    (before-indexed-at2 (c .before .before) .indexed-at .ensures) (g .1) (leaves-back (a .cells .now)
+    (cells-after (a .m) (a .n) (a .w) (a .cells .now) (g .0 .0)) (c .before .before .indexed-at2 .ensures) (c .before .match2 .keys2))
 
 key-at-requires : tie.Need-key-at-requires
-key-at-requires c κs = value-next _ _ (c .before .before .before .before .indexed-at2 .ensures) (c .before .before .j .given .1) .1 .1
+key-at-requires c κs = let i = c .before .before .before .before in value-next _ _ (i .indexed-at2 .ensures) (c .before .before .j .given .1) .1 .1
 
 row-at-requires : tie.Need-row-at-requires
 row-at-requires c κs =
-    let i = value-next _ _ (before-indexed-at2 (before-key-at (c .before .before .before)) .indexed-at .ensures)
+    let p = after-j (c .before .before .before) in let i = value-next _ _ (before-indexed-at2 (p .before .before) .indexed-at .ensures)
     (before-key-at (c .before .before .before) .before .before .i .given .1) in
-    let h = c .before .before .before .before .before .before .j .given in
-    let j = value-next (h .0 .0) (h .0 .1 .0) (before-key-at (c .before .before .before) .indexed-at2 .ensures) (h .1) in (
-      (j .1 .1, before-indexed-at (before-indexed-at2 (before-key-at (c .before .before .before))) .pre .1),
+    let h = p .j .given in
+    let j = value-next (h .0 .0) (h .0 .1 .0) (p .before .before .indexed-at2 .ensures) (h .1) in (
+      (j .1 .1, before-indexed-at (before-indexed-at2 (p .before .before)) .pre .1),
       (i .0, (j .0, (omega arith, omega arith))),
     )
 
 returns-3 : tie.Need-returns-3
 unfolding tableBy
 returns-3 c =
-    let a = before-indexed-at (before-indexed-at2 (before-key-at (c .before .before .before .before .before .before))) .args in
-    let g = before-key-at (c .before .before .before .before .before .before) .before .before .i .given in
-    let h = c .before .before .before .before .before .before .before .before .before .j .given in
+    let m = c .before .before .before .before .before in
+    let a = before-indexed-at (before-indexed-at2 (before-key-at (m .before))) .args in
+    let g = before-key-at (m .before) .before .before .i .given in let h = after-j (m .before) .j .given in
     leaves-on (a .cells .now) (g .0 .0) (g .0 .1 .0) (after (a .m) (a .n) (a .w) (a .cells .now))
-    (before-indexed-at2 (before-key-at (c .before .before .before .before .before .before)) .indexed-at .ensures) (g .1)
-    (leaves-on (a .cells .now) (h .0 .0) (h .0 .1 .0) (cells-after (a .m) (a .n) (a .w) (a .cells .now) (g .0 .0))
-    (before-key-at (c .before .before .before .before .before .before) .indexed-at2 .ensures) (h .1)
-    (chooses-back (λ ws. entry (a .m) (a .n) (a .w) (g .0 .0) (h .0 .0) (a .cells .now) ws) _
-    (c .before .before .before .before .before .before .key-at .ensures) (c .before .before .before .before .before .match3 .keys2)
+    (before-indexed-at2 (before-key-at (m .before)) .indexed-at .ensures) (g .1) (leaves-on (a .cells .now) (h .0 .0) (h .0 .1 .0)
+    (cells-after (a .m) (a .n) (a .w) (a .cells .now) (g .0 .0)) (before-key-at (m .before) .indexed-at2 .ensures) (h .1) (chooses-back
+    (λ ws. entry (a .m) (a .n) (a .w) (g .0 .0) (h .0 .0) (a .cells .now) ws) _ (m .before .key-at .ensures) (m .match3 .keys2)
     (c .before .before .row-at .ensures)))
 
 entry-at-requires : tie.Need-entry-at-requires
 entry-at-requires c κs =
-    let i = value-next _ _ (before-indexed-at2 (before-key-at (c .before .before .before .before)) .indexed-at .ensures)
-    (before-key-at (c .before .before .before .before) .before .before .i .given .1) in
-    let j = value-next _ _ (before-key-at (c .before .before .before .before) .indexed-at2 .ensures)
-    (c .before .before .before .before .before .before .before .j .given .1) in (
+    let k = c .before .before .before .before in let i = value-next _ _ (before-indexed-at2 (before-key-at k) .indexed-at .ensures)
+    (before-key-at k .before .before .i .given .1) in
+    let j = value-next _ _ (before-key-at k .indexed-at2 .ensures)
+    (after-j k .j .given .1) in (
       (
-        value-next _ _ (c .before .before .before .before .key-at .ensures) (c .before .before .c .given .1) .1 .1,
-        before-indexed-at
-            (before-indexed-at2 (before-key-at (c .before .before .before .before))) .pre .1,
+        value-next _ _ (k .key-at .ensures) (c .before .before .c .given .1) .1 .1,
+        before-indexed-at (before-indexed-at2 (before-key-at k)) .pre .1,
       ),
       (i .0, j .0),
     )
@@ -90,17 +88,16 @@ entry-at-requires c κs =
 returns-4 : tie.Need-returns-4
 unfolding tableBy
 returns-4 c =
-    let a = before-indexed-at (before-indexed-at2 (before-key-at (c .before .before .before .before .before .before .before))) .args in
-    let g = before-key-at (c .before .before .before .before .before .before .before) .before .before .i .given in
-    let e = c .before .before .before .before .before .c .given in
-    let h = c .before .before .before .before .before .before .before .before .before .before .j .given in
+    let p = c .before .before .before .before .before in
+    let a = before-indexed-at (before-indexed-at2 (before-key-at (p .before .before))) .args in
+    let g = before-key-at (p .before .before) .before .before .i .given in let e = p .c .given in
+    let h = after-j (p .before .before) .j .given in
     leaves-on (a .cells .now) (g .0 .0) (g .0 .1 .0) (after (a .m) (a .n) (a .w) (a .cells .now))
-    (before-indexed-at2 (before-key-at (c .before .before .before .before .before .before .before)) .indexed-at .ensures) (g .1)
-    (leaves-on (a .cells .now) (h .0 .0) (h .0 .1 .0) (cells-after (a .m) (a .n) (a .w) (a .cells .now) (g .0 .0))
-    (before-key-at (c .before .before .before .before .before .before .before) .indexed-at2 .ensures) (h .1)
+    (before-indexed-at2 (before-key-at (p .before .before)) .indexed-at .ensures) (g .1) (leaves-on (a .cells .now) (h .0 .0) (h .0 .1 .0)
+    (cells-after (a .m) (a .n) (a .w) (a .cells .now) (g .0 .0)) (before-key-at (p .before .before) .indexed-at2 .ensures) (h .1)
     (chooses-on (λ ws. entry (a .m) (a .n) (a .w) (g .0 .0) (h .0 .0) (a .cells .now) ws)
     (row probability (stated (a .m) (a .n) (a .w) (g .0 .0) (h .0 .0)) 0 (a .w) (a .cells .now) (wordsIn between (a .file .now) (h .0 .1 .0)))
-    (e .0 .0) (e .0 .1 .0) (c .before .before .before .before .before .before .before .key-at .ensures) (e .1) (c .before .before .entry-at .ensures)))
+    (e .0 .0) (e .0 .1 .0) (p .before .before .key-at .ensures) (e .1) (c .before .before .entry-at .ensures)))
 
 pub table-at-spec : {M : Type 1} → statement M
 table-at-spec = tie.close (tie.spec (λ c κs. search needs) (λ c. search needs) (λ c. search needs) returns indexed-at-requires-2 (λ c. search needs)

@@ -30,14 +30,16 @@ abbrev μ-rows : tie.MeasureT-rows
 abbrev start : tie.At-loop Inv-loop μ-loop Inv-rows μ-rows → tie.Start Inv-loop μ-loop Inv-rows μ-rows
 start c = c .before .before .before .before .before
 
+abbrev in-loop : tie.After-is-whole Inv-loop μ-loop Inv-rows μ-rows → tie.In-loop Inv-loop μ-loop Inv-rows μ-rows
+in-loop c = c .before .before
+
 millionths-requires : tie.Need-millionths-requires Inv-loop μ-loop Inv-rows μ-rows
 millionths-requires c κs = ((c .before .before .rows-test .taken, c .loop-test .taken), start (c .before) .pre)
 
 said : (c : tie.After-is-whole Inv-loop μ-loop Inv-rows μ-rows)
-    → let l = c .before .before .before in
-    let a = start l .args in
-    c .is-whole .result
-    ≡ isWhole (expectedMillionths (a .c) (a .transition .now) (a .observation .now) (a .outcomes .now) (l .loop .s) (l .before .before .rows .a))
+    → let l = in-loop c .before in let a = start l .args in
+    c .is-whole .result ≡ isWhole
+    (expectedMillionths (a .c) (a .transition .now) (a .observation .now) (a .outcomes .now) (l .loop .s) (l .before .before .rows .a))
 said c = c .is-whole .ensures ∙ ap isWhole (answer (c .before .millionths .ok) (c .before .millionths .ensures))
 
 -- the verdict where it is said
@@ -47,21 +49,18 @@ told : (c : tie.After-is-whole Inv-loop μ-loop Inv-rows μ-rows) {b : Bool} →
     here (a .c) (a .transition .now) (a .observation .now) (a .outcomes .now) (l .before .before .rows .a) (l .loop .s)
     ≡ unless b 26 (rowPlace (a .c .states) (l .before .before .rows .a) (l .loop .s))
 told c e =
-    let l = c .before .before .before in
+    let l = in-loop c .before in
     ap (λ (t : Bool). unless t 26 (rowPlace (start l .args .c .states) (l .before .before .rows .a) (l .loop .s))) (sym (said c) ∙ e)
 
 row-requires : tie.Need-row-requires Inv-loop μ-loop Inv-rows μ-rows
 row-requires c κs =
-    let l = c .before .before .before .before in
-    let r = start l .pre in (
-      omega (arith, l .before .rows-test .taken, r .few-actions),
-      (omega (arith, r .few-states), c .before .before .before .loop-test .taken),
-    )
+    let l = in-loop (c .before) .before in let r = start l .pre in
+    (omega (arith, l .before .rows-test .taken, r .few-actions), (omega (arith, r .few-states), in-loop (c .before) .loop-test .taken))
 
 loop-again : tie.Need-loop-again Inv-loop μ-loop Inv-rows μ-rows
 loop-again c =
-    let l = c .before .before .before .before in (
-      omega (arith, c .before .before .before .loop-test .taken),
+    let l = in-loop (c .before) .before in (
+      omega (arith, in-loop (c .before) .loop-test .taken),
       (l .loop .inv .1 .0, first-more _ _ (l .loop .inv .1 .1) (told (c .before) (not-false _ (c .if1 .left)))),
     )
 
@@ -76,23 +75,22 @@ rows-again c =
 returns : tie.Need-returns Inv-loop μ-loop Inv-rows μ-rows
 unfolding expectedVerdict
 returns c =
-    let l = c .before in
-    let e : l .rows .a ≡ l .before .before .before .args .c .actions = omega (arith, l .rows .inv .0, c .rows-test .left) in
+    let a = c .before .before .before .before in let l = c .before in
+    let e : l .rows .a ≡ a .args .c .actions = omega (arith, l .rows .inv .0, c .rows-test .left) in
     l .rows .inv .1 .0 ∙ sym (rw e at (l .rows .inv .1 .1))
 
 returns-2 : tie.Need-returns-2 Inv-loop μ-loop Inv-rows μ-rows
 unfolding expectedVerdict
 returns-2 c =
-    let l = c .before .before .before .before .before in
-    ap (Refused 26) (c .row .ensures .0)
-    ∙ sym (first-here _ _ (l .before .before .rows .a) (l .before .rows-test .taken) (l .before .before .rows .inv .1 .1)
-    (first-here _ _ (l .loop .s) (c .before .before .before .before .loop-test .taken) (l .loop .inv .1 .1)
-    (told (c .before .before) (not-true _ (c .before .if1 .taken)))))
+    let r = in-loop (c .before .before) .before .before .before in let l = in-loop (c .before .before) .before in
+    ap (Refused 26) (c .row .ensures .0) ∙ sym (first-here _ _ (r .rows .a) (l .before .rows-test .taken) (r .rows .inv .1 .1) (first-here _ _
+    (l .loop .s) (in-loop (c .before .before) .loop-test .taken) (l .loop .inv .1 .1) (told (c .before .before) (not-true _ (c .before .if1 .taken)))))
 
 pub judge-spec : {M : Type 1} → statement M
-judge-spec = tie.close (tie.spec Inv-loop μ-loop Inv-rows μ-rows (λ c. (omega arith, (refl, first-none _)))
+judge-spec =
+    tie.close (tie.spec Inv-loop μ-loop Inv-rows μ-rows (λ c. (omega arith, (refl, first-none _)))
     (λ c. (omega arith, (c .before .rows .inv .1 .0, first-none _))) millionths-requires (λ c κs. search needs) row-requires
-    (λ c. omega (arith, c .before .before .before .loop-test .taken, start (c .before .before .before .before) .pre .few-states))
-    (λ c. omega (arith, c .before .before .before .loop-test .taken)) loop-again
+    (λ c. omega (arith, in-loop (c .before) .loop-test .taken, start (in-loop (c .before) .before) .pre .few-states))
+    (λ c. omega (arith, in-loop (c .before) .loop-test .taken)) loop-again
     (λ c. omega (arith, c .before .before .rows-test .taken, start (c .before) .pre .few-actions))
     (λ c. omega (arith, c .before .before .rows-test .taken)) rows-again returns returns-2)

@@ -37,25 +37,23 @@ seen-requires : tie.Need-seen-requires Inv-loop μ-loop
 seen-requires c κs = let p = start (c .before .before) .pre in ready-seen (p .1) (p .0 .0) (p .0 .1) (c .before .loop-test .taken)
 
 value : (c : tie.After-seen Inv-loop μ-loop)
-    → let l = c .before .before .before in
-    let a = start l .args in
-    toZ w64 (ofZ w64 (c .seen .result))
-    ≡ outcomesIn (a .c .states) (a .c .observations) (a .observation .now) (a .outcomes .now) (a .a .0) (a .s .0) (l .loop .to)
+    → let l = c .before .before .before in let a = start l .args in
+    toZ w64 (ofZ w64 (c .seen .result)) ≡ outcomesIn (a .c .states) (a .c .observations) (a .observation .now) (a .outcomes .now) (a .a .0) (a .s .0)
+    (l .loop .to)
 value c = answer (c .seen .ok) (c .seen .ensures)
 
 add-scaled-requires : tie.Need-add-scaled-requires Inv-loop μ-loop
 add-scaled-requires c κs =
-    let l = c .before .before .before in
-    let t = start l in
+    let l = c .before .before .before in let t = start l in
     term-fits (terms t) _ (l .loop .inv .1) (c .before .transition-at .ensures) (value c) (c .before .before .loop-test .taken) (lit< tt)
     (omega (arith, t .pre .1 .few-states))
 
 loop-again : tie.Need-loop-again Inv-loop μ-loop
 loop-again c =
-    let l = c .before .before .before .before in (
-      omega (arith, c .before .before .before .loop-test .taken),
-      term-added (terms (start l)) _ (l .loop .inv .1) (c .before .before .transition-at .ensures) (value (c .before))
-          (answer (c .add-scaled .ok) (c .add-scaled .ensures)),
+    let t = c .before .before .before in let l = t .before in (
+      omega (arith, t .loop-test .taken),
+      term-added (terms (start l)) _ (l .loop .inv .1) (c .before .before .transition-at .ensures)
+          (value (c .before)) (answer (c .add-scaled .ok) (c .add-scaled .ensures)),
     )
 
 returns : tie.Need-returns Inv-loop μ-loop

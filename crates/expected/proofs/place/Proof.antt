@@ -15,7 +15,8 @@ few c =
 returns : tie.Need-returns
 returns c =
     let a = c .before .before .before .args in
-    ap (λ (r : ℕ). r * a .k + a .o .0) (c .before .cell .ensures .0 ∙ ap (λ (r : ℕ). rowPlace (a .n) r (a .to .0)) (c .before .before .row .ensures .0))
+    ap (λ (r : ℕ). r * a .k + a .o .0)
+    (c .before .cell .ensures .0 ∙ ap (λ (r : ℕ). rowPlace (a .n) r (a .to .0)) (c .before .before .row .ensures .0))
 
 pub place-spec : {M : Type 1} → statement M
 place-spec =

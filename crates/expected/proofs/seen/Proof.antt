@@ -37,23 +37,21 @@ outcome-at-requires c κs =
     ((p .few-states, (p .few-observations, p .action)), ((p .state, (p .reached, l)), p .stated _ l))
 
 value : (c : tie.After-outcome-at Inv-loop μ-loop)
-    → let l = c .before .before .before in
-    let a = start l .args in
+    → let l = c .before .before .before in let a = start l .args in
     toZ w64 (ofZ w64 (c .outcome-at .result)) ≡ outcomeIn (a .n) (a .k) (a .outcomes .now) (a .a .0) (a .s .0) (a .to .0) (l .loop .o)
 value c = answer (c .outcome-at .ok) (c .outcome-at .ensures)
 
 add-scaled-requires : tie.Need-add-scaled-requires Inv-loop μ-loop
 add-scaled-requires c κs =
-    let l = c .before .before .before in
-    let t = start l in
+    let l = c .before .before .before in let t = start l in
     term-fits (terms t) _ (l .loop .inv .1) (c .before .observation-at .ensures) (value c) (c .before .before .loop-test .taken) (lit< tt)
     (omega (arith, t .pre .few-observations))
 
 loop-again : tie.Need-loop-again Inv-loop μ-loop
 loop-again c =
-    let l = c .before .before .before .before in (
+    let l = c .before .before .before .before in let a = start l in (
       search needs,
-      term-added (terms (start l)) _ (l .loop .inv .1) (c .before .before .observation-at .ensures) (value (c .before))
+      term-added (terms a) _ (l .loop .inv .1) (c .before .before .observation-at .ensures) (value (c .before))
           (answer (c .add-scaled .ok) (c .add-scaled .ensures)),
     )
 

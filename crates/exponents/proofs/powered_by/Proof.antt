@@ -8,6 +8,10 @@ use Rattle.numerals.proofs.Laws.{past-minus, minus-within, written-end, powered
 use Rattle.exponents.proofs.powered_by.Statement.{statement}
 use Rattle.exponents.proofs.powered_by.Tie as tie
 
+-- places of the code, each from a later one
+abbrev after-digits-from : tie.After-struct-known3 → tie.After-digits-from
+after-digits-from c = c .before .before .before .before .before
+
 -- the word from after its minus on
 past : (r : Bool) (w : List ℕ) → r ≡ negative w → drop (boolByte r) w ≡ unsigned w
 past r w e = ap (λ (t : Bool). drop (boolByte t) w) e ∙ past-minus (negative w) w
@@ -20,30 +24,30 @@ digits-from-requires c κs = (from-within (c .is-negative .result) (c .before .b
 
 returns : tie.Need-returns
 returns c =
-    let a = c .before .before .before .before .before .args in
+    let i = c .before .before .before in let a = i .before .before .args in
     let d = c .before .before .digits-from .ensures in
-    sym (powered-not (a .v) (a .w .now) _ (past _ (a .w .now) (c .before .before .before .is-negative .ensures))
+    sym (powered-not (a .v) (a .w .now) _ (past _ (a .w .now) (i .is-negative .ensures))
     (λ p. omega (arith, p .digit, d .count, d .cut (omega (arith, p .digit, d .count)))))
 
 returns-2 : tie.Need-returns-2
 returns-2 c =
-    let a = c .before .before .before .before .before .before .before .args in
-    let d = c .before .before .before .before .digits-from .ensures in
-    sym (powered-not (a .v) (a .w .now) _ (past _ (a .w .now) (c .before .before .before .before .before .is-negative .ensures))
-    (λ p. omega (arith, p .alone, d .up, length-drop (boolByte (c .before .before .before .before .before .is-negative .result)) (a .w .now))))
+    let di = c .before .before .before .before in let a = di .before .before .before .args in
+    let d = di .digits-from .ensures in
+    sym (powered-not (a .v) (a .w .now) _ (past _ (a .w .now) (di .before .is-negative .ensures))
+    (λ p. omega (arith, p .alone, d .up, length-drop (boolByte (di .before .is-negative .result)) (a .w .now))))
 
 returns-3 : tie.Need-returns-3
 returns-3 c =
-    let a = c .before .before .before .before .before .before .before .before .before .args in
-    let d = c .before .before .before .before .before .before .digits-from .ensures in
-    sym (powered-not (a .v) (a .w .now) _ (past _ (a .w .now) (c .before .before .before .before .before .before .before .is-negative .ensures))
+    let a = after-digits-from (c .before) .before .before .before .args in
+    let d = after-digits-from (c .before) .digits-from .ensures in
+    sym (powered-not (a .v) (a .w .now) _ (past _ (a .w .now) (after-digits-from (c .before) .before .is-negative .ensures))
     (λ p. omega (arith, p .small, written-end (a .w .now) d (omega (arith, d .low)))))
 
 returns-4 : tie.Need-returns-4
 returns-4 c =
-    let a = c .before .before .before .before .before .before .before .before .before .before .args in
-    let n = c .before .before .before .before .before .before .before .before .is-negative in
-    let d = c .before .before .before .before .before .before .before .digits-from in
+    let a = after-digits-from (c .before .before) .before .before .before .args in
+    let n = after-digits-from (c .before .before) .before .is-negative in
+    let d = after-digits-from (c .before .before) .digits-from in
     let all = written-end (a .w .now) (d .ensures) (omega (arith, d .ensures .low)) in
     c .scaled-by .ensures ∙ ap (λ (t : Bool). scaled t (d .result .value) (a .v)) (n .ensures)
     ∙ ap (λ (p : ℕ). scaled (negative (a .w .now)) p (a .v)) (all .1)

@@ -46,6 +46,12 @@ turn c = c .before .before
 abbrev asked : tie.After-entry-holds-arg Inv-loop μ-loop Inv-vectors μ-vectors → tie.After-covers Inv-loop μ-loop Inv-vectors μ-vectors
 asked c = c .before .before .before
 
+abbrev after-action : tie.After-loop Inv-loop μ-loop Inv-vectors μ-vectors → tie.After-action Inv-loop μ-loop Inv-vectors μ-vectors
+after-action c = c .before .before .before .before .before
+
+abbrev at-vectors : tie.After-backups Inv-loop μ-loop Inv-vectors μ-vectors → tie.At-vectors Inv-loop μ-loop Inv-vectors μ-vectors
+at-vectors c = c .before .before .before .before .before .before
+
 foreseen-requires : tie.Need-foreseen-requires Inv-loop μ-loop Inv-vectors μ-vectors
 foreseen-requires c κs =
     let j = start (vector c .before) .pre .0 in
@@ -143,8 +149,7 @@ verdict c =
 
 passes : (c : tie.After-entry-holds Inv-loop μ-loop Inv-vectors μ-vectors) → c .entry-holds .result ≡ true → verdict (turn (asked (c .before))) ≡ Fine
 passes c h =
-    let t = turn (asked (c .before)) in
-    let v = vector (ahead t .before) in
+    let t = turn (asked (c .before)) in let v = vector (ahead t .before) in
     entry-passes (start (v .before) .pre .0) (v .vectors-test .taken) (ahead t .before .action .ensures) (taken (ahead t)) (t .before .loop .s)
     (sym (asked (c .before) .covers .ensures) ∙ c .before .before .before .if1 .taken) (entry (c .before .before)) (said c) h
 
@@ -152,8 +157,7 @@ fails : (c : tie.After-entry-holds Inv-loop μ-loop Inv-vectors μ-vectors)
     → c .entry-holds .result ≡ false
     → verdict (turn (asked (c .before))) ≡ Refused 13 (vector (ahead (turn (asked (c .before))) .before) .before .vectors .v)
 fails c h =
-    let t = turn (asked (c .before)) in
-    let v = vector (ahead t .before) in
+    let t = turn (asked (c .before)) in let v = vector (ahead t .before) in
     entry-fails (start (v .before) .pre .0) (v .vectors-test .taken) (ahead t .before .action .ensures) (taken (ahead t)) (t .before .loop .s)
     (sym (asked (c .before) .covers .ensures) ∙ c .before .before .before .if1 .taken) (entry (c .before .before)) (said c) h
 
@@ -177,12 +181,9 @@ loop-again c =
 
 vectors-again : tie.Need-vectors-again Inv-loop μ-loop Inv-vectors μ-vectors
 vectors-again c =
-    let l = c .before .loop in
-    let v = vector (c .before .before .before .before .before) in
-    let e : l .s ≡ start (v .before) .args .c .states = omega (arith, c .loop-test .left, l .inv .0) in (
-      omega (arith, v .vectors-test .taken),
-      (l .inv .1 .0, first-more _ _ (v .before .vectors .inv .1 .1) (rw e at (l .inv .1 .1))),
-    )
+    let l = c .before .loop in let v = vector (after-action c) in
+    let e : l .s ≡ start (v .before) .args .c .states = omega (arith, c .loop-test .left, l .inv .0) in
+    (omega (arith, v .vectors-test .taken), (l .inv .1 .0, first-more _ _ (v .before .vectors .inv .1 .1) (rw e at (l .inv .1 .1))))
 
 returns : tie.Need-returns Inv-loop μ-loop Inv-vectors μ-vectors
 returns c =
@@ -203,8 +204,8 @@ pub floors-hold-spec : {M : Type 1} → statement M
 floors-hold-spec =
     tie.close (tie.spec Inv-loop μ-loop Inv-vectors μ-vectors (λ c. (omega arith, (refl, first-none _)))
     (λ c. omega (arith, c .before .vectors-test .taken, start (c .before .before) .pre .0 .actions-long)) (λ c κs. tt) foreseen-requires foreseen-long
-    backups-requires (λ c. (omega arith, (vector (c .before .before .before) .before .vectors .inv .1 .0, first-none _))) mul-covers mask-long
-    covers-requires entry-at-requires (λ c. omega (arith, state-below (turn (c .before .before)))) (λ c. state-below (turn (c .before .before)))
-    entry-holds-requires (λ c. omega (arith, turn (c .before) .loop-test .taken)) (λ c. omega (arith, turn (c .before) .loop-test .taken)) loop-again
-    (λ c. omega (arith, vector (c .before .before .before .before .before) .vectors-test .taken))
-    (λ c. omega (arith, vector (c .before .before .before .before .before) .vectors-test .taken)) vectors-again returns returns-2)
+    backups-requires (λ c. (omega arith, (at-vectors c .vectors .inv .1 .0, first-none _))) mul-covers mask-long covers-requires entry-at-requires
+    (λ c. omega (arith, state-below (turn (c .before .before)))) (λ c. state-below (turn (c .before .before))) entry-holds-requires
+    (λ c. omega (arith, turn (c .before) .loop-test .taken)) (λ c. omega (arith, turn (c .before) .loop-test .taken)) loop-again
+    (λ c. omega (arith, vector (after-action c) .vectors-test .taken)) (λ c. omega (arith, vector (after-action c) .vectors-test .taken))
+    vectors-again returns returns-2)

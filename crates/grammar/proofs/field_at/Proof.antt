@@ -3,25 +3,24 @@ use Rattle.grammar.specs.Grammar.{field}
 use Rattle.grammar.proofs.field_at.Statement.{statement}
 use Rattle.grammar.proofs.field_at.Tie as tie
 
+-- places of the code, each from a later one
+abbrev start : tie.After-keys-at → tie.Start
+start c = c .before .before .before .before
+
 returns : tie.Need-returns
 unfolding field
 returns c =
-    let a = c .before .before .before .before .before .before .args in
+    let a = start (c .before .before) .args in
     reads-back (λ v. v) (a .most) (λ _ ws. number (a .form) (a .least) (a .most) ws) (c .before .before .keys-at .ensures) (c .before .match .keys2)
 
 number-at-requires : tie.Need-number-at-requires
-number-at-requires c κs = (
-  value-next _ _ (c .before .before .before .keys-at .ensures) (c .before .x .given .1) .1 .1,
-  c .before .before .before .before .before .before .before .pre .1,
-)
+number-at-requires c κs = let k = c .before .before .before in (value-next _ _ (k .keys-at .ensures) (c .before .x .given .1) .1 .1, start k .pre .1)
 
 returns-2 : tie.Need-returns-2
 unfolding field
 returns-2 c =
-    let a = c .before .before .before .before .before .before .before .before .args in
-    let g = c .before .before .x .given in
-    reads-on (g .0 .0) (g .0 .1 .0) (λ _ ws. number (a .form) (a .least) (a .most) ws) (c .before .before .before .before .keys-at .ensures) (g .1)
-    (c .number-at .ensures)
+    let k = c .before .before .before .before in let a = start k .args in let g = c .before .before .x .given in
+    reads-on (g .0 .0) (g .0 .1 .0) (λ _ ws. number (a .form) (a .least) (a .most) ws) (k .keys-at .ensures) (g .1) (c .number-at .ensures)
 
 pub field-at-spec : {M : Type 1} → statement M
 field-at-spec =

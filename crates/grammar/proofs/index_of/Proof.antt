@@ -6,17 +6,22 @@ use Rattle.grammar.proofs.Laws.{takes-choose, takes-most, takes-on}
 use Rattle.grammar.proofs.index_of.Statement.{statement}
 use Rattle.grammar.proofs.index_of.Tie as tie
 
+-- places of the code, each from a later one
+abbrev start : tie.After-key-of → tie.Start
+start c = c .before .before .before
+
 returns : tie.Need-returns
 unfolding index
-returns c = takes-choose (λ ws. got (c .before .before .before .before .before .before .args .n) ws) (c .before .before .before .key-of .ensures)
-    (c .before .before .match .keys2) (takes-most (c .before .before .before .before .before .before .args .n) (omega arith) (c .number-of .ensures))
+returns c =
+    let k = c .before .before .before in
+    takes-choose (λ ws. got (start k .args .n) ws) (k .key-of .ensures) (c .before .before .match .keys2)
+    (takes-most (start k .args .n) (omega arith) (c .number-of .ensures))
 
 returns-2 : tie.Need-returns-2
 unfolding index
 returns-2 c =
-    let a = c .before .before .before .before .before .before .args in
-    let g = c .before .x .given in
-    takes-on (a .n) (number countForm 0 (a .n - 1) (told (a .file .now) (a .w))) (g .0 .0) (g .0 .1 .0) (c .before .before .before .key-of .ensures) (g .1)
+    let k = c .before .before .before in let a = start k .args in let g = c .before .x .given in
+    takes-on (a .n) (number countForm 0 (a .n - 1) (told (a .file .now) (a .w))) (g .0 .0) (g .0 .1 .0) (k .key-of .ensures) (g .1)
 
 pub index-of-spec : {M : Type 1} → statement M
 index-of-spec =

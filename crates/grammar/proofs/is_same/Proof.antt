@@ -10,22 +10,25 @@ Inv-loop a b i₀ i = (i ≤ length a) × ((length a ≡ length b) × (same (dro
 abbrev μ-loop : tie.MeasureT-loop
 μ-loop a b i₀ i = length a - i
 
+-- places of the code, each from a later one
+abbrev at-loop : tie.After-shared-slice-known2 Inv-loop μ-loop → tie.At-loop Inv-loop μ-loop
+at-loop c = c .before .before .before
+
 returns : tie.Need-returns Inv-loop μ-loop
 returns c = sym (same-length (c .before .args .a .now) (c .before .args .b .now) (c .if1 .taken))
 
 returns-2 : tie.Need-returns-2 Inv-loop μ-loop
 returns-2 c =
-    let l = c .before .before .before .before .loop in
-    let a = c .before .before .before .before .before .before .args .a .now in
-    let b = c .before .before .before .before .before .before .args .b .now in
-    sym (ap (λ (t : Bool). t && same (drop (l .i + 1) a) (drop (l .i + 1) b)) (ne-eqb _ _ (c .if2 .taken))) ∙ sym
-    (same-in a b (l .i) (omega arith) (omega arith)) ∙ l .inv .1 .1
+    let l = at-loop (c .before) .loop in let a = at-loop (c .before) .before .before .args .a .now in
+    let b = at-loop (c .before) .before .before .args .b .now in
+    sym (ap (λ (t : Bool). t && same (drop (l .i + 1) a) (drop (l .i + 1) b)) (ne-eqb _ _ (c .if2 .taken)))
+    ∙ sym (same-in a b (l .i) (omega arith) (omega arith)) ∙ l .inv .1 .1
 
 loop-again : tie.Need-loop-again Inv-loop μ-loop
 loop-again c =
-    let l = c .before .before .before .before .loop in
-    let a = c .before .before .before .before .before .before .args .a .now in
-    let b = c .before .before .before .before .before .before .args .b .now in (
+    let l = at-loop (c .before) .loop in
+    let a = at-loop (c .before) .before .before .args .a .now in
+    let b = at-loop (c .before) .before .before .args .b .now in (
       omega arith,
       (
         omega arith,
@@ -36,8 +39,7 @@ loop-again c =
 
 returns-3 : tie.Need-returns-3 Inv-loop μ-loop
 returns-3 c =
-    let a = c .before .before .before .args in
-    let l = c .before .loop in
+    let a = c .before .before .before .args in let l = c .before .loop in
     sym (same-end (a .a .now) (a .b .now) (l .i) (omega arith) (omega arith)) ∙ l .inv .1 .1
 
 pub is-same-spec : {M : Type 1} → statement M

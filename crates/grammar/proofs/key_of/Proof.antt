@@ -9,6 +9,13 @@ use Rattle.grammar.proofs.Laws.{OfValue}
 use Rattle.grammar.proofs.key_of.Statement.{statement}
 use Rattle.grammar.proofs.key_of.Tie as tie
 
+-- places of the code, each from a later one
+abbrev at-start : tie.After-w → tie.Start
+at-start c = c .before .before .before .before
+
+abbrev after-w : tie.After-is-same → tie.After-w
+after-w c = c .before .before .before
+
 abbrev finding : List ℕ → List ℕ → Finding
 finding k w = cond (same k w) (fits 0) unfit
 
@@ -24,44 +31,30 @@ key-found k s start stop t e q =
 
 returns : tie.Need-returns
 unfolding key
-returns c = takes-end (finding (c .before .before .before .before .args .k .now)) (c .before .before .before .before .args .file .now)
-    (c .before .before .before .before .args .w) 0 (c .before .match .keys2)
+returns c =
+    let a = c .before .before .before .before in takes-end (finding (a .args .k .now)) (a .args .file .now) (a .args .w) 0 (c .before .match .keys2)
 
 sub-is-same : tie.Need-sub-is-same
-sub-is-same c = omega (
-  arith,
-  lies-in (c .before .before .before .before .before .args .file .now) _ _ (c .before .before .before .before .before .pre)
-      (c .before .w .given .1),
-)
+sub-is-same c = omega (arith, lies-in (at-start (c .before) .args .file .now) _ _ (at-start (c .before) .pre) (c .before .w .given .1))
 
 part-is-same-start : tie.Need-part-is-same-start
-part-is-same-start c = omega (
-  arith,
-  lies-in (c .before .before .before .before .before .args .file .now) _ _ (c .before .before .before .before .before .pre)
-      (c .before .w .given .1),
-)
+part-is-same-start c = omega (arith, lies-in (at-start (c .before) .args .file .now) _ _ (at-start (c .before) .pre) (c .before .w .given .1))
 
 part-is-same-end : tie.Need-part-is-same-end
-part-is-same-end c = omega (
-  arith,
-  lies-in (c .before .before .before .before .before .args .file .now) _ _ (c .before .before .before .before .before .pre)
-      (c .before .w .given .1),
-)
+part-is-same-end c = omega (arith, lies-in (at-start (c .before) .args .file .now) _ _ (at-start (c .before) .pre) (c .before .w .given .1))
 
 returns-2 : tie.Need-returns-2
 unfolding key
 returns-2 c =
-    let g = c .before .before .before .before .w .given in
-    key-found (c .before .before .before .before .before .before .before .before .args .k .now)
-    (c .before .before .before .before .before .before .before .before .args .file .now) (g .0 .0) (g .0 .1 .0) true (g .1)
+    let g = after-w (c .before) .w .given in
+    key-found (at-start (after-w (c .before)) .args .k .now) (at-start (after-w (c .before)) .args .file .now) (g .0 .0) (g .0 .1 .0) true (g .1)
     (sym (c .before .is-same .ensures) ∙ c .if1 .taken)
 
 returns-3 : tie.Need-returns-3
 unfolding key
 returns-3 c =
-    let g = c .before .before .before .before .w .given in
-    key-found (c .before .before .before .before .before .before .before .before .args .k .now)
-    (c .before .before .before .before .before .before .before .before .args .file .now) (g .0 .0) (g .0 .1 .0) false (g .1)
+    let g = after-w (c .before) .w .given in
+    key-found (at-start (after-w (c .before)) .args .k .now) (at-start (after-w (c .before)) .args .file .now) (g .0 .0) (g .0 .1 .0) false (g .1)
     (sym (c .before .is-same .ensures) ∙ c .if1 .left)
 
 pub key-of-spec : {M : Type 1} → statement M

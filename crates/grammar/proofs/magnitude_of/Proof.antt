@@ -7,6 +7,13 @@ use Rattle.grammar.specs.Grammar.{magnitude}
 use Rattle.grammar.proofs.magnitude_of.Statement.{statement}
 use Rattle.grammar.proofs.magnitude_of.Tie as tie
 
+-- places of the code, each from a later one
+abbrev start : tie.After-w → tie.Start
+start c = c .before .before .before
+
+abbrev after-w : tie.After-is-negative → tie.After-w
+after-w c = c .before .before .before
+
 byte-small : (t : Bool) → boolByte t ≤ 1
 byte-small true = omega arith
 byte-small false = omega arith
@@ -18,40 +25,26 @@ returns c =
     takes-end (λ (w : List ℕ). limited 0 (a .most) (amountOf (a .form) (unsigned w))) (a .file .now) (a .w) (a .most) (c .before .match .keys2)
 
 sub-is-negative : tie.Need-sub-is-negative
-sub-is-negative c = omega (
-  arith,
-  lies-in (c .before .before .before .before .args .file .now) _ _ (c .before .before .before .before .pre .0)
-      (c .before .w .given .1),
-)
+sub-is-negative c = omega (arith, lies-in (start (c .before) .args .file .now) _ _ (start (c .before) .pre .0) (c .before .w .given .1))
 
 part-is-negative-start : tie.Need-part-is-negative-start
-part-is-negative-start c = omega (
-  arith,
-  lies-in (c .before .before .before .before .args .file .now) _ _ (c .before .before .before .before .pre .0)
-      (c .before .w .given .1),
-)
+part-is-negative-start c = omega (arith, lies-in (start (c .before) .args .file .now) _ _ (start (c .before) .pre .0) (c .before .w .given .1))
 
 part-is-negative-end : tie.Need-part-is-negative-end
-part-is-negative-end c = omega (
-  arith,
-  lies-in (c .before .before .before .before .args .file .now) _ _ (c .before .before .before .before .pre .0)
-      (c .before .w .given .1),
-)
+part-is-negative-end c = omega (arith, lies-in (start (c .before) .args .file .now) _ _ (start (c .before) .pre .0) (c .before .w .given .1))
 
 amount-in-requires : tie.Need-amount-in-requires
 amount-in-requires c κs =
-    let l = lies-in (c .before .before .before .before .before .before .args .file .now) _ _ (c .before .before .before .before .before .before .pre .0)
-    (c .before .before .before .w .given .1) in
-    (omega (arith, byte-small (c .is-negative .result), l), (l .1, c .before .before .before .before .before .before .pre .1))
+    let a = start (after-w c) in let l = lies-in (a .args .file .now) _ _ (a .pre .0) (after-w c .w .given .1) in
+    (omega (arith, byte-small (c .is-negative .result), l), (l .1, a .pre .1))
 
 returns-2 : tie.Need-returns-2
 unfolding magnitude
 returns-2 c =
-    let a = c .before .before .before .before .before .before .before .args in
-    let g = c .before .before .before .before .w .given in
+    let a = start (after-w (c .before)) .args in let g = after-w (c .before) .w .given in
     let b = bytesOf (a .file .now) (g .0 .0) (g .0 .1 .0) in
-    let e : drop (boolByte (c .before .is-negative .result)) b ≡ unsigned b = ap (λ (t : Bool). drop (boolByte t) b) (c .before .is-negative .ensures) ∙
-    past-minus (negative b) b in
+    let e : drop (boolByte (c .before .is-negative .result)) b ≡ unsigned b =
+    ap (λ (t : Bool). drop (boolByte t) b) (c .before .is-negative .ensures) ∙ past-minus (negative b) b in
     takes-word (λ (w : List ℕ). limited 0 (a .most) (amountOf (a .form) (unsigned w))) (a .most) (g .0 .0) (g .0 .1 .0) (g .1)
     (limited-below 0 (a .most) (amountOf (a .form) (unsigned b)))
     (c .amount-in .ensures ∙ ap (λ (x : List ℕ). found (g .0 .0) (g .0 .1 .0) (limited 0 (a .most) (amountOf (a .form) x))) e)

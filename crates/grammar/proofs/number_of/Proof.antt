@@ -2,6 +2,10 @@ use Rattle.grammar.proofs.Prelude.{ℕ, List, arith, amountOf, limited,
 use Rattle.grammar.proofs.number_of.Statement.{statement}
 use Rattle.grammar.proofs.number_of.Tie as tie
 
+-- places of the code, each from a later one
+abbrev start : tie.After-w → tie.Start
+start c = c .before .before .before
+
 returns : tie.Need-returns
 unfolding number
 returns c =
@@ -10,14 +14,13 @@ returns c =
 
 amount-in-requires : tie.Need-amount-in-requires
 amount-in-requires c κs =
-    let l = lies-in (c .before .before .before .before .args .file .now) _ _ (c .before .before .before .before .pre .0) (c .before .w .given .1) in
-    (omega (arith, l), (l .1, c .before .before .before .before .pre .1))
+    let a = start (c .before) in let l = lies-in (a .args .file .now) _ _ (a .pre .0) (c .before .w .given .1) in
+    (omega (arith, l), (l .1, a .pre .1))
 
 returns-2 : tie.Need-returns-2
 unfolding number
 returns-2 c =
-    let a = c .before .before .before .before .before .args in
-    let g = c .before .before .w .given in
+    let a = start (c .before .before) .args in let g = c .before .before .w .given in
     takes-word (λ (w : List ℕ). limited (a .least) (a .most) (amountOf (a .form) w)) (a .most) (g .0 .0) (g .0 .1 .0) (g .1)
     (limited-below (a .least) (a .most) (amountOf (a .form) (bytesOf (a .file .now) (g .0 .0) (g .0 .1 .0)))) (c .amount-in .ensures)
 

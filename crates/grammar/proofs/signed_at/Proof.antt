@@ -10,6 +10,13 @@ use Rattle.grammar.proofs.Laws.{tells-as}
 use Rattle.grammar.proofs.signed_at.Statement.{statement}
 use Rattle.grammar.proofs.signed_at.Tie as tie
 
+-- places of the code, each from a later one
+abbrev after-word-from : tie.After-x → tie.After-word-from
+after-word-from c = c .before .before .before
+
+abbrev start : tie.After-magnitude-of → tie.Start
+start c = c .before .before .before
+
 -- the word that is looked at, and its magnitude
 worded : (c : tie.After-word-from) → Worded (c .before .before .args .file .now) (c .before .before .args .at) (c .word-from .result)
 worded c = c .word-from .ensures .within (c .before .before .pre .0)
@@ -21,27 +28,22 @@ read c = let a = c .before .before .before .args in takes-reads (magnitude (a .f
 returns : tie.Need-returns
 unfolding signedNumber
 returns c =
-    let a = c .before .before .before .before .before .args in
-    let ws = wordsIn between (a .file .now) (a .at) in
+    let a = start (c .before .before) .args in let ws = wordsIn between (a .file .now) (a .at) in
     reads-back (λ _. pos 0) (a .most) (λ v rest. got (signed (minus ws) v) rest) (read (c .before .before)) (c .before .match .keys2)
 
 with-sign-requires : tie.Need-with-sign-requires
 with-sign-requires c κs =
-    let m = c .before .before .before .before in
-    omega (arith, m .before .before .before .pre .1 .1, value-next _ _ (read m) (c .before .before .x .given .1) .0)
+    let m = c .before .before .before .before in omega (arith, start m .pre .1 .1, value-next _ _ (read m) (c .before .before .x .given .1) .0)
 
 returns-2 : tie.Need-returns-2
 unfolding signedNumber
 returns-2 c =
-    let m = c .before .before .before .before .before in
-    let a = m .before .before .before .args in
-    let ws = wordsIn between (a .file .now) (a .at) in
-    let g = c .before .before .before .x .given in
-    tells-as (signed (minus ws)) (g .0 .0) (g .0 .1 .0) (read m) (g .1)
-    (answer (c .with-sign .ok) (c .with-sign .ensures ∙ ap (λ (t : Bool). signed t (g .0 .0))
-    (c .before .minus-of .ensures ∙ sym (ap minus (worded (m .before) .is)))))
+    let x = c .before .before .before in let m = x .before .before in let a = start m .args in
+    let ws = wordsIn between (a .file .now) (a .at) in let g = x .x .given in
+    tells-as (signed (minus ws)) (g .0 .0) (g .0 .1 .0) (read m) (g .1) (answer (c .with-sign .ok)
+    (c .with-sign .ensures ∙ ap (λ (t : Bool). signed t (g .0 .0)) (c .before .minus-of .ensures ∙ sym (ap minus (worded (m .before) .is)))))
 
 pub signed-at-spec : {M : Type 1} → statement M
 signed-at-spec =
-    tie.close (tie.spec (λ c κs. search needs) (λ c κs. (inside (worded c), c .before .before .pre .1 .0)) (λ c. search needs) (λ c. search needs) returns
-    (λ c κs. inside (worded (c .before .before .before .before))) with-sign-requires returns-2)
+    tie.close (tie.spec (λ c κs. search needs) (λ c κs. (inside (worded c), c .before .before .pre .1 .0)) (λ c. search needs) (λ c. search needs)
+    returns (λ c κs. inside (worded (after-word-from (c .before)))) with-sign-requires returns-2)

@@ -23,6 +23,12 @@ before-field-at2 c = c .before .before .before .before .before
 abbrev before-field-at3 : tie.After-field-at3 → tie.After-field-at2
 before-field-at3 c = c .before .before .before .before .before
 
+abbrev after-x : tie.After-field-at2 → tie.After-x
+after-x c = c .before .before .before
+
+abbrev after-y : tie.After-field-at3 → tie.After-y
+after-y c = c .before .before .before
+
 -- a count that was read
 count-within : (name : List ℕ) (most : ℕ) {file : List ℕ} {at : ℕ} {r : Read} (v next : ℕ)
     → Reads file at most r (field name countForm 1 most (wordsIn between file at)) → r ≡ Value v next
@@ -32,44 +38,45 @@ count-within name most {file} {at} v next t e = given-value (λ v. (1 ≤ v) × 
 
 returns : tie.Need-returns
 returns c =
-    let d = before-field-at (c .before .before .before) .args .discount in
-    heads-back (λ n ws. field actionsName countForm 1 maxActions ws then λ m ws. field observationsName countForm 1 maxObservations ws
-    then λ k ws. got (countsWith n m k d) ws) (c .before .before .before .field-at .ensures) (c .before .before .match .keys2) (c .back .ensures)
+    let f = c .before .before .before in let d = before-field-at f .args .discount in
+    heads-back (λ n ws. field actionsName countForm 1 maxActions ws then λ m ws. field observationsName countForm 1 maxObservations ws then λ k ws.
+    got (countsWith n m k d) ws) (f .field-at .ensures) (c .before .before .match .keys2) (c .back .ensures)
 
 field-at-requires-2 : tie.Need-field-at-requires-2
-field-at-requires-2 c κs = (value-next _ _ (c .before .before .before .before .field-at .ensures) (c .before .before .x .given .1) .1 .1, omega arith)
+field-at-requires-2 c κs =
+    let f = c .before .before .before .before in (value-next _ _ (f .field-at .ensures) (c .before .before .x .given .1) .1 .1, omega arith)
 
 returns-2 : tie.Need-returns-2
 returns-2 c =
-    let d = before-field-at (before-field-at2 (c .before .before .before)) .args .discount in
-    let g = c .before .before .before .before .before .before .x .given in
+    let f = c .before .before .before in let d = before-field-at (before-field-at2 f) .args .discount in
+    let g = after-x f .x .given in
     heads-on (λ n ws. field actionsName countForm 1 maxActions ws then λ m ws. field observationsName countForm 1 maxObservations ws then λ k ws. got
-    (countsWith n m k d) ws) (before-field-at2 (c .before .before .before) .field-at .ensures) (g .0 .0) (g .0 .1 .0) (g .1)
-    (heads-back (λ m ws. field observationsName countForm 1 maxObservations ws then λ k ws. got (countsWith (g .0 .0) m k d) ws)
-    (c .before .before .before .field-at2 .ensures) (c .before .before .match2 .keys2) (c .back2 .ensures))
+    (countsWith n m k d) ws) (before-field-at2 f .field-at .ensures) (g .0 .0) (g .0 .1 .0) (g .1) (heads-back
+    (λ m ws. field observationsName countForm 1 maxObservations ws then λ k ws. got (countsWith (g .0 .0) m k d) ws) (f .field-at2 .ensures)
+    (c .before .before .match2 .keys2) (c .back2 .ensures))
 
 field-at-requires-3 : tie.Need-field-at-requires-3
-field-at-requires-3 c κs = (value-next _ _ (c .before .before .before .before .field-at2 .ensures) (c .before .before .y .given .1) .1 .1, omega arith)
+field-at-requires-3 c κs =
+    let f = c .before .before .before .before in (value-next _ _ (f .field-at2 .ensures) (c .before .before .y .given .1) .1 .1, omega arith)
 
 returns-3 : tie.Need-returns-3
 returns-3 c =
-    let z = c .before .before .before in
+    let y = after-y (c .before .before .before) in let z = c .before .before .before in
     let d = before-field-at (before-field-at2 (before-field-at3 z)) .args .discount in
-    let g = before-field-at3 z .before .before .before .x .given in
-    let h = z .before .before .before .y .given in
+    let g = after-x (before-field-at3 z) .x .given in let h = y .y .given in
     heads-on (λ n ws. field actionsName countForm 1 maxActions ws then λ m ws. field observationsName countForm 1 maxObservations ws then λ k ws. got
-    (countsWith n m k d) ws) (before-field-at2 (before-field-at3 z) .field-at .ensures) (g .0 .0) (g .0 .1 .0) (g .1)
-    (heads-on (λ m ws. field observationsName countForm 1 maxObservations ws then λ k ws. got (countsWith (g .0 .0) m k d) ws)
+    (countsWith n m k d) ws) (before-field-at2 (before-field-at3 z) .field-at .ensures) (g .0 .0) (g .0 .1 .0) (g .1) (heads-on
+    (λ m ws. field observationsName countForm 1 maxObservations ws then λ k ws. got (countsWith (g .0 .0) m k d) ws)
     (before-field-at3 z .field-at2 .ensures) (h .0 .0) (h .0 .1 .0) (h .1)
     (heads-back (λ k ws. got (countsWith (g .0 .0) (h .0 .0) k d) ws) (z .field-at3 .ensures) (c .before .before .match3 .keys2) (c .back3 .ensures)))
 
 returns-4 : tie.Need-returns-4
 returns-4 c =
-    let z = c .before .before .before in
+    let y = after-y (c .before .before .before) in let z = c .before .before .before in
     let start = before-field-at (before-field-at2 (before-field-at3 z)) in
     let d = start .args .discount in
-    let g = before-field-at3 z .before .before .before .x .given in
-    let h = z .before .before .before .y .given in
+    let g = after-x (before-field-at3 z) .x .given in
+    let h = y .y .given in
     let e = c .before .z .given in
     heads-on (λ n ws. field actionsName countForm 1 maxActions ws then λ m ws. field observationsName countForm 1 maxObservations ws then λ k ws. got
     (countsWith n m k d) ws) (before-field-at2 (before-field-at3 z) .field-at .ensures) (g .0 .0) (g .0 .1 .0) (g .1)

@@ -15,6 +15,12 @@ before-keys-at c = c .before .before .before .before .before .before
 abbrev before-key-at : tie.After-key-at → tie.After-keys-at
 before-key-at c = c .before .before .before .before .before
 
+abbrev after-x : tie.After-keys-at-arg2 → tie.After-x
+after-x c = c .before .before .before
+
+abbrev after-y : tie.After-key-at → tie.After-y
+after-y c = c .before .before .before
+
 -- what follows the discount, and `values:`
 abbrev after-discount : ℕ → Words → Answer Counts
 after-discount d ws = keyNamed valuesName ws then λ _ ws. key rewardWord ws then λ _ ws. headerCounts d ws
@@ -27,48 +33,44 @@ unfolding headerBy
 returns c = heads-back after-discount (c .before .before .before .field-at .ensures) (c .before .before .match .keys2) (c .back .ensures)
 
 keys-at-requires : tie.Need-keys-at-requires
-keys-at-requires c κs = value-next _ _ (c .before .before .before .before .before .field-at .ensures) (c .before .before .before .x .given .1) .1 .1
+keys-at-requires c κs = value-next _ _ (after-x c .before .before .field-at .ensures) (after-x c .x .given .1) .1 .1
 
 returns-2 : tie.Need-returns-2
 unfolding headerBy
 returns-2 c =
-    let y = c .before .before .before in
-    let g = y .before .before .before .before .x .given in
+    let y = c .before .before .before in let x = after-x (y .before) in
+    let g = x .x .given in
     heads-on after-discount (before-keys-at y .field-at .ensures) (g .0 .0) (g .0 .1 .0) (g .1)
     (heads-back (after-values (g .0 .0)) (y .keys-at .ensures) (c .before .before .match2 .keys2) (c .back2 .ensures))
 
 key-at-requires : tie.Need-key-at-requires
-key-at-requires c κs = value-next _ _ (c .before .before .before .before .keys-at .ensures) (c .before .before .y .given .1) .1 .1
+key-at-requires c κs = let k = c .before .before .before .before in value-next _ _ (k .keys-at .ensures) (c .before .before .y .given .1) .1 .1
 
 returns-3 : tie.Need-returns-3
 unfolding headerBy
 returns-3 c =
-    let z = c .before .before .before in
-    let y = before-key-at z in
-    let g = y .before .before .before .before .x .given in
-    let h = z .before .before .before .y .given in
-    heads-on after-discount (before-keys-at y .field-at .ensures) (g .0 .0) (g .0 .1 .0) (g .1)
-    (heads-on (after-values (g .0 .0)) (y .keys-at .ensures) (h .0 .0) (h .0 .1 .0) (h .1)
+    let p = after-y (c .before .before .before) in let z = c .before .before .before in let y = before-key-at z in
+    let g = after-x (y .before) .x .given in let h = p .y .given in
+    heads-on after-discount (before-keys-at y .field-at .ensures) (g .0 .0) (g .0 .1 .0) (g .1) (heads-on (after-values (g .0 .0))
+    (y .keys-at .ensures) (h .0 .0) (h .0 .1 .0) (h .1)
     (heads-back (λ _ ws. headerCounts (g .0 .0) ws) (z .key-at .ensures) (c .before .before .match3 .keys2) (c .back3 .ensures)))
 
 counted-at-requires : tie.Need-counted-at-requires
 counted-at-requires c κs =
-    let y = before-key-at (c .before .before .before) in
-    let g = y .before .before .before .before .x .given in (
-      value-next _ _ (c .before .before .before .key-at .ensures) (c .before .z .given .1) .1 .1,
-      value-next (g .0 .0) (g .0 .1 .0) (before-keys-at y .field-at .ensures) (g .1) .0,
+    let k = c .before .before .before in let y = before-key-at k in let g = after-x (y .before) .x .given in (
+      value-next _ _ (k .key-at .ensures) (c .before .z .given .1) .1 .1,
+      value-next (g .0 .0) (g .0 .1 .0) (before-keys-at y .field-at .ensures)
+          (g .1) .0,
     )
 
 returns-4 : tie.Need-returns-4
 unfolding headerBy
 returns-4 c =
-    let z = c .before .before .before .before in
-    let y = before-key-at z in
-    let g = y .before .before .before .before .x .given in
-    let h = z .before .before .before .y .given in
+    let z = c .before .before .before .before in let p = after-y z in
+    let y = before-key-at z in let g = after-x (y .before) .x .given in let h = p .y .given in
     let e = c .before .before .z .given in
-    heads-on after-discount (before-keys-at y .field-at .ensures) (g .0 .0) (g .0 .1 .0) (g .1)
-    (heads-on (after-values (g .0 .0)) (y .keys-at .ensures) (h .0 .0) (h .0 .1 .0) (h .1)
+    heads-on after-discount (before-keys-at y .field-at .ensures) (g .0 .0) (g .0 .1 .0) (g .1) (heads-on (after-values (g .0 .0))
+    (y .keys-at .ensures) (h .0 .0) (h .0 .1 .0) (h .1)
     (heads-on (λ _ ws. headerCounts (g .0 .0) ws) (z .key-at .ensures) (e .0 .0) (e .0 .1 .0) (e .1) (c .counted-at .ensures)))
 
 pub header-at-spec : {M : Type 1} → statement M

@@ -13,6 +13,10 @@ use Rattle.headers.proofs.Laws.{whole-tells}
 use Rattle.headers.proofs.start_at.Statement.{statement}
 use Rattle.headers.proofs.start_at.Tie as tie
 
+-- places of the code, each from a later one
+abbrev at-start : tie.After-keys-at → tie.Start
+at-start c = c .before .before .before .before .before
+
 -- the numbers, read into cells that were 0
 numbers-tell : (n : ℕ) {cells s start : List ℕ} {at : ℕ} {r : Read} → start ≡ replicate maxStates 0
     → Leaves s at r cells (row startNumber (stated 1 1 n 0 0) 0 n start (wordsIn between s at))
@@ -23,16 +27,16 @@ numbers-tell n {cells} {s} {at = at} {r} e h =
 returns : tie.Need-returns
 unfolding startBy
 returns c =
-    let n = c .before .before .before .before .before .before .before .args .n in
+    let n = at-start (c .before .before) .args .n in
     reads-back _ 0 (λ _ ws. wholly (row startNumber (stated 1 1 n 0 0) 0 n (replicate maxStates 0) ws)) (c .before .before .keys-at .ensures)
     (c .before .match .keys2)
 
 row-at-requires : tie.Need-row-at-requires
 row-at-requires c κs =
-    let s = c .before .before .before .before .before .before .before .before .before in
+    let k = c .before .before .before .before in let s = at-start k in
     let long : length (s .args .start .now) ≡ maxStates = ap length (s .pre .1) ∙ length-replicate {A = ℕ} maxStates 0 in (
       (
-        value-next _ _ (c .before .before .before .before .keys-at .ensures) (c .before .before .x .given .1) .1 .1,
+        value-next _ _ (k .keys-at .ensures) (c .before .before .x .given .1) .1 .1,
         record {
           some-blocks = omega arith;
           few-blocks = omega arith;
@@ -49,10 +53,8 @@ row-at-requires c κs =
 returns-2 : tie.Need-returns-2
 unfolding startBy
 returns-2 c =
-    let k = c .before .before .before .before .before .before .before in
-    let s = k .before .before .before .before .before in
-    let n = s .args .n in
-    let g = c .before .before .before .before .before .x .given in
+    let x = c .before .before .before .before .before in let k = x .before .before in let s = at-start k in
+    let n = s .args .n in let g = x .x .given in
     reads-on (g .0 .0) (g .0 .1 .0) (λ _ ws. wholly (row startNumber (stated 1 1 n 0 0) 0 n (replicate maxStates 0) ws)) (k .keys-at .ensures) (g .1)
     (numbers-tell n (s .pre .1) (c .before .before .row-at .ensures))
 

@@ -87,14 +87,11 @@ totals-at-requires c κs =
 
 returns-4 : tie.Need-returns-4
 returns-4 c =
-    let t = c .before .before .before in
-    let u = t .before .before in
-    let p = weighed u in
-    let e = of-highs p in
-    let a = of-both e .args in
+    let s = c .before .before .before .before in let t = c .before .before .before in let u = s .before in
+    let p = weighed u in let e = of-highs p in let a = of-both e .args in
     totals-given (a .n) (a .lows .now) (a .highs .now) (holds-24 (of-ranges e)) (holds-17 e) (a .vectors) (a .masks .now) (a .entries .now)
     (a .corners .now) (c .totals-at .ensures) (p .before .point-weights .ensures) (p .point-weights2 .ensures) (at-support u)
-    (sym (at-22 (t .before)) ∙ not-false _ (t .if3 .left))
+    (sym (at-22 s) ∙ not-false _ (t .if3 .left))
 
 pub answer-spec : {M : Type 1} → statement M
 answer-spec =

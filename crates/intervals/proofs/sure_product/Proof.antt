@@ -30,6 +30,9 @@ turn c = c .before .before .before .before .before
 abbrev start : tie.At-loop Inv-loop μ-loop → tie.Start Inv-loop μ-loop
 start c = c .before .before .before
 
+abbrev after-e : tie.After-weight-for Inv-loop μ-loop → tie.After-e Inv-loop μ-loop
+after-e c = c .before .before .before
+
 -- the weight that the entry takes
 weight-is : (c : tie.After-weight-for Inv-loop μ-loop) → let a = start (turn c) .args in
     c .weight-for .result ≡ weight (a .over .now) (a .under .now) (a .cells .now) (a .at) (turn c .loop .s)
@@ -37,21 +40,18 @@ weight-is c = rw (back _ (c .before .before .before .e .given)) at (c .weight-fo
 
 add-scaled-requires : tie.Need-add-scaled-requires Inv-loop μ-loop
 add-scaled-requires c κs =
-    let s = start (turn c) in
-    let a = s .args in
-    let e = entry (a .cells .now) (a .at) in
+    let s = start (turn c) in let a = s .args in let e = entry (a .cells .now) (a .at) in
     let fit = s .pre .1 .0 in
     weighed-fits (weight (a .over .now) (a .under .now) (a .cells .now) (a .at)) e
-    (λ i l. weight-by _ _ (λ w. w ≤ maxWeight) (fit .0 .below i l) (fit .1 .below i l) (e i))
-    (λ i l above. s .pre .1 .1 i l
-    (weight-by _ _ (λ w. 0 < w → 0 < weightIn (a .over .now) i + weightIn (a .under .now) i) (λ h. omega arith) (λ h. omega arith) (e i) above))
-    _ (turn c .loop .inv .1) (weight-is c) (back _ (c .before .before .before .e .given)) (omega arith) (lit< tt) (omega arith)
+    (λ i l. weight-by _ _ (λ w. w ≤ maxWeight) (fit .0 .below i l) (fit .1 .below i l) (e i)) (λ i l above. s .pre .1 .1 i l
+    (weight-by _ _ (λ w. 0 < w → 0 < weightIn (a .over .now) i + weightIn (a .under .now) i) (λ h. omega arith) (λ h. omega arith) (e i) above)) _
+    (turn c .loop .inv .1) (weight-is c) (back _ (after-e c .e .given)) (omega arith) (lit< tt) (omega arith)
 
 loop-again : tie.Need-loop-again Inv-loop μ-loop
 loop-again c = (
   omega arith,
-  answer (c .add-scaled .ok) (c .add-scaled .ensures)
-      ∙ rw (back _ (c .before .before .before .before .e .given), weight-is (c .before)) (sum-step _ _ (turn (c .before) .loop .inv .1)),
+  answer (c .add-scaled .ok) (c .add-scaled .ensures) ∙ rw (back _ (after-e (c .before) .e .given), weight-is (c .before))
+      (sum-step _ _ (turn (c .before) .loop .inv .1)),
 )
 
 returns : tie.Need-returns Inv-loop μ-loop

@@ -42,9 +42,7 @@ Said s r = (choices : List ℕ) → r ≡ withinOf (tables s) (certifier s choic
 
 returns : tie.Need-returns
 returns c =
-    let j = c .before .before .before in
-    let s = start j in
-    let lows = s .args .lows .now in
+    let j = c .before .before .before in let s = start j in let lows = s .args .lows .now in
     let highs = s .args .highs .now in
     let e : Said s (c .no-totals .result) = λ choices. c .no-totals .ensures ∙ refused (tables s) (certifier s choices) lows highs
     (j .judge-standing .ensures choices) (c .before .enum-told2 .given .1) in

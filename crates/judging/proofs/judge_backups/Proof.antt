@@ -103,12 +103,10 @@ points-hold-requires c κs =
 
 returns-4 : tie.Need-returns-4
 returns-4 c =
-    let r = c .before .before .before in
-    let f = of-roof r in
-    let m = of-floor f in
-    let s = start m in
+    let e = c .before .before .before .before in let r = c .before .before .before in let f = of-roof r in
+    let m = of-floor f in let s = start m in
     left-15 (tables s) (certifier s) (offered s) (m .masks-hold .ensures) (f .before .enum-told .given .1) (f .floors-hold .ensures)
-    (r .before .enum-told3 .given .1) (rw (stands (m .before)) at (r .corners-hold .ensures)) (rw (stands (m .before)) at (c .points-hold .ensures))
+    (e .enum-told3 .given .1) (rw (stands (m .before)) at (r .corners-hold .ensures)) (rw (stands (m .before)) at (c .points-hold .ensures))
     (c .before .enum-told5 .given .1)
 
 pub judge-backups-spec : {M : Type 1} → statement M

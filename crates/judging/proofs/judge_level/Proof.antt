@@ -41,8 +41,8 @@ returns-2 c =
 returns-3 : tie.Need-returns-3
 unfolding levelVerdict
 returns-3 c =
-    let r = c .before .before .before in
-    goes (of-numbers r .numbers-exist .ensures) (r .before .enum-told .given .1)
+    let e = c .before .before .before .before in let r = c .before .before .before in
+    goes (of-numbers r .numbers-exist .ensures) (e .enum-told .given .1)
     (goes (ranges-said r) (c .before .enum-told3 .given .1) (c .weights-hold .ensures))
 
 pub judge-level-spec : {M : Type 1} → statement M

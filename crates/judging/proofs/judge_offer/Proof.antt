@@ -28,8 +28,8 @@ judge-backups-requires c κs =
 
 returns-3 : tie.Need-returns-3
 returns-3 c =
-    let shape = c .before .before .before in
-    rw (held (shape .before)) (left-backups _ _ _ (shape .judge-shape .ensures) (c .before .enum-told .given .1) (c .judge-backups .ensures))
+    let p = c .before .before .before .before in let shape = c .before .before .before in
+    rw (held p) (left-backups _ _ _ (shape .judge-shape .ensures) (c .before .enum-told .given .1) (c .judge-backups .ensures))
 
 pub judge-offer-spec : {M : Type 1} → statement M
 judge-offer-spec =

@@ -7,6 +7,16 @@ use Rattle.ladder.proofs.Own.{read-given}
 use Rattle.ladder.proofs.answer.Statement.{statement}
 use Rattle.ladder.proofs.answer.Tie as tie
 
+-- places of the code, each from a later one
+abbrev after-read : tie.After-mixture → tie.After-read
+after-read c = c .before .before .before .before .before .before .before .before .before .before
+
+abbrev start : tie.After-mixture → tie.Start
+start c = c .before .before .before .before .before .before .before .before .before .before .before .before .before .before .before .before
+
+abbrev after-transition3 : tie.After-mixture → tie.After-transition3
+after-transition3 c = c .before .before .before
+
 -- what was read, in the program's arrays
 abbrev drafted : tie.After-read → ModelFile
 drafted c = let l = c .read .last .1 .1 .1 .1 in fileIn (c .read .result) (l .0) (l .1 .0) (l .1 .1 .0) (l .1 .1 .1 .0)
@@ -20,10 +30,9 @@ long c = let k = c .read .kept .1 .1 .1 .1 in record {
 
 levels-of-requires : tie.Need-levels-of-requires
 levels-of-requires c κs =
-    let r = c .before .before .before .before .before .before .before .before .before .before in
-    let fine = c .before .before .before .before .enum-told .given .1 in
+    let r = after-read c in let fine = after-transition3 c .before .enum-told .given .1 in
     read-given (drafted r) (room (maxActions * maxStates * maxStates) (maxActions * maxStates * maxObservations) (maxActions * maxStates))
-    (c .mixture .result) (r .before .before .before .before .before .before .args .file .now) (r .read .ensures .1 fine) fine (long r) (c .mixture .ensures)
+    (c .mixture .result) (start c .args .file .now) (r .read .ensures .1 fine) fine (long r) (c .mixture .ensures)
 
 pub answer-spec : {M : Type 1} → statement M
 answer-spec =

@@ -37,6 +37,9 @@ start c = c .before .before .before .before .before .before .before .before .bef
 abbrev of-open : tie.After-qmdp2 Inv-loop μ-loop → tie.After-open Inv-loop μ-loop
 of-open c = c .before .before .before .before .before .before .before .before
 
+abbrev at-loop : tie.After-masks3 Inv-loop μ-loop → tie.At-loop Inv-loop μ-loop
+at-loop c = c .before .before .before .before .before
+
 abbrev of-opening : tie.After-served Inv-loop μ-loop → tie.After-open Inv-loop μ-loop
 of-opening c = of-open (c .before)
 
@@ -156,18 +159,18 @@ loop-again c =
 
 pub levels-of-spec : {M : Type 1} → statement M
 levels-of-spec =
-    tie.close (tie.spec Inv-loop μ-loop
-    (λ c. refl) (λ c. refl) (λ c. refl) (λ c. refl) (λ c. refl) (λ c. refl) (λ c. refl) (λ c. refl) (λ c. refl) (λ c. refl) (λ c κs. search needs)
-    served-requires loop-holds (λ c. in-state c .before .loop .inv .1 .1 .0 .state) (λ c. in-state (c .before) .before .loop .inv .1 .1 .0 .cells .actions)
-    (λ c. in-state (c .before .before) .before .loop .inv .1 .1 .0 .cells .choices)
-    (λ c. in-state (c .before .before .before) .before .loop .inv .1 .1 .0 .cells .masks) (λ c. in-entries c .before .loop .inv .1 .1 .0 .cells .entries)
-    (λ c. in-entries (c .before) .before .loop .inv .1 .1 .0 .cells .corners)
+    tie.close (tie.spec Inv-loop μ-loop (λ c. refl) (λ c. refl) (λ c. refl) (λ c. refl) (λ c. refl) (λ c. refl) (λ c. refl) (λ c. refl) (λ c. refl)
+    (λ c. refl) (λ c κs. search needs) served-requires loop-holds (λ c. in-state c .before .loop .inv .1 .1 .0 .state)
+    (λ c. in-state (c .before) .before .loop .inv .1 .1 .0 .cells .actions)
+    (λ c. in-state (c .before .before) .before .loop .inv .1 .1 .0 .cells .choices) (λ c. at-loop c .loop .inv .1 .1 .0 .cells .masks)
+    (λ c. in-entries c .before .loop .inv .1 .1 .0 .cells .entries) (λ c. in-entries (c .before) .before .loop .inv .1 .1 .0 .cells .corners)
     (λ c. in-entries (c .before .before) .before .loop .inv .1 .1 .0 .cells .weights)
-    (λ c. in-entries (c .before .before .before) .before .loop .inv .1 .1 .0 .cells .values) (λ c. in-informed c .before .loop .inv .1 .1 .0 .informed)
-    (λ c. in-informed (c .before) .before .loop .inv .1 .1 .0 .qmdp) (λ c. in-informed (c .before .before) .before .loop .inv .1 .1 .1 .weights)
+    (λ c. in-entries (c .before .before .before) .before .loop .inv .1 .1 .0 .cells .values)
+    (λ c. in-informed c .before .loop .inv .1 .1 .0 .informed) (λ c. in-informed (c .before) .before .loop .inv .1 .1 .0 .qmdp)
+    (λ c. in-informed (c .before .before) .before .loop .inv .1 .1 .1 .weights)
     (λ c. in-informed (c .before .before .before) .before .loop .inv .1 .1 .1 .actions) (λ c. in-choices c .before .loop .inv .1 .1 .1 .choices)
     (λ c. in-choices (c .before) .before .loop .inv .1 .1 .1 .masks) (λ c. in-choices (c .before .before) .before .loop .inv .1 .1 .1 .entries)
-    (λ c. in-choices (c .before .before .before) .before .loop .inv .1 .1 .1 .corners) (λ c. in-loop c .before .loop .inv .1 .1 .1 .values) rung-requires
-    (λ c. omega (arith, in-turn (of-rung c) .loop-test .taken)) print-totals-requires (λ c. search needs)
+    (λ c. in-choices (c .before .before .before) .before .loop .inv .1 .1 .1 .corners) (λ c. in-loop c .before .loop .inv .1 .1 .1 .values)
+    rung-requires (λ c. omega (arith, in-turn (of-rung c) .loop-test .taken)) print-totals-requires (λ c. search needs)
     (λ c. omega (arith, in-turn (of-rung (c .before .before)) .loop-test .taken))
     (λ c. omega (arith, in-turn (of-rung (c .before .before)) .loop-test .taken)) loop-again (λ c. search needs))

@@ -88,9 +88,7 @@ loop-again c =
     )
 
 returns : tie.Need-returns Inv-loop2 μ-loop2 Inv-loop μ-loop
-returns c =
-    let e : c .before .loop .v ≡ c .before .before .before .args .vectors = omega arith in
-    rw e at (c .before .loop .inv .1 .0)
+returns c = let e : c .before .loop .v ≡ c .before .before .before .args .vectors = omega arith in rw e at (c .before .loop .inv .1 .0)
 
 pub lay-entries-spec : {M : Type 1} → statement M
 lay-entries-spec =

@@ -44,9 +44,7 @@ paste-u32-requires c κs =
     (omega (arith, p .0 .weights-long), p .1 .weights-long)
 
 paste-i64-requires-2 : tie.Need-paste-i64-requires-2
-paste-i64-requires-2 c κs =
-    let p = to-start (of-weights (c .before .before .before)) .pre in
-    (omega (arith, p .0 .values-long), p .1 .values-long)
+paste-i64-requires-2 c κs = let p = to-start (of-weights (c .before .before .before)) .pre in (omega (arith, p .0 .values-long), p .1 .values-long)
 
 returns : tie.Need-returns
 returns c =

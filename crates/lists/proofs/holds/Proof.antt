@@ -10,10 +10,13 @@ use Rattle.lists.proofs.holds.Tie as tie
 abbrev start : tie.Else1 → tie.Start
 start c = c .before .before .before .before
 
+abbrev after-judge-tables : tie.After-enum-told → tie.After-judge-tables
+after-judge-tables c = c .before .before
+
 abbrev tables : tie.Start → Tables
 tables c = tablesIn (c .args .c) (c .args .transition .now) (c .args .observation .now) (c .args .reward .now)
 
-fine : (c : tie.After-enum-told) → tablesVerdict (tables (start (c .before .before .before))) ≡ Fine
+fine : (c : tie.After-enum-told) → tablesVerdict (tables (start (after-judge-tables c .before))) ≡ Fine
 fine c = sym (c .before .before .judge-tables .ensures) ∙ c .enum-told .given .1
 
 returns : tie.Need-returns
@@ -25,12 +28,10 @@ returns-2 c =
     rw (ne-eqb _ _ (judged .before .if1 .left), sym (judged .judge-tables .ensures) ∙ c .enum-told2 .given .1) refl
 
 is-list-requires : tie.Need-is-list-requires
-is-list-requires c κs = table-fits (tables (start (c .before .before .before))) (fine c)
+is-list-requires c κs = table-fits (tables (start (after-judge-tables c .before))) (fine c)
 
 returns-3 : tie.Need-returns-3
-returns-3 c =
-    let told = c .before in
-    rw (ne-eqb _ _ (told .before .before .before .if1 .left), fine told) (c .is-list .ensures)
+returns-3 c = let told = c .before in rw (ne-eqb _ _ (after-judge-tables told .before .if1 .left), fine told) (c .is-list .ensures)
 
 pub holds-spec : {M : Type 1} → statement M
 holds-spec =

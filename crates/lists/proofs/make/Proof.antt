@@ -36,14 +36,13 @@ returns-2 c =
 
 put-list-requires : tie.Need-put-list-requires
 put-list-requires c κs =
-    let sized = c .before .before in
-    (table-fits (tables (start (sized .before .before .before))) (fine (sized .before)), omega (arith, sized .size .ensures, c .before .if1 .left))
+    let e = c .before .before .before in let sized = c .before .before in
+    (table-fits (tables (start (e .before .before))) (fine e), omega (arith, sized .size .ensures, c .before .if1 .left))
 
 same-length : tie.Need-same-length
 same-length c =
-    let made = c .before .before in
-    let sized = made .before .before .before in
-    laid-long _ _ _ (made .put-list .ensures) (omega (arith, sized .size .ensures, made .before .before .if1 .left))
+    let p = c .before .before .before .before in let made = c .before .before in let sized = p .before in
+    laid-long _ _ _ (made .put-list .ensures) (omega (arith, sized .size .ensures, p .if1 .left))
 
 returns-3 : tie.Need-returns-3
 unfolding listVerdict listedOf

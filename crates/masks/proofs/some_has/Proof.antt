@@ -17,19 +17,17 @@ loop-holds c = (omega arith, refl)
 
 returns : tie.Need-returns Inv-loop μ-loop
 returns c =
-    let turn = c .before .before .before in
-    let a = turn .before .before .before .args in
-    sym (some-at (a .vectors) (λ v. includes (getD (a .masks .now) v 0) (a .states)) (turn .before .loop .v) (omega arith)
+    let l = c .before .before .before .before in let turn = c .before .before .before in
+    let a = l .before .before .args in
+    sym (some-at (a .vectors) (λ v. includes (getD (a .masks .now) v 0) (a .states)) (l .loop .v) (omega arith)
     (sym (c .before .has .ensures) ∙ c .if1 .taken))
 
 loop-again : tie.Need-loop-again Inv-loop μ-loop
 unfolding some
-loop-again c = (omega arith, rw (add-one, c .before .before .before .before .loop .inv .1, ← c .before .has .ensures) (c .if1 .left))
+loop-again c = let l = c .before .before .before .before in (omega arith, rw (add-one, l .loop .inv .1, ← c .before .has .ensures) (c .if1 .left))
 
 returns-2 : tie.Need-returns-2 Inv-loop μ-loop
-returns-2 c =
-    let e : c .before .loop .v ≡ c .before .before .before .args .vectors = omega arith in
-    sym (rw e at (c .before .loop .inv .1))
+returns-2 c = let e : c .before .loop .v ≡ c .before .before .before .args .vectors = omega arith in sym (rw e at (c .before .loop .inv .1))
 
 pub some-has-spec : {M : Type 1} → statement M
 some-has-spec = tie.close (tie.spec Inv-loop μ-loop loop-holds (λ c. search needs) (λ c. search needs) (λ c κs. search needs) returns (λ c. search needs)

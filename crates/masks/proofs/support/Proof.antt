@@ -17,20 +17,23 @@ Inv-loop q n states₀ s₀ states s = (s ≤ n) × (states ≡ maskOf s (weighe
 abbrev μ-loop : tie.MeasureT-loop
 μ-loop q n states₀ s₀ states s = n - s
 
+-- places of the code, each from a later one
+abbrev at-loop : tie.After-shared-slice-known2 Inv-loop μ-loop → tie.At-loop Inv-loop μ-loop
+at-loop c = c .before .before
+
 loop-holds : tie.Need-loop-holds Inv-loop μ-loop
 loop-holds c = (omega arith, sym (mask-none _))
 
 -- the mask so far is below that of the next state alone
 add-states : tie.Need-add-states Inv-loop μ-loop
 add-states c =
-    let turn = c .before .before .before .before in
-    let s = turn .loop .s in
+    let turn = at-loop (c .before .before) in let s = turn .loop .s in
     let few : 2 ^ suc s ≤ 2 ^ 64 = pow-mono {j = 64} (omega arith) in
     omega (arith, c .only .ensures, turn .loop .inv .1, mask-below s (weighed (turn .before .before .args .q .now)), few, pow-suc 2 s)
 
 loop-again : tie.Need-loop-again Inv-loop μ-loop
 loop-again c =
-    let turn = c .before .before .before in
+    let turn = at-loop (c .before) in
     let f = weighed (turn .before .before .args .q .now) in
     let so-far = turn .loop .inv .1 in (
       omega arith,
@@ -41,9 +44,7 @@ loop-again c =
     )
 
 returns : tie.Need-returns Inv-loop μ-loop
-returns c =
-    let e : c .before .loop .s ≡ c .before .before .before .args .n = omega arith in
-    rw e at (c .before .loop .inv .1)
+returns c = let e : c .before .loop .s ≡ c .before .before .before .args .n = omega arith in rw e at (c .before .loop .inv .1)
 
 pub support-spec : {M : Type 1} → statement M
 support-spec = tie.close (tie.spec Inv-loop μ-loop loop-holds (λ c. search needs) (λ c. search needs) (λ c κs. search needs) add-states (λ c. search needs)

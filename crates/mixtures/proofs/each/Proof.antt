@@ -20,6 +20,9 @@ use Rattle.mixtures.proofs.each.Tie as tie
 abbrev start : tie.After-judge-standing → tie.Start
 start c = c .before .before .before .before .before .before .before .before .before .before
 
+abbrev after-gains2 : tie.After-write-answers-arg4 → tie.After-gains2
+after-gains2 c = c .before .before .before .before
+
 abbrev of-certifier : tie.After-enum-told → tie.Start
 of-certifier c = start (c .before .before)
 
@@ -125,13 +128,13 @@ as-long c =
 
 write-answers-requires : tie.Need-write-answers-requires
 write-answers-requires c κs =
-    let g = c .before .before .before .before .before in
+    let p = after-gains2 c .before .before .before in let g = after-gains2 c .before in
     let n = g .before in
     let s = of-standing n in
-    let w = of-room (n .before) in
-    let r = room-true (s .args .count) (lent-for s) (room (n .before)) in
+    let w = of-room p in
+    let r = room-true (s .args .count) (lent-for s) (room p) in
     rw (said n) (
-      asked (tables s) (certifier s []) (known (of-mixtures w)) (gained g),
+      asked (tables s) (certifier s []) (known (w .before)) (gained g),
       (leb-true _ _ (packed w), (r .verdicts, (r .lower, (r .upper, r .advice)))),
     )
 

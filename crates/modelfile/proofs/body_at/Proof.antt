@@ -29,6 +29,18 @@ of-statements c = c .before .before .before .before .before .before .before .bef
 abbrev of-totals : tie.After-totals-of → tie.After-statements-at
 of-totals c = c .before .before .before .before .before .before .before .before .before .before .before
 
+abbrev after-transition : tie.After-reward → tie.After-transition
+after-transition c = c .before .before .before .before
+
+abbrev after-totals-of-arg : tie.After-totals-of-arg3 → tie.After-totals-of-arg
+after-totals-of-arg c = c .before .before
+
+abbrev after-x : tie.After-statements-at-arg3 → tie.After-x
+after-x c = c .before .before .before .before
+
+abbrev at-after-start : tie.After-statements-at-arg3 → tie.After-start
+at-after-start c = c .before .before .before .before .before .before .before
+
 -- where the statements begin
 abbrev next : tie.After-statements-at → ℕ
 next c = c .before .before .before .before .before .x .given .0 .1 .0
@@ -109,24 +121,23 @@ statements-read c =
 returns : tie.Need-returns
 unfolding bodyBy
 returns c =
-    let s = c .before .before .before .before .before in
-    let a = begin s .args in
+    let s = c .before .before .before .before .before in let a = begin s .args in
     let size = length (a .file .now) in
     answers-back _ _ _ _ size (after-start (a .full) (size + 1) (a .c)) _ (a .file .now) (s .start-at .result) (s .start-at .ensures .is)
     (c .before .before .match .keys2) (c .back .ensures)
 
 statements-at-requires : tie.Need-statements-at-requires
 statements-at-requires c κs =
-    let s = c .before .before .before .before .before .before .before .before in
-    let p = begin s .pre .1 in
-    let f = few (begin s) in
+    let from = begin (at-after-start c .before) in let s = at-after-start c .before in
+    let p = from .pre .1 in
+    let f = few from in
     let k = p .0 .observations in (
-      value-next _ _ (s .start-at .ensures) (c .before .before .before .before .x .given .1) .1 .1,
+      value-next _ _ (s .start-at .ensures) (after-x c .x .given .1) .1 .1,
       (
         fits 0 (maxActions * maxStates * maxStates) (p .1 .0) (p .0 .actions) (p .0 .states) (p .0 .states) (f .transitions),
         (
           fits 0 (maxActions * maxStates * maxObservations) (p .1 .1 .0) (p .0 .actions) (p .0 .states) (k .0, omega (arith, k .1)) (f .observed),
-          rewards-fit (begin s .args .full) (p .1 .1 .1 .0) (p .0),
+          rewards-fit (from .args .full) (p .1 .1 .1 .0) (p .0),
         ),
       ),
     )
@@ -141,24 +152,23 @@ from-start : (transition observation : List ℕ) (reward : List ℤ) (start : Li
     (ended size (body (a .full) (size + 1) (a .c) (wordsIn between (a .file .now) (a .at)))) h
 unfolding bodyBy
 from-start transition observation reward start c g =
-    let s = of-statements c in
-    let a = begin s .args in
-    let size = length (a .file .now) in
-    let x = c .before .before .before .before .before .x .given in
+    let s = of-statements c in let a = begin s .args in let size = length (a .file .now) in
+    let x = after-x (c .before) .x .given in
     answers-on transition observation reward start size (after-start (a .full) (size + 1) (a .c)) _ (a .file .now) (s .start-at .result)
     (s .start-at .ensures .is) (x .0 .0) (next c) (x .1) g
 
 returns-2 : tie.Need-returns-2
 returns-2 c =
-    let s = c .before .before .before .before .before .before .before .before in
-    let a = begin (of-statements s) .args in
-    from-start _ _ _ _ s (answers-back _ _ _ _ (length (a .file .now)) (λ cells ws. got (textOf (a .c) (of-statements s .start-at .last .1 .1 .0) cells) ws)
-    _ (a .file .now) (s .statements-at .result) (statements-read s) (c .before .before .match2 .keys2) (c .back2 .ensures))
+    let st = of-statements (after-transition (c .before .before .before) .before) in
+    let s = after-transition (c .before .before .before) .before in let a = begin st .args in
+    from-start _ _ _ _ s (answers-back _ _ _ _ (length (a .file .now)) (λ cells ws. got (textOf (a .c) (st .start-at .last .1 .1 .0) cells) ws) _
+    (a .file .now) (s .statements-at .result) (statements-read s) (c .before .before .match2 .keys2) (c .back2 .ensures))
 
 totals-of-requires : tie.Need-totals-of-requires
 totals-of-requires c κs =
-    let s = c .before .before .before .before .before .before .before .before .before .before in
-    let b = begin (of-statements s) in
+    let st = of-statements (after-transition (after-totals-of-arg c .before .before .before) .before) in
+    let s = after-transition (after-totals-of-arg c .before .before .before) .before in
+    let b = begin st in
     let p = b .pre .1 in
     let k = s .statements-at .kept .1 .1 in
     let f = few b in (
@@ -167,32 +177,28 @@ totals-of-requires c κs =
         rw (k .0, same-cells {A = ℕ} 0 (maxActions * maxStates * maxStates) (p .1 .0)) (f .transitions),
         (
           rw (k .1 .0, same-cells {A = ℕ} 0 (maxActions * maxStates * maxObservations) (p .1 .1 .0)) (f .observed),
-          rw (of-statements s .start-at .kept .1 .1 .0, same-cells {A = ℕ} 0 maxStates (p .1 .1 .1 .1)) (p .0 .states .1),
+          rw (st .start-at .kept .1 .1 .0, same-cells {A = ℕ} 0 maxStates (p .1 .1 .1 .1)) (p .0 .states .1),
         ),
       ),
     )
 
 returns-3 : tie.Need-returns-3
 returns-3 c =
-    let t = c .before .before .before in
-    let s = of-totals t in
-    let a = begin (of-statements s) .args in
-    let y = t .before .before .before .before .enum-told2 .given in
-    from-start _ _ _ _ s (answers-on _ _ _ _ (length (a .file .now)) (λ cells ws. got (textOf (a .c) (of-statements s .start-at .last .1 .1 .0) cells) ws)
-    _ (a .file .now) (s .statements-at .result) (statements-read s) (y .0 .0) (y .0 .1 .0) (y .1)
-    (answers-total _ _ _ _ (length (a .file .now)) (a .c) (t .totals-of .ensures (a .c .discount) (s .statements-at .last .1 .1 .1 .1 .0))
-    (c .before .enum-told5 .given .1) (c .refusal .ensures)))
+    let t = c .before .before .before in let e = after-totals-of-arg (t .before) .before in let s = of-totals t in let a = begin (of-statements s) .args in
+    let y = e .enum-told2 .given in
+    from-start _ _ _ _ s (answers-on _ _ _ _ (length (a .file .now))
+    (λ cells ws. got (textOf (a .c) (of-statements s .start-at .last .1 .1 .0) cells) ws) _ (a .file .now) (s .statements-at .result)
+    (statements-read s) (y .0 .0) (y .0 .1 .0) (y .1) (answers-total _ _ _ _ (length (a .file .now)) (a .c)
+    (t .totals-of .ensures (a .c .discount) (s .statements-at .last .1 .1 .1 .1 .0)) (c .before .enum-told5 .given .1) (c .refusal .ensures)))
 
 returns-4 : tie.Need-returns-4
 returns-4 c =
-    let t = c .before .before in
-    let s = of-totals t in
-    let a = begin (of-statements s) .args in
-    let y = t .before .before .before .before .enum-told2 .given in
-    from-start _ _ _ _ s (answers-on _ _ _ _ (length (a .file .now)) (λ cells ws. got (textOf (a .c) (of-statements s .start-at .last .1 .1 .0) cells) ws)
-    _ (a .file .now) (s .statements-at .result) (statements-read s) (y .0 .0) (y .0 .1 .0) (y .1)
-    (answers-fine _ _ _ _ (length (a .file .now)) (a .c) (t .totals-of .ensures (a .c .discount) (s .statements-at .last .1 .1 .1 .1 .0))
-    (c .enum-told4 .given .1) refl))
+    let t = c .before .before in let s = of-totals t in let a = begin (of-statements s) .args in
+    let y = after-totals-of-arg (t .before) .before .enum-told2 .given in
+    from-start _ _ _ _ s (answers-on _ _ _ _ (length (a .file .now))
+    (λ cells ws. got (textOf (a .c) (of-statements s .start-at .last .1 .1 .0) cells) ws) _ (a .file .now) (s .statements-at .result)
+    (statements-read s) (y .0 .0) (y .0 .1 .0) (y .1) (answers-fine _ _ _ _ (length (a .file .now)) (a .c)
+    (t .totals-of .ensures (a .c .discount) (s .statements-at .last .1 .1 .1 .1 .0)) (c .enum-told4 .given .1) refl))
 
 pub body-at-spec : {M : Type 1} → statement M
 body-at-spec =

@@ -12,10 +12,17 @@ start c = c .before .before .before .before .before
 abbrev of-header : tie.After-header-at → tie.Else1
 of-header c = c .before
 
+abbrev after-n : tie.After-roomed-at-arg4 → tie.After-n
+after-n c = c .before .before .before .before .before
+
+abbrev start-of-after-refusal : tie.After-refusal → tie.Start
+start-of-after-refusal c = c .before .before .before .before .before .before
+
 returns : tie.Need-returns
 returns c =
-    let a = c .before .before .before .before .before .before .args in
-    answers-long _ _ _ _ (room (a .transitions) (a .observations) (a .rewards)) (a .file .now) (lt-leb _ maxBytes (c .before .if1 .taken)) (c .refusal .ensures)
+    let a = start-of-after-refusal c .args in
+    answers-long _ _ _ _ (room (a .transitions) (a .observations) (a .rewards)) (a .file .now) (lt-leb _ maxBytes (c .before .if1 .taken))
+    (c .refusal .ensures)
 
 returns-2 : tie.Need-returns-2
 returns-2 c =
@@ -29,12 +36,10 @@ returns-2 c =
 
 roomed-at-requires : tie.Need-roomed-at-requires
 roomed-at-requires c κs =
-    let h = c .before .before .before .before .before .before .before in
-    let g = c .before .before .before .before .before .n .given in
-    let n = g .0 .1 .1 in
-    let w = headed-within (start (of-header h) .args .file .now) (g .0 .0) (g .0 .1 .0) (n .0) (n .1 .0) (n .1 .1 .0)
-    (h .header-at .ensures .within) (g .1) in
-    (w .1, (w .0, start (of-header h) .pre))
+    let h = after-n c .before .before in let g = after-n c .n .given in let n = g .0 .1 .1 in
+    let w = headed-within (start (h .before) .args .file .now) (g .0 .0) (g .0 .1 .0) (n .0) (n .1 .0) (n .1 .1 .0) (h .header-at .ensures .within)
+    (g .1) in
+    (w .1, (w .0, start (h .before) .pre))
 
 returns-3 : tie.Need-returns-3
 returns-3 c =

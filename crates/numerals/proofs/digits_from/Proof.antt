@@ -35,6 +35,16 @@ Inv-loop w from most stop v₀ at₀ v at = Reading w from most stop v at
 abbrev μ-loop : tie.MeasureT-loop
 μ-loop w from most stop v₀ at₀ v at = stop - at
 
+-- places of the code, each from a later one
+abbrev at-loop : tie.After-class-of Inv-loop μ-loop → tie.At-loop Inv-loop μ-loop
+at-loop c = c .before .before .before .before
+
+abbrev after-class-of : tie.After-enum-told Inv-loop μ-loop → tie.After-class-of Inv-loop μ-loop
+after-class-of c = c .before .before
+
+abbrev start : tie.At-loop Inv-loop μ-loop → tie.Start Inv-loop μ-loop
+start c = c .before .before .before
+
 -- no more digits, or no room for them
 module _ {w : List ℕ} {from most stop v at : ℕ} (r : Reading w from most stop v at) where
   done : (0 < digits (drop at w) → at ≡ from + most) → WrittenDigits w from most at v
@@ -77,40 +87,39 @@ loop-holds c =
 -- a byte below the digits is none
 returns : tie.Need-returns Inv-loop μ-loop
 returns c =
-    let w = c .before .before .before .before .before .before .args .w .now in
-    let l = c .before .before .before .loop in
+    let lo = c .before .before .before in let w = start lo .args .w .now in let l = lo .loop in
     let e = digits-stop w (l .at) (omega arith) (low-byte (getD w (l .at) 0) (c .if1 .taken)) in
     done (l .inv) (λ h. absurd (omega arith))
 
 returns-2 : tie.Need-returns-2 Inv-loop μ-loop
 returns-2 c =
-    let w = c .before .before .before .before .before .before .before .before .args .w .now in
-    let l = c .before .before .before .before .before .loop in
-    let d = by-keys (λ (k : Class). isDigit k ≡ false) (0 ∷ 1 ∷ 2 ∷ 4 ∷ 5 ∷ 6 ∷ 7 ∷ []) (c .before .class-of .ensures) (search needs) (c .match .keys2) in
-    let e = digits-stop w (l .at) (omega arith) d in
-    done (l .inv) (λ h. absurd (omega arith))
+    let w = start (at-loop (c .before)) .args .w .now in let l = at-loop (c .before) .loop in
+    let d = by-keys (λ (k : Class). isDigit k ≡ false) (0 ∷ 1 ∷ 2 ∷ 4 ∷ 5 ∷ 6 ∷ 7 ∷ []) (c .before .class-of .ensures) (search needs)
+    (c .match .keys2) in
+    let e = digits-stop w (l .at) (omega arith) d in done (l .inv) (λ h. absurd (omega arith))
 
 mul-v : tie.Need-mul-v Inv-loop μ-loop
-mul-v c = omega (arith, under (c .before .before .before .before .before .before .loop .inv))
+mul-v c = omega (arith, under (at-loop (after-class-of c) .loop .inv))
 
 cast-v : tie.Need-cast-v Inv-loop μ-loop
-cast-v c = omega (arith, c .before .before .before .before .shared-slice-known2 .given (c .before .before .before .before .before .before .loop .at))
+cast-v c = omega (arith, after-class-of c .before .before .shared-slice-known2 .given (at-loop (after-class-of c) .loop .at))
 
 add-v : tie.Need-add-v Inv-loop μ-loop
-add-v c = omega (
-  arith,
-  under (c .before .before .before .before .before .before .loop .inv),
-  c .before .before .before .before .shared-slice-known2 .given
-      (c .before .before .before .before .before .before .loop .at),
-)
+add-v c =
+    omega (
+      arith,
+      under (at-loop (after-class-of c) .loop .inv),
+      after-class-of c .before .before .shared-slice-known2 .given
+          (at-loop (after-class-of c) .loop .at),
+    )
 
 loop-again : tie.Need-loop-again Inv-loop μ-loop
 loop-again c =
-    let w = c .before .before .before .before .before .before .before .before .before .args .w .now in
-    let from = c .before .before .before .before .before .before .before .before .before .args .from in
-    let l = c .before .before .before .before .before .before .loop in
+    let w = start (at-loop (after-class-of c)) .args .w .now in
+    let from = start (at-loop (after-class-of c)) .args .from in
+    let l = at-loop (after-class-of c) .loop in
     let i = l .inv in
-    let d = by-keys (λ (k : Class). isDigit k ≡ true) (3 ∷ []) (c .before .before .class-of .ensures) (refl, tt) (c .before .match .keys1) in
+    let d = by-keys (λ (k : Class). isDigit k ≡ true) (3 ∷ []) (after-class-of c .class-of .ensures) (refl, tt) (c .before .match .keys1) in
     let t = turn w (l .at) (omega (arith, i .bound)) d in
     let e : (l .at + 1) - from ≡ suc (l .at - from) = omega arith in
     record {

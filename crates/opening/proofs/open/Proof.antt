@@ -23,6 +23,12 @@ of-verdict c = c .before .before .before .before
 abbrev of-state : tie.After-lay-level-0 → tie.After-put-standing
 of-state c = c .before .before .before .before .before .before .before .before
 
+abbrev after-fresh : tie.After-lay-level-0-arg5 → tie.After-fresh
+after-fresh c = c .before .before .before .before .before .before .before .before
+
+abbrev after-informed : tie.After-struct-known2 → tie.After-informed
+after-informed c = c .before .before
+
 abbrev tables : tie.Start → Tables
 tables c = tablesIn (c .args .c) (c .args .transition .now) (c .args .observation .now) (c .args .reward .now)
 
@@ -67,7 +73,7 @@ room c =
     )
 
 lay-level-0-requires : tie.Need-lay-level-0-requires
-lay-level-0-requires c κs = room (c .before .before .before .before .before .before .before .before)
+lay-level-0-requires c κs = room (after-fresh c)
 
 written : (c : tie.After-put-standing) → c .put-standing .last .0 ≡ 0 ∷ 1 ∷ 0 ∷ drop stateSize (start (of-verdict (c .before)) .args .state .now)
 written c =
@@ -99,7 +105,7 @@ clear-i64-requires : tie.Need-clear-i64-requires
 clear-i64-requires c κs = let f = of-state (of-laid c) .before in rows-room f .0
 
 clear-i64-requires-2 : tie.Need-clear-i64-requires-2
-clear-i64-requires-2 c κs = let f = of-state (of-level (c .before .before .before)) .before in rows-room f .1
+clear-i64-requires-2 c κs = let f = of-state (of-level (after-informed c .before)) .before in rows-room f .1
 
 returns-2 : tie.Need-returns-2
 returns-2 c =
@@ -119,7 +125,7 @@ pub open-spec : {M : Type 1} → statement M
 open-spec =
     tie.close (tie.spec (λ c κs. search needs) (λ c. search needs) (λ c. search needs) returns (λ c κs. search needs) put-standing-requires
     lay-level-0-requires (λ c. omega (arith, few (of-state (of-laid c) .before))) clear-i64-requires
-    (λ c. omega (arith, few (of-state (of-level (c .before .before .before)) .before))) clear-i64-requires-2
+    (λ c. omega (arith, few (of-state (of-level (after-informed c .before)) .before))) clear-i64-requires-2
     (λ c. of-state (of-level (of-informed c)) .put-standing .kept .0) (λ c. of-level (of-informed c) .lay-level-0 .kept .1 .1 .0)
     (λ c. of-level (of-informed c) .lay-level-0 .kept .1 .1 .1 .0) (λ c. of-level (of-informed c) .lay-level-0 .kept .1 .1 .1 .1 .0)
     (λ c. of-level (of-informed c) .lay-level-0 .kept .1 .1 .1 .1 .1 .0) (λ c. of-level (of-informed c) .lay-level-0 .kept .1 .1 .1 .1 .1 .1 .0)

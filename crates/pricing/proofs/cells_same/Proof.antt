@@ -10,11 +10,15 @@ Inv-loop cells new count i₀ i = (i ≤ count) × (every i (λ j. eqb (getD new
 abbrev μ-loop : tie.MeasureT-loop
 μ-loop cells new count i₀ i = count - i
 
+-- places of the code, each from a later one
+abbrev at-loop : tie.After-shared-slice-known2 Inv-loop μ-loop → tie.At-loop Inv-loop μ-loop
+at-loop c = c .before .before .before
+
 returns : tie.Need-returns Inv-loop μ-loop
-returns c = let l = c .before .before .before .before .loop in sym (every-not _ _ (l .i) (omega arith) (ne-eqb _ _ (c .if1 .taken)))
+returns c = let l = at-loop (c .before) .loop in sym (every-not _ _ (l .i) (omega arith) (ne-eqb _ _ (c .if1 .taken)))
 
 loop-again : tie.Need-loop-again Inv-loop μ-loop
-loop-again c = let l = c .before .before .before .before .loop in (omega arith, every-more _ _ (l .inv .1) (eq-eqb _ _ (c .if1 .left)))
+loop-again c = let l = at-loop (c .before) .loop in (omega arith, every-more _ _ (l .inv .1) (eq-eqb _ _ (c .if1 .left)))
 
 returns-2 : tie.Need-returns-2 Inv-loop μ-loop
 returns-2 c = let e : c .before .loop .i ≡ c .before .before .args .count = omega arith in sym (rw e at (c .before .loop .inv .1))

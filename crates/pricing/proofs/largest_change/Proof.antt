@@ -15,21 +15,19 @@ abbrev μ-loop : tie.MeasureT-loop
 
 apart-requires : tie.Need-apart-requires Inv-loop μ-loop
 apart-requires c κs =
-    let l = c .before .before .before in
-    let p = l .before .pre in
-    let i = l .loop .i in
+    let l = c .before .before .before in let p = l .before .pre in let i = l .loop .i in
     let below = c .before .before .loop-test .taken in
     rw (back _ (c .before .apart-arg .given), back _ (c .apart-arg2 .given)) (p .0 .within i below, p .1 .within i below)
 
 loop-again : tie.Need-loop-again Inv-loop μ-loop
 loop-again c =
-    let r = c .before in
-    let l = r .before .before .before .before in
+    let apa = c .before .before .before in let r = c .before in
+    let l = apa .before .before in
     let a = l .before .args in
     let i = l .loop .i in
     let f = changeAt (a .reward .now) (a .new .now) in
     let said : r .apart .result ≡ f i = r .apart .ensures ∙ rw (
-      back (getD (a .reward .now) i (pos 0)) (r .before .before .apart-arg .given),
+      back (getD (a .reward .now) i (pos 0)) (apa .apart-arg .given),
       back (getD (a .new .now) i (pos 0)) (r .before .apart-arg2 .given),
     ) in (
       omega arith,

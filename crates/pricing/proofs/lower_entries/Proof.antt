@@ -24,6 +24,9 @@ abbrev μ-loop : tie.MeasureT-loop
 abbrev start : tie.At-loop Inv-loop μ-loop → tie.Start Inv-loop μ-loop
 start c = c .before .before
 
+abbrev in-loop : tie.After-lowered Inv-loop μ-loop → tie.In-loop Inv-loop μ-loop
+in-loop c = c .before .before .before
+
 module _ (c : tie.At-loop Inv-loop μ-loop) where
   -- the slice is as long as it was, and the entry at hand is as it was
   long : length (c .loop .entries) ≡ length (start c .args .entries .now)
@@ -74,7 +77,7 @@ lowered-requires c κs =
 
 loop-again : tie.Need-loop-again Inv-loop μ-loop
 loop-again c =
-    let t = c .before .before .before in
+    let t = in-loop c in
     let a = start (t .before) .args in (
       omega arith,
       laid-turn (entry (a .n) (a .limit) (a .k) (a .masks .now) (a .entries .now)) (i t) (a .entries .now) (pos 0) (t .before .loop .inv .1)
@@ -95,5 +98,5 @@ lower-entries-spec =
     tie.close (tie.spec Inv-loop μ-loop mul-i-end (λ c. (omega arith, sym (laid-none _ _))) (λ c. start (c .before) .pre .0 .some-states)
     (λ c. omega (arith, vector-in c, start (c .before) .pre .0 .few-vectors))
     (λ c. omega (arith, vector-in (c .before), start (c .before .before) .pre .0 .masks-long)) (λ c. start (c .before .before) .pre .0 .some-states)
-    (λ c. few (c .before)) (λ c. stored (c .before)) lowered-requires (λ c. few (c .before .before .before)) (λ c. stored (c .before .before .before))
-    (λ c. omega arith) (λ c. omega arith) loop-again (λ c. long (c .before)) returns)
+    (λ c. few (c .before)) (λ c. stored (c .before)) lowered-requires (λ c. few (in-loop c)) (λ c. stored (in-loop c)) (λ c. omega arith)
+    (λ c. omega arith) loop-again (λ c. long (c .before)) returns)

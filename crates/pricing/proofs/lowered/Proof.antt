@@ -21,8 +21,7 @@ fallen-requires c κs =
 
 returns-2 : tie.Need-returns-2
 returns-2 c =
-    let a = c .before .before .before in
-    rw (is-covered (c .before)) (answer (c .fallen .ok) (c .fallen .ensures ∙ rw (toZ-ofZ (a .fits .x))))
+    let a = c .before .before .before in rw (is-covered (c .before)) (answer (c .fallen .ok) (c .fallen .ensures ∙ rw (toZ-ofZ (a .fits .x))))
 
 pub lowered-spec : {M : Type 1} → statement M
 lowered-spec = tie.close (tie.spec (λ c κs. search needs) returns fallen-requires returns-2)

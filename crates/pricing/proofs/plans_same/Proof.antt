@@ -34,12 +34,9 @@ transition-said : (c : tie.After-cells-same) → let a = start (c .before .befor
     c .cells-same .result ≡ cellsSame (a .c .actions) (a .c .states) (a .c .states) (cellIn (a .c .states) (a .c .states) (a .transition .now))
     (cellIn (a .new .states) (a .new .states) (a .newtransition .now))
 transition-said c =
-    let l = c .before .before .before in
-    let a = start l .args in
-    let e = same l in
-    c .cells-same .ensures
-    ∙ tables-same (a .c .actions) (a .c .states) (a .c .states) (a .new .states) (a .new .states) (a .transition .now) (a .newtransition .now) (e .states)
-    (e .states)
+    let l = c .before .before .before in let a = start l .args in let e = same l in
+    c .cells-same .ensures ∙ tables-same (a .c .actions) (a .c .states) (a .c .states) (a .new .states) (a .new .states) (a .transition .now)
+    (a .newtransition .now) (e .states) (e .states)
 
 returns : tie.Need-returns
 unfolding samePlans
@@ -48,8 +45,8 @@ returns c = fails _ (sym (c .before .counts-same .ensures) ∙ not-true _ (c .if
 returns-2 : tie.Need-returns-2
 unfolding samePlans
 returns-2 c =
-    let t = c .before in
-    holds-on (counted (t .before .before .before)) (fails _ (sym (transition-said t) ∙ not-true _ (c .if2 .taken)))
+    let p = c .before .before .before .before in let t = c .before in
+    holds-on (counted p) (fails _ (sym (transition-said t) ∙ not-true _ (c .if2 .taken)))
 
 returns-3 : tie.Need-returns-3
 unfolding samePlans

@@ -22,6 +22,9 @@ abbrev μ-loop : tie.MeasureT-loop
 abbrev start : tie.At-loop Inv-loop μ-loop → tie.Start Inv-loop μ-loop
 start c = c .before .before
 
+abbrev in-loop : tie.After-weights-total Inv-loop μ-loop → tie.In-loop Inv-loop μ-loop
+in-loop c = c .before .before
+
 module _ (c : tie.At-loop Inv-loop μ-loop) where
   -- the slice is as long as it was, and the value at hand is as it was
   long : length (c .loop .values) ≡ length (start c .args .values .now)
@@ -62,27 +65,22 @@ weights-total-requires c κs =
       s .pre .0 .few-states,
     )
 
-total-said : (c : tie.After-weights-total Inv-loop μ-loop) → c .weights-total .result ≡ total (c .before .before .before)
+total-said : (c : tie.After-weights-total Inv-loop μ-loop) → c .weights-total .result ≡ total (in-loop c .before)
 total-said c =
-    let a = start (c .before .before .before) .args in
+    let a = start (in-loop c .before) .args in
     c .weights-total .ensures ∙ ap (λ (z : ℕ). totalTo (a .n) (λ s. getD (a .weights .now) (z + s) 0)) (c .before .start .ensures)
 
-limit-fits : (c : tie.After-weights-total Inv-loop μ-loop) → Fits w64 (c .weights-total .result * start (c .before .before .before) .args .limit)
-limit-fits c =
-    omega (arith, ap (λ (z : ℕ). z * start (c .before .before .before) .args .limit) (total-said c), limit-few (c .before .before))
+limit-fits : (c : tie.After-weights-total Inv-loop μ-loop) → Fits w64 (c .weights-total .result * start (in-loop c .before) .args .limit)
+limit-fits c = omega (arith, ap (λ (z : ℕ). z * start (in-loop c .before) .args .limit) (total-said c), limit-few (in-loop c))
 
-move-fits : (c : tie.After-weights-total Inv-loop μ-loop) → Fits w64 (c .weights-total .result * start (c .before .before .before) .args .k)
-move-fits c = omega (arith, ap (λ (z : ℕ). z * start (c .before .before .before) .args .k) (total-said c), move-few (c .before .before))
+move-fits : (c : tie.After-weights-total Inv-loop μ-loop) → Fits w64 (c .weights-total .result * start (in-loop c .before) .args .k)
+move-fits c = omega (arith, ap (λ (z : ℕ). z * start (in-loop c .before) .args .k) (total-said c), move-few (in-loop c))
 
 risen-requires : tie.Need-risen-requires Inv-loop μ-loop
 risen-requires c κs =
-    let t = c .before .before .before in
-    let l = t .before in
-    let p = start l .pre in
-    rw (total-said (c .before), back _ (c .risen-arg .given), here l) (
-      omega (arith, limit-few t),
-      (omega (arith, move-few t), omega (arith, limit-few t, p .0 .value (l .loop .i) (t .loop-test .taken))),
-    )
+    let t = in-loop (c .before) in let l = t .before in let p = start l .pre in
+    rw (total-said (c .before), back _ (c .risen-arg .given), here l)
+    (omega (arith, limit-few t), (omega (arith, move-few t), omega (arith, limit-few t, p .0 .value (l .loop .i) (t .loop-test .taken))))
 
 loop-again : tie.Need-loop-again Inv-loop μ-loop
 loop-again c =
@@ -105,7 +103,7 @@ returns c =
 
 pub raise-values-spec : {M : Type 1} → statement M
 raise-values-spec =
-    tie.close (tie.spec Inv-loop μ-loop (λ c. (omega arith, sym (laid-none _ _))) start-requires weights-total-requires
-    (λ c. limit-fits c) (λ c. few (c .before .before)) (λ c. stored (c .before .before))
-    (λ c. move-fits (c .before)) risen-requires (λ c. few (c .before .before .before .before))
-    (λ c. stored (c .before .before .before .before)) (λ c. omega arith) (λ c. omega arith) loop-again (λ c. long (c .before)) returns)
+    tie.close (tie.spec Inv-loop μ-loop (λ c. (omega arith, sym (laid-none _ _))) start-requires weights-total-requires (λ c. limit-fits c)
+    (λ c. few (c .before .before)) (λ c. stored (c .before .before)) (λ c. move-fits (c .before)) risen-requires
+    (λ c. few (in-loop (c .before .before))) (λ c. stored (in-loop (c .before .before))) (λ c. omega arith) (λ c. omega arith) loop-again
+    (λ c. long (c .before)) returns)

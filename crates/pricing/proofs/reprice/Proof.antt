@@ -96,15 +96,11 @@ range-of-requires c κs =
     levels-few (tables s) (certifier s []) (passed (c .before) .standing) (c .standing-in .ensures)
 
 mul-cells : tie.Need-mul-cells
-mul-cells c =
-    let v = passed (c .before .before .before) .standing .valid-tables in
-    omega (arith, mul-le-mul (v .few-actions) (v .few-states))
+mul-cells c = let v = passed (c .before .before .before) .standing .valid-tables in omega (arith, mul-le-mul (v .few-actions) (v .few-states))
 
 largest-change-requires : tie.Need-largest-change-requires
 largest-change-requires c κs =
-    let t = c .before .before .before in
-    let s = start (of-verdict t) in
-    let p = passed t in
+    let t = c .before .before .before in let s = start (of-verdict t) in let p = passed t in
     (rewards-within (tables s) (p .standing .valid-tables) (p .standing .stored-tables), new-within (tables s) (certifier s []) (new s) p)
 
 change-small : (c : tie.After-largest-change) → c .largest-change .result ≤ 2 * maxReward

@@ -35,6 +35,9 @@ of-vector c = c .before .before
 abbrev start : tie.In-vectors Inv-loop μ-loop Inv-vectors μ-vectors → tie.Start Inv-loop μ-loop Inv-vectors μ-vectors
 start c = c .before .before .before
 
+abbrev at-loop : tie.After-within Inv-loop μ-loop Inv-vectors μ-vectors → tie.At-loop Inv-loop μ-loop Inv-vectors μ-vectors
+at-loop c = c .before .before .before
+
 vectors-holds : tie.Need-vectors-holds Inv-loop μ-loop Inv-vectors μ-vectors
 vectors-holds c = (omega arith, (refl, first-none _))
 
@@ -52,15 +55,14 @@ within-requires : tie.Need-within-requires Inv-loop μ-loop Inv-vectors μ-vecto
 within-requires c κs = start (of-vector (c .before)) .pre .0 .1 .1
 
 -- the test, of the entry where it is covered
-said : (c : tie.After-within Inv-loop μ-loop Inv-vectors μ-vectors) →
-    let t = of-vector (c .before .before) in
-    let a = start t .args in
-    c .within .result ≡ leb (natAbs (maskedIn (a .n) (a .masks .now) (a .entries .now) (t .before .vectors .v) (c .before .before .before .loop .s))) (a .limit)
+said : (c : tie.After-within Inv-loop μ-loop Inv-vectors μ-vectors)
+    → let t = at-loop c .before in let a = start t .args in
+    c .within .result ≡ leb (natAbs (maskedIn (a .n) (a .masks .now) (a .entries .now) (t .before .vectors .v) (at-loop c .loop .s))) (a .limit)
 said c = c .within .ensures ∙ rw (answer (c .before .entry-at .ok) (c .before .entry-at .ensures))
 
 loop-again : tie.Need-loop-again Inv-loop μ-loop Inv-vectors μ-vectors
 loop-again c =
-    let inv = c .before .before .before .before .loop .inv in
+    let inv = at-loop (c .before) .loop .inv in
     (omega arith, (inv .1 .0, first-more _ _ (inv .1 .1) (passed _ _ (sym (said (c .before)) ∙ not-false _ (c .if1 .left)))))
 
 vectors-again : tie.Need-vectors-again Inv-loop μ-loop Inv-vectors μ-vectors
@@ -78,12 +80,9 @@ returns c =
 returns-2 : tie.Need-returns-2 Inv-loop μ-loop Inv-vectors μ-vectors
 unfolding rowsWithin
 returns-2 c =
-    let l = c .before .before .before .before in
-    let t = l .before .before in
-    sym
-    (first-here _ _ (t .vectors .v) (omega arith) (t .vectors .inv .1 .1)
-    (first-here _ _ (l .loop .s) (omega arith) (l .loop .inv .1 .1)
-    (failed _ _ (sym (said (c .before)) ∙ not-true _ (c .if1 .taken)))))
+    let l = at-loop (c .before) in let t = l .before .before in
+    sym (first-here _ _ (t .vectors .v) (omega arith) (t .vectors .inv .1 .1)
+    (first-here _ _ (l .loop .s) (omega arith) (l .loop .inv .1 .1) (failed _ _ (sym (said (c .before)) ∙ not-true _ (c .if1 .taken)))))
 
 pub entries-within-spec : {M : Type 1} → statement M
 entries-within-spec =

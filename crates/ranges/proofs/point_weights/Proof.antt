@@ -18,15 +18,13 @@ loop-holds c = (search needs, sym (padded-none _ _ _))
 
 stored : tie.Need-shared-slice-read-weight Inv-loop μ-loop
 stored c =
-    let a = c .before .before .before .before .before in
-    rw (c .before .row .ensures .0) (row-stored (a .args .n) (a .args .i) (c .before .before .before .loop .s) (omega arith) (a .pre .1))
+    let l = c .before .before .before in let a = l .before .before in
+    rw (c .before .row .ensures .0) (row-stored (a .args .n) (a .args .i) (l .loop .s) (omega arith) (a .pre .1))
 
 loop-again : tie.Need-loop-again Inv-loop μ-loop
-loop-again c = (
-  search needs,
-  padded-turn _ _ _ _ (c .before .before .before .before .loop .inv .1)
-      (c .weight .ensures ∙ rw (c .before .before .row .ensures .0)) (omega arith),
-)
+loop-again c =
+    let l = c .before .before .before .before in
+    (search needs, padded-turn _ _ _ _ (l .loop .inv .1) (c .weight .ensures ∙ rw (c .before .before .row .ensures .0)) (omega arith))
 
 returns : tie.Need-returns Inv-loop μ-loop
 returns c = let e : c .before .loop .s ≡ c .before .before .before .args .n = omega arith in rw e at (c .before .loop .inv .1)

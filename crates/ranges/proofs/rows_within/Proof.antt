@@ -27,13 +27,20 @@ Inv-rows cells rows w limit number found₀ i₀ found i =
 abbrev μ-rows : tie.MeasureT-rows
 μ-rows cells rows w limit number found₀ i₀ found i = rows - i
 
+-- places of the code, each from a later one
+abbrev at-loop : tie.After-within-arg Inv-loop μ-loop Inv-rows μ-rows → tie.At-loop Inv-loop μ-loop Inv-rows μ-rows
+at-loop c = c .before .before .before
+
+abbrev start : tie.After-within-arg Inv-loop μ-loop Inv-rows μ-rows → tie.Start Inv-loop μ-loop Inv-rows μ-rows
+start c = c .before .before .before .before .before .before
+
 -- the row lies in the cells
 row-here : (c : tie.In-loop Inv-loop μ-loop Inv-rows μ-rows) →
     let a = c .before .before .before .before .args in c .before .before .before .rows .i * a .w + c .before .loop .x < length (a .cells .now)
 row-here c =
-    let a = c .before .before .before .before in
-    row-stored (a .args .w) (c .before .before .before .rows .i) (c .before .loop .x) (omega arith)
-    (rows-stored (a .args .w) (c .before .before .before .rows .i) (a .args .rows) (omega arith) (a .pre .1))
+    let r = c .before .before .before in let a = r .before in
+    row-stored (a .args .w) (r .rows .i) (c .before .loop .x) (omega arith)
+    (rows-stored (a .args .w) (r .rows .i) (a .args .rows) (omega arith) (a .pre .1))
 
 rows-holds : tie.Need-rows-holds Inv-loop μ-loop Inv-rows μ-rows
 rows-holds c = (omega arith, (refl, first-none _))
@@ -45,28 +52,28 @@ stored : tie.Need-shared-slice-copy-out-within Inv-loop μ-loop Inv-rows μ-rows
 stored c = rw (c .row .ensures .0) (row-here (c .before))
 
 within-requires : tie.Need-within-requires Inv-loop μ-loop Inv-rows μ-rows
-within-requires c κs = c .before .before .before .before .before .before .pre .0 .1 .1
+within-requires c κs = start c .pre .0 .1 .1
 
 -- the test, by the number's own place
 said : (c : tie.After-within Inv-loop μ-loop Inv-rows μ-rows) →
-    let a = c .before .before .before .before .before .before .before .args in c .within .result ≡ leb
-    (natAbs (getD (a .cells .now) (c .before .before .before .before .before .before .rows .i * a .w + c .before .before .before .before .loop .x) (pos 0)))
-    (a .limit)
+    let l = c .before .before .before .before in let r = l .before .before in let a = r .before .args in
+    c .within .result ≡ leb (natAbs (getD (a .cells .now) (r .rows .i * a .w + l .loop .x) (pos 0))) (a .limit)
 said c = c .within .ensures ∙ rw (back _ (c .before .within-arg .given), c .before .before .row .ensures .0)
 
 loop-again : tie.Need-loop-again Inv-loop μ-loop Inv-rows μ-rows
 loop-again c = (
   omega arith,
   (
-    c .before .before .before .before .before .loop .inv .1 .0,
-    first-more _ _ (c .before .before .before .before .before .loop .inv .1 .1) (passed _ _ (sym (said (c .before)) ∙ not-false _ (c .if1 .left))),
+    at-loop (c .before .before) .loop .inv .1 .0,
+    first-more _ _ (at-loop (c .before .before) .loop .inv .1 .1)
+        (passed _ _ (sym (said (c .before)) ∙ not-false _ (c .if1 .left))),
   ),
 )
 
 rows-again : tie.Need-rows-again Inv-loop μ-loop Inv-rows μ-rows
 rows-again c =
-    let e : c .before .loop .x ≡ c .before .before .before .before .args .w = omega arith in
-    (omega arith, (c .before .loop .inv .1 .0, first-more _ _ (c .before .before .before .rows .inv .1 .1) (rw e at (c .before .loop .inv .1 .1))))
+    let r = c .before .before .before in let e : c .before .loop .x ≡ r .before .args .w = omega arith in
+    (omega arith, (c .before .loop .inv .1 .0, first-more _ _ (r .rows .inv .1 .1) (rw e at (c .before .loop .inv .1 .1))))
 
 returns : tie.Need-returns Inv-loop μ-loop Inv-rows μ-rows
 unfolding rowsWithin
@@ -77,11 +84,9 @@ returns c =
 returns-2 : tie.Need-returns-2 Inv-loop μ-loop Inv-rows μ-rows
 unfolding rowsWithin
 returns-2 c =
-    let t = c .before .before .before .before .before in
-    sym
-    (first-here _ _ (t .before .before .rows .i) (omega arith) (t .before .before .rows .inv .1 .1)
-    (first-here _ _ (t .loop .x) (omega arith) (t .loop .inv .1 .1)
-    (failed _ _ (sym (said (c .before)) ∙ not-true _ (c .if1 .taken)))))
+    let t = at-loop (c .before .before) in
+    sym (first-here _ _ (t .before .before .rows .i) (omega arith) (t .before .before .rows .inv .1 .1)
+    (first-here _ _ (t .loop .x) (omega arith) (t .loop .inv .1 .1) (failed _ _ (sym (said (c .before)) ∙ not-true _ (c .if1 .taken)))))
 
 pub rows-within-spec : {M : Type 1} → statement M
 rows-within-spec =

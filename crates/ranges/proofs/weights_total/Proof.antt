@@ -13,8 +13,8 @@ abbrev μ-loop : tie.MeasureT-loop
 -- a weight fits 32 bits
 more : (c : tie.After-weight Inv-loop μ-loop) → c .weight .result ≤ 4_294_967_295
 more c =
-    let at = c .before .before .before .before .before .args .at in
-    omega (arith, c .weight .ensures, c .before .shared-slice-known2 .given (at + c .before .before .before .loop .s))
+    let l = c .before .before .before in let at = l .before .before .args .at in
+    omega (arith, c .weight .ensures, c .before .shared-slice-known2 .given (at + l .loop .s))
 
 loop-holds : tie.Need-loop-holds Inv-loop μ-loop
 loop-holds c = (omega arith, (sym (total-none _), omega arith))
@@ -23,13 +23,10 @@ add-sum : tie.Need-add-sum Inv-loop μ-loop
 add-sum c = omega (arith, more c)
 
 loop-again : tie.Need-loop-again Inv-loop μ-loop
-loop-again c =
-    (omega arith, (rw (c .weight .ensures) (total-step _ _ (c .before .before .before .loop .inv .1 .0)), omega (arith, more c)))
+loop-again c = (omega arith, (rw (c .weight .ensures) (total-step _ _ (c .before .before .before .loop .inv .1 .0)), omega (arith, more c)))
 
 returns : tie.Need-returns Inv-loop μ-loop
-returns c =
-    let e : c .before .loop .s ≡ c .before .before .before .args .n = omega arith in
-    rw e at (c .before .loop .inv .1 .0)
+returns c = let e : c .before .loop .s ≡ c .before .before .before .args .n = omega arith in rw e at (c .before .loop .inv .1 .0)
 
 pub weights-total-spec : {M : Type 1} → statement M
 weights-total-spec =

@@ -44,13 +44,11 @@ said c =
 
 returns : tie.Need-returns Inv-loop μ-loop
 returns c =
-    let t = turn (c .before .before .before) in
-    sym (every-not _ _ (t .loop .o) (omega arith) (sym (said (c .before)) ∙ not-true _ (c .if1 .taken)))
+    let t = turn (c .before .before .before) in sym (every-not _ _ (t .loop .o) (omega arith) (sym (said (c .before)) ∙ not-true _ (c .if1 .taken)))
 
 loop-again : tie.Need-loop-again Inv-loop μ-loop
 loop-again c =
-    let t = turn (c .before .before .before) in
-    (omega arith, every-more _ _ (t .loop .inv .1) (sym (said (c .before)) ∙ not-false _ (c .if1 .left)))
+    let t = turn (c .before .before .before) in (omega arith, every-more _ _ (t .loop .inv .1) (sym (said (c .before)) ∙ not-false _ (c .if1 .left)))
 
 returns-2 : tie.Need-returns-2 Inv-loop μ-loop
 returns-2 c =

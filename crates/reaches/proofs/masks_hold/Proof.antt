@@ -68,16 +68,13 @@ said c =
 returns : tie.Need-returns Inv-loop μ-loop
 unfolding masksVerdict
 returns c =
-    let t = turn (c .before .before .before) in
-    sym (first-here _ _ (t .before .loop .v) (t .loop-test .taken) (t .before .loop .inv .1)
-    (failed _ _ (sym (said (c .before)) ∙ not-true _ (c .if1 .taken))))
+    let l = turn (c .before .before .before) .before in let t = turn (c .before .before .before) in
+    sym (first-here _ _ (l .loop .v) (t .loop-test .taken) (l .loop .inv .1) (failed _ _ (sym (said (c .before)) ∙ not-true _ (c .if1 .taken))))
 
 loop-again : tie.Need-loop-again Inv-loop μ-loop
 loop-again c =
-    let t = turn (c .before .before .before) in (
-      omega (arith, t .loop-test .taken),
-      first-more _ _ (t .before .loop .inv .1) (passed _ _ (sym (said (c .before)) ∙ not-false _ (c .if1 .left))),
-    )
+    let t = turn (c .before .before .before) in
+    (omega (arith, t .loop-test .taken), first-more _ _ (t .before .loop .inv .1) (passed _ _ (sym (said (c .before)) ∙ not-false _ (c .if1 .left))))
 
 returns-2 : tie.Need-returns-2 Inv-loop μ-loop
 unfolding masksVerdict

@@ -30,6 +30,9 @@ abbrev μ-loop : tie.MeasureT-loop
 abbrev start : tie.At-loop Inv-loop μ-loop → tie.Start Inv-loop μ-loop
 start c = c .before .before .before .before .before .before .before .before
 
+abbrev start-of-after-shared-slice-known5 : tie.After-shared-slice-known5 Inv-loop μ-loop → tie.Start Inv-loop μ-loop
+start-of-after-shared-slice-known5 c = c .before .before .before .before .before
+
 -- what is asked state by state is the definition
 regrouped : (c : tie.Start Inv-loop μ-loop)
     → let a = c .args in
@@ -44,16 +47,14 @@ regrouped c =
 
 chosen-cover-requires : tie.Need-chosen-cover-requires Inv-loop μ-loop
 chosen-cover-requires c κs =
-    let p = c .before .before .before .before .before .pre in
-    ((p .0 .0, (p .0 .1 .few-states, p .0 .1 .few-observations)), p .1 .0)
+    let p = start-of-after-shared-slice-known5 c .pre in ((p .0 .0, (p .0 .1 .few-states, p .0 .1 .few-observations)), p .1 .0)
 
 returns : tie.Need-returns Inv-loop μ-loop
 returns c =
-    let a = c .before .before .before .before .before .before .before .args in
+    let a = start-of-after-shared-slice-known5 (c .before .before) .args in
     sym (reached-all (a .n) (a .k) (λ s s'. transitionIn (a .n) (a .transition .now) s (a .a .0) s')
-    (observationIn (a .n) (a .k) (a .observation .now) (a .a .0))
-    (λ o. coveredIn (a .masks .now) (choiceIn (a .k) (a .choices .now) (a .v .0) o)) (covered (a .mask))
-    (sym (c .before .chosen-cover .ensures) ∙ c .if1 .taken))
+    (observationIn (a .n) (a .k) (a .observation .now) (a .a .0)) (λ o. coveredIn (a .masks .now) (choiceIn (a .k) (a .choices .now) (a .v .0) o))
+    (covered (a .mask)) (sym (c .before .chosen-cover .ensures) ∙ c .if1 .taken))
 
 reached-by-requires : tie.Need-reached-by-requires Inv-loop μ-loop
 reached-by-requires c κs =
@@ -73,11 +74,9 @@ refuses e f = rw (e, f) refl
 
 returns-2 : tie.Need-returns-2 Inv-loop μ-loop
 returns-2 c =
-    let turn = c .before .before .before .before in
-    sym (regrouped (start (turn .before))
-    ∙ every-not _ _ (turn .before .loop .to) (turn .loop-test .taken)
-    (refuses (sym (c .before .before .before .reached-by .ensures) ∙ c .before .before .if2 .taken)
-    (sym (c .before .seen-covered .ensures) ∙ not-true _ (c .if3 .taken))))
+    let re = c .before .before .before in let turn = re .before in
+    sym (regrouped (start (turn .before)) ∙ every-not _ _ (turn .before .loop .to) (turn .loop-test .taken)
+    (refuses (sym (re .reached-by .ensures) ∙ c .before .before .if2 .taken) (sym (c .before .seen-covered .ensures) ∙ not-true _ (c .if3 .taken))))
 
 loop-again : tie.Need-loop-again Inv-loop μ-loop
 loop-again c =

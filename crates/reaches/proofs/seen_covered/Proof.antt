@@ -53,21 +53,21 @@ unseen {w} {x} b saw none = rw (eq-eqb x 0 (omega arith)) refl
 
 returns : tie.Need-returns Inv-loop μ-loop
 returns c =
-    let chosen = c .before .before .before in
-    let o = turn chosen .loop .o in
-    sym (every-not _ _ o (omega arith)
-    (said-not (covers-it (turn chosen)) (chosen .before .before .observation-at .ensures) (chosen .before .if1 .taken) (chosen .choice-at .ensures)
+    let p = c .before .before .before .before in let l = p .before .before .before in
+    let chosen = c .before .before .before in let o = l .loop .o in
+    sym (every-not _ _ o (omega arith) (said-not (covers-it l) (p .before .observation-at .ensures) (p .if1 .taken) (chosen .choice-at .ensures)
     (c .before .covers .ensures) (not-true _ (c .if2 .taken))))
 
 loop-again : tie.Need-loop-again Inv-loop μ-loop
-loop-again c = (
-  omega arith,
-  every-more _ _ (c .before .before .before .loop .inv .1)
-      (⊎-elim
-      (λ w. said-so (covers-it (c .before .before .before)) (weight (c .before .before .before)) (w .1 .ensures) (w .3 .ensures) (not-false _ (w .4 .left)))
-      (λ w. unseen _ (c .before .observation-at .ensures) (w .left))
-      (c .if1 .came)),
-)
+loop-again c =
+    let l = c .before .before .before in (
+      omega arith,
+      every-more _ _ (l .loop .inv .1)
+          (⊎-elim
+          (λ w. said-so (covers-it l) (weight l) (w .1 .ensures) (w .3 .ensures) (not-false _ (w .4 .left)))
+          (λ w. unseen _ (c .before .observation-at .ensures) (w .left))
+          (c .if1 .came)),
+    )
 
 returns-2 : tie.Need-returns-2 Inv-loop μ-loop
 returns-2 c =

@@ -37,6 +37,15 @@ of-rewards c = c .before .before .before .before .before
 abbrev of-start : tie.After-paste-u163 → tie.After-paste-i64
 of-start c = c .before .before .before .before
 
+abbrev after-c : tie.After-struct-known2 → tie.After-c
+after-c c = c .before .before .before .before .before .before .before .before .before .before
+
+abbrev after-t2 : tie.After-refusal → tie.After-t2
+after-t2 c = c .before .before .before .before .before .before
+
+abbrev after-paste-u16-arg : tie.After-r3 → tie.After-paste-u16-arg
+after-paste-u16-arg c = c .before .before .before .before .before .before .before .before .before .before .before .before
+
 -- ---- what was read
 
 -- in the arrays that it was read into
@@ -74,15 +83,13 @@ stored c = stored-true _ (opens (lent (of-file c)) (start (of-file c) .args .fil
 
 returns : tie.Need-returns
 returns c =
-    let f = c .before .before .before .before .before .before .before in
-    let g = c .before .enum-told2 .given .1 in
+    let f = after-t2 c .before in let g = c .before .enum-told2 .given .1 in
     let e = refused-file (file f) (start f .args .start .now) (sym (ap (λ (r : TablesRead). r .verdict) (f .read .ensures .0)) ∙ g) in
     (rw e (c .refusal .ensures ∙ ap refusing g), (rw e, (rw e, (rw e, rw e))))
 
 returns-2 : tie.Need-returns-2
 returns-2 c =
-    let t = c .before .before .before in
-    let f = of-file t in
+    let t = c .before .before .before in let f = of-file t in
     let e = short-start (same t) (t .enum-told .given .1) (start f .args .start .now) (c .before .if1 .taken) in
     (rw e (c .refusal2 .ensures), (rw e, (rw e, (rw e, rw e))))
 
@@ -94,26 +101,21 @@ mul-paste-u16 c = omega (arith, few (of-fine (c .before .before .before)) .trans
 
 paste-u16-requires : tie.Need-paste-u16-requires
 paste-u16-requires c κs =
-    let t = of-fine (c .before .before .before) in
-    (omega (arith, stored t .transitions), rw (long (of-file t) .transition) (few t .transitions))
+    let t = of-fine (c .before .before .before) in (omega (arith, stored t .transitions), rw (long (of-file t) .transition) (few t .transitions))
 
 mul-paste-u16-2 : tie.Need-mul-paste-u16-2
-mul-paste-u16-2 c = omega (arith, few (of-fine (of-transitions (c .before .before .before .before .before))) .observed)
+mul-paste-u16-2 c = omega (arith, few (after-c c .before) .observed)
 
 paste-u16-requires-2 : tie.Need-paste-u16-requires-2
-paste-u16-requires-2 c κs =
-    let t = of-fine (of-transitions (c .before .before .before .before .before)) in
-    (omega (arith, stored t .observed), rw (long (of-file t) .observation) (few t .observed))
+paste-u16-requires-2 c κs = let t = after-c c .before in (omega (arith, stored t .observed), rw (long (of-file t) .observation) (few t .observed))
 
 paste-i64-requires : tie.Need-paste-i64-requires
 paste-i64-requires c κs =
-    let t = of-fine (of-transitions (of-observations (c .before .before .before .before))) in
-    (omega (arith, stored t .rewards), rw (long (of-file t) .reward) (few t .rows))
+    let t = of-fine (after-paste-u16-arg c .before .before) in (omega (arith, stored t .rewards), rw (long (of-file t) .reward) (few t .rows))
 
 paste-u16-requires-3 : tie.Need-paste-u16-requires-3
 paste-u16-requires-3 c κs =
-    let s = of-transitions (of-observations (of-rewards (c .before .before .before))) in
-    let t = of-fine s in
+    let s = of-transitions (of-observations (of-rewards (c .before .before .before))) in let t = of-fine s in
     (omega (arith, s .if1 .left), omega (arith, start-long (of-file t), valid t .few-states))
 
 returns-3 : tie.Need-returns-3

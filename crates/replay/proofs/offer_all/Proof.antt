@@ -32,6 +32,9 @@ in-turn c = c .before .before .before .before .before .before .before .before .b
 abbrev of-offer : tie.After-qmdp Inv-loop μ-loop → tie.After-offer-block Inv-loop μ-loop
 of-offer c = c .before .before .before .before .before .before .before .before .before .before .before .before .before .before .before
 
+abbrev after-offer-block-arg : tie.After-offer-block-arg10 Inv-loop μ-loop → tie.After-offer-block-arg Inv-loop μ-loop
+after-offer-block-arg c = c .before .before .before .before .before .before .before .before .before
+
 -- the certifier at the loop, and after a turn
 abbrev looped : tie.At-loop Inv-loop μ-loop → Lent
 looped c =
@@ -68,9 +71,7 @@ loop-holds : tie.Need-loop-holds Inv-loop μ-loop
 loop-holds c = (omega arith, (same-lengths _, running-none _ _ _))
 
 offer-block-requires : tie.Need-offer-block-requires Inv-loop μ-loop
-offer-block-requires c κs =
-    let t = c .before .before .before .before .before .before .before .before .before .before in
-    packs-less (t .loop-test .taken) (start (t .before) .pre)
+offer-block-requires c κs = let t = after-offer-block-arg c .before in packs-less (t .loop-test .taken) (start (t .before) .pre)
 
 -- the turn is one of a count that fits
 few-left : (c : tie.In-loop Inv-loop μ-loop) → (c .before .loop .i < start (c .before) .args .count) × (start (c .before) .args .count < 2 ^ 64)

@@ -9,6 +9,10 @@ use Rattle.replay.proofs.Runs.{list-packs, refused, given}
 use Rattle.replay.proofs.replay.Statement.{statement}
 use Rattle.replay.proofs.replay.Tie as tie
 
+-- places of the code, each from a later one
+abbrev after-offer-all-arg : tie.After-offer-all-arg10 → tie.After-offer-all-arg
+after-offer-all-arg c = c .before .before .before .before .before .before .before .before .before
+
 -- from each place to the one before it
 abbrev start : tie.After-judge-list → tie.Start
 start c =
@@ -63,9 +67,7 @@ returns c =
 
 offer-all-requires : tie.Need-offer-all-requires
 offer-all-requires c κs =
-    let e = c .before .before .before .before .before .before .before .before .before .before in
-    let s = start (of-verdict e) in
-    list-packs (tables s) (certifier s) (offers s) (s .args .count) (fine e)
+    let e = after-offer-all-arg c .before in let s = start (of-verdict e) in list-packs (tables s) (certifier s) (offers s) (s .args .count) (fine e)
 
 returns-2 : tie.Need-returns-2
 returns-2 c =

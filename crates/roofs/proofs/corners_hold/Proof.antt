@@ -29,8 +29,14 @@ start k = k .before .before .before .before .before .before .before
 abbrev of-covers : tie.After-covers Inv-loop μ-loop → tie.In-loop Inv-loop μ-loop
 of-covers c = c .before .before .before .before .before .before .before
 
+abbrev after-corner-weights : tie.After-backups Inv-loop μ-loop → tie.After-corner-weights Inv-loop μ-loop
+after-corner-weights c = c .before .before .before .before
+
+abbrev start-of-after-shared-slice-known4 : tie.After-shared-slice-known4 Inv-loop μ-loop → tie.Start Inv-loop μ-loop
+start-of-after-shared-slice-known4 c = c .before .before .before .before
+
 gains-requires : tie.Need-gains-requires Inv-loop μ-loop
-gains-requires c κs = let h = c .before .before .before .before .pre .0 in (h .valid .few-states, (corners-fit h, (points-fit h, values-fit h)))
+gains-requires c κs = let h = start-of-after-shared-slice-known4 c .pre .0 in (h .valid .few-states, (corners-fit h, (points-fit h, values-fit h)))
 
 below : (k : tie.In-loop Inv-loop μ-loop) → k .before .loop .s < maxStates
 below k = omega (arith, k .loop-test .taken, start k .pre .0 .valid .few-states)
@@ -41,29 +47,29 @@ gains-long c =
     sym (rw (k .before .before .gains .ensures) (padded-length 0 maxPoints _ _ (start k .pre .0 .shaped .few-points)))
 
 weights-long : tie.Need-slice-aggregate-backups-at-2 Inv-loop μ-loop
-weights-long c = sym (corner-long (c .before .before .before .before .loop .s) (c .before .before .corner-weights .ensures))
+weights-long c = let l = c .before .before .before .before in sym (corner-long (l .loop .s) (c .before .before .corner-weights .ensures))
 
 backups-at-requires : tie.Need-backups-at-requires Inv-loop μ-loop
 backups-at-requires c κs =
-    let k = c .before .before .before in
+    let g = c .before .before .before .before .before in let k = c .before .before .before in
     let h = start k .pre .0 in (
-      roof-holds h (k .before .before .gains .ensures),
+      roof-holds h (g .gains .ensures),
       (corner-light (c .before .before .corner-weights .ensures) (k .loop-test .taken) (h .valid .few-states), start k .pre .1 .1),
     )
 
 long : tie.Need-slice-aggregate-covers Inv-loop μ-loop
 long c =
-    let k = c .before .before .before .before .before in
+    let k = after-corner-weights c .before in
     sym (backups-long (start k .pre .0) (k .before .before .gains .ensures) _ (c .before .backups-at .ensures))
 
 stored : tie.Need-shared-slice-copy-out-covers Inv-loop μ-loop
-stored c = let k = c .before .before .before .before .before in omega (arith, k .loop-test .taken, start k .pre .1 .0 .long)
+stored c = let k = after-corner-weights c .before in omega (arith, k .loop-test .taken, start k .pre .1 .0 .long)
 
 covers-requires : tie.Need-covers-requires Inv-loop μ-loop
 covers-requires c κs =
-    let k = c .before .before .before .before .before .before in
+    let g = after-corner-weights (c .before) .before .before .before in let k = after-corner-weights (c .before) .before in
     let a = start k in (
-      omega (arith, a .pre .0 .valid .few-actions, backups-long (a .pre .0) (k .before .before .gains .ensures) _ (c .before .before .backups-at .ensures)),
+      omega (arith, a .pre .0 .valid .few-actions, backups-long (a .pre .0) (g .gains .ensures) _ (c .before .before .backups-at .ensures)),
       rw (back (getD (a .args .offered .now) (k .before .loop .s) (pos 0)) (c .covers-arg .given))
           (omega (arith, a .pre .1 .0 .corner (k .before .loop .s) (k .loop-test .taken))),
     )
@@ -75,10 +81,10 @@ said : (c : tie.After-covers Inv-loop μ-loop) → let a = start (of-covers c) .
     ≡ coversBackups (modelIn (a .c) (a .transition .now) (a .observation .now) (a .reward .now))
     (roofIn (a .c .states) (a .corners .now) (a .points) (a .weights .now) (a .values .now)) (corner-weight s) (cornerIn (a .offered .now) s)
 said c =
-    let k = of-covers c in
-    covers-by _ _ (λ i b. corner-at (c .before .before .before .before .before .before .corner-weights .ensures) (below k) i)
+    let k = of-covers c in let b = c .before .before .before in let w = b .before .before .before in
+    covers-by _ _ (λ i l. corner-at (w .corner-weights .ensures) (below k) i)
     (back _ (c .before .covers-arg .given))
-    (covers-said (start k .pre .0) (k .before .before .gains .ensures) _ (c .before .before .before .backups-at .ensures) _ (c .covers .ensures))
+    (covers-said (start k .pre .0) (k .before .before .gains .ensures) _ (b .backups-at .ensures) _ (c .covers .ensures))
 
 returns : tie.Need-returns Inv-loop μ-loop
 unfolding cornersVerdict
@@ -93,12 +99,12 @@ loop-again c =
 
 returns-2 : tie.Need-returns-2 Inv-loop μ-loop
 unfolding cornersVerdict
-returns-2 c = let e : c .before .loop .s ≡ c .before .before .before .before .before .before .before .args .c .states = omega arith in sym
-    (rw e at (c .before .loop .inv .1))
+returns-2 c =
+    let e : c .before .loop .s ≡ start-of-after-shared-slice-known4 (c .before .before .before) .args .c .states = omega arith in
+    sym (rw e at (c .before .loop .inv .1))
 
 pub corners-hold-spec : {M : Type 1} → statement M
 corners-hold-spec =
     tie.close (tie.spec Inv-loop μ-loop gains-requires (λ c. (omega arith, first-none _)) (λ c κs. below c) gains-long weights-long
-    backups-at-requires long (λ c. omega (arith, below (c .before .before .before .before .before))) stored covers-requires returns
-    (λ c. omega (arith, below (of-covers (c .before))))
-    (λ c. omega (arith, of-covers (c .before) .loop-test .taken)) loop-again returns-2)
+    backups-at-requires long (λ c. omega (arith, below (after-corner-weights c .before))) stored covers-requires returns
+    (λ c. omega (arith, below (of-covers (c .before)))) (λ c. omega (arith, of-covers (c .before) .loop-test .taken)) loop-again returns-2)

@@ -18,21 +18,24 @@ unfolding K
 most c = answer (c .scaled .ok) (c .scaled .ensures ∙ rw (toZ-ofZ (c .before .fits .w)))
 
 -- the action's backup as it was read
-here : (c : tie.After-if12 Inv-loop μ-loop) → toZ w64 (ofZ w64
-    (getD (c .before .before .before .before .args .backups .now) (c .before .before .loop .a) (pos 0))) ≡ getD
-    (c .before .before .before .before .args .backups .now) (c .before .before .loop .a) (pos 0)
+here : (c : tie.After-if12 Inv-loop μ-loop)
+    → let a = c .before .before .before .before in
+    toZ w64 (ofZ w64 (getD (a .args .backups .now) (c .before .before .loop .a) (pos 0))) ≡ getD (a .args .backups .now) (c .before .before .loop .a)
+    (pos 0)
 here c = back _ (c .if12 .given)
 
 returns : tie.Need-returns Inv-loop μ-loop
-returns c = rw (← most (c .before .before .before .before)) (sym
-    (every-not _ _ (c .before .before .before .loop .a) (omega arith) (is-below refl (here (c .before)) (c .if1 .taken))))
+returns c =
+    let l = c .before .before .before in
+    rw (← most (l .before)) (sym (every-not _ _ (l .loop .a) (omega arith) (is-below refl (here (c .before)) (c .if1 .taken))))
 
 loop-again : tie.Need-loop-again Inv-loop μ-loop
-loop-again c = (
-  omega arith,
-  every-more _ _ (c .before .before .before .loop .inv .1) (not-below {a = toZ w64 (ofZ w64 (c .before .before .before .before .scaled .result))} refl
-      (here (c .before)) (c .if1 .left)),
-)
+loop-again c =
+    let l = c .before .before .before in (
+      omega arith,
+      every-more _ _ (l .loop .inv .1)
+          (not-below {a = toZ w64 (ofZ w64 (l .before .scaled .result))} refl (here (c .before)) (c .if1 .left)),
+    )
 
 returns-2 : tie.Need-returns-2 Inv-loop μ-loop
 returns-2 c =

@@ -31,8 +31,14 @@ start k = k .before .before .before .before .before .before .before .before
 abbrev of-covers : tie.After-covers Inv-loop μ-loop → tie.In-loop Inv-loop μ-loop
 of-covers c = c .before .before .before .before .before .before .before
 
+abbrev after-point-weights : tie.After-backups Inv-loop μ-loop → tie.After-point-weights Inv-loop μ-loop
+after-point-weights c = c .before .before .before .before
+
+abbrev start-of-after-shared-slice-known5 : tie.After-shared-slice-known5 Inv-loop μ-loop → tie.Start Inv-loop μ-loop
+start-of-after-shared-slice-known5 c = c .before .before .before .before .before
+
 gains-requires : tie.Need-gains-requires Inv-loop μ-loop
-gains-requires c κs = let h = c .before .before .before .before .before .pre .0 in (h .valid .few-states, (corners-fit h, (points-fit h, values-fit h)))
+gains-requires c κs = let h = start-of-after-shared-slice-known5 c .pre .0 in (h .valid .few-states, (corners-fit h, (points-fit h, values-fit h)))
 
 below : (k : tie.In-loop Inv-loop μ-loop) → k .before .loop .i < maxPoints
 below k = omega (arith, k .loop-test .taken, start k .pre .1 .0 .few)
@@ -52,36 +58,35 @@ gains-long c =
 
 weights-long : tie.Need-slice-aggregate-backups-at-2 Inv-loop μ-loop
 weights-long c =
-    let k = c .before .before .before in
-    let a = start k in
-    sym (point-long (a .args .c .states) (a .args .offered .now) (k .before .loop .i) (c .before .before .point-weights .ensures)
-    (a .pre .0 .valid .few-states))
+    let l = c .before .before .before .before in let k = c .before .before .before in let a = start k in
+    sym
+    (point-long (a .args .c .states) (a .args .offered .now) (l .loop .i) (c .before .before .point-weights .ensures) (a .pre .0 .valid .few-states))
 
 backups-at-requires : tie.Need-backups-at-requires Inv-loop μ-loop
 backups-at-requires c κs =
-    let k = c .before .before .before in
+    let l = c .before .before .before .before in let k = c .before .before .before in
     let a = start k in (
-      roof-holds (a .pre .0) (k .before .before .gains .ensures),
+      roof-holds (a .pre .0) (l .before .gains .ensures),
       (
-        point-light (a .args .c .states) (a .args .offered .now) (k .before .loop .i) (c .before .before .point-weights .ensures) (a .pre .0 .valid .few-states)
-            (a .pre .1 .1 .1 .0 (k .before .loop .i) (k .loop-test .taken)),
+        point-light (a .args .c .states) (a .args .offered .now) (l .loop .i) (c .before .before .point-weights .ensures) (a .pre .0 .valid .few-states)
+            (a .pre .1 .1 .1 .0 (l .loop .i) (k .loop-test .taken)),
         a .pre .1 .1 .1 .1,
       ),
     )
 
 long : tie.Need-slice-aggregate-covers Inv-loop μ-loop
 long c =
-    let k = c .before .before .before .before .before in
+    let k = after-point-weights c .before in
     sym (backups-long (start k .pre .0) (k .before .before .gains .ensures) _ (c .before .backups-at .ensures))
 
 stored : tie.Need-shared-slice-copy-out-covers Inv-loop μ-loop
-stored c = let k = c .before .before .before .before .before in omega (arith, k .loop-test .taken, start k .pre .1 .1 .0 .long)
+stored c = let k = after-point-weights c .before in omega (arith, k .loop-test .taken, start k .pre .1 .1 .0 .long)
 
 covers-requires : tie.Need-covers-requires Inv-loop μ-loop
 covers-requires c κs =
-    let k = c .before .before .before .before .before .before in
+    let g = after-point-weights (c .before) .before .before .before in let k = after-point-weights (c .before) .before in
     let a = start k in (
-      omega (arith, a .pre .0 .valid .few-actions, backups-long (a .pre .0) (k .before .before .gains .ensures) _ (c .before .before .backups-at .ensures)),
+      omega (arith, a .pre .0 .valid .few-actions, backups-long (a .pre .0) (g .gains .ensures) _ (c .before .before .backups-at .ensures)),
       rw (back (getD (a .args .at .now) (k .before .loop .i) (pos 0)) (c .covers-arg .given))
           (a .pre .1 .1 .0 .value (k .before .loop .i) (k .loop-test .taken)),
     )
@@ -94,12 +99,10 @@ said : (c : tie.After-covers Inv-loop μ-loop) → let a = start (of-covers c) .
     (roofIn (a .c .states) (a .corners .now) (a .points) (a .weights .now) (a .values .now)) (pointIn (a .c .states) (a .offered .now) i)
     (getD (a .at .now) i (pos 0))
 said c =
-    let k = of-covers c in
-    let a = start k in
-    covers-by _ _ (point-at (a .args .c .states) (a .args .offered .now) (k .before .loop .i)
-    (c .before .before .before .before .before .before .point-weights .ensures))
+    let k = of-covers c in let a = start k in let b = c .before .before .before in let w = b .before .before .before in
+    covers-by _ _ (point-at (a .args .c .states) (a .args .offered .now) (k .before .loop .i) (w .point-weights .ensures))
     (back _ (c .before .covers-arg .given))
-    (covers-said (a .pre .0) (k .before .before .gains .ensures) _ (c .before .before .before .backups-at .ensures) _ (c .covers .ensures))
+    (covers-said (a .pre .0) (k .before .before .gains .ensures) _ (b .backups-at .ensures) _ (c .covers .ensures))
 
 returns : tie.Need-returns Inv-loop μ-loop
 unfolding pointsVerdict
@@ -114,12 +117,12 @@ loop-again c =
 
 returns-2 : tie.Need-returns-2 Inv-loop μ-loop
 unfolding pointsVerdict
-returns-2 c = let e : c .before .loop .i ≡ c .before .before .before .before .before .before .before .before .args .count = omega arith in sym
-    (rw e at (c .before .loop .inv .1))
+returns-2 c =
+    let e : c .before .loop .i ≡ start-of-after-shared-slice-known5 (c .before .before .before) .args .count = omega arith in
+    sym (rw e at (c .before .loop .inv .1))
 
 pub points-hold-spec : {M : Type 1} → statement M
 points-hold-spec =
     tie.close (tie.spec Inv-loop μ-loop gains-requires (λ c. (omega arith, first-none _)) point-weights-requires gains-long weights-long
-    backups-at-requires long (λ c. omega (arith, below (c .before .before .before .before .before))) stored covers-requires returns
-    (λ c. omega (arith, below (of-covers (c .before))))
-    (λ c. omega (arith, of-covers (c .before) .loop-test .taken)) loop-again returns-2)
+    backups-at-requires long (λ c. omega (arith, below (after-point-weights c .before))) stored covers-requires returns
+    (λ c. omega (arith, below (of-covers (c .before)))) (λ c. omega (arith, of-covers (c .before) .loop-test .taken)) loop-again returns-2)

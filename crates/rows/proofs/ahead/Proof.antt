@@ -14,47 +14,53 @@ Inv-loop observation rows u n k m a sum₀ o₀ sum o = (o ≤ k) × (toZ w64 su
 abbrev μ-loop : tie.MeasureT-loop
 μ-loop observation rows u n k m a sum₀ o₀ sum o = k - o
 
+-- places of the code, each from a later one
+abbrev start : tie.At-loop Inv-loop μ-loop → tie.Start Inv-loop μ-loop
+start c = c .before .before .before
+
+abbrev in-loop : tie.After-largest-product Inv-loop μ-loop → tie.In-loop Inv-loop μ-loop
+in-loop c = c .before .before .before
+
 loop-holds : tie.Need-loop-holds Inv-loop μ-loop
 loop-holds c = (search needs, sym (sum-none _))
 
 successors-requires : tie.Need-successors-requires Inv-loop μ-loop
 successors-requires c κs =
-    let p = c .before .before .before .before .pre in
-    ((p .0 .0, (p .0 .1 .0, (p .0 .1 .1 .0, omega (arith, c .loop-test .taken)))), (moved-below (p .0 .0) (p .1 .0) (p .1 .1 .0) (p .1 .1 .1), p .1 .1 .0))
+    let p = start (c .before) .pre in (
+      (p .0 .0, (p .0 .1 .0, (p .0 .1 .1 .0, omega (arith, c .loop-test .taken)))),
+      (moved-below (p .0 .0) (p .1 .0) (p .1 .1 .0) (p .1 .1 .1), p .1 .1 .0),
+    )
 
 weights-long : tie.Need-slice-aggregate-largest-product Inv-loop μ-loop
-weights-long c = sym (rw (c .before .successors .ensures) (padded-length 0 maxStates _ _ (c .before .before .before .before .before .before .pre .0 .0)))
+weights-long c = sym (rw (c .before .successors .ensures) (padded-length 0 maxStates _ _ (start (c .before .before .before) .pre .0 .0)))
 
 largest-product-requires : tie.Need-largest-product-requires Inv-loop μ-loop
 largest-product-requires c κs =
-    let p = c .before .before .before .before .before .before .pre in (
+    let p = start (c .before .before .before) .pre in (
       (p .0 .0, p .0 .1 .1 .1),
-      (
-        reached-below (p .0 .0) (p .1 .0) (p .1 .1 .0) (p .1 .1 .1) _ (c .before .before .loop-test .taken) (c .before .successors .ensures),
-        p .1 .1 .1,
-      ),
+      (reached-below (p .0 .0) (p .1 .0) (p .1 .1 .0) (p .1 .1 .1) _ (c .before .before .loop-test .taken) (c .before .successors .ensures), p .1 .1 .1),
     )
 
 -- the best row's product with what is seen
 met : (c : tie.After-largest-product Inv-loop μ-loop)
-    → let a = c .before .before .before .before .before .before .before .args in
-    toZ w64 (ofZ w64 (c .largest-product .result))
-    ≡ bestRowIn (a .n) (a .k) (a .m) (a .observation .now) (a .u .now) (a .rows .now) (a .a .0) (c .before .before .before .before .loop .o)
+    → let l = c .before .before .before .before in let a = l .before .before .before .args in
+    toZ w64 (ofZ w64 (c .largest-product .result)) ≡ bestRowIn (a .n) (a .k) (a .m) (a .observation .now) (a .u .now) (a .rows .now) (a .a .0)
+    (l .loop .o)
 unfolding bestRowIn
 met c = answer (c .largest-product .ok) (c .largest-product .ensures ∙ rw (c .before .before .successors .ensures))
 
 plus-requires : tie.Need-plus-requires Inv-loop μ-loop
 plus-requires c κs =
-    let p = c .before .before .before .before .before .before .before .pre in
-    sums-fit (p .0 .0) (p .1 .0) (p .1 .1 .0) (p .1 .1 .1) (p .0 .1 .1 .1) (p .0 .1 .0) _ (c .before .before .before .loop-test .taken)
-    (c .before .before .before .before .loop .inv .1) (met c)
+    let p = start (in-loop c .before) .pre in
+    sums-fit (p .0 .0) (p .1 .0) (p .1 .1 .0) (p .1 .1 .1) (p .0 .1 .1 .1) (p .0 .1 .0) _ (in-loop c .loop-test .taken)
+    (in-loop c .before .loop .inv .1) (met c)
 
 loop-again : tie.Need-loop-again Inv-loop μ-loop
 loop-again c =
-    (search needs, answer (c .plus .ok) (c .plus .ensures ∙ rw (met (c .before)) (sum-step _ _ (c .before .before .before .before .before .loop .inv .1))))
+    (search needs, answer (c .plus .ok) (c .plus .ensures ∙ rw (met (c .before)) (sum-step _ _ (in-loop (c .before) .before .loop .inv .1))))
 
 returns : tie.Need-returns Inv-loop μ-loop
-returns c = let e : c .before .loop .o ≡ c .before .before .before .before .args .k = omega arith in rw e at (c .before .loop .inv .1)
+returns c = let e : c .before .loop .o ≡ start (c .before) .args .k = omega arith in rw e at (c .before .loop .inv .1)
 
 pub ahead-spec : {M : Type 1} → statement M
 ahead-spec =

@@ -38,9 +38,7 @@ loop-again c =
     )
 
 returns : tie.Need-returns Inv-loop μ-loop
-returns c =
-    let e : c .before .loop .a ≡ c .before .before .before .args .m = omega arith in
-    rw e at (c .before .loop .inv .1)
+returns c = let e : c .before .loop .a ≡ c .before .before .before .args .m = omega arith in rw e at (c .before .loop .inv .1)
 
 pub highest-at-spec : {M : Type 1} → statement M
 highest-at-spec =

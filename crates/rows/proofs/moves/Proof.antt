@@ -19,9 +19,7 @@ loop-again : tie.Need-loop-again Inv-loop μ-loop
 loop-again c = (search needs, padded-turn _ _ _ _ (c .before .before .loop .inv .1) (c .transition-at .ensures) (omega arith))
 
 returns : tie.Need-returns Inv-loop μ-loop
-returns c =
-    let e : c .before .loop .to ≡ c .before .before .before .args .n = omega arith in
-    rw e at (c .before .loop .inv .1)
+returns c = let e : c .before .loop .to ≡ c .before .before .before .args .n = omega arith in rw e at (c .before .loop .inv .1)
 
 pub moves-spec : {M : Type 1} → statement M
 moves-spec =

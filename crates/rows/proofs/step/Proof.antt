@@ -18,16 +18,18 @@ of-laid c = c .before .before .before .before
 abbrev of-qmdp : tie.After-paste-i642 → tie.After-step-qmdp
 of-qmdp c = c .before .before .before .before
 
+abbrev start-of-after-next : tie.After-next → tie.Start
+start-of-after-next c = c .before .before .before .before .before
+
 few : (s : tie.Start) → s .args .c .actions * s .args .c .states ≤ maxActions * maxStates
 few s = cells-few (s .pre .0 .0)
 
 step-informed-requires : tie.Need-step-informed-requires
-step-informed-requires c κs = let s = c .before .before .before .before .before in (s .pre .0 .0, (s .pre .1, few s))
+step-informed-requires c κs = let s = start-of-after-next c in (s .pre .0 .0, (s .pre .1, few s))
 
 paste-i64-requires : tie.Need-paste-i64-requires
 paste-i64-requires c κs =
-    let f = c .before .before .before in
-    let s = start f in
+    let f = c .before .before .before in let s = start f in
     (omega (arith, s .pre .0 .0 .rows-fit .stored), omega (arith, few s, f .step-informed .kept .1 .1 .1 .1 .1 .0))
 
 step-qmdp-requires : tie.Need-step-qmdp-requires
@@ -35,8 +37,7 @@ step-qmdp-requires c κs = let s = start (of-informed (c .before .before .before
 
 paste-i64-requires-2 : tie.Need-paste-i64-requires-2
 paste-i64-requires-2 c κs =
-    let q = c .before .before .before in
-    let s = start (of-informed (of-laid q)) in
+    let q = c .before .before .before in let s = start (of-informed (of-laid q)) in
     (omega (arith, s .pre .0 .1 .rows-fit .stored), omega (arith, few s, q .step-qmdp .kept .1 .1 .1 .1 .0))
 
 returns : tie.Need-returns

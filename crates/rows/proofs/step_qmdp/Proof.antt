@@ -21,6 +21,13 @@ Inv-loop T R c rows next₀ n cells f i₀ next i = (i ≤ c .actions * c .state
 abbrev μ-loop : tie.MeasureT-loop
 μ-loop T R c rows next₀ n cells f i₀ next i = c .actions * c .states - i
 
+-- places of the code, each from a later one
+abbrev start : tie.At-loop Inv-loop μ-loop → tie.Start Inv-loop μ-loop
+start c = c .before .before .before .before
+
+abbrev in-loop : tie.After-ceil-div Inv-loop μ-loop → tie.In-loop Inv-loop μ-loop
+in-loop c = c .before .before .before
+
 tops-requires : tie.Need-tops-requires Inv-loop μ-loop
 tops-requires c κs = let h = c .before .before .pre .0 in ((h .few-states, (h .some-actions, h .few-actions)), h .rows-fit)
 
@@ -29,54 +36,50 @@ loop-holds c = (omega arith, λ O. sym (laid-none _ _))
 
 tops-long : tie.Need-slice-aggregate-backup Inv-loop μ-loop
 tops-long c =
-    let h = c .before .before .before .before .before .before .pre .0 in
+    let h = start (c .before .before) .pre .0 in
     sym (rw (c .before .before .before .tops .ensures) (padded-length (pos 0) maxStates _ _ (h .few-states)))
 
 backup-requires : tie.Need-backup-requires Inv-loop μ-loop
 backup-requires c κs =
-    let h = c .before .before .before .before .before .before .pre .0 in
-    let l = action-in h (c .before .loop-test .taken) in (
+    let h = start (c .before .before) .pre .0 in let l = action-in h (c .before .loop-test .taken) in (
       (h .few-states, (omega (arith, l, h .few-actions), (state-in h (c .before .before .loop .i), h .discount-limit))),
       (h .transitions _ l, (h .rewards _ l, tops-within (h .rows-fit) (h .some-actions) (h .few-states) (c .before .before .before .tops .ensures))),
     )
 
 below : (c : tie.In-loop Inv-loop μ-loop) → c .before .loop .i < maxActions * maxStates
-below c = omega (arith, c .loop-test .taken, cells-few (c .before .before .before .before .before .pre .0))
+below c = omega (arith, c .loop-test .taken, cells-few (start (c .before) .pre .0))
 
 -- there is room for the turn's entry
-room : (c : tie.In-loop Inv-loop μ-loop) → c .before .loop .i < length (c .before .before .before .before .before .args .next .now)
-room c = omega (arith, c .loop-test .taken, c .before .before .before .before .before .pre .1)
+room : (c : tie.In-loop Inv-loop μ-loop) → c .before .loop .i < length (start (c .before) .args .next .now)
+room c = omega (arith, c .loop-test .taken, start (c .before) .pre .1)
 
 slice-set : tie.Need-slice-set-from-next Inv-loop μ-loop
-slice-set c =
-    let l = c .before .before .before in
-    omega (arith, laid-long _ _ _ (l .before .loop .inv .1 []) (omega (arith, room l)), room l)
+slice-set c = let l = in-loop c in omega (arith, laid-long _ _ _ (l .before .loop .inv .1 []) (omega (arith, room l)), room l)
 
 loop-again : tie.Need-loop-again Inv-loop μ-loop
 unfolding K
 loop-again c =
-    let l = c .before .before .before in
-    let a = c .before .before .before .before .before .before .before .before .args in (
+    let l = in-loop c in
+    let a = start (l .before) .args in (
       omega (arith, l .loop-test .taken),
       λ O. laid-turn _ _ _ (pos 0) (l .before .loop .inv .1 O)
           (answer (c .ceil-div .ok) (c .ceil-div .ensures ∙ ap (λ (z : ℤ). ceilDiv z K) (answer (c .before .backup .ok) (c .before .backup .ensures))
-          ∙ qmdp-made (a .c) (a .transition .now) O (a .reward .now) (a .rows .now) _ _ (c .before .before .before .before .before .tops .ensures))) (room l),
+          ∙ qmdp-made (a .c) (a .transition .now) O (a .reward .now) (a .rows .now) _ _ (l .before .before .tops .ensures))) (room l),
     )
 
 same-length : tie.Need-same-length Inv-loop μ-loop
-same-length c = laid-long _ _ _ (c .before .loop .inv .1 []) (omega (arith, c .before .loop .inv .0, c .before .before .before .before .before .pre .1))
+same-length c = laid-long _ _ _ (c .before .loop .inv .1 []) (omega (arith, c .before .loop .inv .0, start (c .before) .pre .1))
 
 returns : tie.Need-returns Inv-loop μ-loop
 unfolding laidRows
 returns c =
-    let a = c .before .before .before .before .before .args .c in
+    let a = start (c .before) .args .c in
     let e : c .before .loop .i ≡ a .actions * a .states = omega (arith, c .loop-test .left, c .before .loop .inv .0) in
     λ O. rw e at (c .before .loop .inv .1 O)
 
 pub step-qmdp-spec : {M : Type 1} → statement M
 step-qmdp-spec =
     tie.close (tie.spec Inv-loop μ-loop (λ c. omega (arith, cells-few (c .before .before .pre .0))) tops-requires loop-holds tops-long
-    (λ c. omega (arith, c .before .before .before .before .before .before .pre .0 .some-states))
-    (λ c. omega (arith, c .before .before .before .before .before .before .pre .0 .some-states)) backup-requires
-    (λ c κs. (lit< tt, lit< tt)) (λ c. omega (arith, below (c .before .before .before))) slice-set (λ c. omega (arith, below (c .before .before .before)))
-    (λ c. omega (arith, c .before .before .before .loop-test .taken)) loop-again same-length returns)
+    (λ c. omega (arith, start (c .before .before) .pre .0 .some-states)) (λ c. omega (arith, start (c .before .before) .pre .0 .some-states))
+    backup-requires (λ c κs. (lit< tt, lit< tt)) (λ c. omega (arith, below (in-loop c))) slice-set (λ c. omega (arith, below (in-loop c)))
+    (λ c. omega (arith, in-loop c .loop-test .taken)) loop-again same-length returns)

@@ -33,7 +33,8 @@ scaled-requires c κs =
 loop-again : tie.Need-loop-again Inv-loop μ-loop
 loop-again c = (
   search needs,
-  padded-turn _ _ _ _ (c .before .before .before .loop .inv .1) (answer (c .scaled .ok) (c .scaled .ensures ∙ rw (met (c .before)))) (omega arith),
+  padded-turn _ _ _ _ (c .before .before .before .loop .inv .1) (answer (c .scaled .ok) (c .scaled .ensures ∙ rw (met (c .before))))
+      (omega arith),
 )
 
 returns : tie.Need-returns Inv-loop μ-loop

@@ -7,12 +7,16 @@ use Rattle.sawtooth.proofs.Laws.{product-limit, largest-limit}
 use Rattle.sawtooth.proofs.ceiling.Statement.{statement}
 use Rattle.sawtooth.proofs.ceiling.Tie as tie
 
+-- places of the code, each from a later one
+abbrev start : tie.After-largest-drop → tie.Start
+start c = c .before .before .before .before
+
 product-requires : tie.Need-product-requires
-product-requires c κs = let a = c .before .before .before .before .pre in ((search needs, search needs), (a .1 .0, λ s l above. first-fit (a .1 .1 .0) s l))
+product-requires c κs = let a = start c .pre in ((search needs, search needs), (a .1 .0, λ s l above. first-fit (a .1 .1 .0) s l))
 
 small : (c : tie.After-largest-drop) → c .largest-drop .result ≤ maxReached * maxGain
 small c =
-    let a = c .before .before .before .before in
+    let a = start c in
     rw (c .largest-drop .ensures)
     (largest-limit (a .args .n) (a .args .points) (a .args .weights .now) (a .args .gains .now) (a .args .q .now) (a .pre .1 .0) (a .pre .1 .1 .1 .1))
 
@@ -22,11 +26,12 @@ drop c = toZ-pos w64 {n = c .largest-drop .result} (omega (arith, small c))
 at-corners : (c : tie.After-product)
     → let a = c .before .before .before .before .before .args in
     toZ w64 (ofZ w64 (c .product .result)) ≡ product (a .n) (weightIn (a .q .now)) (cornerIn (a .corners .now))
-at-corners c = answer (c .product .ok) (c .product .ensures ∙ first-cells _ _ (c .before .before .before .before .before .args .corners .now))
+at-corners c =
+    let from = c .before .before .before .before .before in answer (c .product .ok) (c .product .ensures ∙ first-cells _ _ (from .args .corners .now))
 
 minus-requires : tie.Need-minus-requires
 minus-requires c κs =
-    let a = c .before .before .before .before .before in
+    let a = start (c .before) in
     rw (at-corners c, drop (c .before))
     (omega (arith, small (c .before), product-limit maxReached (weightIn (a .args .q .now)) (a .pre .0) (a .pre .1 .1 .0) (a .pre .1 .0 .below)))
 

@@ -4,6 +4,10 @@ use Rattle.sawtooth.proofs.Laws.{gain-parts, gain-limit, positive-below
 use Rattle.sawtooth.proofs.gain_of.Statement.{statement}
 use Rattle.sawtooth.proofs.gain_of.Tie as tie
 
+-- places of the code, each from a later one
+abbrev start : tie.After-minus → tie.Start
+start c = c .before .before .before
+
 product-requires : tie.Need-product-requires
 product-requires c κs =
     let a = c .before in (
@@ -28,23 +32,22 @@ minus-requires c κs =
     rw (at-corners c, toZ-ofZ (a .fits .value))
     (omega (arith, gain-parts (weightIn (a .args .p .now)) (a .args .value) (a .pre .0) (a .pre .1 .0) (a .pre .1 .1 .0 .below) (a .pre .1 .1 .1)))
 
-gain : (c : tie.After-minus) → toZ w64 (ofZ w64 (c .minus .result)) ≡ gained (c .before .before .before)
-gain c = answer (c .minus .ok) (c .minus .ensures ∙ rw (at-corners (c .before), toZ-ofZ (c .before .before .before .fits .value)))
+gain : (c : tie.After-minus) → toZ w64 (ofZ w64 (c .minus .result)) ≡ gained (start c)
+gain c = answer (c .minus .ok) (c .minus .ensures ∙ rw (at-corners (c .before), toZ-ofZ (start c .fits .value)))
 
 cast-result : tie.Need-cast-result
 cast-result c =
-    let a = c .before .before .before .before in
+    let a = start (c .before) in
     rw (gain (c .before)) (
       positive-from (gained a) (rw (gain (c .before)) at (c .if1 .left)) .0,
-      omega (arith, gain-limit (weightIn (a .args .p .now)) (a .args .value) (a .pre .0) (a .pre .1 .0) (a .pre .1 .1 .0 .below) (a .pre .1 .1 .1)),
+      omega
+          (arith, gain-limit (weightIn (a .args .p .now)) (a .args .value) (a .pre .0) (a .pre .1 .0) (a .pre .1 .1 .0 .below) (a .pre .1 .1 .1)),
     )
 
 returns-2 : tie.Need-returns-2
-returns-2 c =
-    let a = c .before .before .before .before in
-    rw (gain (c .before)) (positive-from (gained a) (rw (gain (c .before)) at (c .if1 .left)) .1)
+returns-2 c = let a = start (c .before) in rw (gain (c .before)) (positive-from (gained a) (rw (gain (c .before)) at (c .if1 .left)) .1)
 
 pub gain-of-spec : {M : Type 1} → statement M
 gain-of-spec =
-    tie.close (tie.spec product-requires minus-requires
-    (λ c. positive-below (gained (c .before .before .before .before)) (rw (gain (c .before)) at (c .if1 .taken))) cast-result returns-2)
+    tie.close (tie.spec product-requires minus-requires (λ c. positive-below (gained (start (c .before))) (rw (gain (c .before)) at (c .if1 .taken)))
+    cast-result returns-2)

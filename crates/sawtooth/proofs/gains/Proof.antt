@@ -13,39 +13,40 @@ Inv-loop corners weights values points n g₀ i₀ g i = (i ≤ points) × (g �
 abbrev μ-loop : tie.MeasureT-loop
 μ-loop corners weights values points n g₀ i₀ g i = points - i
 
+-- places of the code, each from a later one
+abbrev start : tie.After-point-weights Inv-loop μ-loop → tie.Start Inv-loop μ-loop
+start c = c .before .before .before .before
+
 point-weights-requires : tie.Need-point-weights-requires Inv-loop μ-loop
 point-weights-requires c κs =
-    let a = c .before .before .before in
-    let p = a .pre .1 .1 .0 in
+    let a = c .before .before .before in let p = a .pre .1 .1 .0 in
     ((a .pre .0, omega (arith, p .few)), rows-stored (a .args .n) (c .before .loop .i) (a .args .points) (omega arith) (p .stored))
 
 slice-aggregate-gain-of : tie.Need-slice-aggregate-gain-of Inv-loop μ-loop
-slice-aggregate-gain-of c = let few : c .before .before .before .before .before .args .n ≤ maxStates = c .before .before .before .before .before .pre .0 in
+slice-aggregate-gain-of c =
+    let few : start (c .before) .args .n ≤ maxStates = start (c .before) .pre .0 in
     sym (rw (c .before .point-weights .ensures) (padded-length 0 maxStates _ _ few))
 
 gain-of-requires : tie.Need-gain-of-requires Inv-loop μ-loop
 gain-of-requires c κs =
-    let a = c .before .before .before .before .before .before in
-    let i = c .before .before .before .before .loop .i in (
+    let a = start (c .before .before) in let i = c .before .before .before .before .loop .i in (
       a .pre .0,
       (
         a .pre .1 .0,
         (
           filled-below _ i _ _ (c .before .before .point-weights .ensures) (a .pre .1 .1 .0) (omega arith) (a .pre .0),
-          rw (back (getD (a .args .values .now) i (pos 0)) (c .gain-of-arg .given)) (a .pre .1 .1 .1 .value i (omega arith)),
+          rw
+              (back (getD (a .args .values .now) i (pos 0)) (c .gain-of-arg .given)) (a .pre .1 .1 .1 .value i (omega arith)),
         ),
       ),
     )
 
 loop-again : tie.Need-loop-again Inv-loop μ-loop
 loop-again c =
-    let l = c .before .before .before .before .before in (
+    let p = c .before .before .before in let l = p .before .before in (
       search needs,
-      padded-turn _ _ _ _ (l .loop .inv .1)
-          (filled-gain _ _ _ _ (c .before .before .before .point-weights .ensures) (l .before .before .args .corners .now)
-          (l .before .before .args .values .now)
-          (back _ (c .before .gain-of-arg .given)) (c .gain-of .ensures))
-          (omega arith),
+      padded-turn _ _ _ _ (l .loop .inv .1) (filled-gain _ _ _ _ (p .point-weights .ensures) (start p .args .corners .now)
+          (start p .args .values .now) (back _ (c .before .gain-of-arg .given)) (c .gain-of .ensures)) (omega arith),
     )
 
 returns : tie.Need-returns Inv-loop μ-loop

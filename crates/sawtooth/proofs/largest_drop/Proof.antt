@@ -13,10 +13,17 @@ Inv-loop q weights gains points n best₀ i₀ best i = (i ≤ points) × (best 
 abbrev μ-loop : tie.MeasureT-loop
 μ-loop q weights gains points n best₀ i₀ best i = points - i
 
+-- places of the code, each from a later one
+abbrev start : tie.At-loop Inv-loop μ-loop → tie.Start Inv-loop μ-loop
+start c = c .before .before .before .before
+
+abbrev after-start : tie.After-reaches Inv-loop μ-loop → tie.After-start Inv-loop μ-loop
+after-start c = c .before .before .before
+
 reaches-requires : tie.Need-reaches-requires Inv-loop μ-loop
 reaches-requires c κs =
-    let a = c .before .before .before .before .before .before .before .before in
-    let i = c .before .before .before .before .loop .i in
+    let l = c .before .before .before .before in let a = start l in
+    let i = l .loop .i in
     let p = a .pre .1 .1 .0 in (
       (
         a .pre .0,
@@ -30,44 +37,40 @@ reaches-requires c κs =
 
 drop-of-requires : tie.Need-drop-of-requires Inv-loop μ-loop
 drop-of-requires c κs =
-    let a = c .before .before .before .before .before .before .before .before .before .before in
-    let i = c .before .before .before .before .before .before .loop .i in
+    let a = start (after-start (c .before) .before .before) in
+    let i = after-start (c .before) .before .before .loop .i in
     let p = a .pre .1 .1 .0 in (
-      (a .pre .0, (point-inside i (a .args .n) p (omega arith) (c .before .before .before .before .start .ensures), a .pre .1 .1 .1 .below i (omega arith))),
-      (a .pre .1 .0, point-within i (a .args .n) p (omega arith) (c .before .before .before .before .start .ensures)),
+      (a .pre .0, (point-inside i (a .args .n) p (omega arith) (after-start (c .before) .start .ensures), a .pre .1 .1 .1 .below i (omega arith))),
+      (a .pre .1 .0, point-within i (a .args .n) p (omega arith) (after-start (c .before) .start .ensures)),
     )
 
 -- a point that does not reach is not above the best
-left-out : (c : tie.After-reaches Inv-loop μ-loop)
-    → let l = c .before .before .before .before .before in
-    let a = c .before .before .before .before .before .before .before .before .before .args in
-    c .reaches .result ≡ false → dropIn (a .n) (a .weights .now) (a .gains .now) (a .q .now) (l .loop .i) ≤ l .loop .best
+left-out : (c : tie.After-reaches Inv-loop μ-loop) → let l = after-start c .before .before in let a = start l .args in c .reaches .result ≡ false
+    → dropIn (a .n) (a .weights .now) (a .gains .now) (a .q .now) (l .loop .i) ≤ l .loop .best
 left-out c =
-    let l = c .before .before .before .before .before in
-    let a = c .before .before .before .before .before .before .before .before .before .args in
-    drop-beaten (a .n) (a .weights .now) (a .gains .now) (a .q .now) (l .loop .i) (c .before .before .before .start .ensures)
-    (c .before .least-above .ensures .0)
+    let l = after-start c .before .before in let a = start l .args in
+    drop-beaten (a .n) (a .weights .now) (a .gains .now) (a .q .now) (l .loop .i) (after-start c .start .ensures) (c .before .least-above .ensures .0)
     (c .reaches .ensures)
 
 loop-again : tie.Need-loop-again Inv-loop μ-loop
 loop-again c =
-    let l = c .before .before .before .before .before .before in
-    let a = c .before .before .before .before .before .before .before .before .before .before .args in (
+    let l = after-start (c .before) .before .before in
+    let a = start l .args in (
       search needs,
       ⊎-elim
           (λ w. largest-new _ _ (l .loop .inv .1) (w .3)
-          (drop-said (a .n) (a .weights .now) (a .gains .now) (a .q .now) (l .loop .i) (c .before .before .before .before .start .ensures) (w .1 .ensures))
+          (drop-said (a .n) (a .weights .now) (a .gains .now) (a .q .now) (l .loop .i) (after-start (c .before) .start .ensures) (w .1 .ensures))
           (w .2 .taken))
           (⊎-elim
           (λ w. largest-kept _ _ (l .loop .inv .1) (w .3)
-          (rw (drop-said (a .n) (a .weights .now) (a .gains .now) (a .q .now) (l .loop .i) (c .before .before .before .before .start .ensures)
+          (rw (drop-said (a .n) (a .weights .now) (a .gains .now) (a .q .now) (l .loop .i) (after-start (c .before) .start .ensures)
           (w .1 .ensures)) at (w .2 .left)))
           (λ w. largest-kept _ _ (l .loop .inv .1) (w .1) (left-out (c .before) (w .0 .left))))
           (c .if1 .came),
     )
 
 returns : tie.Need-returns Inv-loop μ-loop
-returns c = let e : c .before .loop .i ≡ c .before .before .before .before .before .args .points = omega arith in rw e at (c .before .loop .inv .1)
+returns c = let e : c .before .loop .i ≡ start (c .before) .args .points = omega arith in rw e at (c .before .loop .inv .1)
 
 pub largest-drop-spec : {M : Type 1} → statement M
 largest-drop-spec =

@@ -12,28 +12,35 @@ Inv-loop q weights at gain n least s₀ s =
 abbrev μ-loop : tie.MeasureT-loop
 μ-loop q weights at gain n least s₀ s = n - s
 
+-- places of the code, each from a later one
+abbrev at-loop : tie.After-weight Inv-loop μ-loop → tie.At-loop Inv-loop μ-loop
+at-loop c = c .before .before .before
+
+abbrev start : tie.At-loop Inv-loop μ-loop → tie.Start Inv-loop μ-loop
+start c = c .before .before .before
+
 reach-requires : tie.Need-reach-requires Inv-loop μ-loop
-reach-requires c κs =
-    let a = c .before .before .before .before .before .before .before in
-    (a .pre .1 .0 .below (c .before .before .before .before .loop .s) (omega arith), a .pre .0 .1 .1 .0)
+reach-requires c κs = let a = start (at-loop (c .before)) in (a .pre .1 .0 .below (at-loop (c .before) .loop .s) (omega arith), a .pre .0 .1 .1 .0)
 
 wanted-requires : tie.Need-wanted-requires Inv-loop μ-loop
 wanted-requires c κs =
-    let a = c .before .before .before .before .before .before .before .before in
-    (a .pre .0 .1 .1 .1, rw (c .before .before .weight .ensures) (a .pre .1 .1 (c .before .before .before .before .before .loop .s) (omega arith)))
+    let a = start (at-loop (c .before .before)) in
+    (a .pre .0 .1 .1 .1, rw (c .before .before .weight .ensures) (a .pre .1 .1 (at-loop (c .before .before) .loop .s) (omega arith)))
 
 returns : tie.Need-returns Inv-loop μ-loop
 returns c =
-    let t = rw (c .before .before .reach .ensures, c .before .wanted .ensures, c .before .before .before .before .weight .ensures) at (c .if1 .taken) in
-    sym (every-not _ _ (c .before .before .before .before .before .before .before .loop .s) (omega arith) (lt-leb _ _ t))
+    let w = c .before .before .before .before in
+    let t = rw (c .before .before .reach .ensures, c .before .wanted .ensures, w .weight .ensures) at (c .if1 .taken) in
+    sym (every-not _ _ (at-loop w .loop .s) (omega arith) (lt-leb _ _ t))
 
 loop-again : tie.Need-loop-again Inv-loop μ-loop
 loop-again c =
-    let t = rw (c .before .before .reach .ensures, c .before .wanted .ensures, c .before .before .before .before .weight .ensures) at (c .if1 .left) in
-    (omega arith, every-more _ _ (c .before .before .before .before .before .before .before .loop .inv .1) (le-leb _ _ t))
+    let w = c .before .before .before .before in
+    let t = rw (c .before .before .reach .ensures, c .before .wanted .ensures, w .weight .ensures) at (c .if1 .left) in
+    (omega arith, every-more _ _ (at-loop w .loop .inv .1) (le-leb _ _ t))
 
 returns-2 : tie.Need-returns-2 Inv-loop μ-loop
-returns-2 c = let e : c .before .loop .s ≡ c .before .before .before .before .args .n = omega arith in sym (rw e at (c .before .loop .inv .1))
+returns-2 c = let e : c .before .loop .s ≡ start (c .before) .args .n = omega arith in sym (rw e at (c .before .loop .inv .1))
 
 pub reaches-spec : {M : Type 1} → statement M
 reaches-spec = tie.close (tie.spec Inv-loop μ-loop (λ c. (omega arith, every-none _)) (λ c. search needs) (λ c. search needs) (λ c. search needs)

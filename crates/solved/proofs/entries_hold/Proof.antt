@@ -29,6 +29,18 @@ abbrev μ-loop : tie.MeasureT-loop
 abbrev outset : tie.After-range-of Inv-loop μ-loop → tie.Start Inv-loop μ-loop
 outset c = c .before .before .before .before .before .before
 
+abbrev after-row-at : tie.After-rows-within Inv-loop μ-loop → tie.After-row-at Inv-loop μ-loop
+after-row-at c = c .before .before .before
+
+abbrev at-start : tie.After-shared-slice-known5 Inv-loop μ-loop → tie.Start Inv-loop μ-loop
+at-start c = c .before .before .before .before .before
+
+abbrev after-range-of : tie.After-row-at Inv-loop μ-loop → tie.After-range-of Inv-loop μ-loop
+after-range-of c = c .before .before .before
+
+abbrev in-loop : tie.After-enum-told Inv-loop μ-loop → tie.In-loop Inv-loop μ-loop
+in-loop c = c .before .before .before .before .before .before
+
 abbrev start : tie.After-row-at Inv-loop μ-loop → tie.Start Inv-loop μ-loop
 start c = outset (c .before .before .before)
 
@@ -42,8 +54,8 @@ row-long : tie.Need-slice-aggregate-rows-within Inv-loop μ-loop
 row-long c =
     let s = c .before .before in sym (rw (s .row-at .ensures .entries) (padded-length (pos 0) maxStates _ _ (start s .pre .files .few-states)))
 
-limit-is : (c : tie.After-row-at Inv-loop μ-loop) → c .before .before .before .range-of .result ≡ range (start c .args .t + 1)
-limit-is c = c .before .before .before .range-of .ensures
+limit-is : (c : tie.After-row-at Inv-loop μ-loop) → after-range-of c .range-of .result ≡ range (start c .args .t + 1)
+limit-is c = after-range-of c .range-of .ensures
 
 rows-within-requires : tie.Need-rows-within-requires Inv-loop μ-loop
 unfolding range
@@ -59,34 +71,25 @@ rows-within-requires c κs =
 said : (c : tie.After-rows-within Inv-loop μ-loop) → let s = c .before .before .before in let a = start s .args in
     c .rows-within .result ≡ rowsWithin 11 1 (a .c .states) (range (a .t + 1)) (λ i x. getD (s .row-at .result .entries) (rowPlace (a .c .states) i x) (pos 0))
 said c =
-    let s = c .before .before .before in
-    let a = start s .args in
+    let s = c .before .before .before in let a = start s .args in
     c .rows-within .ensures
     ∙ ap (λ (z : ℕ). rowsWithin 11 1 (a .c .states) z (λ i x. getD (s .row-at .result .entries) (rowPlace (a .c .states) i x) (pos 0))) (limit-is s)
 
 returns : tie.Need-returns Inv-loop μ-loop
 unfolding rowsWithin
 returns c =
-    let x = c .before .before in
-    let s = x .before .before .before in
-    let l = s .before .before in
-    let a = start s .args in
+    let x = c .before .before in let s = after-row-at x in let l = s .before .before in let a = start s .args in
     sym (first-here _ _ (l .loop .v) (s .before .loop-test .taken) (l .loop .inv .1 .1)
-    (row-refused (a .c .states) (range (a .t + 1)) _ (l .loop .v) (s .row-at .ensures .entries) (said x)
-    (c .enum-told2 .given .1)))
+    (row-refused (a .c .states) (range (a .t + 1)) _ (l .loop .v) (s .row-at .ensures .entries) (said x) (c .enum-told2 .given .1)))
 
 loop-again : tie.Need-loop-again Inv-loop μ-loop
 loop-again c =
-    let x = c .before .before in
-    let s = x .before .before .before in
-    let l = s .before .before in
-    let a = start s .args in (
+    let x = c .before .before in let s = after-row-at x in let l = s .before .before in let a = start s .args in (
       omega (arith, s .before .loop-test .taken),
       (
         s .row-at .ensures .onward,
         first-more _ (l .loop .v) (l .loop .inv .1 .1)
-            (row-fine (a .c .states) (range (a .t + 1)) _ (l .loop .v) (s .row-at .ensures .entries) (said x)
-            (c .enum-told .given .1)),
+            (row-fine (a .c .states) (range (a .t + 1)) _ (l .loop .v) (s .row-at .ensures .entries) (said x) (c .enum-told .given .1)),
       ),
     )
 
@@ -98,7 +101,6 @@ returns-2 c =
 
 pub entries-hold-spec : {M : Type 1} → statement M
 entries-hold-spec =
-    tie.close (tie.spec Inv-loop μ-loop (λ c. omega (arith, c .before .before .before .before .before .pre .below))
-    (λ c κs. omega (arith, c .before .before .before .before .before .pre .below)) loop-holds row-at-requires row-long rows-within-requires (λ c. search needs)
-    (λ c. search needs) returns (λ c. omega (arith, c .before .before .before .before .before .before .loop-test .taken))
-    (λ c. omega (arith, c .before .before .before .before .before .before .loop-test .taken)) loop-again returns-2)
+    tie.close (tie.spec Inv-loop μ-loop (λ c. omega (arith, at-start c .pre .below)) (λ c κs. omega (arith, at-start c .pre .below)) loop-holds
+    row-at-requires row-long rows-within-requires (λ c. search needs) (λ c. search needs) returns (λ c. omega (arith, in-loop c .loop-test .taken))
+    (λ c. omega (arith, in-loop c .loop-test .taken)) loop-again returns-2)

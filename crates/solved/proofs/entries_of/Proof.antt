@@ -12,8 +12,8 @@ start c = c .before .before .before .before .before
 
 foreseen-requires : tie.Need-foreseen-requires
 foreseen-requires c κs =
-    let a = c .before .before .before .before .args in
-    let p = c .before .before .before .before .pre in
+    let from = c .before .before .before .before in let a = from .args in
+    let p = from .pre in
     let v = p .0 .valid in (
       (v .few-states, (v .few-observations, omega (arith, v .few-actions, p .1 .0 .0))),
       (
@@ -46,11 +46,10 @@ lesser-each-requires c κs = start (c .before .before) .pre .0 .valid .few-state
 
 returns : tie.Need-returns
 returns c =
-    let a = start (c .before .before .before) .args in
-    c .lesser-each .ensures
-    ∙ padded-cong (pos 0) maxStates (a .c .states) _ _ (λ s l. ap (λ (z : ℤ). lesser (getD (a .ticks) s (pos 0)) z)
-    (backed-is (a .c) (a .transition .now) (a .observation .now) (a .reward .now) (a .masks .now) (a .entries .now) (a .standing) (a .chosen .now) (a .a .0)
-    (c .before .before .before .foreseen .ensures) (c .before .rounded .ensures) s l))
+    let f = c .before .before .before in let a = start f .args in
+    c .lesser-each .ensures ∙ padded-cong (pos 0) maxStates (a .c .states) _ _ (λ s l. ap (λ (z : ℤ). lesser (getD (a .ticks) s (pos 0)) z)
+    (backed-is (a .c) (a .transition .now) (a .observation .now) (a .reward .now) (a .masks .now) (a .entries .now) (a .standing) (a .chosen .now)
+    (a .a .0) (f .foreseen .ensures) (c .before .rounded .ensures) s l))
 
 pub entries-of-spec : {M : Type 1} → statement M
 entries-of-spec = tie.close (tie.spec foreseen-requires foreseen-long rounded-requires lesser-each-requires returns)

@@ -22,6 +22,9 @@ of-masks c = c .before
 abbrev of-entries : tie.After-entries-hold → tie.After-masks-hold
 of-entries c = c .before .before .before
 
+abbrev start-of-after-shared-slice-known6 : tie.After-shared-slice-known6 → tie.Start
+start-of-after-shared-slice-known6 c = c .before .before .before .before .before .before
+
 solving : (c : tie.After-enum-told) → let a = start (c .before .before) .args in
     Solving (a .c) (a .transition .now) (a .observation .now) (a .reward .now) (a .masks .now) (a .entries .now) (a .standing) (a .t) (a .alpha .now)
     (a .graph .now) (a .count)
@@ -69,13 +72,12 @@ weights-hold-requires c κs =
 returns-4 : tie.Need-returns-4
 unfolding solved
 returns-4 c =
-    let e = c .before .before .before in
-    let x = of-entries e in
-    after-10 (of-masks x) (goes (x .masks-hold .ensures) (e .before .enum-told3 .given .1)
+    let en = c .before .before .before .before in let e = c .before .before .before in let x = of-entries e in
+    after-10 (x .before) (goes (x .masks-hold .ensures) (en .enum-told3 .given .1)
     (goes (e .entries-hold .ensures) (c .before .enum-told5 .given .1) (c .weights-hold .ensures)))
 
 pub judge-level-spec : {M : Type 1} → statement M
 judge-level-spec =
-    tie.close (tie.spec (λ c κs. c .before .before .before .before .before .before .pre .1 .0) (λ c. search needs) (λ c. search needs) returns
+    tie.close (tie.spec (λ c κs. start-of-after-shared-slice-known6 c .pre .1 .0) (λ c. search needs) (λ c. search needs) returns
     (λ c κs. solving-chooses (solving c)) (λ c. search needs) (λ c. search needs) returns-2 (λ c κs. solving (of-masks (c .before .before)))
     (λ c. search needs) (λ c. search needs) returns-3 weights-hold-requires returns-4)

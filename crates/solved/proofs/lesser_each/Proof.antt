@@ -17,11 +17,13 @@ loop-holds : tie.Need-loop-holds Inv-loop μ-loop
 loop-holds c = (omega arith, sym (padded-none _ _ _))
 
 loop-again : tie.Need-loop-again Inv-loop μ-loop
-loop-again c = (
-  omega arith,
-  padded-turn _ _ _ _ (c .before .before .before .before .loop .inv .1)
-      (answer (c .lesser .ok) (c .lesser .ensures ∙ rw (back _ (c .before .before .lesser-arg .given), back _ (c .before .lesser-arg2 .given)))) (omega arith),
-)
+loop-again c =
+    let l = c .before .before .before .before in (
+      omega arith,
+      padded-turn _ _ _ _ (l .loop .inv .1)
+          (answer (c .lesser .ok) (c .lesser .ensures ∙ rw (back _ (c .before .before .lesser-arg .given), back _ (c .before .lesser-arg2 .given))))
+          (omega arith),
+    )
 
 returns : tie.Need-returns Inv-loop μ-loop
 returns c = let e : c .before .loop .s ≡ c .before .before .args .n = omega arith in rw e at (c .before .loop .inv .1)

@@ -9,10 +9,16 @@ use Rattle.solved.proofs.Vectors.{entry-said}
 use Rattle.solved.proofs.row_at.Statement.{statement}
 use Rattle.solved.proofs.row_at.Tie as tie
 
+-- places of the code, each from a later one
+abbrev after-said-at : tie.After-chosen2 → tie.After-said-at
+after-said-at c = c .before .before .before .before
+
+abbrev start-of-after-shared-slice-known5 : tie.After-shared-slice-known5 → tie.Start
+start-of-after-shared-slice-known5 c = c .before .before .before .before .before
+
 said-at-requires : tie.Need-said-at-requires
 said-at-requires c κs =
-    let p = c .before .before .before .before .before .pre in
-    let f = p .0 .files in
+    let p = start-of-after-shared-slice-known5 c .pre in let f = p .0 .files in
     ((f .few-states, f .few-observations), (omega (arith, p .1 .0, f .as-many), p .1 .1))
 
 -- where the call began, from the place after it
@@ -25,22 +31,19 @@ long c = long-said (c .said-at .ensures) (start c .pre .0 .files .few-observatio
 
 entries-of-requires : tie.Need-entries-of-requires
 entries-of-requires c κs =
-    let s = c .before .before .before .before in
-    let p = start s .pre in (
+    let a = start (after-said-at c) in let s = after-said-at c in let p = a .pre in (
       p .0 .upon,
       (
-        (
-          rw (s .said-at .ensures .action) (p .0 .acts (start s .args .v) (p .1 .0)),
-          long s,
-        ),
-        λ o l. rw (chosen-said (s .said-at .ensures) o l) (p .0 .chooses (start s .args .v) (p .1 .0) o l),
+        (rw (s .said-at .ensures .action) (p .0 .acts (a .args .v) (p .1 .0)), long s),
+        λ o l. rw (chosen-said (s .said-at .ensures) o l)
+            (p .0 .chooses (a .args .v) (p .1 .0) o l),
       ),
     )
 
 returns : tie.Need-returns
 unfolding solved
 returns c =
-    let s = c .before .before .before .before .before in
+    let s = after-said-at (c .before) in
     let a = start s .args in
     let says = s .said-at .ensures in
     record {
@@ -53,4 +56,4 @@ returns c =
     }
 
 pub row-at-spec : {M : Type 1} → statement M
-row-at-spec = tie.close (tie.spec said-at-requires (λ c. sym (long (c .before .before .before .before))) entries-of-requires returns)
+row-at-spec = tie.close (tie.spec said-at-requires (λ c. sym (long (after-said-at c))) entries-of-requires returns)

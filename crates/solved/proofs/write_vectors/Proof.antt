@@ -23,6 +23,15 @@ abbrev μ-loop : tie.MeasureT-loop
 abbrev outset : tie.After-all Inv-loop μ-loop → tie.Start Inv-loop μ-loop
 outset c = c .before .before .before .before .before .before .before .before .before
 
+abbrev after-paste-i64-arg : tie.After-newentries Inv-loop μ-loop → tie.After-paste-i64-arg Inv-loop μ-loop
+after-paste-i64-arg c = c .before .before .before .before
+
+abbrev at-start : tie.After-slice-known3 Inv-loop μ-loop → tie.Start Inv-loop μ-loop
+at-start c = c .before .before .before .before .before .before .before .before
+
+abbrev after-chosen : tie.After-number Inv-loop μ-loop → tie.After-chosen Inv-loop μ-loop
+after-chosen c = c .before .before
+
 abbrev start : tie.After-row-at Inv-loop μ-loop → tie.Start Inv-loop μ-loop
 start c = outset (c .before .before .before)
 
@@ -34,7 +43,7 @@ abbrev of-entries : tie.After-paste-i64-arg Inv-loop μ-loop → tie.After-row-a
 of-entries c = of-choices (c .before .before .before .before .before .before)
 
 all-requires : tie.Need-all-requires Inv-loop μ-loop
-all-requires c κs = let p = c .before .before .before .before .before .before .before .before .pre .0 in (p .upon .valid .some-states, p .files .few-states)
+all-requires c κs = let p = at-start c .pre .0 in (p .upon .valid .some-states, p .files .few-states)
 
 loop-holds : tie.Need-loop-holds Inv-loop μ-loop
 loop-holds c = (omega arith, (outset c .pre .0 .files .start, filled-none _ _ _))
@@ -60,13 +69,13 @@ number-requires : tie.Need-number-requires Inv-loop μ-loop
 number-requires c κs = made (c .before .before) .action-in
 
 slice-write-actions : tie.Need-slice-write-newactions Inv-loop μ-loop
-slice-write-actions c = room (c .before .before .before) .actions-fit
+slice-write-actions c = room (after-chosen c .before) .actions-fit
 
 mul-masks : tie.Need-mul-newmasks Inv-loop μ-loop
-mul-masks c = omega (arith, below (c .before .before .before))
+mul-masks c = omega (arith, below (after-chosen c .before))
 
 slice-write-masks : tie.Need-slice-write-newmasks Inv-loop μ-loop
-slice-write-masks c = room (c .before .before .before) .masks-fit
+slice-write-masks c = room (after-chosen c .before) .masks-fit
 
 start-requires : tie.Need-start-requires Inv-loop μ-loop
 start-requires c κs = let b = of-choices c in (omega (arith, below b), omega (arith, start b .pre .0 .files .few-observations))
@@ -91,25 +100,26 @@ paste-i64-requires c κs =
     (rw (c .before .start2 .ensures) (room b .entries-fit), omega (arith, made b .entries-long, start b .pre .0 .files .few-states))
 
 add-v : tie.Need-add-v Inv-loop μ-loop
-add-v c = omega (arith, below (of-entries (c .before .before .before .before)))
+add-v c = omega (arith, below (of-entries (after-paste-i64-arg c)))
 
 loop-less : tie.Need-loop-less Inv-loop μ-loop
-loop-less c = omega (arith, of-entries (c .before .before .before .before) .before .loop-test .taken)
+loop-less c = omega (arith, of-entries (after-paste-i64-arg c) .before .loop-test .taken)
 
 loop-again : tie.Need-loop-again Inv-loop μ-loop
 loop-again c =
-    let b = of-entries (c .before .before .before .before) in
+    let st = c .before .before .before in let p = st .before .before .before .before in let n = p .before .before .before .before in
+    let b = of-entries (st .before) in
     let l = b .before .before in
     let s = start b in (
       omega (arith, b .before .loop-test .taken),
       (
         b .row-at .ensures .onward,
         filled-more _ _ _ (s .pre .1) (l .loop .inv .1 .1) (b .before .loop-test .taken) (made b) (s .pre .0 .files .few-observations)
-            (s .pre .0 .files .few-states) (c .before .before .before .before .before .before .before .before .before .before .before .number .ensures)
+            (s .pre .0 .files .few-states) (n .number .ensures)
             (l .before .all .ensures)
-            (rw (c .before .before .before .before .before .before .before .before .before .start .ensures) at
-            (c .before .before .before .before .before .before .before .paste-u16 .ensures))
-            (rw (c .before .before .before .start2 .ensures) at (c .before .paste-i64 .ensures)),
+            (rw (p .before .before .start .ensures) at
+            (p .paste-u16 .ensures))
+            (rw (st .start2 .ensures) at (c .before .paste-i64 .ensures)),
       ),
     )
 

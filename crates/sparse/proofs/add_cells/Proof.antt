@@ -20,6 +20,9 @@ start c = c .before .before
 abbrev turn : tie.After-state-of Inv-loop μ-loop → tie.At-loop Inv-loop μ-loop
 turn c = c .before .before .before
 
+abbrev after-state-of : tie.After-add-scaled Inv-loop μ-loop → tie.After-state-of Inv-loop μ-loop
+after-state-of c = c .before .before .before
+
 -- what is added, from its bits
 added : (c : tie.Start Inv-loop μ-loop) → toZ w64 (ofZ w64 (c .args .x)) ≡ c .args .x
 added c = toZ-ofZ (c .fits .x)
@@ -57,7 +60,7 @@ add-scaled-requires c κs =
 
 loop-again : tie.Need-loop-again Inv-loop μ-loop
 loop-again c =
-    let s = c .before .before .before in
+    let s = after-state-of c in
     let a = start (turn s) in
     let i = turn s .loop .i in
     let taken = s .before .before .loop-test .taken in (
@@ -78,5 +81,5 @@ pub add-cells-spec : {M : Type 1} → statement M
 add-cells-spec =
     tie.close (tie.spec Inv-loop μ-loop loop-holds (λ c. search needs) (λ c. search needs) word-stored (λ c κs. search needs)
     (λ c. omega (arith, state-in c, start (turn c) .pre .0)) (λ c. sum-stored c) (λ c κs. search needs) add-scaled-requires
-    (λ c. let s = c .before .before .before in omega (arith, state-in s, start (turn s) .pre .0))
-    (λ c. sum-stored (c .before .before .before)) (λ c. search needs) (λ c. search needs) loop-again (λ c. sums-long (c .before)) returns)
+    (λ c. let s = after-state-of c in omega (arith, state-in s, start (turn s) .pre .0)) (λ c. sum-stored (after-state-of c)) (λ c. search needs)
+    (λ c. search needs) loop-again (λ c. sums-long (c .before)) returns)

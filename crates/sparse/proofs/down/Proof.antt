@@ -50,10 +50,10 @@ add-moved-requires c κs =
 
 loop-again : tie.Need-loop-again Inv-loop μ-loop
 loop-again c =
-    let s = c .before .before .before in
-    let l = turn s in (
-      omega (arith, s .before .before .loop-test .taken),
-      c .add-moved .ensures ∙ rw (c .before .chance-of .ensures, s .state-of .ensures) (total-step _ _ (l .loop .inv .1)),
+    let t = c .before .before .before .before .before in let s = c .before .before .before in let l = turn s in (
+      omega (arith, t .loop-test .taken),
+      c .add-moved .ensures ∙ rw (c .before .chance-of .ensures, s .state-of .ensures)
+          (total-step _ _ (l .loop .inv .1)),
     )
 
 returns : tie.Need-returns Inv-loop μ-loop

@@ -56,11 +56,10 @@ add-column-requires c κs =
 
 loop-again : tie.Need-loop-again Inv-loop μ-loop
 loop-again c =
-    let l = c .before .before .before .before .before in
-    let a = start l .args in (
-      omega (arith, c .before .before .before .before .loop-test .taken),
+    let ad = c .before .before .before in let l = ad .before .before in let a = start l .args in (
+      omega (arith, ad .before .loop-test .taken),
       onward-more maxStates (a .n) (a .list .now) (a .f .now) (a .a .0) (l .loop .to) (l .loop .inv .1)
-          (back _ (c .before .before .before .add-column-arg .given)) (c .before .add-column .ensures),
+          (back _ (ad .add-column-arg .given)) (c .before .add-column .ensures),
     )
 
 returns : tie.Need-returns Inv-loop μ-loop

@@ -7,8 +7,7 @@ use Rattle.sparse.proofs.reached.Tie as tie
 
 some-covered-requires : tie.Need-some-covered-requires
 some-covered-requires c κs =
-    let start = c .before .before .before in
-    let a = start .args in
+    let start = c .before .before .before in let a = start .args in
     (start .pre .0 .0, cells-fit (a .n) (a .list .now) (a .a .0) (a .to .0) (c .before .first-of .ensures) (c .count-of .ensures) (start .pre .1))
 
 returns : tie.Need-returns

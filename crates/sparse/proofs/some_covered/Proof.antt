@@ -40,9 +40,9 @@ returns c =
 
 loop-again : tie.Need-loop-again Inv-loop μ-loop
 loop-again c =
-    let l = turn (c .before .before) in
+    let t = c .before .before .before .before in let l = t .before in
     let i = l .loop .i in (
-      omega (arith, c .before .before .before .before .loop-test .taken),
+      omega (arith, t .loop-test .taken),
       λ k h. by i k (decLt k i) h (l .loop .inv .1) (sym (asked (c .before)) ∙ c .if1 .left),
     )
   where

@@ -54,13 +54,11 @@ values-within-requires c κs =
 
 returns-3 : tie.Need-returns-3
 returns-3 c =
-    let g = c .before .before .before in
-    let e = of-corners g in
-    let r = of-entries e in
-    let a = start r .args in
+    let en = c .before .before .before .before in let g = c .before .before .before in let e = of-corners g in
+    let r = e .before in let a = start r .args in
     values-left (a .n) (a .t) (a .vectors) (a .points) (a .masks .now) (a .entries .now) (a .corners .now) (a .weights .now) (a .values .now)
-    (r .range-of .ensures) (e .entries-within .ensures) (g .before .enum-told .given .1) (g .rows-within .ensures)
-    (c .before .enum-told3 .given .1) (c .values-within .ensures)
+    (r .range-of .ensures) (e .entries-within .ensures) (en .enum-told .given .1) (g .rows-within .ensures) (c .before .enum-told3 .given .1)
+    (c .values-within .ensures)
 
 pub ranges-hold-spec : {M : Type 1} → statement M
 ranges-hold-spec =

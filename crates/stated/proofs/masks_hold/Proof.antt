@@ -23,6 +23,9 @@ abbrev μ-loop : tie.MeasureT-loop
 abbrev outset : tie.After-all Inv-loop μ-loop → tie.Start Inv-loop μ-loop
 outset c = c .before .before .before .before .before .before
 
+abbrev at-start : tie.After-shared-slice-known5 Inv-loop μ-loop → tie.Start Inv-loop μ-loop
+at-start c = c .before .before .before .before .before
+
 abbrev start : tie.After-said-at Inv-loop μ-loop → tie.Start Inv-loop μ-loop
 start c = outset (c .before .before .before)
 
@@ -31,7 +34,7 @@ abbrev reading : tie.After-chosen2 Inv-loop μ-loop → tie.After-said-at Inv-lo
 reading c = c .before .before .before
 
 all-requires : tie.Need-all-requires Inv-loop μ-loop
-all-requires c κs = let p = c .before .before .before .before .before .pre in (p .some-states, p .files .few-states)
+all-requires c κs = let p = at-start c .pre in (p .some-states, p .files .few-states)
 
 loop-holds : tie.Need-loop-holds Inv-loop μ-loop
 loop-holds c = (omega arith, (outset c .pre .files .start, first-none _))
@@ -61,10 +64,9 @@ said : (c : tie.After-reached-covered Inv-loop μ-loop) → let s = reading (c .
     c .reached-covered .result ≡ keeps (a .transition .now) (a .observation .now) (a .masks .now) (a .t) (a .alpha .now) (a .graph .now) (a .c .states)
     (a .c .observations) (s .before .before .loop .v)
 said c =
-    let s = reading (c .before) in
-    let a = start s .args in
-    c .reached-covered .ensures
-    ∙ reached-said (s .said-at .ensures) (a .transition .now) (a .observation .now) (a .masks .now) (s .before .before .before .all .ensures)
+    let s = reading (c .before) in let a = start s .args in
+    c .reached-covered .ensures ∙ reached-said (s .said-at .ensures) (a .transition .now) (a .observation .now) (a .masks .now)
+    (s .before .before .before .all .ensures)
 
 returns : tie.Need-returns Inv-loop μ-loop
 returns c =

@@ -22,6 +22,13 @@ Inv-loop alpha graph c standing t count p₀ q₀ v₀ p q v =
 abbrev μ-loop : tie.MeasureT-loop
 μ-loop alpha graph c standing t count p₀ q₀ v₀ p q v = count - v
 
+-- places of the code, each from a later one
+abbrev after-said-at : tie.After-vector-exists Inv-loop μ-loop → tie.After-said-at Inv-loop μ-loop
+after-said-at c = c .before .before .before
+
+abbrev in-loop : tie.After-enum-told Inv-loop μ-loop → tie.In-loop Inv-loop μ-loop
+in-loop c = c .before .before .before .before .before .before
+
 loop-holds : tie.Need-loop-holds Inv-loop μ-loop
 loop-holds c = (omega arith, (c .before .before .pre .start, first-none _))
 
@@ -52,28 +59,24 @@ said c =
 returns : tie.Need-returns Inv-loop μ-loop
 unfolding numbersIn
 returns c =
-    let x = c .before .before in
-    let s = x .before .before .before in
-    let l = s .before .before in
+    let x = c .before .before in let s = after-said-at x in let l = s .before .before in
     let told = c .enum-told2 .given .1 in
     told ∙ sym (first-here _ _ (l .loop .v) (s .before .loop-test .taken) (l .loop .inv .1 .1) (sym (said x) ∙ told))
 
 loop-again : tie.Need-loop-again Inv-loop μ-loop
 loop-again c =
-    let x = c .before .before in
-    let s = x .before .before .before in
-    let l = s .before .before in
+    let x = c .before .before in let s = after-said-at x in let l = s .before .before in
     let more = first-more _ (l .loop .v) (l .loop .inv .1 .1) (sym (said x) ∙ c .enum-told .given .1) in
     (omega (arith, s .before .loop-test .taken), (s .said-at .ensures .onward, more))
 
 returns-2 : tie.Need-returns-2 Inv-loop μ-loop
 unfolding numbersIn
 returns-2 c =
-    let e : c .before .loop .v ≡ c .before .before .before .before .args .count = omega (arith, c .loop-test .left, c .before .loop .inv .0) in
+    let from = c .before .before .before .before in
+    let e : c .before .loop .v ≡ from .args .count = omega (arith, c .loop-test .left, c .before .loop .inv .0) in
     sym (rw e at (c .before .loop .inv .1 .1))
 
 pub numbers-hold-spec : {M : Type 1} → statement M
 numbers-hold-spec =
     tie.close (tie.spec Inv-loop μ-loop loop-holds said-at-requires chosen-long vector-exists-requires (λ c. search needs) (λ c. search needs) returns
-    (λ c. omega (arith, c .before .before .before .before .before .before .loop-test .taken))
-    (λ c. omega (arith, c .before .before .before .before .before .before .loop-test .taken)) loop-again returns-2)
+    (λ c. omega (arith, in-loop c .loop-test .taken)) (λ c. omega (arith, in-loop c .loop-test .taken)) loop-again returns-2)

@@ -16,6 +16,10 @@ Inv-loop chosen m k standing v o₀ o = (o ≤ k) × (firstOf o (verdict chosen 
 abbrev μ-loop : tie.MeasureT-loop
 μ-loop chosen m k standing v o₀ o = k - o
 
+-- places of the code, each from a later one
+abbrev at-loop : tie.After-wide Inv-loop μ-loop → tie.At-loop Inv-loop μ-loop
+at-loop c = c .before .before .before
+
 returns : tie.Need-returns Inv-loop μ-loop
 returns c = breaks _ (le-ltb _ _ (c .if1 .taken))
 
@@ -24,18 +28,18 @@ loop-holds c = (omega arith, first-none _)
 
 returns-2 : tie.Need-returns-2 Inv-loop μ-loop
 returns-2 c =
-    let l = c .before .before .before .before in
-    passes 10 _ (lt-ltb _ _ (l .before .if1 .left)) (sym (first-here _ _ (l .loop .o) (omega arith) (l .loop .inv .1)
-    (failed _ _ (le-ltb _ _ (rw (c .before .wide .ensures) at (c .if2 .taken))))))
+    let l = at-loop (c .before) in
+    passes 10 _ (lt-ltb _ _ (l .before .if1 .left))
+    (sym (first-here _ _ (l .loop .o) (omega arith) (l .loop .inv .1) (failed _ _ (le-ltb _ _ (rw (c .before .wide .ensures) at (c .if2 .taken))))))
 
 loop-again : tie.Need-loop-again Inv-loop μ-loop
 loop-again c =
-    let l = c .before .before .before .before in
+    let l = at-loop (c .before) in
     (omega arith, first-more _ _ (l .loop .inv .1) (passed _ _ (lt-ltb _ _ (rw (c .before .wide .ensures) at (c .if2 .left)))))
 
 returns-3 : tie.Need-returns-3 Inv-loop μ-loop
 returns-3 c =
-    let e : c .before .loop .o ≡ c .before .before .before .before .before .args .k = omega arith in
+    let a = c .before .before .before .before .before in let e : c .before .loop .o ≡ a .args .k = omega arith in
     passes 10 _ (lt-ltb _ _ (c .before .before .if1 .left)) (sym (rw e at (c .before .loop .inv .1)))
 
 pub vector-exists-spec : {M : Type 1} → statement M

@@ -13,11 +13,10 @@ state-outcome-requires c κs =
 
 returns : tie.Need-returns
 returns c =
-    let s = c .before .before .before .before in
-    let a = s .args in
-    rw (toZ-ofZ (s .fits .r)) at (c .before .state-outcome .ensures)
-    ∙ sym (ap (λ (t : Bool). cond t (outcomed (a .m) (a .n) (a .k) (a .a) (a .s) (a .to) (a .o) (a .r) (a .cells .now)) (a .cells .now))
-    (le-leb (a .n) maxConverted (c .before .before .before .if1 .taken)))
+    let p = c .before .before .before in let s = p .before in let a = s .args in
+    rw (toZ-ofZ (s .fits .r)) at (c .before .state-outcome .ensures) ∙ sym (ap
+    (λ (t : Bool). cond t (outcomed (a .m) (a .n) (a .k) (a .a) (a .s) (a .to) (a .o) (a .r) (a .cells .now)) (a .cells .now))
+    (le-leb (a .n) maxConverted (p .if1 .taken)))
 
 returns-2 : tie.Need-returns-2
 returns-2 c =

@@ -3,33 +3,32 @@ use Rattle.statements.specs.Statements.{rewardStatement, observationOrRe
 use Rattle.statements.proofs.other_statement_at.Statement.{statement}
 use Rattle.statements.proofs.other_statement_at.Tie as tie
 
+-- places of the code, each from a later one
+abbrev start : tie.After-key-of → tie.Start
+start c = c .before .before .before .before
+
 returns : tie.Need-returns
 unfolding observationOrRewardBy
 returns c =
-    λ t.
-    let a = c .before .before .before .before .before .before .before .before .before .args in
-    chooses-back (λ ws. within (λ cells. draft t cells (a .reward .now)) (table (a .m) (a .n) (a .k) (a .observation .now) ws)) _
-    (takes-begin (c .before .before .before .before .before .before .before .before .before .pre .0)
-    (c .before .before .before .before .before .key-of .ensures)) (c .before .before .before .before .match .keys2)
+    let m = c .before .before .before .before in
+    λ t. let a = start (m .before) .args in chooses-back
+    (λ ws. within (λ cells. draft t cells (a .reward .now)) (table (a .m) (a .n) (a .k) (a .observation .now) ws)) _
+    (takes-begin (start (m .before) .pre .0) (m .before .key-of .ensures)) (m .match .keys2)
     (c .before .reward-statement-at .ensures t (a .observation .now))
 
 table-at-requires : tie.Need-table-at-requires
-table-at-requires c κs = (
-  value-next _ _ (takes-begin (c .before .before .before .before .before .before .before .before .pre .0)
-      (c .before .before .before .before .key-of .ensures)) (c .before .before .x .given .1) .1 .1,
-  c .before .before .before .before .before .before .before .before .pre .1 .0,
-)
+table-at-requires c κs =
+    let k = c .before .before .before .before in
+    (value-next _ _ (takes-begin (start k .pre .0) (k .key-of .ensures)) (c .before .before .x .given .1) .1 .1, start k .pre .1 .0)
 
 returns-2 : tie.Need-returns-2
 unfolding observationOrRewardBy
 returns-2 c =
-    λ t.
-    let a = c .before .before .before .before .before .before .before .before .before .before .before .args in
-    let g = c .before .before .before .before .before .x .given in
-    chooses-on (λ ws. within (λ cells. draft t cells (a .reward .now)) (table (a .m) (a .n) (a .k) (a .observation .now) ws))
-    (rewardStatement (a .full) (a .m) (a .n) (a .k) (draft t (a .observation .now) (a .reward .now)) (told (a .file .now) (a .w))) (g .0 .0) (g .0 .1 .0)
-    (takes-begin (c .before .before .before .before .before .before .before .before .before .before .before .pre .0)
-    (c .before .before .before .before .before .before .before .key-of .ensures)) (g .1)
+    let x = c .before .before .before .before .before in
+    λ t. let a = start (x .before .before) .args in let g = x .x .given in chooses-on
+    (λ ws. within (λ cells. draft t cells (a .reward .now)) (table (a .m) (a .n) (a .k) (a .observation .now) ws))
+    (rewardStatement (a .full) (a .m) (a .n) (a .k) (draft t (a .observation .now) (a .reward .now)) (told (a .file .now) (a .w))) (g .0 .0)
+    (g .0 .1 .0) (takes-begin (start (x .before .before) .pre .0) (x .before .before .key-of .ensures)) (g .1)
     (leaves-within (λ cells. draft t cells (a .reward .now)) (c .before .before .table-at .ensures))
 
 pub other-statement-at-spec : {M : Type 1} → statement M

@@ -7,6 +7,10 @@ use Rattle.statements.specs.Statements.{outcomeKept, outcomeBy}
 use Rattle.statements.proofs.outcome_at.Statement.{statement}
 use Rattle.statements.proofs.outcome_at.Tie as tie
 
+-- places of the code, each from a later one
+abbrev after-x : tie.After-keep-outcome → tie.After-x
+after-x c = c .before .before .before .before
+
 -- the cells with a reward stated
 abbrev with-reward : tie.Start → ℤ → List ℤ
 with-reward c r = let a = c .args in outcomeKept (a .m) (a .n) (a .k) (a .a) (a .s) (a .to) (a .o) r (a .cells .now)
@@ -20,9 +24,8 @@ returns c =
 returns-2 : tie.Need-returns-2
 unfolding outcomeBy
 returns-2 c =
-    let x = c .before .before .before .before .before .before .before in
-    let s = x .before .before in
-    let g = c .before .before .before .before .before .x .given in
+    let x = after-x (c .before) .before .before in let s = x .before .before in
+    let g = after-x (c .before) .x .given in
     let fit : mag (x .signed-at .result .value) < 2 ^ 63 = search (needs, x .signed-at .ok .1 .1) in
     leaves-done (s .args .cells .now) (with-reward s) (g .0 .0) (g .0 .1 .0) (x .signed-at .ensures) (g .1)
     (c .before .keep-outcome .ensures ∙ ap (with-reward s) (back _ fit))

@@ -81,8 +81,8 @@ returns c =
 
 indexed-at-requires-2 : tie.Need-indexed-at-requires-2
 indexed-at-requires-2 c κs =
-    let p = start (c .before .before .before) .pre .1 in
-    (value-next _ _ (c .before .before .before .indexed-at .ensures) (c .before .i .given .1) .1 .1, p .some-states)
+    let i = c .before .before .before in let p = start i .pre .1 in
+    (value-next _ _ (i .indexed-at .ensures) (c .before .i .given .1) .1 .1, p .some-states)
 
 returns-2 : tie.Need-returns-2
 returns-2 c =
@@ -93,8 +93,8 @@ returns-2 c =
 
 indexed-at-requires-3 : tie.Need-indexed-at-requires-3
 indexed-at-requires-3 c κs =
-    let p = start (first (c .before .before .before)) .pre .1 in
-    (value-next _ _ (c .before .before .before .indexed-at2 .ensures) (c .before .j .given .1) .1 .1, p .some-states)
+    let i = c .before .before .before in let p = start (first i) .pre .1 in
+    (value-next _ _ (i .indexed-at2 .ensures) (c .before .j .given .1) .1 .1, p .some-states)
 
 returns-3 : tie.Need-returns-3
 returns-3 c =
@@ -106,8 +106,8 @@ returns-3 c =
 
 indexed-at-requires-4 : tie.Need-indexed-at-requires-4
 indexed-at-requires-4 c κs =
-    let p = start (first (second (c .before .before .before))) .pre .1 in
-    (value-next _ _ (c .before .before .before .indexed-at3 .ensures) (c .before .g .given .1) .1 .1, p .some-observations)
+    let i = c .before .before .before in let p = start (first (second i)) .pre .1 in
+    (value-next _ _ (i .indexed-at3 .ensures) (c .before .g .given .1) .1 .1, p .some-observations)
 
 -- the action, the state and the state reached that were read
 abbrev action : tie.After-indexed-at4 → ℕ
@@ -128,23 +128,21 @@ returns-4 c =
 
 outcome-at-requires : tie.Need-outcome-at-requires
 outcome-at-requires c κs =
-    let b = c .before .before .before .before in
-    let t = third b in
-    let s = second t in
+    let p = c .before .before .before .before .before .before in let u = p .before .before .before .before in
+    let b = c .before .before .before .before in let t = third b in let s = second t in
     let i = value-next _ _ (first s .indexed-at .ensures) (s .before .before .i .given .1) in
-    let j = value-next _ _ (s .indexed-at2 .ensures) (t .before .before .j .given .1) in
-    let g = value-next _ _ (t .indexed-at3 .ensures) (b .before .before .g .given .1) in
+    let j = value-next _ _ (s .indexed-at2 .ensures) (u .j .given .1) in
+    let g = value-next _ _ (t .indexed-at3 .ensures) (p .g .given .1) in
     let h = value-next _ _ (b .indexed-at4 .ensures) (c .before .before .h .given .1) in
     ((h .1 .1, start (first s) .pre .1), (i .0, (j .0, (g .0, h .0))))
 
 returns-5 : tie.Need-returns-5
 returns-5 c =
-    let b = c .before .before .before .before .before .before in
-    let a = start (first (second (third b))) .args in
-    let h = c .before .before .before .before .h .given in
+    let p = c .before .before .before .before in let b = p .before .before in
+    let a = start (first (second (third b))) .args in let h = p .h .given in
     on-reached b (leaves-on (a .cells .now) (h .0 .0) (h .0 .1 .0)
-    (λ o ws. outcome (a .m) (a .n) (a .k) (action b) (state b) (reached b) o (a .cells .now) ws)
-    (b .indexed-at4 .ensures) (h .1) (c .before .outcome-at .ensures))
+    (λ o ws. outcome (a .m) (a .n) (a .k) (action b) (state b) (reached b) o (a .cells .now) ws) (b .indexed-at4 .ensures) (h .1)
+    (c .before .outcome-at .ensures))
 
 pub outcomes-at-spec : {M : Type 1} → statement M
 outcomes-at-spec = tie.close (tie.spec (λ c κs. search needs) (λ c. search needs) (λ c. search needs) returns indexed-at-requires-2 (λ c. search needs)

@@ -8,6 +8,10 @@ use Rattle.statements.specs.Statements.{rewardBy}
 use Rattle.statements.proofs.reward_at.Statement.{statement}
 use Rattle.statements.proofs.reward_at.Tie as tie
 
+-- places of the code, each from a later one
+abbrev after-x : tie.After-state-reward → tie.After-x
+after-x c = c .before .before .before .before
+
 -- the cells with a reward stated
 abbrev with-reward : tie.Start → ℤ → List ℤ
 with-reward c r = let a = c .args in rewarded (a .m) (a .n) (a .a) (a .s) r (a .cells .now)
@@ -21,9 +25,8 @@ returns c =
 returns-2 : tie.Need-returns-2
 unfolding rewardBy
 returns-2 c =
-    let x = c .before .before .before .before .before .before .before in
-    let s = x .before .before in
-    let g = c .before .before .before .before .before .x .given in
+    let x = after-x (c .before) .before .before in let s = x .before .before in
+    let g = after-x (c .before) .x .given in
     let fit : mag (x .signed-at .result .value) < 2 ^ 63 = search (needs, x .signed-at .ok .1 .1) in
     leaves-done (s .args .cells .now) (with-reward s) (g .0 .0) (g .0 .1 .0) (x .signed-at .ensures) (g .1)
     (c .before .state-reward .ensures ∙ ap (with-reward s) (back _ fit))

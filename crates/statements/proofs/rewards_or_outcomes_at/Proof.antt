@@ -14,15 +14,13 @@ by-form {file} {at} {r} {left} m n k cells ws e h = subst⁻¹ (λ (t : Bool). L
 
 returns : tie.Need-returns
 returns c =
-    let a = c .before .before .before .before .before .args in
-    by-form (a .m) (a .n) (a .k) (a .cells .now) (wordsIn between (a .file .now) (a .at)) (c .before .before .before .if1 .taken)
-    (c .before .outcomes-at .ensures)
+    let p = c .before .before .before in let a = p .before .before .args in
+    by-form (a .m) (a .n) (a .k) (a .cells .now) (wordsIn between (a .file .now) (a .at)) (p .if1 .taken) (c .before .outcomes-at .ensures)
 
 returns-2 : tie.Need-returns-2
 returns-2 c =
-    let a = c .before .before .before .before .before .args in
-    by-form (a .m) (a .n) (a .k) (a .cells .now) (wordsIn between (a .file .now) (a .at)) (c .before .before .before .if1 .left)
-    (c .before .rewards-at .ensures)
+    let p = c .before .before .before in let a = p .before .before .args in
+    by-form (a .m) (a .n) (a .k) (a .cells .now) (wordsIn between (a .file .now) (a .at)) (p .if1 .left) (c .before .rewards-at .ensures)
 
 pub rewards-or-outcomes-at-spec : {M : Type 1} → statement M
 rewards-or-outcomes-at-spec =

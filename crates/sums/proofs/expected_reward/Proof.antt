@@ -17,21 +17,21 @@ terms c = record { weights = c .pre .1 .0 .below; values = c .pre .1 .1 .reward 
 
 add-scaled-requires : tie.Need-add-scaled-requires Inv-loop μ-loop
 add-scaled-requires c κs =
-    term-fits (terms (c .before .before .before .before .before)) _ (c .before .before .before .loop .inv .1) refl
-    (answer (c .before .reward-at .ok) (c .before .reward-at .ensures)) (omega arith) (lit< tt) (omega arith)
+    let l = c .before .before .before in
+    term-fits (terms (l .before .before)) _ (l .loop .inv .1) refl (answer (c .before .reward-at .ok) (c .before .reward-at .ensures)) (omega arith)
+    (lit< tt) (omega arith)
 
 loop-again : tie.Need-loop-again Inv-loop μ-loop
-loop-again c = (
-  search needs,
-  term-added (terms (c .before .before .before .before .before .before)) _ (c .before .before .before .before .loop .inv .1) refl
-      (answer (c .before .before .reward-at .ok) (c .before .before .reward-at .ensures)) (answer (c .add-scaled .ok) (c .add-scaled .ensures)),
-)
+loop-again c =
+    let l = c .before .before .before .before in (
+      search needs,
+      term-added (terms (l .before .before)) _ (l .loop .inv .1) refl
+          (answer (c .before .before .reward-at .ok) (c .before .before .reward-at .ensures)) (answer (c .add-scaled .ok) (c .add-scaled .ensures)),
+    )
 
 returns : tie.Need-returns Inv-loop μ-loop
 unfolding expectedIn
-returns c =
-    let e : c .before .loop .s ≡ c .before .before .before .args .n = omega arith in
-    rw e at (c .before .loop .inv .1)
+returns c = let e : c .before .loop .s ≡ c .before .before .before .args .n = omega arith in rw e at (c .before .loop .inv .1)
 
 pub expected-reward-spec : {M : Type 1} → statement M
 expected-reward-spec =

@@ -9,6 +9,10 @@ Inv-loop cells n k masks entries choices v a f₀ to₀ f to =
 abbrev μ-loop : tie.MeasureT-loop
 μ-loop cells n k masks entries choices v a f₀ to₀ f to = n - to
 
+-- places of the code, each from a later one
+abbrev start : tie.At-loop Inv-loop μ-loop → tie.Start Inv-loop μ-loop
+start c = c .before .before .before .before
+
 loop-again : tie.Need-loop-again Inv-loop μ-loop
 loop-again c = (
   search needs,
@@ -16,9 +20,7 @@ loop-again c = (
 )
 
 returns : tie.Need-returns Inv-loop μ-loop
-returns c =
-    let e : c .before .loop .to ≡ c .before .before .before .before .before .args .n = omega arith in
-    rw e at (c .before .loop .inv .1)
+returns c = let e : c .before .loop .to ≡ start (c .before) .args .n = omega arith in rw e at (c .before .loop .inv .1)
 
 pub foreseen-spec : {M : Type 1} → statement M
 foreseen-spec =

@@ -51,8 +51,7 @@ add-scaled-requires c κs =
 
 loop-again : tie.Need-loop-again Inv-loop μ-loop
 loop-again c =
-    let observed = c .before .before .before in
-    let l = turn observed in (
+    let observed = c .before .before .before in let l = turn observed in (
       search needs,
       term-added (terms (start l)) _ (l .loop .inv .1) (observed .observation-at .ensures) (value (c .before))
           (answer (c .add-scaled .ok) (c .add-scaled .ensures)),

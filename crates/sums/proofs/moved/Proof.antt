@@ -12,9 +12,7 @@ loop-again : tie.Need-loop-again Inv-loop μ-loop
 loop-again c = (search needs, padded-turn _ _ _ _ (c .before .before .loop .inv .1) (c .moved-to .ensures) (omega arith))
 
 returns : tie.Need-returns Inv-loop μ-loop
-returns c =
-    let e : c .before .loop .to ≡ c .before .before .before .before .args .n = omega arith in
-    rw e at (c .before .loop .inv .1)
+returns c = let a = c .before .before .before .before in let e : c .before .loop .to ≡ a .args .n = omega arith in rw e at (c .before .loop .inv .1)
 
 pub moved-spec : {M : Type 1} → statement M
 moved-spec =

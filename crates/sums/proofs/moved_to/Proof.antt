@@ -9,28 +9,29 @@ Inv-loop cells n p a to sum₀ s₀ sum s = (s ≤ n) × (sum ≡ totalTo s (λ 
 abbrev μ-loop : tie.MeasureT-loop
 μ-loop cells n p a to sum₀ s₀ sum s = n - s
 
+-- places of the code, each from a later one
+abbrev start : tie.At-loop Inv-loop μ-loop → tie.Start Inv-loop μ-loop
+start c = c .before .before .before
+
 add-moved-requires : tie.Need-add-moved-requires Inv-loop μ-loop
 add-moved-requires c κs =
-    let a = c .before .before .before .before .before .before in
-    let s = c .before .before .before .loop .s in (
-      rw (c .before .before .before .loop .inv .1) (moved-part (a .pre .1 .1) (a .pre .1 .0) (a .pre .0 .1 .1) (a .pre .0 .0) s (omega arith)),
+    let l = c .before .before .before in let a = start l in let s = l .loop .s in (
+      rw (l .loop .inv .1) (moved-part (a .pre .1 .1) (a .pre .1 .0) (a .pre .0 .1 .1) (a .pre .0 .0) s (omega arith)),
       (
-        a .pre .1 .0 .below s (omega arith),
+        a .pre .1 .0 .below s
+            (omega arith),
         rw (c .before .transition-at .ensures) (a .pre .1 .1 .transition s (omega arith) (a .args .to .0) (a .pre .0 .1 .1)),
       ),
     )
 
 loop-again : tie.Need-loop-again Inv-loop μ-loop
-loop-again c = (
-  search needs,
-  c .add-moved .ensures ∙ rw (c .before .before .transition-at .ensures) (total-step _ _ (c .before .before .before .before .loop .inv .1)),
-)
+loop-again c =
+    let l = c .before .before .before .before in
+    (search needs, c .add-moved .ensures ∙ rw (c .before .before .transition-at .ensures) (total-step _ _ (l .loop .inv .1)))
 
 returns : tie.Need-returns Inv-loop μ-loop
 unfolding movedIn
-returns c =
-    let e : c .before .loop .s ≡ c .before .before .before .before .args .n = omega arith in
-    rw e at (c .before .loop .inv .1)
+returns c = let e : c .before .loop .s ≡ start (c .before) .args .n = omega arith in rw e at (c .before .loop .inv .1)
 
 pub moved-to-spec : {M : Type 1} → statement M
 moved-to-spec =

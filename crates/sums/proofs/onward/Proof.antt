@@ -18,21 +18,21 @@ terms c = onward-terms (c .pre .1 .0) (c .pre .1 .1) (c .pre .0 .1 .1)
 
 add-scaled-requires : tie.Need-add-scaled-requires Inv-loop μ-loop
 add-scaled-requires c κs =
-    term-fits (terms (c .before .before .before .before .before)) _ (c .before .before .before .loop .inv .1)
-    (c .before .transition-at .ensures) (back _ (c .add-scaled-arg .given)) (omega arith) (lit< tt) (omega arith)
+    let l = c .before .before .before in
+    term-fits (terms (l .before .before)) _ (l .loop .inv .1) (c .before .transition-at .ensures) (back _ (c .add-scaled-arg .given)) (omega arith)
+    (lit< tt) (omega arith)
 
 loop-again : tie.Need-loop-again Inv-loop μ-loop
-loop-again c = (
-  search needs,
-  term-added (terms (c .before .before .before .before .before .before)) _ (c .before .before .before .before .loop .inv .1)
-      (c .before .before .transition-at .ensures) (back _ (c .before .add-scaled-arg .given)) (answer (c .add-scaled .ok) (c .add-scaled .ensures)),
-)
+loop-again c =
+    let l = c .before .before .before .before in (
+      search needs,
+      term-added (terms (l .before .before)) _ (l .loop .inv .1) (c .before .before .transition-at .ensures)
+          (back _ (c .before .add-scaled-arg .given)) (answer (c .add-scaled .ok) (c .add-scaled .ensures)),
+    )
 
 returns : tie.Need-returns Inv-loop μ-loop
 unfolding onwardIn
-returns c =
-    let e : c .before .loop .to ≡ c .before .before .before .args .n = omega arith in
-    rw e at (c .before .loop .inv .1)
+returns c = let e : c .before .loop .to ≡ c .before .before .before .args .n = omega arith in rw e at (c .before .loop .inv .1)
 
 pub onward-spec : {M : Type 1} → statement M
 onward-spec =

@@ -10,8 +10,7 @@ backups-long c = sym (rw (c .before .backups .ensures) (padded-length (pos 0) ma
 
 floored-requires : tie.Need-floored-requires
 floored-requires c κs =
-    let few = c .before .before .before .pre .0 .0 in
-    (few, rw (c .before .backups .ensures, padded-length (pos 0) maxStates _ _ few) few)
+    let few = c .before .before .before .pre .0 .0 in (few, rw (c .before .backups .ensures, padded-length (pos 0) maxStates _ _ few) few)
 
 returns : tie.Need-returns
 returns c =

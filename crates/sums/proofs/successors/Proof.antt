@@ -9,24 +9,28 @@ Inv-loop cells n k u a o q₀ to₀ q to = (to ≤ n) × (q ≡ padded 0 maxStat
 abbrev μ-loop : tie.MeasureT-loop
 μ-loop cells n k u a o q₀ to₀ q to = n - to
 
+-- places of the code, each from a later one
+abbrev at-loop : tie.After-observation-at Inv-loop μ-loop → tie.At-loop Inv-loop μ-loop
+at-loop c = c .before .before .before
+
+abbrev start : tie.At-loop Inv-loop μ-loop → tie.Start Inv-loop μ-loop
+start c = c .before .before .before
+
 share-requires : tie.Need-share-requires Inv-loop μ-loop
 share-requires c κs =
-    let a = c .before .before .before .before .before .before in
-    let to = c .before .before .before .loop .to in (
+    let a = start (at-loop c) in let to = at-loop c .loop .to in (
       a .pre .1 .0 .below to (omega arith),
-      rw (c .observation-at .ensures) (a .pre .1 .1 .observation to (omega arith) (a .args .o .0) (a .pre .0 .1 .1 .1)),
+      rw (c .observation-at .ensures)
+          (a .pre .1 .1 .observation to (omega arith) (a .args .o .0) (a .pre .0 .1 .1 .1)),
     )
 
 loop-again : tie.Need-loop-again Inv-loop μ-loop
-loop-again c = (
-  search needs,
-  padded-turn _ _ _ _ (c .before .before .before .before .loop .inv .1) (c .share .ensures ∙ rw (c .before .observation-at .ensures)) (omega arith),
-)
+loop-again c =
+    let l = c .before .before .before .before in
+    (search needs, padded-turn _ _ _ _ (l .loop .inv .1) (c .share .ensures ∙ rw (c .before .observation-at .ensures)) (omega arith))
 
 returns : tie.Need-returns Inv-loop μ-loop
-returns c =
-    let e : c .before .loop .to ≡ c .before .before .before .before .args .n = omega arith in
-    rw e at (c .before .loop .inv .1)
+returns c = let e : c .before .loop .to ≡ start (c .before) .args .n = omega arith in rw e at (c .before .loop .inv .1)
 
 pub successors-spec : {M : Type 1} → statement M
 successors-spec =

@@ -10,6 +10,10 @@ use Rattle.words.specs.Class.{classOf}
 use Rattle.words.proofs.class_of.Statement.{statement}
 use Rattle.words.proofs.class_of.Tie as tie
 
+-- places of the code, each from a later one
+abbrev start : tie.At-match2-rest → tie.Start
+start c = c .before .before .before
+
 -- no byte with a class of its own outside the digits
 record Plain (b : ℕ) : Type 0 where
   tab : b ≡ 9 → ⊥
@@ -58,26 +62,22 @@ digit b h k =
     ))
 
 returns-6 : tie.Need-returns-6
-returns-6 c =
-    let b = c .before .before .before .before .args .b in
-    rest b (omega arith) (below b (omega arith))
+returns-6 c = let b = start (c .before) .args .b in rest b (omega arith) (below b (omega arith))
 
 returns-7 : tie.Need-returns-7
 returns-7 c =
-    let b = c .before .before .before .before .before .args .b in
+    let b = start (c .before .before) .args .b in
     let no-return : b ≡ 13 → ⊥ = λ e. c .before .before .match2 .rest .1 (inl e) in
-    let no-space : b ≡ 32 → ⊥ = λ e. c .before .before .match2 .rest .1 (inr e) in
-    rest b (omega arith) (below b (omega arith))
+    let no-space : b ≡ 32 → ⊥ = λ e. c .before .before .match2 .rest .1 (inr e) in rest b (omega arith) (below b (omega arith))
 
 returns-9 : tie.Need-returns-9
 returns-9 c =
-    let b = c .before .before .before .before .before .args .b in
+    let b = start (c .before .before) .args .b in
     elim (decLe b 9) [ yes l ↦ let e : b ≡ 9 = omega arith in sym (ap classOf e) | no n ↦ let e : b ≡ 10 = omega arith in sym (ap classOf e) ]
 
 returns-11 : tie.Need-returns-11
 returns-11 c =
-    let b = c .before .before .before .args .b in
-    let r = c .before .before .match .rest in
+    let b = c .before .before .before .args .b in let r = c .before .before .match .rest in
     rest b (omega (arith, r .0 .0 .0 .1, r .0 .0 .1, r .0 .1, r .1)) (below b (omega arith))
 
 returns-12 : tie.Need-returns-12

@@ -10,15 +10,19 @@ Inv-loop s from at₀ at = (from ≤ at) × ((at ≤ length s) × (wordsIn comme
 abbrev μ-loop : tie.MeasureT-loop
 μ-loop s from at₀ at = length s - at
 
+-- places of the code, each from a later one
+abbrev at-loop : tie.After-shared-slice-known Inv-loop μ-loop → tie.At-loop Inv-loop μ-loop
+at-loop c = c .before .before
+
 returns : tie.Need-returns Inv-loop μ-loop
 returns c =
-    let l = c .before .before .before .loop in
-    (omega arith, (omega arith, l .inv .1 .1 ∙ comment-ends (c .before .before .before .before .args .s .now) (l .at) (omega arith) (c .if1 .taken)))
+    let l = at-loop (c .before) .loop in
+    (omega arith, (omega arith, l .inv .1 .1 ∙ comment-ends (at-loop (c .before) .before .args .s .now) (l .at) (omega arith) (c .if1 .taken)))
 
 loop-again : tie.Need-loop-again Inv-loop μ-loop
 loop-again c =
-    let l = c .before .before .before .loop in
-    (omega arith, (omega arith, l .inv .1 .1 ∙ comment-on (c .before .before .before .before .args .s .now) (l .at) (omega arith) (c .if1 .left)))
+    let l = at-loop (c .before) .loop in
+    (omega arith, (omega arith, l .inv .1 .1 ∙ comment-on (at-loop (c .before) .before .args .s .now) (l .at) (omega arith) (c .if1 .left)))
 
 returns-2 : tie.Need-returns-2 Inv-loop μ-loop
 returns-2 c =

@@ -22,6 +22,10 @@ Inv-loop s from at₀ at = Skipped s from at
 abbrev μ-loop : tie.MeasureT-loop
 μ-loop s from at₀ at = length s - at
 
+-- places of the code, each from a later one
+abbrev at-loop : tie.Else1 Inv-loop μ-loop → tie.At-loop Inv-loop μ-loop
+at-loop c = c .before .before .before .before
+
 -- a byte or more further, with the same words
 further : {s : List ℕ} {from at to : ℕ} → Skipped s from at → at ≤ to → to ≤ length s → wordsIn between s at ≡ wordsIn between s to → Skipped s from to
 further k a b e = record { up = omega (arith, k .up); low = λ h. b; same = λ h. k .same h ∙ e }
@@ -40,32 +44,28 @@ found {s} {from} {at} {w = x} k h w = record {
 
 returns : tie.Need-returns Inv-loop μ-loop
 returns c =
-    let s = c .before .before .before .before .before .before .before .before .args .s .now in
-    let l = c .before .before .before .before .before .before .loop in
-    let e = ap (λ (b : ℕ). roleOf (classOf b)) (c .if3 .taken) in
+    let s = at-loop (c .before .before) .before .before .args .s .now in
+    let l = at-loop (c .before .before) .loop in let e = ap (λ (b : ℕ). roleOf (classOf b)) (c .if3 .taken) in
     found (l .inv) (omega arith) (record { is = colon-word s (l .at) (omega arith) e; lies = (omega arith, (omega arith, omega arith)) })
 
 loop-again : tie.Need-loop-again Inv-loop μ-loop
 loop-again c =
-    let s = c .before .before .before .before .before .before .args .s .now in
-    let l = c .before .before .before .before .loop in
+    let lo = c .before .before .before .before in let s = lo .before .before .args .s .now in let l = lo .loop in
     let e = space-parts (roleIn s (l .at)) (sym (c .before .is-space .ensures) ∙ c .if1 .taken) in
     further (l .inv) (omega arith) (omega arith) (step-by s (l .at) (omega arith) between e)
 
 loop-again-2 : tie.Need-loop-again-2 Inv-loop μ-loop
 loop-again-2 c =
-    let s = c .before .before .before .before .before .before .before .before .args .s .now in
-    let l = c .before .before .before .before .before .before .loop in
-    let e = ap (λ (b : ℕ). roleOf (classOf b)) (c .before .if2 .taken) in
-    let line = c .line-end .ensures in
+    let s = at-loop (c .before .before) .before .before .args .s .now in
+    let l = at-loop (c .before .before) .loop in
+    let e = ap (λ (b : ℕ). roleOf (classOf b)) (c .before .if2 .taken) in let line = c .line-end .ensures in
     further (l .inv) (omega arith) (line .1 .0) (step-by s (l .at) (omega arith) between e ∙ line .1 .1)
 
 returns-2 : tie.Need-returns-2 Inv-loop μ-loop
 returns-2 c =
-    let s = c .before .before .before .before .before .before .before .before .before .args .s .now in
-    let l = c .before .before .before .before .before .before .before .loop in
-    let w = c .word-end .ensures in
-    let no-space = sym (c .before .before .before .before .is-space .ensures) ∙ c .before .before .before .if1 .left in
+    let p = c .before .before .before in let s = at-loop p .before .before .args .s .now in
+    let l = at-loop p .loop in let w = c .word-end .ensures in
+    let no-space = sym (p .before .is-space .ensures) ∙ p .if1 .left in
     let e = belongs-else (getD s (l .at) 0) no-space (c .before .if3 .left) (c .before .before .if2 .left) in
     found (l .inv) (omega arith) (record { is = plain-word s (l .at) (omega arith) e w; lies = (omega arith, (omega (arith, w .up), w .low)) })
 

@@ -67,10 +67,9 @@ returns-3 c =
 returns-4 : tie.Need-returns-4
 unfolding worthVerdict
 returns-4 c =
-    let n = c .before .before .before .before in
-    let l = of-numbers n in
+    let n = c .before .before .before .before in let e = of-numbers n .before .before in let l = n .before in
     rw (
-      fine-tables (l .before .before),
+      fine-tables e,
       count l,
       sym (n .numbers-exist .ensures) ∙ c .before .before .enum-told3 .given .1,
       sym (c .before .asked-within .ensures) ∙ not-true _ (c .if2 .taken),
@@ -79,10 +78,9 @@ returns-4 c =
 returns-5 : tie.Need-returns-5
 unfolding worthVerdict
 returns-5 c =
-    let n = c .before .before .before .before in
-    let l = of-numbers n in
+    let n = c .before .before .before .before in let e = of-numbers n .before .before in let l = n .before in
     rw (
-      fine-tables (l .before .before),
+      fine-tables e,
       count l,
       sym (n .numbers-exist .ensures) ∙ c .before .before .enum-told3 .given .1,
       sym (c .before .asked-within .ensures) ∙ not-false _ (c .if2 .left),

@@ -5,13 +5,16 @@ use Rattle.tables.proofs.Accepted.{count-true}
 use Rattle.worth.proofs.nodes_within.Statement.{statement}
 use Rattle.worth.proofs.nodes_within.Tie as tie
 
-count : (c : tie.Else1) → countWithin maxNodes (c .before .before .before .before .args .nodes) ≡ true
+-- places of the code, each from a later one
+abbrev start : tie.Else1 → tie.Start
+start c = c .before .before .before .before
+
+count : (c : tie.Else1) → countWithin maxNodes (start c .args .nodes) ≡ true
 count c = sym (c .before .count-within .ensures) ∙ not-false _ (c .if1 .left)
 
 mul-result : tie.Need-mul-result
 mul-result c =
-    let s = c .before .before .before .before .before in
-    let few : s .args .nodes ≤ maxNodes = count-true _ _ (count (c .before)) .1 in
+    let s = start (c .before) in let few : s .args .nodes ≤ maxNodes = count-true _ _ (count (c .before)) .1 in
     omega (arith, mul-le-mul few (s .pre))
 
 pub nodes-within-spec : {M : Type 1} → statement M

@@ -20,6 +20,12 @@ turn c = c .before .before
 abbrev begun : tie.In-loop Inv-loop μ-loop → tie.Start Inv-loop μ-loop
 begun c = c .before .before .before .before .before .before
 
+abbrev after-worths-of : tie.After-row Inv-loop μ-loop → tie.After-worths-of Inv-loop μ-loop
+after-worths-of c = c .before .before .before
+
+abbrev start : tie.After-loop Inv-loop μ-loop → tie.Start Inv-loop μ-loop
+start c = c .before .before .before .before .before .before
+
 worths-of-requires : tie.Need-worths-of-requires Inv-loop μ-loop
 worths-of-requires c κs = let t = c .before in let p = begun t .pre in (p .0, (p .1, t .loop-test .taken))
 
@@ -41,30 +47,26 @@ row-long c = rw (c .worths-of .ensures) (padded-length (pos 0) maxStates _ _ (fe
 
 paste-requires : tie.Need-paste-i64-requires Inv-loop μ-loop
 paste-requires c κs =
-    let m = c .before .before .before in
+    let a = begun (turn (after-worths-of c)) in let m = after-worths-of c in
     let t = turn m in
-    let p = begun t .pre .0 in
-    let n = begun t .args .c .states in (
+    let p = a .pre .0 in
+    let n = a .args .c .states in (
       omega (
         arith,
         c .before .start .ensures,
         room p,
         worths-long p _ (omega (arith, t .loop-test .taken)) (t .before .loop .inv .1),
-        row-below (t .before .loop .v) (begun t .args .nodes) n (t .loop-test .taken),
+        row-below (t .before .loop .v) (a .args .nodes) n (t .loop-test .taken),
       ),
       omega (arith, row-long m, few-states p),
     )
 
 add-v : tie.Need-add-v Inv-loop μ-loop
-add-v c =
-    let t = turn (c .before .before .before .before .before) in
-    omega (arith, t .loop-test .taken, begun t .pre .0 .sound .few-nodes)
+add-v c = let t = turn (after-worths-of (c .before .before)) in omega (arith, t .loop-test .taken, begun t .pre .0 .sound .few-nodes)
 
 loop-again : tie.Need-loop-again Inv-loop μ-loop
 loop-again c =
-    let m = c .before .before .before .before .before in
-    let t = turn m in
-    let put = c .before in (
+    let m = after-worths-of (c .before .before) in let t = turn m in let put = c .before in (
       omega (arith, t .loop-test .taken),
       worths-more (begun t .pre .0) _ (t .loop-test .taken) (t .before .loop .inv .1) (m .worths-of .ensures)
           (rw (put .before .before .start .ensures) at (put .paste-i64 .ensures)),
@@ -72,12 +74,12 @@ loop-again c =
 
 returns : tie.Need-returns Inv-loop μ-loop
 returns c =
-    let s = c .before .before .before .before .before .before in
+    let s = start c in
     let e : c .before .loop .v ≡ s .args .nodes = omega (arith, c .loop-test .left, c .before .loop .inv .0) in
     rw e at (c .before .loop .inv .1)
 
 pub step-spec : {M : Type 1} → statement M
 step-spec =
     tie.close (tie.spec Inv-loop μ-loop (λ c. (search needs, worths-none-yet _ _)) (λ c. search (needs, begun (c .before) .good)) worths-of-requires
-    worths-slice start-requires (λ c. sym (row-long (c .before .before .before))) paste-requires add-v
-    (λ c. omega (arith, turn (c .before .before .before .before .before) .loop-test .taken)) loop-again returns)
+    worths-slice start-requires (λ c. sym (row-long (after-worths-of c))) paste-requires add-v
+    (λ c. omega (arith, turn (after-worths-of (c .before .before)) .loop-test .taken)) loop-again returns)

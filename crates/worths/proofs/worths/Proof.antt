@@ -17,6 +17,9 @@ abbrev μ-loop : tie.MeasureT-loop
 abbrev begun : tie.In-loop Inv-loop μ-loop → tie.Start Inv-loop μ-loop
 begun c = c .before .before .before .before .before .before
 
+abbrev start : tie.After-shared-slice-known4 Inv-loop μ-loop → tie.Start Inv-loop μ-loop
+start c = c .before .before .before .before
+
 step-requires : tie.Need-step-requires Inv-loop μ-loop
 step-requires c κs =
     let p = begun c .pre in
@@ -29,11 +32,10 @@ loop-again c =
 
 returns : tie.Need-returns Inv-loop μ-loop
 returns c =
-    let e : c .before .loop .counter ≡ c .before .before .before .before .before .before .args .d = omega
-    (arith, c .loop-test .left, c .before .loop .inv .0) in
+    let e : c .before .loop .counter ≡ start (c .before .before) .args .d = omega (arith, c .loop-test .left, c .before .loop .inv .0) in
     rw e at (c .before .loop .inv .1)
 
 pub worths-spec : {M : Type 1} → statement M
 worths-spec =
-    tie.close (tie.spec Inv-loop μ-loop (λ c. (search needs, worths-none (c .before .before .before .before .pre .0))) step-requires
-    (λ c. search needs) (λ c. search needs) loop-again returns)
+    tie.close (tie.spec Inv-loop μ-loop (λ c. (search needs, worths-none (start c .pre .0))) step-requires (λ c. search needs) (λ c. search needs)
+    loop-again returns)

@@ -4,6 +4,13 @@ use Rattle.written.proofs.Sizes.{file-length}
 use Rattle.written.proofs.put_file.Statement.{statement}
 use Rattle.written.proofs.put_file.Tie as tie
 
+-- places of the code, each from a later one
+abbrev after-put-table2 : tie.After-put-rewards-arg → tie.After-put-table2
+after-put-table2 c = c .before .before .before
+
+abbrev start-of-after-put-header-arg : tie.After-put-header-arg → tie.Start
+start-of-after-put-header-arg c = c .before .before .before .before .before
+
 -- the parts behind the header
 abbrev begins : tie.Start → List ℕ
 begins c = startText (c .args .c .states) (c .args .start .now)
@@ -64,46 +71,36 @@ room-rewards c = room-then (room-observations (first c)) (c .put-table2 .ensures
 
 put-start-requires : tie.Need-put-start-requires
 put-start-requires c κs =
-    let h = c .before .before .before in
-    let s = start h in
-    (s .pre .0 .begins .long, room-first {t = begins s} (moved s) (room-start h))
+    let h = c .before .before .before in let s = start h in (s .pre .0 .begins .long, room-first {t = begins s} (moved s) (room-start h))
 
 put-table-requires : tie.Need-put-table-requires
 put-table-requires c κs =
-    let b = c .before .before .before in
-    let s = start (headed b) in
-    let v = s .pre .0 .valid in
-    ((v .few-actions, (v .few-states, v .few-states)), (s .pre .0 .stored .transitions, room-first {t = transitions s} (observed s) (room-transitions b)))
+    let b = c .before .before .before in let s = start (headed b) in let v = s .pre .0 .valid in (
+      (v .few-actions, (v .few-states, v .few-states)),
+      (s .pre .0 .stored .transitions, room-first {t = transitions s} (observed s) (room-transitions b)),
+    )
 
 put-table-requires-2 : tie.Need-put-table-requires-2
 put-table-requires-2 c κs =
-    let t = c .before .before .before in
-    let s = start (headed (started t)) in
-    let v = s .pre .0 .valid in
+    let t = c .before .before .before in let s = start (headed (started t)) in let v = s .pre .0 .valid in
     let behind = room-first {t = observations s} (rewards s) (room-observations t) in
     ((v .few-actions, (v .few-states, omega (arith, v .few-observations))), (s .pre .0 .stored .observed, behind))
 
 put-rewards-requires : tie.Need-put-rewards-requires
 put-rewards-requires c κs =
-    let o = c .before .before .before in
-    let s = start (headed (started (first o))) in
-    let v = s .pre .0 .valid in
+    let o = after-put-table2 c in let s = start (headed (started (first o))) in let v = s .pre .0 .valid in
     ((v .few-actions, v .few-states), (s .pre .0 .stored .rewards, room-rewards o))
 
 returns : tie.Need-returns
 unfolding fileText
 returns c =
-    let last = c .before .before in
-    let o = last .before .before .before .before in
-    let t = first o in
-    let b = started t in
-    let h = headed b in
-    let s = start h in
-    wrote-then (room s) (h .put-header .ensures) (wrote-then {t = begins s} (room-start h) (b .put-start .ensures)
-    (wrote-then {t = transitions s} (room-transitions b) (t .put-table .ensures)
+    let last = c .before .before in let o = after-put-table2 (last .before) in let t = first o in
+    let b = started t in let h = headed b in let s = start h in
+    wrote-then (room s) (h .put-header .ensures) (wrote-then {t = begins s} (room-start h) (b .put-start .ensures) (wrote-then {t = transitions s}
+    (room-transitions b) (t .put-table .ensures)
     (wrote-then {t = observations s} (room-observations t) (o .put-table2 .ensures) (last .put-rewards .ensures))))
 
 pub put-file-spec : {M : Type 1} → statement M
 put-file-spec =
-    tie.close (tie.spec (λ c κs. let s = c .before .before .before .before .before in room-first (begun s) (room s)) put-start-requires put-table-requires
+    tie.close (tie.spec (λ c κs. let s = start-of-after-put-header-arg c in room-first (begun s) (room s)) put-start-requires put-table-requires
     put-table-requires-2 put-rewards-requires (λ c. search needs) returns)

@@ -4,6 +4,19 @@ use Rattle.written.proofs.Lines.{valuesLine, statesLine, actionsLine, o
 use Rattle.written.proofs.put_header.Statement.{statement}
 use Rattle.written.proofs.put_header.Tie as tie
 
+-- places of the code, each from a later one
+abbrev after-put-whole-line2 : tie.After-put-whole-line-arg6 → tie.After-put-whole-line2
+after-put-whole-line2 c = c .before .before .before .before
+
+abbrev after-out2 : tie.After-put-whole-line-arg2 → tie.After-out2
+after-out2 c = c .before .before .before
+
+abbrev after-out3 : tie.After-put-whole-line-arg4 → tie.After-out3
+after-out3 c = c .before .before .before
+
+abbrev after-out : tie.After-put-arg2 → tie.After-out
+after-out c = c .before .before .before
+
 -- the lines from each on
 abbrev acted : Counts → List ℕ
 acted c = actionsLine c ++ observationsLine c
@@ -28,7 +41,7 @@ room-values c = room-then (start c .pre) (c .put-fixed-line .ensures)
 
 put-requires : tie.Need-put-requires
 unfolding line
-put-requires c κs = let f = c .before .before .before .before in room-first (stated (start f .args .c)) (room-values f)
+put-requires c κs = let f = after-out c .before in room-first (stated (start f .args .c)) (room-values f)
 
 abbrev first : tie.After-put → tie.After-put-fixed-line
 first c = c .before .before .before .before .before
@@ -53,18 +66,14 @@ room-observations c = room-then (room-actions (third c)) (c .put-whole-line2 .en
 returns : tie.Need-returns
 unfolding headerText line
 returns c =
-    let last = c .before .before in
-    let d = last .before .before .before .before .before in
-    let n = third d in
-    let v = second n in
-    let f = first v in
-    wrote-then (start f .pre) (f .put-fixed-line .ensures) (wrote-then (room-values f) (v .put .ensures)
-    (wrote-then (room-states v) (n .put-whole-line .ensures) (wrote-then (room-actions n) (d .put-whole-line2 .ensures) (last .put-whole-line3 .ensures))))
+    let last = c .before .before in let d = after-put-whole-line2 (last .before) in let n = third d in
+    let v = second n in let f = first v in
+    wrote-then (start f .pre) (f .put-fixed-line .ensures) (wrote-then (room-values f) (v .put .ensures) (wrote-then (room-states v)
+    (n .put-whole-line .ensures) (wrote-then (room-actions n) (d .put-whole-line2 .ensures) (last .put-whole-line3 .ensures))))
 
 pub put-header-spec : {M : Type 1} → statement M
 put-header-spec =
-    tie.close (tie.spec (λ c. search needs) put-fixed-line-requires (λ c. search needs) put-requires
-    (λ c. search needs) (λ c κs. let v = c .before .before .before .before in room-first (acted (start (first v) .args .c)) (room-states v))
-    (λ c. search needs)
-    (λ c κs. let n = c .before .before .before .before in room-first (observationsLine (start (first (second n)) .args .c)) (room-actions n))
-    (λ c. search needs) (λ c κs. room-observations (c .before .before .before .before)) (λ c. search needs) returns)
+    tie.close (tie.spec (λ c. search needs) put-fixed-line-requires (λ c. search needs) put-requires (λ c. search needs)
+    (λ c κs. let v = after-out2 c .before in room-first (acted (start (first v) .args .c)) (room-states v)) (λ c. search needs)
+    (λ c κs. let n = after-out3 c .before in room-first (observationsLine (start (first (second n)) .args .c)) (room-actions n)) (λ c. search needs)
+    (λ c κs. room-observations (after-put-whole-line2 c)) (λ c. search needs) returns)

@@ -9,6 +9,10 @@ Inv-loop out₀ at places unit cells from w next₀ x₀ out next x = (x ≤ w) 
 abbrev μ-loop : tie.MeasureT-loop
 μ-loop out₀ at places unit cells from w next₀ x₀ out next x = w - x
 
+-- places of the code, each from a later one
+abbrev at-in-loop : tie.After-wide Inv-loop μ-loop → tie.In-loop Inv-loop μ-loop
+at-in-loop c = c .before .before .before
+
 -- a number, and that of a cell
 abbrev number : tie.Start Inv-loop μ-loop → ℕ → List ℕ
 number c v = spaced (fixed (c .args .places) v)
@@ -28,16 +32,14 @@ room c =
 
 put-number-requires : tie.Need-put-number-requires Inv-loop μ-loop
 put-number-requires c κs =
-    let in-loop = c .before .before .before in
-    let turn = in-loop .before in
-    let s = start turn in
+    let in-loop = at-in-loop c in let turn = in-loop .before in let s = start turn in
     (s .pre .0 .0, subst⁻¹ (λ (v : ℕ). HasRoom (turn .loop .next) (number s v) (turn .loop .out)) (c .wide .ensures) (room in-loop))
 
 loop-again : tie.Need-loop-again Inv-loop μ-loop
 loop-again c =
     let put = c .before .before in
     let read = put .before in
-    let in-loop = read .before .before .before in
+    let in-loop = at-in-loop read in
     let turn = in-loop .before in
     let s = start turn in (
       omega (arith, in-loop .loop-test .taken),

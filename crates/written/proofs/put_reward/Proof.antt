@@ -5,6 +5,13 @@ use Rattle.written.specs.Text.{anyOutcome}
 use Rattle.written.proofs.put_reward.Statement.{statement}
 use Rattle.written.proofs.put_reward.Tie as tie
 
+-- places of the code, each from a later one
+abbrev after-put-signed-fixed : tie.After-put-arg4 → tie.After-put-signed-fixed
+after-put-signed-fixed c = c .before .before .before .before
+
+abbrev after-out : tie.After-put-arg2 → tie.After-out
+after-out c = c .before .before .before
+
 -- the number and the line's end, behind the outcomes
 abbrev amount : ℤ → List ℕ
 amount v = signedFixed 2 v ++ newline
@@ -41,17 +48,15 @@ room-end c = room-then (room-amount (any c)) (c .put-signed-fixed .ensures)
 returns : tie.Need-returns
 unfolding rewardText
 returns c =
-    let last = c .before .before in
-    let v = last .before .before .before .before .before in
-    let o = opened (any v) in
-    let s = start o in
+    let p = any (after-put-signed-fixed (c .before .before .before)) in let last = c .before .before in
+    let v = after-put-signed-fixed (last .before) in let o = opened p in let s = start o in
     subst (λ (x : ℤ). Wrote (s .args .at) (parts s x) (s .args .out .now) (last .put2 .result) (last .put2 .last .0)) (toZ-ofZ (s .fits .v))
-    (wrote-then (room s) (o .put-opening .ensures) (wrote-then (room-outcome o) (any v .put .ensures)
-    (wrote-then (room-amount (any v)) (v .put-signed-fixed .ensures) (last .put2 .ensures))))
+    (wrote-then (room s) (o .put-opening .ensures)
+    (wrote-then (room-outcome o) (p .put .ensures) (wrote-then (room-amount p) (v .put-signed-fixed .ensures) (last .put2 .ensures))))
 
 pub put-reward-spec : {M : Type 1} → statement M
 put-reward-spec =
     tie.close (tie.spec (λ c κs. let s = c .before .before in room-first (anyOutcome ++ spaced (amount (value s))) (room s)) (λ c. search needs)
-    (λ c κs. let o = c .before .before .before .before in room-first (amount (value (start o))) (room-outcome o))
-    (λ c κs. (refl, room-first newline (room-amount (c .before .before .before)))) (λ c. search needs)
-    (λ c κs. room-end (c .before .before .before .before)) (λ c. search needs) returns)
+    (λ c κs. let o = after-out c .before in room-first (amount (value (start o))) (room-outcome o))
+    (λ c κs. (refl, room-first newline (room-amount (c .before .before .before)))) (λ c. search needs) (λ c κs. room-end (after-put-signed-fixed c))
+    (λ c. search needs) returns)

@@ -2,6 +2,10 @@ use Rattle.written.proofs.Prelude.{refl, List, ℕ, _++_, needs, newlin
 use Rattle.written.proofs.put_row.Statement.{statement}
 use Rattle.written.proofs.put_row.Tie as tie
 
+-- places of the code, each from a later one
+abbrev after-put-numbers : tie.After-put-arg2 → tie.After-put-numbers
+after-put-numbers c = c .before .before .before .before
+
 -- the numbers, and with them the line's end
 abbrev cells : tie.Start → List ℕ
 cells c = numbers 3 (c .args .cells .now) (c .args .from) (c .args .w)
@@ -29,14 +33,12 @@ room-end c = room-then (room-numbers (opened c)) (c .put-numbers .ensures)
 returns : tie.Need-returns
 unfolding rowText
 returns c =
-    let last = c .before .before in
-    let n = last .before .before .before .before .before in
-    let s = start (opened n) in
-    wrote-then (room s) (opened n .put-opening .ensures)
-    (wrote-then {t = cells s} (room-numbers (opened n)) (n .put-numbers .ensures) (last .put .ensures))
+    let p = opened (after-put-numbers (c .before .before .before)) in let last = c .before .before in
+    let n = after-put-numbers (last .before) in let s = start p in
+    wrote-then (room s) (p .put-opening .ensures) (wrote-then {t = cells s} (room-numbers p) (n .put-numbers .ensures) (last .put .ensures))
 
 pub put-row-spec : {M : Type 1} → statement M
 put-row-spec =
     tie.close (tie.spec (λ c κs. let s = c .before .before .before in room-first (rest s) (room s))
     (λ c κs. let o = c .before .before .before in ((refl, start o .pre .0), room-first newline (room-numbers o))) (λ c. search needs)
-    (λ c κs. room-end (c .before .before .before .before)) (λ c. search needs) returns)
+    (λ c κs. room-end (after-put-numbers c)) (λ c. search needs) returns)

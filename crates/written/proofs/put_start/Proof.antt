@@ -5,6 +5,10 @@ use Rattle.digits.proofs.Over.{parts-cong}
 use Rattle.written.proofs.put_start.Statement.{statement}
 use Rattle.written.proofs.put_start.Tie as tie
 
+-- places of the code, each from a later one
+abbrev after-put-numbers : tie.After-put-arg4 → tie.After-put-numbers
+after-put-numbers c = c .before .before .before .before
+
 -- "start:"
 abbrev name : List ℕ
 name = 115 ∷ 116 ∷ 97 ∷ 114 ∷ 116 ∷ 58 ∷ []
@@ -40,14 +44,13 @@ room-end c = room-then (room-numbers (named c)) (c .put-numbers .ensures)
 
 returns : tie.Need-returns
 returns c =
-    let last = c .before .before in
-    let n = last .before .before .before .before .before in
-    let s = start (named n) in
+    let p = named (after-put-numbers (c .before .before .before)) in let last = c .before .before in
+    let n = after-put-numbers (last .before) in let s = start p in
     subst⁻¹ (λ (t : List ℕ). Wrote (s .args .at) t (s .args .out .now) (last .put2 .result) (last .put2 .last .0)) (same-parts s)
-    (wrote-then (room s) (named n .put .ensures) (wrote-then {t = cells s} (room-numbers (named n)) (n .put-numbers .ensures) (last .put2 .ensures)))
+    (wrote-then (room s) (p .put .ensures) (wrote-then {t = cells s} (room-numbers p) (n .put-numbers .ensures) (last .put2 .ensures)))
 
 pub put-start-spec : {M : Type 1} → statement M
 put-start-spec =
     tie.close (tie.spec (λ c. search needs) (λ c κs. let s = c .before .before .before .before in room-first (rest s) (room s))
     (λ c κs. let p = c .before .before .before in ((refl, omega (arith, start p .pre .0)), room-first newline (room-numbers p))) (λ c. search needs)
-    (λ c κs. room-end (c .before .before .before .before)) (λ c. search needs) returns)
+    (λ c κs. room-end (after-put-numbers c)) (λ c. search needs) returns)

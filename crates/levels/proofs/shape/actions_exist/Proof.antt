@@ -10,23 +10,21 @@ Inv-loop actions vectors m v₀ v = (v ≤ vectors) × (every v (λ i. ltb (getD
 abbrev μ-loop : tie.MeasureT-loop
 μ-loop actions vectors m v₀ v = vectors - v
 
+-- places of the code, each from a later one
+abbrev at-loop : tie.After-action Inv-loop μ-loop → tie.At-loop Inv-loop μ-loop
+at-loop c = c .before .before .before
+
 loop-holds : tie.Need-loop-holds Inv-loop μ-loop
 loop-holds c = (omega arith, every-none _)
 
 returns : tie.Need-returns Inv-loop μ-loop
-returns c =
-    sym (every-not _ _ (c .before .before .before .before .loop .v) (omega arith) (le-ltb _ _ (rw (c .before .action .ensures) at (c .if1 .taken))))
+returns c = sym (every-not _ _ (at-loop (c .before) .loop .v) (omega arith) (le-ltb _ _ (rw (c .before .action .ensures) at (c .if1 .taken))))
 
 loop-again : tie.Need-loop-again Inv-loop μ-loop
-loop-again c = (
-  omega arith,
-  every-more _ _ (c .before .before .before .before .loop .inv .1) (lt-ltb _ _ (rw (c .before .action .ensures) at (c .if1 .left))),
-)
+loop-again c = (omega arith, every-more _ _ (at-loop (c .before) .loop .inv .1) (lt-ltb _ _ (rw (c .before .action .ensures) at (c .if1 .left))))
 
 returns-2 : tie.Need-returns-2 Inv-loop μ-loop
-returns-2 c =
-    let e : c .before .loop .v ≡ c .before .before .before .args .vectors = omega arith in
-    sym (rw e at (c .before .loop .inv .1))
+returns-2 c = let e : c .before .loop .v ≡ c .before .before .before .args .vectors = omega arith in sym (rw e at (c .before .loop .inv .1))
 
 pub actions-exist-spec : {M : Type 1} → statement M
 actions-exist-spec =

@@ -3,6 +3,10 @@ use Rattle.integers.proofs.Kit.{mul-le-mul, le-leb, lt-leb}
 use Rattle.levels.proofs.shape.readable.Statement.{statement}
 use Rattle.levels.proofs.shape.readable.Tie as tie
 
+-- places of the code, each from a later one
+abbrev start : tie.Else4 → tie.Start
+start c = c .before .before .before .before
+
 returns : tie.Need-returns
 returns c = rw (lt-leb _ _ (c .if1 .taken))
 
@@ -21,7 +25,7 @@ returns-4 c =
     rw (le-leb _ _ (masks .before .if1 .left), le-leb _ _ (masks .if2 .left), le-leb _ _ (c .before .if3 .left), lt-leb _ _ (c .if4 .taken))
 
 mul-if5 : tie.Need-mul-if5
-mul-if5 c = let p = c .before .before .before .before .pre in omega (arith, mul-le-mul (p .1 .1) (p .0))
+mul-if5 c = let p = start c .pre in omega (arith, mul-le-mul (p .1 .1) (p .0))
 
 returns-5 : tie.Need-returns-5
 returns-5 c =

@@ -13,8 +13,8 @@ cells-few c = mul-le-mul (rows-few c) (c .pre .0 .1 .1)
 returns : tie.Need-returns
 returns c =
     let a = c .before .before .before .args in
-    ap (λ (z : ℕ). leb z one) (c .wide .ensures ∙ c .before .largest .ensures)
-    ∙ largest-every (a .m * a .n * a .w) one (λ x. getD (a .cells .now) x 0) ∙ every-cells (a .m) (a .n) (a .w) (λ x. leb (getD (a .cells .now) x 0) one)
+    ap (λ (z : ℕ). leb z one) (c .wide .ensures ∙ c .before .largest .ensures) ∙ largest-every (a .m * a .n * a .w) one
+    (λ x. getD (a .cells .now) x 0) ∙ every-cells (a .m) (a .n) (a .w) (λ x. leb (getD (a .cells .now) x 0) one)
 
 pub cells-within-spec : {M : Type 1} → statement M
 cells-within-spec =

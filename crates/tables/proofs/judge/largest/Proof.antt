@@ -13,8 +13,7 @@ abbrev μ-loop : tie.MeasureT-loop
 
 loop-again : tie.Need-loop-again Inv-loop μ-loop
 loop-again c =
-    let l = c .before .before .before .loop in
-    let cells = c .before .before .before .before .before .args .cells .now in
+    let lo = c .before .before .before in let l = lo .loop in let cells = lo .before .before .args .cells .now in
     (omega arith, c .larger .ensures ∙ ap (λ (m : ℕ). max m (getD cells (l .x) 0)) (l .inv .1) ∙ sym (largest-more (l .x) (λ y. getD cells y 0)))
 
 returns : tie.Need-returns Inv-loop μ-loop

@@ -17,26 +17,33 @@ Inv-loop cells m n a₀ a = (a ≤ m) × (every a (λ b. every n (λ t. leb (nat
 abbrev μ-loop : tie.MeasureT-loop
 μ-loop cells m n a₀ a = m - a
 
-said : (c : tie.After-within Inv-loop2 μ-loop2 Inv-loop μ-loop) → c .within .result ≡ leb
-    (natAbs (rewardIn (c .before .before .before .before .before .before .args .n) (c .before .before .before .before .before .before .args .cells .now)
-    (c .before .before .before .loop2 .s) (c .before .before .before .before .before .loop .a))) maxReward
+-- places of the code, each from a later one
+abbrev at-loop2 : tie.After-within Inv-loop2 μ-loop2 Inv-loop μ-loop → tie.At-loop2 Inv-loop2 μ-loop2 Inv-loop μ-loop
+at-loop2 c = c .before .before .before
+
+said : (c : tie.After-within Inv-loop2 μ-loop2 Inv-loop μ-loop)
+    → let a = at-loop2 c .before .before .before in
+    c .within .result ≡ leb (natAbs (rewardIn (a .args .n) (a .args .cells .now) (at-loop2 c .loop2 .s) (at-loop2 c .before .before .loop .a)))
+    maxReward
 said c = c .within .ensures ∙ ap (λ (z : ℤ). leb (natAbs z) maxReward) (back _ (c .before .reward-at .ok) ∙ c .before .reward-at .ensures)
 
 reward-at-requires : tie.Need-reward-at-requires Inv-loop2 μ-loop2 Inv-loop μ-loop
 reward-at-requires c κs =
-    let a = c .before .before .before .before in
-    ((omega arith, omega arith), (omega arith, rows-stored (a .args .n) (c .before .before .before .loop .a) (a .args .m) (omega arith) (a .pre .1)))
+    let l = c .before .before .before in let a = l .before in
+    ((omega arith, omega arith), (omega arith, rows-stored (a .args .n) (l .loop .a) (a .args .m) (omega arith) (a .pre .1)))
 
 returns : tie.Need-returns Inv-loop2 μ-loop2 Inv-loop μ-loop
-returns c = sym (every-not _ _ (c .before .before .before .before .before .before .loop .a) (omega arith)
-    (every-not _ _ (c .before .before .before .before .loop2 .s) (omega arith) (sym (said (c .before)) ∙ not-true _ (c .if1 .taken))))
+returns c =
+    sym (every-not _ _ (at-loop2 (c .before) .before .before .loop .a) (omega arith)
+    (every-not _ _ (at-loop2 (c .before) .loop2 .s) (omega arith) (sym (said (c .before)) ∙ not-true _ (c .if1 .taken))))
 
 loop2-again : tie.Need-loop2-again Inv-loop2 μ-loop2 Inv-loop μ-loop
-loop2-again c = (omega arith, every-more _ _ (c .before .before .before .before .loop2 .inv .1) (sym (said (c .before)) ∙ not-false _ (c .if1 .left)))
+loop2-again c = (omega arith, every-more _ _ (at-loop2 (c .before) .loop2 .inv .1) (sym (said (c .before)) ∙ not-false _ (c .if1 .left)))
 
 loop-again : tie.Need-loop-again Inv-loop2 μ-loop2 Inv-loop μ-loop
-loop-again c = let e : c .before .loop2 .s ≡ c .before .before .before .before .args .n = omega arith in
-    (omega arith, every-more _ _ (c .before .before .before .loop .inv .1) (rw e at (c .before .loop2 .inv .1)))
+loop-again c =
+    let l = c .before .before .before in let e : c .before .loop2 .s ≡ l .before .args .n = omega arith in
+    (omega arith, every-more _ _ (l .loop .inv .1) (rw e at (c .before .loop2 .inv .1)))
 
 returns-2 : tie.Need-returns-2 Inv-loop2 μ-loop2 Inv-loop μ-loop
 returns-2 c = let e : c .before .loop .a ≡ c .before .before .args .m = omega arith in sym (rw e at (c .before .loop .inv .1))

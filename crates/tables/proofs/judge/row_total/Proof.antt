@@ -11,8 +11,8 @@ abbrev μ-loop : tie.MeasureT-loop
 -- a cell is a 16-bit number
 narrow : (c : tie.After-wide Inv-loop μ-loop) → c .wide .result ≤ 65535
 narrow c =
-    let l = c .before .before .before in
-    omega (arith, c .wide .ensures, c .before .shared-slice-known2 .given (l .before .before .args .at + l .loop .x))
+    let from = c .before .before .before .before .before in let l = c .before .before .before in
+    omega (arith, c .wide .ensures, c .before .shared-slice-known2 .given (from .args .at + l .loop .x))
 
 loop-again : tie.Need-loop-again Inv-loop μ-loop
 loop-again c = (omega arith, (rw (c .wide .ensures) (total-step _ _ (c .before .before .before .loop .inv .1 .0)), omega (arith, narrow c)))
