@@ -54,7 +54,7 @@ pub record Alpha : Type 0 where
   pub action : ℕ
   pub ticks : List ℤ
 
-pub record Node : Type 0 where
+pub record PolicyNode : Type 0 where
   pub action : ℕ
   pub next : List ℕ
 
@@ -63,7 +63,7 @@ unfoldable pub alpha : ℕ → Words → Answer Alpha
 alpha n ws = action ws then λ a ws. several decimal n ws then λ ts ws. got (record { action = a; ticks = ts }) ws
 
 -- node i: its number, its action and k next nodes
-unfoldable pub node : ℕ → ℕ → Words → Answer Node
+unfoldable pub node : ℕ → ℕ → Words → Answer PolicyNode
 node k i ws = number nodeForm i i ws then λ _ ws. action ws then λ a ws. several nextNode k ws then λ os ws. got (record { action = a; next = os }) ws
 
 -- 19, whatever it is that a word does not fit

@@ -12,7 +12,7 @@ use Rattle.grammar.specs.Grammar.{Answer, got}
 use Rattle.grammar.specs.Steps.{answerOf}
 use Rattle.alphas.specs.declared.AlphaAt.{AlphaAt}
 use Rattle.alphas.specs.declared.NodeAt.{NodeAt}
-use Rattle.alphas.specs.Alphas.{Alpha, Node, wordsVerdict}
+use Rattle.alphas.specs.Alphas.{Alpha, PolicyNode, wordsVerdict}
 
 -- ---- several words
 
@@ -42,5 +42,5 @@ Gave s at (Not number place) end x a = Not number place ≡ wordsVerdict a
 abbrev pub alphaOf : ℕ → AlphaAt → Alpha
 alphaOf n r = record { action = r .action; ticks = take n (r .ticks) }
 
-abbrev pub nodeOf : ℕ → NodeAt → Node
+abbrev pub nodeOf : ℕ → NodeAt → PolicyNode
 nodeOf k r = record { action = r .action; next = take k (r .next) }

@@ -9,7 +9,7 @@ use Rattle.tables.specs.declared.Verdict.the-variants.{Fine, Refused}
 use Rattle.levels.specs.Storage.{Cells, Lent}
 use Rattle.runs.specs.declared.Bounds.{Bounds}
 use Rattle.runs.specs.Demand3.{Claim, TotalsHold, BuildHolds}
-use Rattle.intervals.specs.declared.Within.{Within}
+use Rattle.intervals.specs.declared.Enclosing.{Enclosing}
 use Rattle.intervals.specs.Claim.{WithinHolds}
 use Rattle.modelfile.specs.declared.TablesRead.{TablesRead}
 use Rattle.worth.specs.declared.Valued.{Valued}
@@ -68,7 +68,7 @@ totalsBy b = record {
   informed = b .informed;
 }
 
-abbrev pub totalsWithinBy : Within → TotalsWithin
+abbrev pub totalsWithinBy : Enclosing → TotalsWithin
 totalsWithinBy w = record {
   number = refusalOf (w .verdict) .number;
   place = refusalOf (w .verdict) .place;
@@ -98,7 +98,7 @@ pub record Brackets (m : Tables) (t : ℕ) (c : Claim) (b : List ℕ) (r : Total
 
 -- totals r within ranges, with tables m in force, at level t with claim c
 pub record Encloses (m : Tables) (t : ℕ) (c : Claim) (lows highs : List ℕ) (r : TotalsWithin) : Type 0 where
-  pub within : Within
+  pub within : Enclosing
   pub answer : r ≡ totalsWithinBy within
   pub holds : WithinHolds m t c lows highs within
 

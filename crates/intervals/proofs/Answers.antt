@@ -25,7 +25,7 @@ use Rattle.runs.specs.State.{standingVerdict}
 use Rattle.bounds.specs.Steps.{supportIn, widened}
 use Rattle.bounds.proofs.Bounds.{counts-weights, some-counts-weights, Mixed, mixed, widened-at, widened-below}
 use Rattle.bounds.proofs.Bounds.{stands, roofed, counts-is, some-is, standing-holds}
-use Rattle.intervals.specs.declared.Within.{Within}
+use Rattle.intervals.specs.declared.Enclosing.{Enclosing}
 use Rattle.intervals.specs.Intervals.{rangesHold, highsHold, withinVerdict, noTotals, withinBy, withinOf}
 use Rattle.intervals.specs.Steps.{Ranged, leastIn, lowerInRanges, upperInRanges, totalsIn, givenIf, answerWithin, AskedWithin}
 
@@ -51,7 +51,7 @@ module _ (n : ℕ) (lows highs : List ℕ) (ordered : rangesHold n lows highs �
   }
 
   -- where a vector counts at the highs, the answer is the totals
-  pub totals-given : (vectors : ℕ) (masks : List ℕ) (entries corners : List ℤ) {low high : List ℕ} {states : ℕ} {r : Within}
+  pub totals-given : (vectors : ℕ) (masks : List ℕ) (entries corners : List ℤ) {low high : List ℕ} {states : ℕ} {r : Enclosing}
       → r ≡ totalsIn n vectors masks entries corners low high states → low ≡ widened n lows → high ≡ widened n highs
       → states ≡ supportIn n (widened n highs) → someIncludes masks vectors (supportIn n (widened n highs)) ≡ true
       → r ≡ answerWithin n vectors masks entries corners lows highs

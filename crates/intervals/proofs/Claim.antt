@@ -14,7 +14,7 @@ use Rattle.runs.proofs.Judged.{standing-is}
 use Rattle.runs.proofs.Reached.{Reached, some-vectors}
 use Rattle.runs.proofs.Demand3.{reached}
 use Rattle.runs.specs.State.{standingVerdict}
-use Rattle.intervals.specs.declared.Within.{Within}
+use Rattle.intervals.specs.declared.Enclosing.{Enclosing}
 use Rattle.intervals.specs.Intervals.{withinVerdict, withinOf}
 use Rattle.intervals.specs.Claim.{RangesHold, WithinHolds, WithinClaim}
 
@@ -46,7 +46,7 @@ pub within-claim : (m : Tables) (x : Lent) → ModelAccepted m x → (es : List 
 within-claim m x o es h lows highs e = within-holds (reached m x o es) h lows highs e
 
 -- an answer that meets its equation has what the claim says of it
-pub within-demand : (m : Tables) (y : Lent) (lows highs : List ℕ) (r : Within) → r ≡ withinOf m y lows highs
+pub within-demand : (m : Tables) (y : Lent) (lows highs : List ℕ) (r : Enclosing) → r ≡ withinOf m y lows highs
     → (m₀ : Tables) (x : Lent) (es : List Event) → ModelAccepted m₀ x → certifier m y ≡ after m₀ x es → 0 < steps m₀ x es
     → RangesHold m (claim m₀ x es) lows highs → WithinHolds m (steps m₀ x es) (claim m₀ x es) lows highs r
 within-demand m y lows highs r e m₀ x es o q h ranges =

@@ -14,7 +14,7 @@ use Rattle.levels.specs.Storage.{Lent}
 use Rattle.levels.specs.Judged.{rowsWithin, valuesWithin, rangesVerdict, weightsVerdict, holdsUpTo}
 use Rattle.runs.proofs.Dough.{dough, slices, rowsAt, fresh}
 use Rattle.runs.specs.State.{standingVerdict}
-use Rattle.intervals.specs.declared.Within.{Within}
+use Rattle.intervals.specs.declared.Enclosing.{Enclosing}
 use Rattle.intervals.specs.Intervals.{withinVerdict, withinOf}
 
 -- level 1 with the first of two vectors, or with both: one waits, for ripe dough alone (-100 there), and one bakes, for all (-1000, 600)
@@ -33,7 +33,7 @@ stands vectors = record {
   rows = rowsAt 1;
 }
 
-abbrev given : ℤ → ℤ → Within
+abbrev given : ℤ → ℤ → Enclosing
 given x y = record { verdict = Fine; lower = x; upper = y }
 
 record Table : Type 0 where

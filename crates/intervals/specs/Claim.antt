@@ -14,7 +14,7 @@ use Rattle.plans.specs.Totals.{someCounts}
 use Rattle.plans.specs.Intervals.{lowerWithin, upperWithin, Inside, Between}
 use Rattle.levels.specs.Storage.{Lent}
 use Rattle.runs.specs.Demand3.{Event, Certifier, Claim, after, steps, claim}
-use Rattle.intervals.specs.declared.Within.{Within}
+use Rattle.intervals.specs.declared.Enclosing.{Enclosing}
 use Rattle.intervals.specs.Intervals.{rangesHold, highsHold, withinOf}
 
 -- ranges within the limits, at whose highs some vector of the level that is claimed counts
@@ -25,7 +25,7 @@ pub record RangesHold (m : Tables) (c : Claim) (lows highs : List ℕ) : Type 0 
 
 -- totals r within ranges: given, those of the level that is claimed, and at every mixture b inside a bracket of what the best of all t-step plans of the
 -- model earns
-pub record WithinHolds (m : Tables) (t : ℕ) (c : Claim) (lows highs : List ℕ) (r : Within) : Type 0 where
+pub record WithinHolds (m : Tables) (t : ℕ) (c : Claim) (lows highs : List ℕ) (r : Enclosing) : Type 0 where
   pub given : r .verdict ≡ Fine
   pub lower-is : r .lower ≡ lowerWithin (modelOf m) (c .level) (weightIn lows) (weightIn highs)
   pub upper-is : r .upper ≡ upperWithin (modelOf m) (c .level) (weightIn lows) (weightIn highs)

@@ -17,7 +17,7 @@ use Rattle.plans.specs.Totals.{someCounts}
 use Rattle.plans.specs.Intervals.{lowerWithin, upperWithin}
 use Rattle.levels.specs.Storage.{Lent, levelOf, standingIn}
 use Rattle.runs.specs.State.{mixtureHolds, standingVerdict}
-use Rattle.intervals.specs.declared.Within.{Within}
+use Rattle.intervals.specs.declared.Enclosing.{Enclosing}
 
 -- 24: a low exceeds its high; a weight that is missing is 0 here
 abbrev pub rangesHold : ℕ → List ℕ → List ℕ → Bool
@@ -36,14 +36,14 @@ withinVerdict m x lows highs =
     before unless (someCounts (modelOf m) (levelOf m (standingIn x)) (weightIn highs)) 22 0
 
 -- a refusal of which every other part is 0
-abbrev pub noTotals : Verdict → Within
+abbrev pub noTotals : Verdict → Enclosing
 noTotals v = record { verdict = v; lower = pos 0; upper = pos 0 }
 
 -- the totals of a level, or a refusal
-abbrev pub withinBy : Verdict → Model → Level → (ℕ → ℕ) → (ℕ → ℕ) → Within
+abbrev pub withinBy : Verdict → Model → Level → (ℕ → ℕ) → (ℕ → ℕ) → Enclosing
 withinBy Fine M L low high = record { verdict = Fine; lower = lowerWithin M L low high; upper = upperWithin M L low high }
 withinBy (Refused number place) M L low high = noTotals (Refused number place)
 
 -- the answer: the totals of the standing level
-unfoldable pub withinOf : Tables → Lent → List ℕ → List ℕ → Within
+unfoldable pub withinOf : Tables → Lent → List ℕ → List ℕ → Enclosing
 withinOf m x lows highs = withinBy (withinVerdict m x lows highs) (modelOf m) (levelOf m (standingIn x)) (weightIn lows) (weightIn highs)

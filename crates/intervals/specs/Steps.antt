@@ -15,7 +15,7 @@ use Rattle.plans.specs.Intervals.{leastProduct}
 use Rattle.levels.specs.Storage.{cornerIn}
 use Rattle.sawtooth.specs.Steps.{CornersFit}
 use Rattle.bounds.specs.Steps.{supportIn, widened}
-use Rattle.intervals.specs.declared.Within.{Within}
+use Rattle.intervals.specs.declared.Enclosing.{Enclosing}
 use Rattle.intervals.specs.Intervals.{rangesHold, highsHold, noTotals}
 
 -- the weight that an entry takes: one for entries of 0 or more, another for those below
@@ -44,17 +44,17 @@ abbrev pub upperInRanges : ℕ → List ℤ → List ℕ → List ℕ → ℤ
 upperInRanges n corners lows highs = leastProduct n (weightIn highs) (weightIn lows) (cornerIn corners)
 
 -- both totals
-abbrev pub totalsIn : ℕ → ℕ → List ℕ → List ℤ → List ℤ → List ℕ → List ℕ → ℕ → Within
+abbrev pub totalsIn : ℕ → ℕ → List ℕ → List ℤ → List ℤ → List ℕ → List ℕ → ℕ → Enclosing
 totalsIn n vectors masks entries corners lows highs states =
     record { verdict = Fine; lower = lowerInRanges n vectors masks entries lows highs states; upper = upperInRanges n corners lows highs }
 
 -- an answer, or a refusal without a place where a test does not hold
-abbrev pub givenIf : Bool → ℕ → Within → Within
+abbrev pub givenIf : Bool → ℕ → Enclosing → Enclosing
 givenIf true number r = r
 givenIf false number r = noTotals (Refused number 0)
 
 -- the answer: 24, 17, then 22, else both totals
-abbrev pub answerWithin : ℕ → ℕ → List ℕ → List ℤ → List ℤ → List ℕ → List ℕ → Within
+abbrev pub answerWithin : ℕ → ℕ → List ℕ → List ℤ → List ℤ → List ℕ → List ℕ → Enclosing
 answerWithin n vectors masks entries corners lows highs =
     let states = supportIn n (widened n highs) in
     givenIf (rangesHold n lows highs) 24 (givenIf (highsHold n lows highs) 17 (givenIf (someIncludes masks vectors states) 22

@@ -22,7 +22,7 @@ use tables::Verdict;
 use tables::read;
 
 // The totals over all mixtures inside the ranges.
-pub struct Within {
+pub struct Enclosing {
     pub verdict: Verdict,
     pub lower: i64,
     pub upper: i64,
@@ -128,14 +128,14 @@ fn totals_at<'b>(
     n: usize,
     vectors: usize,
     states: u64,
-) -> Within
+) -> Enclosing
     requires { ⌜ AskedWithin n vectors (now masks) (now entries) (now corners) ⌝ }
     requires { ⌜ Ranged n (now lows) (now highs) ⌝ }
     requires { ⌜ (states ≡ supportIn n (now highs)) × (someIncludes (now masks) vectors states ≡ true) ⌝ }
     ensures { λ r. ⌜ r
         ≡ totalsIn n vectors (now (masks .entry)) (now (entries .entry)) (now (corners .entry)) (now (lows .entry)) (now (highs .entry)) states ⌝ }
 {
-    Within {
+    Enclosing {
         verdict: Verdict::Fine,
         lower: surest_product(lows, highs, masks, entries, n, vectors, states),
         upper: sure_product(highs, lows, corners, 0, n),
@@ -143,10 +143,10 @@ fn totals_at<'b>(
 }
 
 // A refusal, with every other part 0.
-fn no_totals(v: Verdict) -> Within
+fn no_totals(v: Verdict) -> Enclosing
     ensures { λ r. ⌜ r ≡ noTotals v ⌝ }
 {
-    Within {
+    Enclosing {
         verdict: v,
         lower: 0,
         upper: 0,
@@ -162,7 +162,7 @@ fn answer<'b, 'c>(
     vectors: usize,
     lows: &'c [u32],
     highs: &'c [u32],
-) -> Within
+) -> Enclosing
     requires { ⌜ AskedWithin n vectors (now masks) (now entries) (now corners) ⌝ }
     ensures { λ r. ⌜ r ≡ answerWithin n vectors (now (masks .entry)) (now (entries .entry)) (now (corners .entry)) (now (lows .entry)) (now (highs .entry)) ⌝ }
 {
@@ -198,7 +198,7 @@ pub fn totals_within<'a, 'b, 'c>(
     qmdp: &'b [i64],
     lows: &'c [u32],
     highs: &'c [u32],
-) -> Within
+) -> Enclosing
     ensures { λ r. ⌜ ((choices : List ℕ) → r ≡ withinOf (tablesIn c (now (transition .entry)) (now (observation .entry)) (now (reward .entry)))
         (lent (now (state .entry)) (cells (now (actions .entry)) choices (now (masks .entry)) (now (entries .entry)) (now (corners .entry))
         (now (weights .entry)) (now (values .entry))) (rows (now (informed .entry)) (now (qmdp .entry)))) (now (lows .entry)) (now (highs .entry))) ⌝ }

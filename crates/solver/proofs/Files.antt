@@ -18,7 +18,7 @@ use Rattle.tables.proofs.Refusals.{before-fine, unless-fine}
 use Rattle.words.specs.Words.{wordsIn, between}
 use Rattle.alphas.specs.declared.AlphaAt.{AlphaAt}
 use Rattle.alphas.specs.declared.NodeAt.{NodeAt}
-use Rattle.alphas.specs.Alphas.{Alpha, Node, alpha, node, wordsVerdict}
+use Rattle.alphas.specs.Alphas.{Alpha, PolicyNode, alpha, node, wordsVerdict}
 use Rattle.alphas.specs.Steps.{Gave, alphaOf, nodeOf}
 use Rattle.solver.specs.declared.Judged.{Judged}
 use Rattle.solver.specs.Files.{alphas, nodes, readList, vectorsIn, nodeAt, actionAt, ticksAt, nextAt, alike, filesVerdict, withCount, filesJudged}
@@ -77,9 +77,9 @@ module _ (n k : ℕ) (alphaFile graphFile : List ℕ) where
         let b = node-on .same (record { action = 0; next = [] }) in
         record {
           action = ap (λ (z : Alpha). z .action) a;
-          node-action = ap (λ (z : Node). z .action) b;
+          node-action = ap (λ (z : PolicyNode). z .action) b;
           ticks = λ s l. sym (getD-take n (x .ticks) s (pos 0) l) ∙ ap (λ (z : Alpha). getD (z .ticks) s (pos 0)) a;
-          next = λ o l. sym (getD-take k (y .next) o 0 l) ∙ ap (λ (z : Node). getD (z .next) o 0) b;
+          next = λ o l. sym (getD-take k (y .next) o 0 l) ∙ ap (λ (z : PolicyNode). getD (z .next) o 0) b;
           onward = record {
             as-many-vectors = both .as-many-vectors;
             as-many-nodes = both .as-many-nodes;

@@ -12,7 +12,7 @@ use Rattle.tables.specs.declared.Verdict.the-variants.{Fine, Refused}
 use Rattle.tables.specs.Verdicts.{_before_, unless}
 use Rattle.words.specs.Words.{Words, wordsIn, between}
 use Rattle.grammar.specs.Grammar.{Answer, got, refused, _then_, unlessEnd}
-use Rattle.alphas.specs.Alphas.{Alpha, Node, alpha, node, wordsVerdict}
+use Rattle.alphas.specs.Alphas.{Alpha, PolicyNode, alpha, node, wordsVerdict}
 use Rattle.solver.specs.declared.Judged.{Judged}
 
 -- the most bytes of a file
@@ -32,7 +32,7 @@ allIn one file = allFrom one (length file + 1) 0 (wordsIn between file 0)
 abbrev pub alphas : ℕ → List ℕ → Answer (List Alpha)
 alphas n = allIn (λ _. alpha n)
 
-abbrev pub nodes : ℕ → List ℕ → Answer (List Node)
+abbrev pub nodes : ℕ → List ℕ → Answer (List PolicyNode)
 nodes k = allIn (node k)
 
 -- what is read; nothing of a file that is refused
@@ -48,7 +48,7 @@ vectorsIn n file = length (readList (alphas n file))
 abbrev pub alphaAt : ℕ → List ℕ → ℕ → Alpha
 alphaAt n file v = getD (readList (alphas n file)) v (record { action = 0; ticks = [] })
 
-abbrev pub nodeAt : ℕ → List ℕ → ℕ → Node
+abbrev pub nodeAt : ℕ → List ℕ → ℕ → PolicyNode
 nodeAt k file v = getD (readList (nodes k file)) v (record { action = 0; next = [] })
 
 -- of vector v its action, its entry at s before any backup, and what it chooses after o

@@ -1,6 +1,6 @@
 use Rattle.alphas.proofs.Prelude.{ℕ, refl, _≡_, ap, _∙_, List, arith, needs, take, Words, wordsIn, between, Answer, got, _then_, value-is, value-next}
 use Rattle.alphas.proofs.Prelude.{gave-back, lists-value, action, nextNode, several}
-use Rattle.alphas.specs.Alphas.{Node, node}
+use Rattle.alphas.specs.Alphas.{PolicyNode, node}
 use Rattle.alphas.proofs.node_at.Statement.{statement}
 use Rattle.alphas.proofs.node_at.Tie as tie
 
@@ -15,13 +15,13 @@ abbrev before-nexts : tie.After-nexts-at → tie.After-number-at2
 before-nexts c = c .before .before .before .before
 
 -- what follows the action, and the node's number
-abbrev made : ℕ → List ℕ → Words → Answer Node
+abbrev made : ℕ → List ℕ → Words → Answer PolicyNode
 made a os ws = got (record { action = a; next = os }) ws
 
-abbrev after : ℕ → ℕ → Words → Answer Node
+abbrev after : ℕ → ℕ → Words → Answer PolicyNode
 after k a ws = several nextNode k ws then made a
 
-abbrev numbered : ℕ → ℕ → Words → Answer Node
+abbrev numbered : ℕ → ℕ → Words → Answer PolicyNode
 numbered k _ ws = action ws then after k
 
 returns : tie.Need-returns

@@ -10,8 +10,8 @@ use Rattle.bounds.proofs.answer.Tie as tie
 abbrev start : tie.After-mixture-holds → tie.Start
 start c = c .before .before .before .before .before .before
 
-abbrev start-of-after-shared-slice-known5 : tie.After-shared-slice-known5 → tie.Start
-start-of-after-shared-slice-known5 c = c .before .before .before .before .before
+abbrev from-entry : tie.After-shared-slice-known5 → tie.Start
+from-entry c = c .before .before .before .before .before
 
 abbrev of-mixture : tie.After-point-weights → tie.Start
 of-mixture c = start (c .before .before)
@@ -38,7 +38,7 @@ at-22 c =
     c .some-has .ensures ∙ ap (λ (x : ℕ). someIncludes (a .masks .now) (a .vectors) x) (at-support (c .before))
 
 mixture-holds-requires : tie.Need-mixture-holds-requires
-mixture-holds-requires c κs = start-of-after-shared-slice-known5 c .pre .few-states
+mixture-holds-requires c κs = from-entry c .pre .few-states
 
 returns : tie.Need-returns
 returns c = c .no-bounds .ensures ∙ rw (sym (c .before .before .mixture-holds .ensures) ∙ not-true _ (c .before .if1 .taken))

@@ -29,8 +29,8 @@ of-row c = c .before
 abbrev of-upper : tie.After-lesser → tie.After-largest-product
 of-upper c = c .before
 
-abbrev start-of-after-shared-slice-known5 : tie.After-shared-slice-known5 → tie.Start
-start-of-after-shared-slice-known5 c = c .before .before .before .before .before
+abbrev from-entry : tie.After-shared-slice-known5 → tie.Start
+from-entry c = c .before .before .before .before .before
 
 -- what is known there
 at-best : (c : tie.After-best-vector)
@@ -76,7 +76,7 @@ below c = let a = start c in best-below (a .args .n) (a .args .masks .now) (a .a
 
 best-vector-requires : tie.Need-best-vector-requires
 best-vector-requires c κs =
-    let a = start-of-after-shared-slice-known5 c in let h = a .pre in (
+    let a = from-entry c in let h = a .pre in (
       (h .0 .few-states, h .0 .some-vectors),
       (below-reached (h .1 .0), (h .0 .entries-fit, λ s l above. rw (h .1 .1 .0) (support-covers (a .args .n) (a .args .q .now) s l above))),
     )

@@ -24,14 +24,14 @@ start k = k .before .before .before .before .before .before .before .before
 abbrev of-least : tie.After-least-of Inv-loop μ-loop → tie.In-loop Inv-loop μ-loop
 of-least c = c .before .before .before .before .before .before
 
-abbrev start-of-after-shared-slice-known5 : tie.After-shared-slice-known5 Inv-loop μ-loop → tie.Start Inv-loop μ-loop
-start-of-after-shared-slice-known5 c = c .before .before .before .before .before
+abbrev from-entry : tie.After-shared-slice-known5 Inv-loop μ-loop → tie.Start Inv-loop μ-loop
+from-entry c = c .before .before .before .before .before
 
 abbrev after-point-weights : tie.After-backups-at Inv-loop μ-loop → tie.After-point-weights Inv-loop μ-loop
 after-point-weights c = c .before .before .before
 
 gains-requires : tie.Need-gains-requires Inv-loop μ-loop
-gains-requires c κs = let h = start-of-after-shared-slice-known5 c .pre .0 in (h .valid .few-states, (corners-fit h, (points-fit h, values-fit h)))
+gains-requires c κs = let h = from-entry c .pre .0 in (h .valid .few-states, (corners-fit h, (points-fit h, values-fit h)))
 
 below : (k : tie.In-loop Inv-loop μ-loop) → k .before .loop .i < maxBuilt
 below k = omega (arith, k .loop-test .taken, start k .pre .1 .0 .0)
@@ -103,11 +103,11 @@ slice-set c =
 same-length : tie.Need-same-length Inv-loop μ-loop
 same-length c =
     laid-long _ _ _ (c .before .loop .inv .1)
-    (omega (arith, c .before .loop .inv .0, start-of-after-shared-slice-known5 (c .before .before .before) .pre .1 .1 .1 .0))
+    (omega (arith, c .before .loop .inv .0, from-entry (c .before .before .before) .pre .1 .1 .1 .0))
 
 returns : tie.Need-returns Inv-loop μ-loop
 returns c =
-    let e : c .before .loop .i ≡ start-of-after-shared-slice-known5 (c .before .before .before) .args .count =
+    let e : c .before .loop .i ≡ from-entry (c .before .before .before) .args .count =
     omega (arith, c .loop-test .left, c .before .loop .inv .0) in
     rw e at (c .before .loop .inv .1)
 

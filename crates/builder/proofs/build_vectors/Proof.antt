@@ -35,8 +35,8 @@ of-best c = c .before .before .before
 abbrev of-row : tie.After-row Inv-loop μ-loop → tie.After-best-candidate Inv-loop μ-loop
 of-row c = c .before .before .before
 
-abbrev start-of-after-slice-known3 : tie.After-slice-known3 Inv-loop μ-loop → tie.Start Inv-loop μ-loop
-start-of-after-slice-known3 c = c .before .before .before .before .before .before .before .before
+abbrev from-entry : tie.After-slice-known3 Inv-loop μ-loop → tie.Start Inv-loop μ-loop
+from-entry c = c .before .before .before .before .before .before .before .before
 
 abbrev after-paste-i64-arg : tie.After-entries Inv-loop μ-loop → tie.After-paste-i64-arg Inv-loop μ-loop
 after-paste-i64-arg c = c .before .before .before .before
@@ -48,10 +48,10 @@ abbrev of-entries : tie.After-paste-i64-arg Inv-loop μ-loop → tie.After-best-
 of-entries c = of-choices (c .before .before .before .before .before .before)
 
 add-count : tie.Need-add-count Inv-loop μ-loop
-add-count c = let p = start-of-after-slice-known3 c .pre in omega (arith, p .0 .valid .few-states, p .1 .0 .0)
+add-count c = let p = from-entry c .pre in omega (arith, p .0 .valid .few-states, p .1 .0 .0)
 
 all-requires : tie.Need-all-requires Inv-loop μ-loop
-all-requires c κs = let v = start-of-after-slice-known3 c .pre .0 .valid in (omega (arith, v .some-states), omega (arith, v .few-states))
+all-requires c κs = let v = from-entry c .pre .0 .valid in (omega (arith, v .some-states), omega (arith, v .few-states))
 
 below : (c : tie.In-loop Inv-loop μ-loop) → c .before .loop .v < maxVectors
 below c = let p = start (c .before) .pre in omega (arith, c .loop-test .taken, p .0 .valid .few-states, p .1 .0 .0)

@@ -18,8 +18,8 @@ start c = c .before .before .before .before .before .before
 abbrev of-product : tie.After-product Inv-loop μ-loop → tie.After-vector-for Inv-loop μ-loop
 of-product c = c .before .before .before
 
-abbrev start-of-after-shared-slice-known5 : tie.After-shared-slice-known5 Inv-loop μ-loop → tie.Start Inv-loop μ-loop
-start-of-after-shared-slice-known5 c = c .before .before .before .before .before
+abbrev from-entry : tie.After-shared-slice-known5 Inv-loop μ-loop → tie.Start Inv-loop μ-loop
+from-entry c = c .before .before .before .before .before
 
 abbrev of-loop : tie.At-loop Inv-loop μ-loop → tie.Start Inv-loop μ-loop
 of-loop c = start (of-product (c .before))
@@ -36,7 +36,7 @@ asked c = record { upon = c .pre .0; light = c .pre .1 .0 }
 
 vector-for-requires : tie.Need-vector-for-requires Inv-loop μ-loop
 vector-for-requires c κs =
-    let s = start-of-after-shared-slice-known5 c in let some = s .pre .0 .valid .some-actions in
+    let s = from-entry c in let some = s .pre .0 .valid .some-actions in
     vector-fits (asked s) 0 some (s .pre .1 .1 0 some)
 
 first-long : tie.Need-slice-aggregate-product Inv-loop μ-loop

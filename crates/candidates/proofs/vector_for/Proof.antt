@@ -21,11 +21,11 @@ of-foreseen c = c .before .before
 abbrev of-backups : tie.After-backups → tie.After-foreseen
 of-backups c = c .before .before
 
-abbrev start-of-after-shared-slice-known5 : tie.After-shared-slice-known5 → tie.Start
-start-of-after-shared-slice-known5 c = c .before .before .before .before .before
+abbrev from-entry : tie.After-shared-slice-known5 → tie.Start
+from-entry c = c .before .before .before .before .before
 
 moved-requires : tie.Need-moved-requires
-moved-requires c κs = let p = start-of-after-shared-slice-known5 c .pre in ((p .0 .0, p .0 .1 .1 .0), (weights-below (p .1 .1 .0), p .1 .1 .1 .0 .0))
+moved-requires c κs = let p = from-entry c .pre in ((p .0 .0, p .0 .1 .1 .0), (weights-below (p .1 .1 .0), p .1 .1 .1 .0 .0))
 
 moved-long : tie.Need-slice-aggregate-choose
 moved-long c = sym (rw (c .before .moved .ensures) (padded-length 0 maxStates _ _ (start (c .before) .pre .0 .0)))

@@ -20,8 +20,8 @@ start c = c .before .before .before .before .before .before
 abbrev few : tie.After-expect → tie.Else1
 few c = c .before .before
 
-abbrev start-of-after-refusal : tie.After-refusal → tie.Start
-start-of-after-refusal c = c .before .before .before .before .before .before .before
+abbrev from-refusal : tie.After-refusal → tie.Start
+from-refusal c = c .before .before .before .before .before .before .before
 
 abbrev after-expect : tie.After-enum-told → tie.After-expect
 after-expect c = c .before .before .before
@@ -32,7 +32,7 @@ read c = let a = c .args in fileOf (a .c) (a .transition .now) (a .observation .
 
 returns : tie.Need-returns
 returns c =
-    let s = start-of-after-refusal c in
+    let s = from-refusal c in
     answers-refused (expectedText (read s)) (s .args .out .now) (many-states (read s) (lt-leb _ maxConverted (c .before .if1 .taken)))
     (c .refusal .ensures) refl
 

@@ -5,7 +5,7 @@ use Rattle.tables.specs.Storage.{tablesIn}
 use Rattle.levels.specs.Storage.{Lent, cells, rows, lent, standingAt}
 use Rattle.runs.specs.State.{standingVerdict}
 use Rattle.bounds.proofs.Bounds.{stands, standing-holds}
-use Rattle.intervals.specs.declared.Within.{Within}
+use Rattle.intervals.specs.declared.Enclosing.{Enclosing}
 use Rattle.intervals.specs.Intervals.{withinOf}
 use Rattle.intervals.proofs.Answers.{asked, refused, answered}
 use Rattle.intervals.proofs.Claim.{within-demand}
@@ -37,7 +37,7 @@ said : (c : tie.After-standing-in) → c .standing-in .result ≡ standingAt (of
 said c = c .standing-in .ensures
 
 -- what the contract says of an answer first
-abbrev Said : tie.Start → Within → Type 0
+abbrev Said : tie.Start → Enclosing → Type 0
 Said s r = (choices : List ℕ) → r ≡ withinOf (tables s) (certifier s choices) (s .args .lows .now) (s .args .highs .now)
 
 returns : tie.Need-returns

@@ -31,8 +31,8 @@ of-answer c = c .before .before
 abbrev of-refusal : tie.After-refusal-of Inv-loop μ-loop → tie.After-answer Inv-loop μ-loop
 of-refusal c = c .before .before .before .before
 
-abbrev start-of-after-slice-known2 : tie.After-slice-known2 Inv-loop μ-loop → tie.Start Inv-loop μ-loop
-start-of-after-slice-known2 c = c .before .before .before .before .before .before .before
+abbrev from-entry : tie.After-slice-known2 Inv-loop μ-loop → tie.Start Inv-loop μ-loop
+from-entry c = c .before .before .before .before .before .before .before
 
 abbrev of-number : tie.After-number Inv-loop μ-loop → tie.After-answer Inv-loop μ-loop
 of-number c = of-refusal (c .before)
@@ -72,7 +72,7 @@ answer-is c =
     (a .corners .now) (a .weights .now) (a .informed .now) (a .gains .now) b) (part-is (a .n) (of-answer c .before .loop .i) (a .mixtures .now))
 
 loop-holds : tie.Need-loop-holds Inv-loop μ-loop
-loop-holds c = (omega arith, written-none (Answer (start-of-after-slice-known2 c)) _ _ _ _)
+loop-holds c = (omega arith, written-none (Answer (from-entry c)) _ _ _ _)
 
 answer-requires : tie.Need-answer-requires Inv-loop μ-loop
 answer-requires c κs = start (c .before) .pre .0
@@ -119,7 +119,7 @@ left c =
 
 returns : tie.Need-returns Inv-loop μ-loop
 returns c =
-    let e : c .before .loop .i ≡ start-of-after-slice-known2 (c .before .before) .args .count =
+    let e : c .before .loop .i ≡ from-entry (c .before .before) .args .count =
     omega (arith, c .loop-test .left, c .before .loop .inv .0) in
     rw e at (c .before .loop .inv .1)
 

@@ -15,12 +15,12 @@ of-header c = c .before
 abbrev after-n : tie.After-roomed-at-arg4 → tie.After-n
 after-n c = c .before .before .before .before .before
 
-abbrev start-of-after-refusal : tie.After-refusal → tie.Start
-start-of-after-refusal c = c .before .before .before .before .before .before
+abbrev from-refusal : tie.After-refusal → tie.Start
+from-refusal c = c .before .before .before .before .before .before
 
 returns : tie.Need-returns
 returns c =
-    let a = start-of-after-refusal c .args in
+    let a = from-refusal c .args in
     answers-long _ _ _ _ (room (a .transitions) (a .observations) (a .rewards)) (a .file .now) (lt-leb _ maxBytes (c .before .if1 .taken))
     (c .refusal .ensures)
 

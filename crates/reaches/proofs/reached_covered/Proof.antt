@@ -30,8 +30,8 @@ abbrev μ-loop : tie.MeasureT-loop
 abbrev start : tie.At-loop Inv-loop μ-loop → tie.Start Inv-loop μ-loop
 start c = c .before .before .before .before .before .before .before .before
 
-abbrev start-of-after-shared-slice-known5 : tie.After-shared-slice-known5 Inv-loop μ-loop → tie.Start Inv-loop μ-loop
-start-of-after-shared-slice-known5 c = c .before .before .before .before .before
+abbrev from-entry : tie.After-shared-slice-known5 Inv-loop μ-loop → tie.Start Inv-loop μ-loop
+from-entry c = c .before .before .before .before .before
 
 -- what is asked state by state is the definition
 regrouped : (c : tie.Start Inv-loop μ-loop)
@@ -47,11 +47,11 @@ regrouped c =
 
 chosen-cover-requires : tie.Need-chosen-cover-requires Inv-loop μ-loop
 chosen-cover-requires c κs =
-    let p = start-of-after-shared-slice-known5 c .pre in ((p .0 .0, (p .0 .1 .few-states, p .0 .1 .few-observations)), p .1 .0)
+    let p = from-entry c .pre in ((p .0 .0, (p .0 .1 .few-states, p .0 .1 .few-observations)), p .1 .0)
 
 returns : tie.Need-returns Inv-loop μ-loop
 returns c =
-    let a = start-of-after-shared-slice-known5 (c .before .before) .args in
+    let a = from-entry (c .before .before) .args in
     sym (reached-all (a .n) (a .k) (λ s s'. transitionIn (a .n) (a .transition .now) s (a .a .0) s')
     (observationIn (a .n) (a .k) (a .observation .now) (a .a .0)) (λ o. coveredIn (a .masks .now) (choiceIn (a .k) (a .choices .now) (a .v .0) o))
     (covered (a .mask)) (sym (c .before .chosen-cover .ensures) ∙ c .if1 .taken))

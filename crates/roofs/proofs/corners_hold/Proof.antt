@@ -32,11 +32,11 @@ of-covers c = c .before .before .before .before .before .before .before
 abbrev after-corner-weights : tie.After-backups Inv-loop μ-loop → tie.After-corner-weights Inv-loop μ-loop
 after-corner-weights c = c .before .before .before .before
 
-abbrev start-of-after-shared-slice-known4 : tie.After-shared-slice-known4 Inv-loop μ-loop → tie.Start Inv-loop μ-loop
-start-of-after-shared-slice-known4 c = c .before .before .before .before
+abbrev from-entry : tie.After-shared-slice-known4 Inv-loop μ-loop → tie.Start Inv-loop μ-loop
+from-entry c = c .before .before .before .before
 
 gains-requires : tie.Need-gains-requires Inv-loop μ-loop
-gains-requires c κs = let h = start-of-after-shared-slice-known4 c .pre .0 in (h .valid .few-states, (corners-fit h, (points-fit h, values-fit h)))
+gains-requires c κs = let h = from-entry c .pre .0 in (h .valid .few-states, (corners-fit h, (points-fit h, values-fit h)))
 
 below : (k : tie.In-loop Inv-loop μ-loop) → k .before .loop .s < maxStates
 below k = omega (arith, k .loop-test .taken, start k .pre .0 .valid .few-states)
@@ -100,7 +100,7 @@ loop-again c =
 returns-2 : tie.Need-returns-2 Inv-loop μ-loop
 unfolding cornersVerdict
 returns-2 c =
-    let e : c .before .loop .s ≡ start-of-after-shared-slice-known4 (c .before .before .before) .args .c .states = omega arith in
+    let e : c .before .loop .s ≡ from-entry (c .before .before .before) .args .c .states = omega arith in
     sym (rw e at (c .before .loop .inv .1))
 
 pub corners-hold-spec : {M : Type 1} → statement M

@@ -34,11 +34,11 @@ of-covers c = c .before .before .before .before .before .before .before
 abbrev after-point-weights : tie.After-backups Inv-loop μ-loop → tie.After-point-weights Inv-loop μ-loop
 after-point-weights c = c .before .before .before .before
 
-abbrev start-of-after-shared-slice-known5 : tie.After-shared-slice-known5 Inv-loop μ-loop → tie.Start Inv-loop μ-loop
-start-of-after-shared-slice-known5 c = c .before .before .before .before .before
+abbrev from-entry : tie.After-shared-slice-known5 Inv-loop μ-loop → tie.Start Inv-loop μ-loop
+from-entry c = c .before .before .before .before .before
 
 gains-requires : tie.Need-gains-requires Inv-loop μ-loop
-gains-requires c κs = let h = start-of-after-shared-slice-known5 c .pre .0 in (h .valid .few-states, (corners-fit h, (points-fit h, values-fit h)))
+gains-requires c κs = let h = from-entry c .pre .0 in (h .valid .few-states, (corners-fit h, (points-fit h, values-fit h)))
 
 below : (k : tie.In-loop Inv-loop μ-loop) → k .before .loop .i < maxPoints
 below k = omega (arith, k .loop-test .taken, start k .pre .1 .0 .few)
@@ -118,7 +118,7 @@ loop-again c =
 returns-2 : tie.Need-returns-2 Inv-loop μ-loop
 unfolding pointsVerdict
 returns-2 c =
-    let e : c .before .loop .i ≡ start-of-after-shared-slice-known5 (c .before .before .before) .args .count = omega arith in
+    let e : c .before .loop .i ≡ from-entry (c .before .before .before) .args .count = omega arith in
     sym (rw e at (c .before .loop .inv .1))
 
 pub points-hold-spec : {M : Type 1} → statement M

@@ -18,14 +18,14 @@ of-laid c = c .before .before .before .before
 abbrev of-qmdp : tie.After-paste-i642 → tie.After-step-qmdp
 of-qmdp c = c .before .before .before .before
 
-abbrev start-of-after-next : tie.After-next → tie.Start
-start-of-after-next c = c .before .before .before .before .before
+abbrev from-next : tie.After-next → tie.Start
+from-next c = c .before .before .before .before .before
 
 few : (s : tie.Start) → s .args .c .actions * s .args .c .states ≤ maxActions * maxStates
 few s = cells-few (s .pre .0 .0)
 
 step-informed-requires : tie.Need-step-informed-requires
-step-informed-requires c κs = let s = start-of-after-next c in (s .pre .0 .0, (s .pre .1, few s))
+step-informed-requires c κs = let s = from-next c in (s .pre .0 .0, (s .pre .1, few s))
 
 paste-i64-requires : tie.Need-paste-i64-requires
 paste-i64-requires c κs =

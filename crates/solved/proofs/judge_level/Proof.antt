@@ -22,8 +22,8 @@ of-masks c = c .before
 abbrev of-entries : tie.After-entries-hold → tie.After-masks-hold
 of-entries c = c .before .before .before
 
-abbrev start-of-after-shared-slice-known6 : tie.After-shared-slice-known6 → tie.Start
-start-of-after-shared-slice-known6 c = c .before .before .before .before .before .before
+abbrev from-entry : tie.After-shared-slice-known6 → tie.Start
+from-entry c = c .before .before .before .before .before .before
 
 solving : (c : tie.After-enum-told) → let a = start (c .before .before) .args in
     Solving (a .c) (a .transition .now) (a .observation .now) (a .reward .now) (a .masks .now) (a .entries .now) (a .standing) (a .t) (a .alpha .now)
@@ -78,6 +78,6 @@ returns-4 c =
 
 pub judge-level-spec : {M : Type 1} → statement M
 judge-level-spec =
-    tie.close (tie.spec (λ c κs. start-of-after-shared-slice-known6 c .pre .1 .0) (λ c. search needs) (λ c. search needs) returns
+    tie.close (tie.spec (λ c κs. from-entry c .pre .1 .0) (λ c. search needs) (λ c. search needs) returns
     (λ c κs. solving-chooses (solving c)) (λ c. search needs) (λ c. search needs) returns-2 (λ c κs. solving (of-masks (c .before .before)))
     (λ c. search needs) (λ c. search needs) returns-3 weights-hold-requires returns-4)

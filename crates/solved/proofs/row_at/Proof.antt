@@ -13,12 +13,12 @@ use Rattle.solved.proofs.row_at.Tie as tie
 abbrev after-said-at : tie.After-chosen2 → tie.After-said-at
 after-said-at c = c .before .before .before .before
 
-abbrev start-of-after-shared-slice-known5 : tie.After-shared-slice-known5 → tie.Start
-start-of-after-shared-slice-known5 c = c .before .before .before .before .before
+abbrev from-entry : tie.After-shared-slice-known5 → tie.Start
+from-entry c = c .before .before .before .before .before
 
 said-at-requires : tie.Need-said-at-requires
 said-at-requires c κs =
-    let p = start-of-after-shared-slice-known5 c .pre in let f = p .0 .files in
+    let p = from-entry c .pre in let f = p .0 .files in
     ((f .few-states, f .few-observations), (omega (arith, p .1 .0, f .as-many), p .1 .1))
 
 -- where the call began, from the place after it

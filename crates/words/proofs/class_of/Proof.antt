@@ -91,4 +91,4 @@ class-of-spec =
     tie.close (tie.spec (λ c. sym (ap classOf (c .match .keys1))) (λ c. sym (ap classOf (c .match .keys2))) (λ c. sym (ap classOf (c .match .keys3)))
     (λ c. sym (ap classOf (c .match .keys4))) (λ c. sym (ap classOf (c .match .keys5))) returns-6 returns-7
     (λ c. ⊎-elim (λ e. sym (ap classOf e)) (λ e. sym (ap classOf e)) (c .match2 .keys1)) returns-9
-    (λ c. digit (c .before .before .before .before .args .b) (omega arith) (omega arith)) returns-11 returns-12)
+    (λ c. let b = c .before .before .before .before .args .b in digit b (omega arith) (omega arith)) returns-11 returns-12)

@@ -8,8 +8,8 @@ use Rattle.written.proofs.put_file.Tie as tie
 abbrev after-put-table2 : tie.After-put-rewards-arg → tie.After-put-table2
 after-put-table2 c = c .before .before .before
 
-abbrev start-of-after-put-header-arg : tie.After-put-header-arg → tie.Start
-start-of-after-put-header-arg c = c .before .before .before .before .before
+abbrev from-header : tie.After-put-header-arg → tie.Start
+from-header c = c .before .before .before .before .before
 
 -- the parts behind the header
 abbrev begins : tie.Start → List ℕ
@@ -102,5 +102,5 @@ returns c =
 
 pub put-file-spec : {M : Type 1} → statement M
 put-file-spec =
-    tie.close (tie.spec (λ c κs. let s = start-of-after-put-header-arg c in room-first (begun s) (room s)) put-start-requires put-table-requires
+    tie.close (tie.spec (λ c κs. let s = from-header c in room-first (begun s) (room s)) put-start-requires put-table-requires
     put-table-requires-2 put-rewards-requires (λ c. search needs) returns)
