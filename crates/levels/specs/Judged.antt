@@ -138,8 +138,13 @@ shapeUpTo most m x l =
     before unless (fits most m x l) 9 0
     before levelVerdict (m .states) (m .actions) (m .observations) (numberIn x + 1) (standingIn x .vectors) (levelOf m l)
 
+-- 7 to 15 and 21, of which 21 and 13 to 15 are tested over a model M
+abbrev pub offerOver : Model → ℕ → Tables → Lent → LentLevel → Verdict
+offerOver M most m x l = shapeUpTo most m x l before backupsVerdict M (levelOf m (standingIn x)) (levelOf m l)
+
+-- the model of the tables
 unfoldable pub offerUpTo : ℕ → Tables → Lent → LentLevel → Verdict
-offerUpTo most m x l = shapeUpTo most m x l before backupsVerdict (modelOf m) (levelOf m (standingIn x)) (levelOf m l)
+offerUpTo most m x l = offerOver (modelOf m) most m x l
 
 -- a level of this certifier has at most maxVectors
 abbrev pub holds : Tables → Lent → Bool

@@ -18,10 +18,10 @@ use Rattle.columns.specs.Columns.{turnedBack}
 use Rattle.plans.specs.Level.{Level, backupAt, corner-weight, follows}
 use Rattle.plans.proofs.Agreement.{ceiling-weights}
 use Rattle.levels.specs.Storage.{LentLevel, Lent, levelOf, standingIn, numberIn}
-use Rattle.levels.specs.Judged.{numbersVerdict, holdsUpTo, fits}
+use Rattle.levels.specs.Judged.{numbersVerdict, holdsUpTo, fits, offerOver}
 use Rattle.levels.specs.Judged.{coversBackups, masksVerdict, floorsVerdict, cornersVerdict, pointsVerdict, backupsVerdict, levelVerdict, shapeUpTo, offerUpTo}
 use Rattle.levels.proofs.Laws.{numbers-in}
-use Rattle.lists.specs.Engines.{modelBy, offerBy}
+use Rattle.lists.specs.Engines.{modelBy}
 
 -- tests that follow others need be alike only where those are passed
 before-cong : (v : Verdict) {w w' : Verdict} → (v ≡ Fine → w ≡ w') → (v before w) ≡ (v before w')
@@ -92,7 +92,7 @@ module _ (m : Tables) (list : List ℕ) (same : (a : ℕ) → a < m .actions →
       numbers-in 10 (W .vectors) (m .actions) (m .observations) (standingIn x .vectors) (W .action) (W .choice) (e11 .0) v b .0
 
   -- A level that passes 7 to 12 names actions that exist, and at these both models have one T. One that does not is refused before T is read. Qed.
-  pub offer-same : (most : ℕ) (x : Lent) (l : LentLevel) → offerBy (modelBy m list) most m x l ≡ offerUpTo most m x l
+  pub offer-same : (most : ℕ) (x : Lent) (l : LentLevel) → offerOver (modelBy m list) most m x l ≡ offerUpTo most m x l
   unfolding offerUpTo
   offer-same most x l =
       before-cong (shapeUpTo most m x l) (λ fine. backups-same (levelOf m (standingIn x)) (levelOf m l) (acts-in most x l fine))

@@ -1,9 +1,8 @@
 -- Table and list give the same: what is promised of the list of an accepted model's transitions.
 --
---   modelBy m list        the model with the T that a list says
---   offerBy M most m x l  what an offer is refused for where a model M is summed over
---   Engines m list        what holds of a list that is taken
---   ListsHold m           the claim
+--   modelBy m list   the model with the T that a list says
+--   Engines m list   what holds of a list that is taken
+--   ListsHold m      the claim
 use Prim.Native.Nat.{ℕ, _<_}
 use mathlib.Core.Path.{_≡_}
 use mathlib.Core.Bool.{true}
@@ -11,15 +10,13 @@ use mathlib.Core.List.{List}
 use lib.ListN.{length}
 use lib.IntN.{ℤ}
 use Rattle.tables.specs.Tables.{Tables}
-use Rattle.tables.specs.declared.Verdict.{Verdict}
 use Rattle.tables.specs.declared.Verdict.the-variants.{Fine}
 use Rattle.tables.specs.Model.{Model, successor, backup}
 use Rattle.tables.specs.Storage.{modelOf}
-use Rattle.tables.specs.Verdicts.{_before_}
 use Rattle.tables.specs.Judged.{tablesVerdict}
 use Rattle.columns.specs.Columns.{turnedBack, listVerdict, listedOf, listHolds}
-use Rattle.levels.specs.Storage.{LentLevel, Lent, levelOf, standingIn}
-use Rattle.levels.specs.Judged.{backupsVerdict, shapeUpTo, offerUpTo}
+use Rattle.levels.specs.Storage.{LentLevel, Lent}
+use Rattle.levels.specs.Judged.{offerOver, offerUpTo}
 
 abbrev pub modelBy : Tables → List ℕ → Model
 modelBy m list = record {
@@ -32,10 +29,6 @@ modelBy m list = record {
   reward = modelOf m .reward;
 }
 
--- 7 to 15 and 21 of a level that is offered with tables, where 21 and 13 to 15 are tested over a model M
-abbrev pub offerBy : Model → ℕ → Tables → Lent → LentLevel → Verdict
-offerBy M most m x l = shapeUpTo most m x l before backupsVerdict M (levelOf m (standingIn x)) (levelOf m l)
-
 -- a slice that is handed in with tables and holds: turned back it is their T; successor weights and backups by it are the model's; and every level that
 -- is offered is accepted, or refused by the same number at the same place
 pub record Engines (m : Tables) (list : List ℕ) : Type 0 where
@@ -45,7 +38,7 @@ pub record Engines (m : Tables) (list : List ℕ) : Type 0 where
       → successor (modelBy m list) p a o s' ≡ successor (modelOf m) p a o s'
   pub backups : (next : ℕ → ℕ → ℤ) (a : ℕ) → a < m .actions → (s : ℕ) → s < m .states
       → backup (modelBy m list) a next s ≡ backup (modelOf m) a next s
-  pub verdicts : (most : ℕ) (x : Lent) (l : LentLevel) → offerBy (modelBy m list) most m x l ≡ offerUpTo most m x l
+  pub verdicts : (most : ℕ) (x : Lent) (l : LentLevel) → offerOver (modelBy m list) most m x l ≡ offerUpTo most m x l
 
 -- the whole claim: of a list that is made, and of any that is taken
 pub record ListsHold (m : Tables) : Type 0 where

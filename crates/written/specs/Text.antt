@@ -23,9 +23,16 @@ use Rattle.tables.specs.Storage.{transitionIn, observationIn, rewardIn}
 
 -- ---- statements
 
+-- how many decimals the numbers of a table and the discount have, and start numbers and rewards
+abbrev pub tablePlaces : ℕ
+tablePlaces = 3
+
+abbrev pub amountPlaces : ℕ
+amountPlaces = 2
+
 -- the rows of a table, in thousandths: "K: a : s" and w numbers, for each of m blocks of n rows
 unfoldable pub rowText : ℕ → ℕ → ℕ → ℕ → (ℕ → ℕ) → List ℕ
-rowText key a s w cell = opening key a s ++ (partsTo w (λ x. spaced (fixed 3 (cell x))) ++ newline)
+rowText key a s w cell = opening key a s ++ (partsTo w (λ x. spaced (fixed tablePlaces (cell x))) ++ newline)
 
 unfoldable pub tableText : ℕ → ℕ → ℕ → ℕ → (ℕ → ℕ → ℕ → ℕ) → List ℕ
 tableText key m n w cell = partsTo m (λ a. partsTo n (λ s. rowText key a s w (cell a s)))
@@ -36,7 +43,7 @@ anyOutcome = 32 ∷ 58 ∷ 32 ∷ 42 ∷ 32 ∷ 58 ∷ 32 ∷ 42 ∷ []
 
 -- the rewards, in ticks: "R: a : s : * : * r"
 unfoldable pub rewardText : ℕ → ℕ → ℤ → List ℕ
-rewardText a s r = opening 82 a s ++ (anyOutcome ++ (spaced (signedFixed 2 r) ++ newline))
+rewardText a s r = opening 82 a s ++ (anyOutcome ++ (spaced (signedFixed amountPlaces r) ++ newline))
 
 unfoldable pub rewardsText : ℕ → ℕ → (ℕ → ℕ → ℤ) → List ℕ
 rewardsText m n reward = partsTo m (λ a. partsTo n (λ s. rewardText a s (reward s a)))
@@ -46,7 +53,7 @@ rewardsText m n reward = partsTo m (λ a. partsTo n (λ s. rewardText a s (rewar
 -- "discount: d", "values: reward", "states: n", "actions: m", "observations: k"
 unfoldable pub headerText : Counts → List ℕ
 headerText c =
-    line (100 ∷ 105 ∷ 115 ∷ 99 ∷ 111 ∷ 117 ∷ 110 ∷ 116 ∷ []) (fixed 3 (c .discount))
+    line (100 ∷ 105 ∷ 115 ∷ 99 ∷ 111 ∷ 117 ∷ 110 ∷ 116 ∷ []) (fixed tablePlaces (c .discount))
     ++ (line (118 ∷ 97 ∷ 108 ∷ 117 ∷ 101 ∷ 115 ∷ []) (114 ∷ 101 ∷ 119 ∷ 97 ∷ 114 ∷ 100 ∷ [])
     ++ (line (115 ∷ 116 ∷ 97 ∷ 116 ∷ 101 ∷ 115 ∷ []) (whole (c .states))
     ++ (line (97 ∷ 99 ∷ 116 ∷ 105 ∷ 111 ∷ 110 ∷ 115 ∷ []) (whole (c .actions))
@@ -54,7 +61,7 @@ headerText c =
 
 -- "start:" and n numbers, in hundredths
 unfoldable pub startText : ℕ → List ℕ → List ℕ
-startText n start = 115 ∷ 116 ∷ 97 ∷ 114 ∷ 116 ∷ 58 ∷ partsTo n (λ s. spaced (fixed 2 (getD start s 0))) ++ newline
+startText n start = 115 ∷ 116 ∷ 97 ∷ 114 ∷ 116 ∷ 58 ∷ partsTo n (λ s. spaced (fixed amountPlaces (getD start s 0))) ++ newline
 
 -- all of it, of tables and start numbers in slices
 unfoldable pub fileText : Counts → List ℕ → List ℕ → List ℤ → List ℕ → List ℕ
