@@ -23,7 +23,6 @@ use solver::Judged;
 use tables::Counts;
 use tables::Tables;
 use tables::Verdict;
-use tables::judge;
 
 // ---- 1 to 9
 
@@ -49,7 +48,7 @@ fn judge_room(
     if Level::LEVELS <= number {
         return Verdict::Refused(8, 0);
     }
-    if !judge::count_within(Tables::VECTORS, vectors) {
+    if !tables::count_within(Tables::VECTORS, vectors) {
         return Verdict::Refused(9, 0);
     }
     if Level::BUILT < points {
@@ -300,7 +299,7 @@ pub fn adopt<'a, 'b, 'c>(
         newentries,
     );
     let none = [0u32; 0]; // no list of transitions
-    builder::build_corners(
+    roofing::build_corners(
         transition,
         &none,
         observation,
@@ -312,7 +311,7 @@ pub fn adopt<'a, 'b, 'c>(
         s.points,
         newcorners,
     );
-    builder::build_values(
+    roofing::build_values(
         transition,
         &none,
         observation,

@@ -11,7 +11,7 @@ use Rattle.runs.specs.declared.Bounds.{Bounds}
 use Rattle.runs.specs.Demand3.{Claim, TotalsHold, BuildHolds}
 use Rattle.intervals.specs.declared.Enclosing.{Enclosing}
 use Rattle.intervals.specs.Claim.{WithinHolds}
-use Rattle.modelfile.specs.declared.TablesRead.{TablesRead}
+use Rattle.bodies.specs.declared.TablesRead.{TablesRead}
 use Rattle.worth.specs.declared.Valued.{Valued}
 use Rattle.adoption.specs.declared.Adopted.{Adopted}
 use Rattle.conversion.specs.declared.Converted.{Converted}

@@ -49,7 +49,7 @@ fn ceilings<'a>(
         let q = sums::successors(observation, n, k, u, a, Observation(o));
         sum = integers::plus(
             sum,
-            sawtooth::ceiling(&q, corners, weights, gains, points, n),
+            ceilings::ceiling(&q, corners, weights, gains, points, n),
         );
     }
     sum

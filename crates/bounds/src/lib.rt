@@ -2,42 +2,22 @@
 ghost use mathlib.Core.Path.{_≡_};
 ghost use mathlib.Core.Bool.{true};
 ghost use mathlib.Core.List.{List};
-ghost use Prim.Native.Nat.{ℕ, _≤_, _<_};
+ghost use Prim.Native.Nat.{ℕ, _<_};
 ghost use Rattle.integers.specs.Whole.{Below};
-ghost use Rattle.tables.specs.Limits.{maxStates, maxWeight};
+ghost use Rattle.tables.specs.Limits.{maxWeight};
 ghost use Rattle.tables.specs.Storage.{tablesIn};
 ghost use Rattle.masks.specs.Steps.{someIncludes};
 ghost use Rattle.tables.specs.Tables.{Tables};
 ghost use Rattle.levels.specs.Storage.{Lent, cells, rows, lent};
-ghost use Rattle.runs.specs.State.{mixtureHolds, standingVerdict, noBounds, totalsOf};
+ghost use Rattle.runs.specs.State.{noBounds, totalsOf};
 ghost use Rattle.runs.specs.Demand3.{ModelAccepted, Event, certifier, after, steps, claim, MixtureHolds, TotalsHold};
 ghost use Rattle.bounds.specs.Steps.{supportIn, boundsIn, answerIn, Asked};
-use levels::Level;
 use levels::shape;
 use runs::Bounds;
 use tables::Action;
 use tables::Counts;
 use tables::Verdict;
 use tables::read;
-
-// 17: whether there is a weight for each state, none exceeds 1,000,000 and some is above 0.
-pub fn mixture_holds(mixture: &[u32], n: usize) -> bool
-    requires { ⌜ n ≤ maxStates ⌝ }
-    ensures { λ r. ⌜ r ≡ mixtureHolds n (now (mixture .entry)) ⌝ }
-{
-    if mixture.len() < n {
-        return false;
-    }
-    let mut total: u64 = 0;
-    for s in 0..n {
-        let w = ranges::weight(mixture[s]);
-        if Level::WEIGHT < w {
-            return false;
-        }
-        total += w;
-    }
-    0 < total
-}
 
 // A refusal, with every other part 0.
 fn no_bounds(v: Verdict) -> Bounds
@@ -79,7 +59,7 @@ fn bounds_at<'b>(
     let v = products::best_vector(q, masks, entries, n, vectors, states);
     let i = v.0;
     let lower = products::product(q, entries, read::start(i, n), n);
-    let saw = sawtooth::ceiling(q, corners, weights, gains, points, n);
+    let saw = ceilings::ceiling(q, corners, weights, gains, points, n);
     let row = products::largest_product(q, informed, n, m);
     let upper = integers::lesser(saw, row);
     Bounds {
@@ -112,10 +92,10 @@ pub fn answer<'b>(
     ensures { λ r. ⌜ r ≡ answerIn n m vectors points (now (actions .entry)) (now (masks .entry)) (now (entries .entry)) (now (corners .entry))
         (now (weights .entry)) (now (informed .entry)) (now (gains .entry)) (now (mixture .entry)) ⌝ }
 {
-    if !mixture_holds(mixture, n) {
+    if !asking::mixture_holds(mixture, n) {
         return no_bounds(Verdict::Refused(17, 0));
     }
-    let q = ranges::point_weights(mixture, n, 0);
+    let q = weights::point_weights(mixture, n, 0);
     let states = masks::support(&q, n);
     if !masks::some_has(masks, vectors, states) {
         return no_bounds(Verdict::Refused(22, 0));
@@ -135,50 +115,6 @@ pub fn answer<'b>(
         &q,
         states,
     )
-}
-
-// 7 and 16: the certifier by itself.
-pub fn judge_standing<'a, 'b>(
-    transition: &'a [u16],
-    observation: &'a [u16],
-    reward: &'a [i64],
-    c: Counts,
-    state: &'b [usize],
-    actions: &'b [u8],
-    masks: &'b [u64],
-    entries: &'b [i64],
-    corners: &'b [i64],
-    weights: &'b [u32],
-    values: &'b [i64],
-    informed: &'b [i64],
-    qmdp: &'b [i64],
-) -> Verdict
-    ensures { λ r. ⌜ ((choices : List ℕ) → r ≡ standingVerdict (tablesIn c (now (transition .entry)) (now (observation .entry)) (now (reward .entry)))
-        (lent (now (state .entry)) (cells (now (actions .entry)) choices (now (masks .entry)) (now (entries .entry)) (now (corners .entry))
-        (now (weights .entry)) (now (values .entry))) (rows (now (informed .entry)) (now (qmdp .entry))))) ⌝ }
-{
-    if !standing::standing_holds(
-        transition,
-        observation,
-        reward,
-        c,
-        state,
-        actions,
-        masks,
-        entries,
-        corners,
-        weights,
-        values,
-        informed,
-        qmdp,
-    ) {
-        return Verdict::Refused(7, 0);
-    }
-    let s = levels::standing_in(state);
-    if s.number == 0 {
-        return Verdict::Refused(16, 0);
-    }
-    Verdict::Fine
 }
 
 // The lower and the upper total at a mixture of any content, their gap and the action to open with; or refused by 7, 16, 17 or 22.
@@ -208,7 +144,7 @@ pub fn totals<'a, 'b>(
         → MixtureHolds m (claim m₀ x es) (now (mixture .entry))
         → TotalsHold m (steps m₀ x es) (claim m₀ x es) (now (mixture .entry)) r) ⌝ }
 {
-    let standing = judge_standing(
+    let standing = asking::judge_standing(
         transition,
         observation,
         reward,
@@ -227,7 +163,7 @@ pub fn totals<'a, 'b>(
         return no_bounds(standing);
     };
     let s = levels::standing_in(state);
-    let gains = sawtooth::gains(corners, weights, values, s.points, c.states);
+    let gains = ceilings::gains(corners, weights, values, s.points, c.states);
     answer(
         actions,
         masks,

@@ -1,18 +1,16 @@
--- Laws of the builder's level: the least values, the weights that vectors are made at, and the rows of vectors. Assumes nothing.
+-- Laws of the builder's level: the weights that vectors are made at, and the rows of vectors. Assumes nothing.
 --
--- In order: the least value, from what each action allows; weights are read below the number of states only; the weights that vector v is made at; the
--- rows of vectors, as a loop makes them.
-use Rattle.integers.proofs.Kit.{_≡_, _∙_, refl, ap, sym, true, List, [], ℕ, _≤_, _<_, _+_, _*_, _-_, _^_, arith, mul-le-mul-right, decLt, ltb}
-use Rattle.integers.proofs.Kit.{length, getD, set, paste, ℤ, pos, mag, w64, toZ, ofZ}
+-- In order: weights are read below the number of states only; the weights that vector v is made at; the rows of vectors, as a loop makes them.
+use Rattle.integers.proofs.Kit.{_≡_, _∙_, refl, ap, sym, true, List, [], ℕ, _≤_, _<_, _+_, _*_, _-_, arith, mul-le-mul-right, decLt, ltb}
+use Rattle.integers.proofs.Kit.{length, getD, set, paste, ℤ, pos}
 use lib.Arith.{le→nltb}
 use lib.Dec.{lt→ltb}
-use Rattle.integers.specs.Whole.{totalTo, floorDiv, ceilDiv}
+use Rattle.integers.specs.Whole.{totalTo, floorDiv}
 use Rattle.integers.specs.Cells.{laid}
 use Rattle.integers.proofs.Lists.{row-below, padded-at, padded-length, laid-none, laid-turn, laid-length, laid-self, laidRows-none, laidRows-more}
 use Rattle.integers.proofs.Lists.{laidRows-length, laidRows-flat}
-use Rattle.integers.proofs.Words.{answer}
 use Rattle.integers.proofs.Parts.{T-true, T-false}
-use Rattle.integers.proofs.Searches.{of-cong, largest-cong, largest-in}
+use Rattle.integers.proofs.Searches.{of-cong, largest-cong}
 use Rattle.tables.specs.declared.Counts.{Counts}
 use Rattle.tables.specs.Tables.{Tables}
 use Rattle.tables.specs.Limits.{maxStates, maxActions, maxObservations, K, maxLevels}
@@ -23,7 +21,7 @@ use Rattle.masks.specs.Masks.{maskOf}
 use Rattle.plans.specs.Limits.{maxTotal}
 use Rattle.plans.specs.Level.{Level, coversAll, ceiling, gain, backupAt, corner-weight, follows, Shaped, IsPoint}
 use Rattle.plans.specs.Build.{chosen, entryFor, bestAction, leastFor, leastValue, seed, built}
-use Rattle.plans.proofs.Agreement.{product-cong, successor-weights, backupAt-weights, backup-cong}
+use Rattle.plans.proofs.Agreement.{product-cong, successor-weights, backup-cong}
 use Rattle.plans.proofs.Ceiling.{corner-total}
 use Rattle.plans.proofs.Built.{action-exists, shaped-mono}
 use Rattle.levels.specs.Storage.{Cells, cells, LentLevel, roofIn, levelIn, levelOf, pointIn, over}
@@ -32,31 +30,9 @@ use Rattle.backups.specs.Steps.{Roofed}
 use Rattle.backups.proofs.Lent.{floor-shaped, roof-lent}
 use Rattle.candidates.specs.declared.Best.{Best}
 use Rattle.candidates.specs.Steps.{topBuilt, candidateOf, bestOf, uponIn, Upon}
-use Rattle.builder.specs.Steps.{leastFrom, leastRoof, RowsFit, Filled}
-
--- ---- the least value, from what each action allows
-pub least-is : (M : Model) (L : Level) (p : ℕ → ℕ) (backups : List ℤ) → ((a : ℕ) → a < M .actions → getD backups a (pos 0) ≡ backupAt M L p a)
-    → 0 < M .actions → leastRoof (M .actions) backups ≡ leastValue M L p
-unfolding leastValue leastFor
-least-is M L p backups h some =
-    let same = largest-cong (M .actions) (leastFrom backups) (λ a. ceilDiv (backupAt M L p a) K) some (λ a l. ap (λ (z : ℤ). ceilDiv z K) (h a l)) in
-    ap (λ (z : ℤ). ceilDiv z K) (h _ (largest-in (M .actions) (leastFrom backups) some)) ∙ ap (λ (a : ℕ). ceilDiv (backupAt M L p a) K) same
+use Rattle.builder.specs.Steps.{RowsFit, Filled}
 
 -- ---- weights are read below the number of states only
-module _ (M : Model) (L : Level) (p p' : ℕ → ℕ) (h : (s : ℕ) → s < M .states → p s ≡ p' s) (some : 0 < M .actions) where
-  for-weights : (a : ℕ) → leastFor M L p a ≡ leastFor M L p' a
-  unfolding leastFor
-  for-weights a = ap (λ (z : ℤ). ceilDiv z K) (backupAt-weights M L p p' a h)
-
-  value-weights : leastValue M L p ≡ leastValue M L p'
-  unfolding leastValue
-  value-weights =
-      for-weights _ ∙ ap (leastFor M L p') (largest-cong (M .actions) (leastFor M L p) (leastFor M L p') some (λ a l. for-weights a))
-
-  -- an answer at p, from its bits
-  pub value-at : {z : ℤ} → mag z < 2 ^ 63 → z ≡ leastValue M L p → toZ w64 (ofZ w64 z) ≡ leastValue M L p'
-  value-at ok e = answer ok (e ∙ value-weights)
-
 module _ (M : Model) (L : Level) (p p' : ℕ → ℕ) (h : (s : ℕ) → s < M .states → p s ≡ p' s) (some : 0 < L .vectors) (acts : 0 < M .actions) where
   chosen-weights : (a o : ℕ) → chosen M L p a o ≡ chosen M L p' a o
   unfolding chosen

@@ -95,7 +95,7 @@ fn judge_build<'a, 'b>(
     ) {
         return Verdict::Refused(9, 0);
     }
-    let totals = ranges::weights_hold(given, c.states, count);
+    let totals = weights::weights_hold(given, c.states, count);
     let Verdict::Fine = totals else {
         return totals;
     };

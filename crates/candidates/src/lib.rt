@@ -94,9 +94,9 @@ fn vector_for<'a>(
     let k = c.observations;
     let u = engines::moved(transition, list, n, p, a);
     let chosen = choose(observation, masks, entries, &u, n, k, count, a);
-    let f = sums::foreseen(observation, n, k, masks, entries, &chosen, Vector(0), a);
+    let f = vectors::foreseen(observation, n, k, masks, entries, &chosen, Vector(0), a);
     let b = engines::backups(transition, list, reward, &f, n, c.discount, a);
-    let e = sums::floored(&b, n);
+    let e = vectors::floored(&b, n);
     Candidate {
         chosen: chosen,
         entries: e,

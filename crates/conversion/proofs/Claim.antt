@@ -7,7 +7,8 @@ use Rattle.tables.specs.Limits.{maxConverted, one}
 use Rattle.tables.specs.Storage.{countsOf}
 use Rattle.tables.specs.Verdicts.{_before_, unless}
 use Rattle.tables.proofs.Refusals.{before-fine, unless-fine}
-use Rattle.modelfile.specs.ModelFile.{maxBytes, Room, roomFor, ModelFile, modelFile}
+use Rattle.bodies.specs.Body.{ModelFile}
+use Rattle.modelfile.specs.ModelFile.{maxBytes, Room, roomFor, modelFile}
 use Rattle.expected.proofs.Expected.{expected-whole, expected-exact}
 use Rattle.written.specs.Text.{maxText}
 use Rattle.written.proofs.Sizes.{file-length}

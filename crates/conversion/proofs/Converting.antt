@@ -17,9 +17,10 @@ use Rattle.headers.specs.declared.Headed.{Headed}
 use Rattle.headers.specs.declared.Headed.the-variants.{Counts as Counted, Refused as NotHeaded}
 use Rattle.headers.specs.Headers.{countsWith, header}
 use Rattle.headers.specs.Steps.{headedOf, Heads}
-use Rattle.modelfile.specs.declared.TablesRead.{TablesRead}
-use Rattle.modelfile.specs.ModelFile.{maxBytes, ModelFile, body, ended}
-use Rattle.modelfile.specs.Steps.{fileAnswer}
+use Rattle.bodies.specs.declared.TablesRead.{TablesRead}
+use Rattle.bodies.specs.Body.{ModelFile, body, ended}
+use Rattle.modelfile.specs.ModelFile.{maxBytes}
+use Rattle.bodies.specs.Steps.{fileAnswer}
 use Rattle.modelfile.proofs.Opens.{Fits, BodyHolds, header-fits, body-holds}
 use Rattle.expected.specs.Expected.{expectedVerdict}
 use Rattle.digits.specs.Digits.{textOver}

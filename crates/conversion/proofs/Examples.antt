@@ -14,9 +14,11 @@ use Rattle.numerals.specs.Numeral.{digits, value, powered, amountOf, fraction, 
 use Rattle.drafts.specs.Drafts.{markedFrom, stated, outcomed}
 use Rattle.grammar.specs.Grammar.{number, magnitude, signedNumber, same, key, keys, field, index}
 use Rattle.entries.specs.Entries.{indexed, row, entryBy, tableBy}
-use Rattle.statements.specs.Statements.{outcomeBy, outcomesBy, rewardStatementBy, observationOrRewardBy, oneStatementBy, statementsBy}
+use Rattle.rewards.specs.Rewards.{outcomeBy, outcomesBy}
+use Rattle.statements.specs.Statements.{rewardStatementBy, observationOrRewardBy, oneStatementBy, statementsBy}
 use Rattle.headers.specs.Headers.{headerBy, startBy}
-use Rattle.modelfile.specs.ModelFile.{maxBytes, bodyBy, sumsVerdict}
+use Rattle.bodies.specs.Body.{bodyBy, sumsVerdict}
+use Rattle.modelfile.specs.ModelFile.{maxBytes}
 use Rattle.expected.specs.Expected.{expectedMillionths, expectedVerdict}
 use Rattle.written.specs.Text.{partsTo, lastDigits, whole, fixed, signedFixed, line, opening, rowText, tableText, rewardText, rewardsText, headerText}
 use Rattle.written.specs.Text.{startText, fileText}

@@ -8,7 +8,7 @@ use Rattle.tables.specs.Model.{Valid}
 use Rattle.tables.specs.Storage.{countsOf, modelIn, rewardIn}
 use Rattle.tables.proofs.Fitting.{Sizes, sizes}
 use Rattle.drafts.specs.Drafts.{outcomePlace}
-use Rattle.modelfile.specs.ModelFile.{ModelFile}
+use Rattle.bodies.specs.Body.{ModelFile}
 use Rattle.expected.specs.Expected.{expectedTicks}
 use Rattle.expected.specs.Steps.{ExpectReady}
 use Rattle.expected.proofs.Expected.{expected-within}

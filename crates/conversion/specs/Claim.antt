@@ -8,7 +8,8 @@ use Rattle.integers.specs.Whole.{_·_}
 use Rattle.tables.specs.declared.Verdict.the-variants.{Fine}
 use Rattle.tables.specs.Limits.{one}
 use Rattle.tables.specs.Storage.{countsOf, modelOf}
-use Rattle.modelfile.specs.ModelFile.{ModelFile, Room, roomFor, modelFile}
+use Rattle.bodies.specs.Body.{ModelFile}
+use Rattle.modelfile.specs.ModelFile.{Room, roomFor, modelFile}
 use Rattle.expected.specs.Expected.{expectedMillionths}
 use Rattle.conversion.specs.Convert.{said, converted}
 

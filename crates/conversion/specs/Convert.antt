@@ -13,7 +13,8 @@ use Rattle.tables.specs.Verdicts.{_before_, unless, left}
 use Rattle.words.specs.Words.{Words, wordsIn, between}
 use Rattle.grammar.specs.Grammar.{Answer, _then_}
 use Rattle.headers.specs.Headers.{header}
-use Rattle.modelfile.specs.ModelFile.{maxBytes, ModelFile, Text, body, ended}
+use Rattle.bodies.specs.Body.{ModelFile, Text, body, ended}
+use Rattle.modelfile.specs.ModelFile.{maxBytes}
 use Rattle.expected.specs.Expected.{laidExpected, expectedVerdict}
 use Rattle.digits.specs.Digits.{textOver}
 use Rattle.written.specs.Text.{maxText, fileText}

@@ -12,7 +12,7 @@ use Rattle.tables.specs.Limits.{maxStates, maxConverted, maxActions, maxObserva
 use Rattle.tables.specs.Model.{Valid}
 use Rattle.tables.specs.Storage.{modelOf, tablesIn}
 use Rattle.tables.specs.Verdicts.{_before_, left}
-use Rattle.modelfile.specs.ModelFile.{ModelFile}
+use Rattle.bodies.specs.Body.{ModelFile}
 use Rattle.digits.specs.Digits.{textOver}
 use Rattle.conversion.specs.declared.Converted.{Converted}
 use Rattle.conversion.specs.Convert.{expectVerdict, expectedText, convertAnswer}

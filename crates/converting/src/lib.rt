@@ -7,14 +7,14 @@ ghost use lib.ListN.{length};
 ghost use Rattle.tables.specs.declared.Verdict.the-variants.{Fine};
 ghost use Rattle.words.specs.Words.{wordsIn, between};
 ghost use Rattle.headers.specs.Steps.{CountsFit};
-ghost use Rattle.modelfile.specs.ModelFile.{ended, body};
+ghost use Rattle.bodies.specs.Body.{ended, body};
 ghost use Rattle.written.specs.Text.{maxText};
 ghost use Rattle.conversion.specs.Convert.{convertVerdict, converted, convertAnswer, convertedOver};
 ghost use Rattle.conversion.specs.Claim.{ConvertHolds};
 ghost use Rattle.conversion.specs.Steps.{fileOf, SoundFile, Long, nothing, AnswersFile};
 use conversion::Converted;
 use headers::Headed;
-use modelfile::TablesRead;
+use modelfile::ModelFile;
 use tables::Counts;
 use tables::Tables;
 use tables::Verdict;
@@ -74,7 +74,7 @@ fn from_counts(file: &[u8], at: usize, c: Counts, out: &mut [u8]) -> Converted
         * Tables::CONVERTED
         * Tables::OBSERVATIONS];
     let mut start = [0u16; Tables::STATES];
-    let x = modelfile::body_at(
+    let x = bodies::body_at(
         file,
         at,
         c,
@@ -100,7 +100,7 @@ pub fn convert(file: &[u8], out: &mut [u8]) -> Converted
     if out.len() < Written::LENGTH {
         return refusal(Verdict::Refused(27, 0));
     }
-    if TablesRead::BYTES < file.len() {
+    if ModelFile::BYTES < file.len() {
         return refusal(Verdict::Refused(1, 0));
     }
     match headers::header_at(file) {

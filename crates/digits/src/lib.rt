@@ -3,7 +3,6 @@ ghost use mathlib.Core.Path.{_≡_};
 ghost use Prim.Native.Nat.{_+_, _^_, _%_};
 ghost use Rattle.digits.specs.Digits.{digitsFor, lastDigits, whole, fixed, signedFixed, spaced, line, opening};
 ghost use Rattle.digits.specs.Steps.{HasRoom, Wrote};
-use integers::cells;
 
 // A word.
 pub fn put(out: &mut [u8], at: usize, word: &[u8]) -> usize

@@ -41,7 +41,7 @@ pub fn backups<'a>(
     ensures { λ r. ⌜ r ≡ padded (pos 0) maxStates n (backupIn n g (now (transition .entry)) (now (reward .entry)) (now (f .entry)) (a .0)) ⌝ }
 {
     if list.len() == 0 {
-        return sums::backups(transition, reward, f, n, g, a);
+        return vectors::backups(transition, reward, f, n, g, a);
     }
     sparse::backups(list, reward, f, n, g, a)
 }

@@ -1,4 +1,4 @@
-// The interface for C and Rust: opening, offering and building over slices that programs lend. Whatever is handed in, a call ends without fault, and one
+// The interface for C and Rust: offering and building over slices that programs lend. Whatever is handed in, a call ends without fault, and one
 // that refuses leaves every lent slice as it was.
 ghost use mathlib.Core.Path.{_≡_};
 ghost use mathlib.Core.Bool.{true};
@@ -12,7 +12,7 @@ ghost use Rattle.columns.specs.Columns.{listHolds, handedList};
 ghost use Rattle.plans.specs.Build.{someCoversAll};
 ghost use Rattle.levels.specs.Storage.{Lent, cells, rows, lent, lentFor};
 ghost use Rattle.levels.specs.Judged.{offerVerdict};
-ghost use Rattle.runs.specs.State.{openVerdict, opened, offered, buildVerdict, builtOf};
+ghost use Rattle.runs.specs.State.{offered, buildVerdict, builtOf};
 ghost use Rattle.runs.specs.Demand3.{ModelAccepted, Event, certifier, after, steps, claim, PointsHold};
 ghost use Rattle.answers.specs.Calls.{layoutVersion, tablesBy, refusalOf, Builds};
 use answers::Refusal;
@@ -24,63 +24,6 @@ pub extern "C" fn biidhaqun_version() -> u64
     ensures { λ r. ⌜ r ≡ layoutVersion ⌝ }
 {
     6
-}
-
-// Opens a certifier on tables, at level 0. Nothing is written to weights and values: level 0 has no point.
-#[no_mangle]
-pub extern "C" fn biidhaqun_open<'a>(
-    n: usize,
-    m: usize,
-    k: usize,
-    g: u64,
-    transition: &'a [u16],
-    observation: &'a [u16],
-    reward: &'a [i64],
-    state: &mut [usize],
-    actions: &mut [u8],
-    choices: &mut [u16],
-    masks: &mut [u64],
-    entries: &mut [i64],
-    corners: &mut [i64],
-    weights: &[u32],
-    values: &[i64],
-    informed: &mut [i64],
-    qmdp: &mut [i64],
-) -> Refusal
-    ensures { λ r. ⌜ (let tables = tablesBy n m k g (now (transition .entry)) (now (observation .entry)) (now (reward .entry)) in
-        let x = lent (now (state .entry)) (cells (now (actions .entry)) (now (choices .entry)) (now (masks .entry)) (now (entries .entry))
-        (now (corners .entry)) (now (weights .entry)) (now (values .entry))) (rows (now (informed .entry)) (now (qmdp .entry))) in
-        r ≡ refusalOf (openVerdict tables x)) ⌝ }
-    ensures { λ _. ⌜ (let tables = tablesBy n m k g (now (transition .entry)) (now (observation .entry)) (now (reward .entry)) in
-        let x = lent (now (state .entry)) (cells (now (actions .entry)) (now (choices .entry)) (now (masks .entry)) (now (entries .entry))
-        (now (corners .entry)) (now (weights .entry)) (now (values .entry))) (rows (now (informed .entry)) (now (qmdp .entry))) in
-        lent (now (state .exit)) (cells (now (actions .exit)) (now (choices .exit)) (now (masks .exit)) (now (entries .exit)) (now (corners .exit))
-        (now (weights .entry)) (now (values .entry))) (rows (now (informed .exit)) (now (qmdp .exit)))
-        ≡ opened tables x) ⌝ }
-{
-    let c = Counts {
-        states: n,
-        actions: m,
-        observations: k,
-        discount: g,
-    };
-    let verdict = opening::open(
-        transition,
-        observation,
-        reward,
-        c,
-        state,
-        actions,
-        choices,
-        masks,
-        entries,
-        corners,
-        weights,
-        values,
-        informed,
-        qmdp,
-    );
-    answers::refusal_of(verdict)
 }
 
 // Offers a level to a certifier, which then stands one level higher. A list of the transitions may be lent with the table; of no words, none is meant.

@@ -1,13 +1,71 @@
-// The interface for C and Rust: the list of a model's transitions, and new prices. Nothing is kept.
+// The interface for C and Rust: a certifier opened on tables, the list of a model's transitions, and new prices. Nothing is kept.
 ghost use mathlib.Core.Path.{_≡_};
 ghost use mathlib.Core.List.{List};
 ghost use Prim.Native.Nat.{ℕ};
 ghost use Rattle.columns.specs.Columns.{listVerdict, listedOf};
 ghost use Rattle.levels.specs.Storage.{cells, rows, lent};
+ghost use Rattle.runs.specs.State.{openVerdict, opened};
 ghost use Rattle.runs.specs.Prices.{pricesVerdict, pricedOf};
 ghost use Rattle.answers.specs.Calls.{tablesBy, refusalOf};
 use answers::Refusal;
 use tables::Counts;
+
+// Opens a certifier on tables, at level 0. Nothing is written to weights and values: level 0 has no point.
+#[no_mangle]
+pub extern "C" fn biidhaqun_open<'a>(
+    n: usize,
+    m: usize,
+    k: usize,
+    g: u64,
+    transition: &'a [u16],
+    observation: &'a [u16],
+    reward: &'a [i64],
+    state: &mut [usize],
+    actions: &mut [u8],
+    choices: &mut [u16],
+    masks: &mut [u64],
+    entries: &mut [i64],
+    corners: &mut [i64],
+    weights: &[u32],
+    values: &[i64],
+    informed: &mut [i64],
+    qmdp: &mut [i64],
+) -> Refusal
+    ensures { λ r. ⌜ (let tables = tablesBy n m k g (now (transition .entry)) (now (observation .entry)) (now (reward .entry)) in
+        let x = lent (now (state .entry)) (cells (now (actions .entry)) (now (choices .entry)) (now (masks .entry)) (now (entries .entry))
+        (now (corners .entry)) (now (weights .entry)) (now (values .entry))) (rows (now (informed .entry)) (now (qmdp .entry))) in
+        r ≡ refusalOf (openVerdict tables x)) ⌝ }
+    ensures { λ _. ⌜ (let tables = tablesBy n m k g (now (transition .entry)) (now (observation .entry)) (now (reward .entry)) in
+        let x = lent (now (state .entry)) (cells (now (actions .entry)) (now (choices .entry)) (now (masks .entry)) (now (entries .entry))
+        (now (corners .entry)) (now (weights .entry)) (now (values .entry))) (rows (now (informed .entry)) (now (qmdp .entry))) in
+        lent (now (state .exit)) (cells (now (actions .exit)) (now (choices .exit)) (now (masks .exit)) (now (entries .exit)) (now (corners .exit))
+        (now (weights .entry)) (now (values .entry))) (rows (now (informed .exit)) (now (qmdp .exit)))
+        ≡ opened tables x) ⌝ }
+{
+    let c = Counts {
+        states: n,
+        actions: m,
+        observations: k,
+        discount: g,
+    };
+    let verdict = opening::open(
+        transition,
+        observation,
+        reward,
+        c,
+        state,
+        actions,
+        choices,
+        masks,
+        entries,
+        corners,
+        weights,
+        values,
+        informed,
+        qmdp,
+    );
+    answers::refusal_of(verdict)
+}
 
 // Writes the list of a model's transitions over a slice.
 #[no_mangle]

@@ -55,7 +55,7 @@ pub fn floors_hold<'a, 'b>(
     let mut found = Verdict::Fine;
     'vectors: for v in 0..vectors {
         let a = Action(shape::action(actions[v]));
-        let f = sums::foreseen(observation, n, k, masks, entries, choices, Vector(v), a);
+        let f = vectors::foreseen(observation, n, k, masks, entries, choices, Vector(v), a);
         let b = engines::backups(transition, list, reward, &f, n, c.discount, a);
         for s in 0..n {
             if masks::covers(covering[v], State(s)) {

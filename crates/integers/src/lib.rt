@@ -1,6 +1,4 @@
 // Arithmetic of 64-bit whole numbers whose results are exact: each caller shows that they fit.
-pub mod cells;
-
 ghost use mathlib.Core.Path.{_≡_};
 ghost use Prim.Native.Nat.{_+_, _*_, _<_, _^_};
 ghost use lib.Dec.{leb};

@@ -35,7 +35,7 @@ fn weight_at(cells: &[u32], s: usize) -> u64
     if cells.len() <= s {
         return 0;
     }
-    ranges::weight(cells[s])
+    weights::weight(cells[s])
 }
 
 // 24: whether no low exceeds its high.
@@ -58,7 +58,7 @@ fn highs_hold<'c>(lows: &'c [u32], highs: &'c [u32], n: usize) -> bool
     if lows.len() < n {
         return false;
     }
-    bounds::mixture_holds(highs, n)
+    asking::mixture_holds(highs, n)
 }
 
 // The weight that an entry takes: one for entries of 0 or more, another for those below.
@@ -172,8 +172,8 @@ fn answer<'b, 'c>(
     if !highs_hold(lows, highs, n) {
         return no_totals(Verdict::Refused(17, 0));
     }
-    let low = ranges::point_weights(lows, n, 0);
-    let high = ranges::point_weights(highs, n, 0);
+    let low = weights::point_weights(lows, n, 0);
+    let high = weights::point_weights(highs, n, 0);
     let states = masks::support(&high, n);
     if !masks::some_has(masks, vectors, states) {
         return no_totals(Verdict::Refused(22, 0));
@@ -209,7 +209,7 @@ pub fn totals_within<'a, 'b, 'c>(
         → RangesHold m (claim m₀ x es) (now (lows .entry)) (now (highs .entry))
         → WithinHolds m (steps m₀ x es) (claim m₀ x es) (now (lows .entry)) (now (highs .entry)) r) ⌝ }
 {
-    let standing = bounds::judge_standing(
+    let standing = asking::judge_standing(
         transition,
         observation,
         reward,

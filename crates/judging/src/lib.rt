@@ -65,7 +65,7 @@ fn judge_level<'a>(
     let Verdict::Fine = ranges else {
         return ranges;
     };
-    ranges::weights_hold(weights, c.states, points)
+    weights::weights_hold(weights, c.states, points)
 }
 
 // 7 to 12: the certifier and the offered level by themselves.

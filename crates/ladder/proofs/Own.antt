@@ -18,7 +18,8 @@ use Rattle.levels.proofs.Laws.{passed, fine-before}
 use Rattle.levels.proofs.Over.{AsLong, Complete, complete-is}
 use Rattle.runs.specs.State.{openVerdict, answerFor}
 use Rattle.runs.specs.Demand3.{ModelAccepted, PointsHold}
-use Rattle.modelfile.specs.ModelFile.{Room, ModelFile, modelFile}
+use Rattle.bodies.specs.Body.{ModelFile}
+use Rattle.modelfile.specs.ModelFile.{Room, modelFile}
 use Rattle.modelfile.proofs.Opens.{opens, read-valid}
 use Rattle.climbing.proofs.Climbing.{first-point}
 use Rattle.ladder.specs.Start.{Alike}

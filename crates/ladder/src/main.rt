@@ -13,7 +13,7 @@ use levels::Standing;
 use libc::STDERR_FILENO;
 use libc::STDIN_FILENO;
 use libc::STDOUT_FILENO;
-use modelfile::TablesRead;
+use modelfile::ModelFile;
 use runs::Bounds;
 use tables::Counts;
 use tables::Tables;
@@ -199,9 +199,9 @@ fn at_end() -> bool {
 }
 
 fn main() {
-    let mut file = [0u8; TablesRead::BYTES + 1];
+    let mut file = [0u8; ModelFile::BYTES + 1];
     let n = io::read_full(STDIN_FILENO, &mut file);
-    if n <= TablesRead::BYTES {
+    if n <= ModelFile::BYTES {
         if !at_end() {
             io::write_all(STDERR_FILENO, b"ladder: standard input cannot be read\n");
             return;

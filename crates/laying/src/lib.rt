@@ -7,7 +7,6 @@ ghost use Rattle.tables.specs.Limits.{maxStates, maxVectors};
 ghost use Rattle.masks.specs.Masks.{maskOf, coveredIn, maskedIn};
 ghost use Rattle.levels.specs.Storage.{cells};
 ghost use Rattle.laying.specs.Steps.{Lays, laidBy};
-use integers::cells;
 use tables::State;
 use tables::Vector;
 use tables::read;

@@ -15,14 +15,13 @@ use tables::Observation;
 use tables::Tables;
 use tables::Vector;
 use tables::Verdict;
-use tables::judge;
 use tables::read;
 
 // 9
 pub fn counts_hold(vectors: usize, points: usize) -> bool
     ensures { λ r. ⌜ r ≡ countsHold maxVectors vectors points ⌝ }
 {
-    if !judge::count_within(Tables::VECTORS, vectors) {
+    if !tables::count_within(Tables::VECTORS, vectors) {
         return false;
     }
     points <= Level::POINTS

@@ -1,19 +1,18 @@
 -- A level is accepted or refused alike by any T that is the model's at the states and actions that there are. Assumes nothing.
 --
 -- In order: sums over transitions; 21, 13, 14 and 15; an offer.
-use Rattle.integers.proofs.Kit.{_≡_, refl, ap, Bool, _||_, List, ℕ, _<_, _*_, eqb, ltb, ℤ, _+ℤ_, leZ}
+use Rattle.integers.proofs.Kit.{_≡_, ap, Bool, _||_, List, ℕ, _<_, _*_, eqb, ltb, ℤ, _+ℤ_, leZ}
 use mathlib.Core.Bool.{not}
 use Rattle.integers.specs.Whole.{_·_, sumTo}
 use Rattle.integers.proofs.Searches.{every-cong}
 use Rattle.integers.proofs.Sums.{sum-cong, total-cong}
 use Rattle.tables.specs.Tables.{Tables}
-use Rattle.tables.specs.declared.Verdict.{Verdict}
-use Rattle.tables.specs.declared.Verdict.the-variants.{Fine, Refused}
+use Rattle.tables.specs.declared.Verdict.the-variants.{Fine}
 use Rattle.tables.specs.Limits.{K, maxLevels}
 use Rattle.tables.specs.Model.{successor, expectedReward, backup}
 use Rattle.tables.specs.Storage.{modelOf}
-use Rattle.tables.specs.Verdicts.{_before_, unless}
-use Rattle.tables.proofs.Refusals.{before-fine, first-cong}
+use Rattle.tables.specs.Verdicts.{unless}
+use Rattle.tables.proofs.Refusals.{before-fine, before-cong, first-cong}
 use Rattle.columns.specs.Columns.{turnedBack}
 use Rattle.plans.specs.Level.{Level, backupAt, corner-weight, follows}
 use Rattle.plans.proofs.Agreement.{ceiling-weights}
@@ -22,11 +21,6 @@ use Rattle.levels.specs.Judged.{numbersVerdict, holdsUpTo, fits, offerOver}
 use Rattle.levels.specs.Judged.{coversBackups, masksVerdict, floorsVerdict, cornersVerdict, pointsVerdict, backupsVerdict, levelVerdict, shapeUpTo, offerUpTo}
 use Rattle.levels.proofs.Laws.{numbers-in}
 use Rattle.lists.specs.Engines.{modelBy}
-
--- tests that follow others need be alike only where those are passed
-before-cong : (v : Verdict) {w w' : Verdict} → (v ≡ Fine → w ≡ w') → (v before w) ≡ (v before w')
-before-cong Fine h = h refl
-before-cong (Refused k i) h = refl
 
 module _ (m : Tables) (list : List ℕ) (same : (a : ℕ) → a < m .actions → (s : ℕ) → s < m .states → (s' : ℕ) → s' < m .states
     → turnedBack (m .states) list s a s' ≡ modelOf m .transition s a s') where

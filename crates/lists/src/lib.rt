@@ -4,7 +4,6 @@ ghost use Rattle.tables.specs.Storage.{tablesIn};
 ghost use Rattle.columns.specs.Columns.{listVerdict, listedOf, listHolds};
 use tables::Counts;
 use tables::Verdict;
-use tables::judge;
 
 // Writes the list of T over a slice; or refused by 3, 5 or 6 of the tables, or 9 where the slice is too short for it, and unchanged.
 pub fn make<'a>(
@@ -18,7 +17,7 @@ pub fn make<'a>(
     ensures { λ _. ⌜ now (list .exit)
         ≡ listedOf (tablesIn c (now (transition .entry)) (now (observation .entry)) (now (reward .entry))) (now (list .entry)) ⌝ }
 {
-    let tables = judge::judge_tables(transition, observation, reward, c);
+    let tables = validity::judge_tables(transition, observation, reward, c);
     let Verdict::Fine = tables else {
         return tables;
     };
@@ -42,7 +41,7 @@ pub fn holds<'a>(
     if list.len() == 0 {
         return true;
     }
-    let tables = judge::judge_tables(transition, observation, reward, c);
+    let tables = validity::judge_tables(transition, observation, reward, c);
     let Verdict::Fine = tables else {
         return false;
     };

@@ -126,7 +126,7 @@ pub fn each<'a, 'b>(
         (now (weights .entry)) (now (values .entry))) (rows (now (informed .entry)) (now (qmdp .entry)))) (now (mixtures .entry)) count
         (answers (now (verdicts .entry)) (now (lower .entry)) (now (upper .entry)) (now (advice .entry)))) ⌝ }
 {
-    let standing = bounds::judge_standing(
+    let standing = asking::judge_standing(
         transition,
         observation,
         reward,
@@ -158,7 +158,7 @@ pub fn each<'a, 'b>(
         return Verdict::Refused(9, 0);
     }
     let s = levels::standing_in(state);
-    let gains = sawtooth::gains(corners, weights, values, s.points, n);
+    let gains = ceilings::gains(corners, weights, values, s.points, n);
     write_answers(
         actions,
         masks,

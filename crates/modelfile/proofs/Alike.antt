@@ -14,7 +14,8 @@ use Rattle.entries.specs.Entries.{wholly, Forms, forms, startNumberBy, row}
 use Rattle.statements.specs.Statements.{statementsBy}
 use Rattle.statements.proofs.Alike.{AllWider, wholly-alike, row-alike, start-alike, statements-alike}
 use Rattle.headers.specs.Headers.{discountName, valuesName, rewardWord, startName, headerCounts, headerBy, startBy}
-use Rattle.modelfile.specs.ModelFile.{maxBytes, Text, noCells, bodyBy, Room, roomFor, roomedBy, textBy, refusedFile, ended, modelFileBy, modelFile}
+use Rattle.bodies.specs.Body.{Text, noCells, bodyBy, refusedFile, ended}
+use Rattle.modelfile.specs.ModelFile.{maxBytes, Room, roomFor, roomedBy, textBy, modelFileBy, modelFile}
 use Rattle.modelfile.specs.Before.{formsBefore}
 
 -- after a part that has no number

@@ -1,55 +1,28 @@
--- A file is refused at its first word that is, or goes on to the next. Assumes nothing.
-use Rattle.integers.proofs.Kit.{_≡_, _∙_, refl, ap, sym, subst, true, false, Bool, cond, List, ℕ, _≤_, _+_, arith, leb, length, ℤ}
-use denote.Enum.Declared.{tagOf}
+-- A file is refused at its headers, or goes on to what follows them. Assumes nothing.
+use Rattle.integers.proofs.Kit.{_≡_, _∙_, ap, sym, subst, true, false, Bool, cond, List, ℕ, _≤_, _+_, leb, length, ℤ}
 use Rattle.tables.specs.declared.Counts.{Counts}
-use Rattle.tables.specs.declared.Verdict.{Verdict}
-use Rattle.tables.specs.declared.Verdict.the-variants.{Fine, Refused}
-use Rattle.tables.proofs.Refusals.{never}
+use Rattle.tables.specs.declared.Verdict.the-variants.{Refused}
 use Rattle.words.specs.Words.{Words, wordsIn, between}
-use Rattle.grammar.specs.declared.Read.{Read}
-use Rattle.grammar.specs.declared.Read.the-variants.{Value, Refused as NotRead}
 use Rattle.grammar.specs.Grammar.{Answer, refused, _then_}
-use Rattle.grammar.specs.Steps.{answerOf}
-use Rattle.grammar.proofs.Read as read-type
 use Rattle.entries.specs.Entries.{forms}
-use Rattle.statements.specs.Statements.{draft}
 use Rattle.headers.specs.declared.Headed.{Headed}
 use Rattle.headers.specs.declared.Headed.the-variants.{Counts as Counted, Refused as NotHeaded}
 use Rattle.headers.specs.Headers.{countsWith}
 use Rattle.headers.specs.Steps.{CountsFit, headedOf, PlacedWithin, Heads}
-use Rattle.modelfile.specs.declared.TablesRead.{TablesRead}
-use Rattle.modelfile.specs.ModelFile.{maxBytes, textBy, modelFile, modelFileBy, refusing}
-use Rattle.modelfile.specs.ModelFile.{Text, textOf, sumsVerdict, ModelFile, refusedFile, judgedFile, ended, Room, roomFor, roomed, bodyBy, roomedBy}
-use Rattle.modelfile.specs.Steps.{fileAnswer, fileIn, handedFile}
-
--- a value hands back nothing
-pub hands-none : (r : Read) → tagOf read-type.the-type r ≡ 0 → refusing (Refused 0 0) ≡ handedFile r
-hands-none (Value v next) e = refl
-hands-none (NotRead number place) e = absurd (omega arith)
+use Rattle.bodies.specs.declared.TablesRead.{TablesRead}
+use Rattle.bodies.specs.Body.{Text, ModelFile, refusedFile, ended, bodyBy, refusing}
+use Rattle.bodies.proofs.Laws as body
+use Rattle.modelfile.specs.ModelFile.{maxBytes, textBy, modelFile, modelFileBy, Room, roomFor, roomed, roomedBy}
 
 pub headed-within : (s : List ℕ) {r : Headed} (n m k d next : ℕ) → PlacedWithin s r → r ≡ Counted n m k d next → CountsFit n m k d × (next ≤ length s)
 headed-within s n m k d next h e = subst (PlacedWithin s) e h
 
 module _ (transition observation : List ℕ) (reward : List ℤ) (start : List ℕ) where
-  -- h is the answer on a file, and where it is not refused the slices hold it
-  abbrev pub Answers : ModelFile → TablesRead → Type 0
-  Answers x h = (h ≡ fileAnswer x) × (h .verdict ≡ Fine → fileIn h transition observation reward start ≡ x)
+  abbrev Answers : ModelFile → TablesRead → Type 0
+  Answers = body.Answers transition observation reward start
 
-  pub answers-refused : (number place : ℕ) {h : TablesRead} → h ≡ refusing (Refused number place) → Answers (refusedFile number place) h
-  answers-refused number place e = (e, λ v. never (sym (ap (λ (h : TablesRead). h .verdict) e) ∙ v))
-
-  module _ {A : Type 0} (size : ℕ) (k : A → Words → Answer Text) {h : TablesRead} where
-    handed-answers : (f : ℕ → A) (s : List ℕ) (r : Read) → tagOf read-type.the-type r ≡ 1 → h ≡ handedFile r → Answers (ended size (answerOf f s r then k)) h
-    handed-answers f s (Value v next) e q = absurd (omega arith)
-    handed-answers f s (NotRead number place) e q = answers-refused number place q
-
-    module _ (f : ℕ → A) (s : List ℕ) (r : Read) {a : Answer A} (is : answerOf f s r ≡ a) where
-      -- words that are refused, or read
-      pub answers-back : tagOf read-type.the-type r ≡ 1 → h ≡ handedFile r → Answers (ended size (a then k)) h
-      answers-back e q = subst (λ (a : Answer A). Answers (ended size (a then k)) h) is (handed-answers f s r e q)
-
-      pub answers-on : (v next : ℕ) → r ≡ Value v next → Answers (ended size (k (f v) (wordsIn between s next))) h → Answers (ended size (a then k)) h
-      answers-on v next e g = subst (λ (a : Answer A). Answers (ended size (a then k)) h) (sym (ap (answerOf f s) e) ∙ is) g
+  answers-refused : (number place : ℕ) {h : TablesRead} → h ≡ refusing (Refused number place) → Answers (refusedFile number place) h
+  answers-refused = body.answers-refused transition observation reward start
 
   -- headers that are refused, or read
   module _ (size : ℕ) (k : Counts → Words → Answer Text) {s : List ℕ} {r : Headed} {a : Answer Counts} {h : TablesRead} (t : Heads s r a) where
@@ -86,17 +59,3 @@ module _ (transition observation : List ℕ) (reward : List ℤ) (start : List �
     pub answers-roomy : roomFor r c ≡ true → Answers (ended size (bodyBy forms false fuel c ws)) h → Answers (ended size (roomed r fuel c ws)) h
     unfolding roomedBy
     answers-roomy e g = subst (λ (b : Bool). Answers (ended size (cond b (bodyBy forms false fuel c ws) (refused 3 0))) h) (sym e) g
-
-  -- the totals, where all words are read
-  abbrev textIn : Counts → Text
-  textIn c = textOf c start (draft transition observation reward)
-
-  module _ (size : ℕ) (c : Counts) {v : Verdict} {h : TablesRead} (is : v ≡ sumsVerdict size (textIn c)) where
-    pub answers-total : {number place : ℕ} → v ≡ Refused number place → h ≡ refusing v → Answers (judgedFile (sumsVerdict size (textIn c)) (textIn c)) h
-    answers-total {number} {place} e q =
-        subst (λ (v : Verdict). Answers (judgedFile v (textIn c)) h) (sym e ∙ is) (answers-refused number place (q ∙ ap refusing e))
-
-    pub answers-fine : v ≡ Fine → h ≡ record { verdict = Fine; counts = c } → Answers (judgedFile (sumsVerdict size (textIn c)) (textIn c)) h
-    answers-fine e q =
-        subst (λ (v : Verdict). Answers (judgedFile v (textIn c)) h) (sym e ∙ is)
-        (q, λ _. ap (λ (h : TablesRead). fileIn h transition observation reward start) q)

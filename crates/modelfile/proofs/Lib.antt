@@ -2,5 +2,4 @@
 pub mod Laws
 pub mod Opens
 pub mod Alike
-pub mod Prelude
 pub mod Refused

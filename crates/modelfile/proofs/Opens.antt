@@ -28,8 +28,10 @@ use Rattle.statements.proofs.Small.{Small, fills-gives, statements-small}
 use Rattle.headers.specs.Headers.{discountName, valuesName, rewardWord, statesName, actionsName, observationsName, countsWith, headerCounts, header}
 use Rattle.headers.specs.Headers.{headerBy, startNumbers}
 use Rattle.headers.specs.Steps.{CountsFit}
-use Rattle.modelfile.specs.ModelFile.{maxBytes, rewardCells, Text, textOf, noCells, Room, roomFor, roomed, textBy, placed, sumsVerdict, ModelFile}
-use Rattle.modelfile.specs.ModelFile.{refusedFile, judgedFile, ended, body, modelFile, bodyBy, roomedBy, modelFileBy}
+use Rattle.bodies.specs.Body.{rewardCells, Text, textOf, noCells, placed, sumsVerdict, ModelFile}
+use Rattle.modelfile.specs.ModelFile.{maxBytes, Room, roomFor, roomed, textBy}
+use Rattle.bodies.specs.Body.{refusedFile, judgedFile, ended, body, bodyBy}
+use Rattle.modelfile.specs.ModelFile.{modelFile, roomedBy, modelFileBy}
 
 abbrev Within : ℕ → ℕ → Type 0
 Within limit v = (1 ≤ v) × (v ≤ limit)

@@ -18,11 +18,15 @@ use Rattle.grammar.specs.Grammar.{Answer, got, refused, choose, key, colon, sta
 use Rattle.grammar.proofs.Named.{UpTo, up-more, words-up, Word-refused, Named, then-named, key-named, number-named, keyed, keys-named, field-named}
 use Rattle.grammar.proofs.Named.{index-named, signed-named}
 use Rattle.entries.specs.Entries.{Outcome, filled, stopped, upon, wholly, forms, probability, startNumber, indexed, row, entry, table, entryBy, tableBy}
-use Rattle.statements.specs.Statements.{further, within, rewardNumber, starred, rewards, outcomes, rewardsOrOutcomes, Draft, oneStatement, statements}
-use Rattle.statements.specs.Statements.{observationOrRewardBy, oneStatementBy, rewardBy, rewardStatementBy, rewardsBy, outcomeBy, outcomesBy, statementsBy}
+use Rattle.rewards.specs.Rewards.{rewardNumber, starred, rewards, outcomes, rewardsOrOutcomes}
+use Rattle.statements.specs.Statements.{further, within, Draft, oneStatement, statements}
+use Rattle.rewards.specs.Rewards.{rewardBy, rewardsBy, outcomeBy, outcomesBy}
+use Rattle.statements.specs.Statements.{observationOrRewardBy, oneStatementBy, rewardStatementBy, statementsBy}
 use Rattle.headers.specs.Headers.{startName, header, startNumbers, headerBy, startBy}
-use Rattle.modelfile.specs.ModelFile.{maxBytes, Text, noCells, Room, roomFor, textBy, placed, sumsVerdict, refusedFile, judgedFile, ended}
-use Rattle.modelfile.specs.ModelFile.{body, modelFile, bodyBy, roomedBy, modelFileBy}
+use Rattle.bodies.specs.Body.{Text, noCells, placed, sumsVerdict, refusedFile, judgedFile, ended}
+use Rattle.modelfile.specs.ModelFile.{maxBytes, Room, roomFor, textBy}
+use Rattle.bodies.specs.Body.{body, bodyBy}
+use Rattle.modelfile.specs.ModelFile.{modelFile, roomedBy, modelFileBy}
 
 module _ (size : ℕ) where
   abbrev pub Stops : {C : Type 0} → ℕ → Outcome C → Type 0

@@ -1,4 +1,3 @@
 -- The whole file.
 pub mod ModelFile
 pub mod Before
-pub mod Steps

@@ -1,52 +1,19 @@
--- What a model file is read as: its headers in order, the start numbers, any number of statements, and then the totals.
-use Prim.Native.Nat.{ℕ, _+_, _*_}
+-- What a model file is read as: its headers in order, and where slices have room for its tables what follows them.
+use Prim.Native.Nat.{ℕ, _+_}
 use mathlib.Core.Bool.{Bool, false, cond}
 use mathlib.Core.List.{List}
-use lib.Dec.{eqb, leb}
-use lib.ListN.{length, getD, replicate}
-use lib.IntN.{pos}
-use Rattle.integers.specs.Whole.{totalTo}
+use lib.Dec.{leb}
+use lib.ListN.{length}
 use Rattle.tables.specs.declared.Counts.{Counts}
-use Rattle.tables.specs.Tables.{Tables}
-use Rattle.tables.specs.declared.Verdict.{Verdict}
-use Rattle.tables.specs.declared.Verdict.the-variants.{Fine, Refused}
-use Rattle.tables.specs.Limits.{maxStates, maxConverted, maxActions, maxObservations, startTotal}
-use Rattle.tables.specs.Storage.{cellIn, tablesIn}
-use Rattle.tables.specs.Verdicts.{_before_, unless}
-use Rattle.tables.specs.Judged.{rowsTotal, hasRoom, noTables}
+use Rattle.tables.specs.Judged.{hasRoom}
 use Rattle.words.specs.Words.{Words, wordsIn, between}
-use Rattle.grammar.specs.Grammar.{Answer, got, refused, _then_}
-use Rattle.entries.specs.Entries.{wholly, Forms, forms}
-use Rattle.statements.specs.Statements.{Draft, draft, statementsBy}
-use Rattle.headers.specs.Headers.{headerBy, startBy}
-use Rattle.modelfile.specs.declared.TablesRead.{TablesRead}
+use Rattle.grammar.specs.Grammar.{Answer, refused, _then_}
+use Rattle.entries.specs.Entries.{Forms, forms}
+use Rattle.headers.specs.Headers.{headerBy}
+use Rattle.bodies.specs.Body.{Text, bodyBy, ModelFile, refusedFile, ended}
 
 abbrev pub maxBytes : ℕ
 maxBytes = 32_768
-
--- how many rewards a draft has: by action and state, or where they are stated in full by action, state left, state reached and observation
-abbrev pub rewardCells : Bool → ℕ
-rewardCells full = cond full (maxActions * maxConverted * maxConverted * maxObservations) (maxActions * maxStates)
-
--- unstated entries are 0
-abbrev pub noCells : Bool → Draft
-noCells full =
-    draft (replicate (maxActions * maxStates * maxStates) 0) (replicate (maxActions * maxStates * maxObservations) 0)
-    (replicate (rewardCells full) (pos 0))
-
--- the tables and the start numbers
-pub record Text : Type 0 where
-  pub tables : Tables
-  pub start : List ℕ
-
-abbrev pub textOf : Counts → List ℕ → Draft → Text
-textOf c start cells = record { tables = tablesIn c (cells .transition) (cells .observation) (cells .reward); start = start }
-
--- the start numbers, then the statements
-unfoldable pub bodyBy : Forms → Bool → ℕ → Counts → Words → Answer Text
-bodyBy f full fuel c ws =
-    startBy f (c .states) ws then λ start ws.
-    wholly (statementsBy f full fuel (c .actions) (c .states) (c .observations) (noCells full) ws) then λ cells ws. got (textOf c start cells) ws
 
 -- how long the slices are that are lent for T, O and R
 pub record Room : Type 0 where
@@ -67,39 +34,7 @@ roomedBy f r fuel c ws = cond (roomFor r c) (bodyBy f false fuel c ws) (refused 
 abbrev pub textBy : Forms → Room → ℕ → Words → Answer Text
 textBy f r fuel ws = headerBy f ws then λ c ws. roomedBy f r fuel c ws
 
--- ---- the totals, after the last statement
-
--- the same refusal, at the end of the file
-abbrev pub placed : ℕ → Verdict → Verdict
-placed size Fine = Fine
-placed size (Refused number place) = Refused number size
-
--- 4, then 5, then 6
-unfoldable pub sumsVerdict : ℕ → Text → Verdict
-sumsVerdict size t =
-    let m = t .tables in
-    unless (eqb (totalTo (m .states) (λ s. getD (t .start) s 0)) startTotal) 4 size
-    before placed size (rowsTotal 5 (m .actions) (m .states) (m .states) (cellIn (m .states) (m .states) (m .transition)))
-    before placed size (rowsTotal 6 (m .actions) (m .states) (m .observations) (cellIn (m .states) (m .observations) (m .observation)))
-
 -- ---- the file, read into slices of such lengths
-
--- what it is refused for, its tables and its start numbers; of a refused file, every part but the refusal is 0
-pub record ModelFile : Type 0 where
-  pub verdict : Verdict
-  pub tables : Tables
-  pub start : List ℕ
-
-abbrev pub refusedFile : ℕ → ℕ → ModelFile
-refusedFile number place = record { verdict = Refused number place; tables = noTables; start = replicate maxStates 0 }
-
-abbrev pub judgedFile : Verdict → Text → ModelFile
-judgedFile Fine t = record { verdict = Fine; tables = t .tables; start = t .start }
-judgedFile (Refused number place) t = refusedFile number place
-
-abbrev pub ended : ℕ → Answer Text → ModelFile
-ended size (got t ws) = judgedFile (sumsVerdict size t) t
-ended size (refused number place) = refusedFile number place
 
 -- 1 for a file that is too long
 unfoldable pub modelFileBy : Forms → Room → List ℕ → ModelFile
@@ -108,16 +43,8 @@ modelFileBy f r file =
 
 -- ---- the same with the forms that numbers have
 
-abbrev pub body : Bool → ℕ → Counts → Words → Answer Text
-body = bodyBy forms
-
 abbrev pub roomed : Room → ℕ → Counts → Words → Answer Text
 roomed = roomedBy forms
 
 abbrev pub modelFile : Room → List ℕ → ModelFile
 modelFile = modelFileBy forms
-
--- ---- what is answered of a refused file: its counts are 0
-
-abbrev pub refusing : Verdict → TablesRead
-refusing v = record { verdict = v; counts = record { states = 0; actions = 0; observations = 0; discount = 0 } }

@@ -13,13 +13,11 @@ ghost use Rattle.tables.specs.Judged.{tablesVerdict};
 ghost use Rattle.masks.specs.Masks.{maskOf};
 ghost use Rattle.levels.specs.Storage.{stateSize, cells, rows, lent, longEnough, longRows};
 ghost use Rattle.runs.specs.State.{openVerdict, opened};
-use integers::cells;
 use levels::Standing;
 use levels::shape;
 use tables::Counts;
 use tables::Tables;
 use tables::Verdict;
-use tables::judge;
 
 // 3, 5 and 6 of the tables; then 9 where slices of such lengths are too short for level 0.
 fn judge_open<'a>(
@@ -42,7 +40,7 @@ fn judge_open<'a>(
         unless (leb stateSize state && ((leb (1 * c .observations) choices && longEnough (c .states) 1 0 actions masks entries corners weights values)
         && longRows (c .actions) (c .states) informed qmdp)) 9 0) ⌝ }
 {
-    let tables = judge::judge_tables(transition, observation, reward, c);
+    let tables = validity::judge_tables(transition, observation, reward, c);
     let Verdict::Fine = tables else {
         return tables;
     };

@@ -5,8 +5,7 @@ use mathlib.Core.List.{List}
 use lib.ListN.{length, getD}
 use lib.IntN.{ℤ, pos, natAbs, _-ℤ_}
 use Rattle.integers.specs.Whole.{totalTo}
-use Rattle.tables.specs.declared.Counts.{Counts}
-use Rattle.tables.specs.Limits.{maxStates, maxActions, maxObservations, maxVectors, maxEntry}
+use Rattle.tables.specs.Limits.{maxStates, maxVectors, maxEntry}
 use Rattle.tables.specs.Storage.{entryIn}
 use Rattle.masks.specs.Masks.{coveredIn, maskedIn}
 use Rattle.plans.specs.Limits.{maxPoints, maxTotal}
@@ -20,14 +19,6 @@ maxMove = 2 * maxEntry
 -- a change of a reward, by the place where it lies
 abbrev pub changeAt : List ℤ → List ℤ → ℕ → ℕ
 changeAt reward new i = natAbs (getD new i (pos 0) -ℤ getD reward i (pos 0))
-
--- T and O long enough for their counts, which are few
-pub record Chances (c : Counts) (transition observation : List ℕ) : Type 0 where
-  pub few-states : c .states ≤ maxStates
-  pub few-actions : c .actions ≤ maxActions
-  pub few-observations : c .observations ≤ maxObservations
-  pub transitions : c .actions * c .states * c .states ≤ length transition
-  pub observed : c .actions * c .states * c .observations ≤ length observation
 
 -- vectors within a range, at the states that they cover
 pub record Vectors (n vectors limit : ℕ) (masks : List ℕ) (entries : List ℤ) : Type 0 where

@@ -1,23 +1,17 @@
-// Refusals 11 and 12 of a level by itself: ranges of entries, corners and values, and what the weights of points total.
+// Refusal 11 of a level by itself: the ranges of entries, corners and values.
 ghost use mathlib.Core.Path.{_≡_};
-ghost use Prim.Native.Nat.{_+_, _*_, _≤_, _<_, _^_};
+ghost use Prim.Native.Nat.{_*_, _≤_, _<_, _^_};
 ghost use lib.ListN.{length, getD};
 ghost use lib.IntN.{pos};
-ghost use Rattle.integers.specs.Whole.{totalTo};
-ghost use Rattle.integers.specs.Cells.{padded};
 ghost use Rattle.tables.specs.Limits.{maxStates, maxVectors, maxEntry};
 ghost use Rattle.plans.specs.Limits.{maxPoints};
-ghost use Rattle.tables.specs.Steps.{rowsTo};
 ghost use Rattle.tables.specs.Storage.{rowPlace};
 ghost use Rattle.masks.specs.Masks.{maskedIn};
 ghost use Rattle.levels.specs.Storage.{pointIn};
-ghost use Rattle.levels.specs.Judged.{rowsWithin, totalHolds, valueHolds, valuesWithin, weightsVerdict};
-use levels::Level;
+ghost use Rattle.levels.specs.Judged.{rowsWithin, valueHolds, valuesWithin};
 use tables::State;
-use tables::Tables;
 use tables::Vector;
 use tables::Verdict;
-use tables::Weights;
 use tables::read;
 
 // 11 of corners, and 7 of rows: the first row, of width w, with a number outside ± limit.
@@ -64,54 +58,12 @@ pub fn entries_within<'a>(
     found
 }
 
-// A weight of a mixture or a point.
-pub fn weight(x: u32) -> u64
-    ensures { λ r. ⌜ r ≡ x ⌝ }
-{
-    x as u64
-}
-
-// The weights of row i: of a point, or of a mixture, which is a row alone.
-pub fn point_weights(weights: &[u32], n: usize, i: usize) -> Weights
-    requires { ⌜ (n ≤ maxStates) × (i < maxPoints) ⌝ }
-    requires { ⌜ rowsTo n i ≤ length (now weights) ⌝ }
-    ensures { λ r. ⌜ r ≡ padded 0 maxStates n (pointIn n (now (weights .entry)) i) ⌝ }
-{
-    let mut p = [0u64; Tables::STATES];
-    for s in 0..n {
-        let at = read::row(i, n, s);
-        p[s] = weight(weights[at]);
-    }
-    p
-}
-
-// The total of the n weights from `at` on.
-pub fn weights_total(cells: &[u32], at: usize, n: usize) -> u64
-    requires { ⌜ (at + n ≤ length (now cells)) × (n ≤ maxStates) ⌝ }
-    ensures { λ r. ⌜ r ≡ totalTo n (λ s. getD (now (cells .entry)) (at + s) 0) ⌝ }
-{
-    let mut sum: u64 = 0;
-    for s in 0..n {
-        sum += weight(cells[at + s]);
-    }
-    sum
-}
-
-fn total_holds(total: u64) -> bool
-    ensures { λ r. ⌜ r ≡ totalHolds total ⌝ }
-{
-    if total < 1 {
-        return false;
-    }
-    total <= Level::TOTAL
-}
-
 // Whether a value lies within ± total × limit. It is passed over where the total is no point's: that is refused by 12.
 fn value_holds(total: u64, limit: u64, value: i64) -> bool
     requires { ⌜ limit ≤ maxEntry ⌝ }
     ensures { λ r. ⌜ r ≡ valueHolds total limit value ⌝ }
 {
-    if !total_holds(total) {
+    if !weights::total_holds(total) {
         return true;
     }
     integers::within(total * limit, value)
@@ -130,23 +82,9 @@ pub fn values_within<'a>(
     ensures { λ r. ⌜ r ≡ valuesWithin n points limit (pointIn n (now (weights .entry))) (λ i. getD (now (values .entry)) i (pos 0)) ⌝ }
 {
     for i in 0..points {
-        let total = weights_total(weights, read::start(i, n), n);
+        let total = weights::weights_total(weights, read::start(i, n), n);
         if !value_holds(total, limit, values[i]) {
             return Verdict::Refused(11, i);
-        }
-    }
-    Verdict::Fine
-}
-
-// 12: the first point whose weights total less than 1 or more than 100.
-pub fn weights_hold(cells: &[u32], n: usize, points: usize) -> Verdict
-    requires { ⌜ (n ≤ maxStates) × (points ≤ maxPoints) ⌝ }
-    requires { ⌜ points * n ≤ length (now cells) ⌝ }
-    ensures { λ r. ⌜ r ≡ weightsVerdict n points (pointIn n (now (cells .entry))) ⌝ }
-{
-    for i in 0..points {
-        if !total_holds(weights_total(cells, read::start(i, n), n)) {
-            return Verdict::Refused(12, i);
         }
     }
     Verdict::Fine

@@ -1,7 +1,7 @@
 -- The verdict on a reading, as the code goes through it. Assumes nothing.
 use Rattle.integers.proofs.Kit.{_≡_, sym, List, ℕ, _≤_, _<_, le-leb, lt-leb, length}
 use Rattle.tables.specs.declared.Verdict.the-variants.{Fine, Refused}
-use Rattle.modelfile.specs.ModelFile.{ModelFile}
+use Rattle.bodies.specs.Body.{ModelFile}
 use Rattle.reading.specs.Reading.{readVerdict}
 
 pub refused-file : (f : ModelFile) (start : List ℕ) {k i : ℕ} → f .verdict ≡ Refused k i → readVerdict f start ≡ Refused k i

@@ -9,8 +9,9 @@ use Rattle.tables.specs.declared.Verdict.{Verdict}
 use Rattle.tables.specs.declared.Verdict.the-variants.{Fine, Refused}
 use Rattle.tables.specs.Storage.{countsOf}
 use Rattle.tables.specs.Verdicts.{_before_, unless}
-use Rattle.modelfile.specs.declared.TablesRead.{TablesRead}
-use Rattle.modelfile.specs.ModelFile.{ModelFile, room, modelFile, refusing}
+use Rattle.bodies.specs.declared.TablesRead.{TablesRead}
+use Rattle.bodies.specs.Body.{ModelFile, refusing}
+use Rattle.modelfile.specs.ModelFile.{room, modelFile}
 
 -- the file, read for slices that are lent for T, O and R
 abbrev pub fileFor : List ℕ → List ℕ → List ℕ → List ℤ → ModelFile

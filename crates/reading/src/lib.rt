@@ -2,8 +2,7 @@
 ghost use mathlib.Core.Path.{_≡_};
 ghost use Rattle.tables.specs.Verdicts.{left};
 ghost use Rattle.reading.specs.Reading.{fileFor, readVerdict, readOf, laidTransitions, laidObservations, laidRewards, laidStart};
-use integers::cells;
-use modelfile::TablesRead;
+use bodies::TablesRead;
 use tables::Tables;
 use tables::Verdict;
 
@@ -45,12 +44,12 @@ pub fn read(
     );
     let verdict = read.verdict;
     let Verdict::Fine = verdict else {
-        return modelfile::refusal(verdict);
+        return bodies::refusal(verdict);
     };
     let c = read.counts;
     let n = c.states;
     if start.len() < n {
-        return modelfile::refusal(Verdict::Refused(SHORT, n));
+        return bodies::refusal(Verdict::Refused(SHORT, n));
     }
     let rows = c.actions * n;
     cells::paste_u16(transition, 0, &t, rows * n);

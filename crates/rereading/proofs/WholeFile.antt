@@ -20,8 +20,10 @@ use Rattle.words.specs.Words.{end, wordsIn, between}
 use Rattle.grammar.specs.Grammar.{Answer, got, refused, _then_}
 use Rattle.entries.specs.Entries.{wholly, forms}
 use Rattle.statements.specs.Statements.{Draft, statements}
-use Rattle.modelfile.specs.ModelFile.{maxBytes, noCells, textOf, bodyBy, Room, roomFor, roomedBy, textBy, placed, sumsVerdict, ModelFile, judgedFile}
-use Rattle.modelfile.specs.ModelFile.{refusedFile, ended, modelFile, modelFileBy}
+use Rattle.bodies.specs.Body.{noCells, textOf, bodyBy, placed, sumsVerdict, ModelFile, judgedFile}
+use Rattle.modelfile.specs.ModelFile.{maxBytes, Room, roomFor, roomedBy, textBy}
+use Rattle.bodies.specs.Body.{refusedFile, ended}
+use Rattle.modelfile.specs.ModelFile.{modelFile, modelFileBy}
 use Rattle.written.specs.Text.{fileText}
 use Rattle.rereading.specs.Rereading.{ReadsBack, SameNumbers, FileReadsBack, ModelsReadBack}
 use Rattle.rereading.proofs.Valid.{same-valid}

@@ -57,7 +57,7 @@ pub fn corners_hold<'a, 'b>(
         (now (offered .entry)) 0 [] []) ⌝ }
 {
     let n = c.states;
-    let gains = sawtooth::gains(corners, weights, values, points, n);
+    let gains = ceilings::gains(corners, weights, values, points, n);
     for s in 0..n {
         let p = backups::corner_weights(State(s));
         let backups = backups::backups_at(
@@ -104,9 +104,9 @@ pub fn points_hold<'a, 'b, 'c>(
         (roofIn (c .states) [] count (now (offered .entry)) (now (at .entry))) ⌝ }
 {
     let n = c.states;
-    let gains = sawtooth::gains(corners, weights, values, points, n);
+    let gains = ceilings::gains(corners, weights, values, points, n);
     for i in 0..count {
-        let p = ranges::point_weights(offered, n, i);
+        let p = weights::point_weights(offered, n, i);
         let backups = backups::backups_at(
             transition,
             list,

@@ -12,7 +12,6 @@ ghost use Rattle.tables.specs.Steps.{EntriesFit};
 ghost use Rattle.sums.specs.Steps.{TransitionsFit, ObservationsFit};
 ghost use Rattle.plans.specs.Rows.{highest, informedNext, qmdpNext};
 ghost use Rattle.rows.specs.Steps.{bestRowIn, topIn, Ready, Seen};
-use integers::cells;
 use tables::Action;
 use tables::Counts;
 use tables::Foreseen;
@@ -159,7 +158,7 @@ pub fn step_qmdp<'a>(
     let cells = c.actions * n;
     let f = tops(rows, n, c.actions);
     for i in 0..cells {
-        let b = sums::backup(
+        let b = vectors::backup(
             transition,
             reward,
             n,

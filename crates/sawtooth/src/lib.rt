@@ -1,63 +1,20 @@
-// The sawtooth ceiling: corners · q less the largest drop of a point. Nearly all of an offer's time is spent here, so a point's smallest ratio is found
-// by cross-multiplication with one division, and only where the point can beat the largest drop so far.
+// The sawtooth: the largest drop of a point. Nearly all of an offer's time is spent here, so a point's smallest ratio is found by cross-multiplication
+// with one division, and only where the point can beat the largest drop so far.
 ghost use mathlib.Core.Path.{_≡_};
 ghost use Prim.Native.Nat.{ℕ, _+_, _*_, _≤_, _<_};
 ghost use lib.Dec.{leb};
 ghost use lib.ListN.{length, getD};
-ghost use lib.IntN.{natAbs, _-ℤ_};
 ghost use Rattle.integers.specs.Whole.{largestTo, Below};
 ghost use Rattle.integers.specs.Search.{every};
-ghost use Rattle.integers.specs.Cells.{padded};
-ghost use Rattle.tables.specs.Limits.{maxStates, maxEntry};
+ghost use Rattle.tables.specs.Limits.{maxStates};
 ghost use Rattle.tables.specs.Storage.{weightIn};
-ghost use Rattle.plans.specs.Limits.{maxPoints, maxTotal, maxReached};
-ghost use Rattle.plans.specs.Level.{product, smallest, orNone};
-ghost use Rattle.levels.specs.Storage.{cornerIn};
-ghost use Rattle.sawtooth.specs.Steps.{positive, gainIn, dropIn, ceilingIn, CornersFit, PointsFit, ValuesFit, maxGain, cap};
-use levels::Level;
+ghost use Rattle.plans.specs.Limits.{maxTotal, maxReached};
+ghost use Rattle.plans.specs.Level.{smallest, orNone};
+ghost use Rattle.sawtooth.specs.Steps.{dropIn, PointsFit, maxGain, cap};
 use tables::read;
-
-pub type Gains = [u64; Level::POINTS];
 
 // No drop is compared with more than this: one more of it times a weight still fits.
 const CAP: u64 = 100_000_000_000_000_000;
-
-// The positive part of a point's gain: corners · p less its value.
-fn gain_of(corners: &[i64], p: &[u64], value: i64, n: usize) -> u64
-    requires { ⌜ n ≤ maxStates ⌝ }
-    requires { ⌜ CornersFit n (now corners) ⌝ }
-    requires { ⌜ Below maxTotal n (now p) ⌝ }
-    requires { ⌜ natAbs value ≤ maxTotal * maxEntry ⌝ }
-    ensures { λ r. ⌜ r ≡ positive (product n (weightIn (now (p .entry))) (cornerIn (now (corners .entry))) -ℤ value) ⌝ }
-{
-    let g = integers::minus(products::product(p, corners, 0, n), value);
-    if g < 0 {
-        return 0;
-    }
-    g as u64
-}
-
-// The positive part of each point's gain.
-pub fn gains<'a>(
-    corners: &'a [i64],
-    weights: &'a [u32],
-    values: &'a [i64],
-    points: usize,
-    n: usize,
-) -> Gains
-    requires { ⌜ n ≤ maxStates ⌝ }
-    requires { ⌜ CornersFit n (now corners) ⌝ }
-    requires { ⌜ PointsFit n points (now weights) ⌝ }
-    requires { ⌜ ValuesFit points (now values) ⌝ }
-    ensures { λ r. ⌜ r ≡ padded 0 maxPoints points (λ i. positive (gainIn n (now (corners .entry)) (now (weights .entry)) (now (values .entry)) i)) ⌝ }
-{
-    let mut g = [0u64; Level::POINTS];
-    for i in 0..points {
-        let p = ranges::point_weights(weights, n, i);
-        g[i] = gain_of(corners, &p, values[i], n);
-    }
-    g
-}
 
 // a × b, of a weight and a gain
 fn reach(q: u64, gain: u64) -> u64
@@ -83,7 +40,7 @@ fn reaches(q: &[u64], weights: &[u32], at: usize, gain: u64, n: usize, least: u6
     ensures { λ r. ⌜ r ≡ every n (λ s. leb (least * getD (now (weights .entry)) (at + s) 0) (getD (now (q .entry)) s 0 * gain)) ⌝ }
 {
     for s in 0..n {
-        let p = ranges::weight(weights[at + s]);
+        let p = weights::weight(weights[at + s]);
         if reach(q[s], gain) < wanted(least, p) {
             return false;
         }
@@ -109,7 +66,7 @@ fn drop_of(q: &[u64], weights: &[u32], at: usize, gain: u64, n: usize) -> u64
     let mut top: u64 = 1; // under no weight: any state with weight takes its place
     let mut under: u64 = 0;
     for s in 0..n {
-        let p = ranges::weight(weights[at + s]);
+        let p = weights::weight(weights[at + s]);
         let x = q[s];
         if cross(x, under) < cross(top, p) {
             top = x;
@@ -154,24 +111,4 @@ pub fn largest_drop<'a>(
         }
     }
     best
-}
-
-// The ceiling at q.
-pub fn ceiling<'a>(
-    q: &[u64],
-    corners: &'a [i64],
-    weights: &'a [u32],
-    gains: &[u64],
-    points: usize,
-    n: usize,
-) -> i64
-    requires { ⌜ n ≤ maxStates ⌝ }
-    requires { ⌜ Below maxReached n (now q) ⌝ }
-    requires { ⌜ CornersFit n (now corners) ⌝ }
-    requires { ⌜ PointsFit n points (now weights) ⌝ }
-    requires { ⌜ Below maxGain points (now gains) ⌝ }
-    ensures { λ r. ⌜ r ≡ ceilingIn n (now (corners .entry)) (now (weights .entry)) (now (gains .entry)) points (now (q .entry)) ⌝ }
-{
-    let d = largest_drop(q, weights, gains, points, n);
-    integers::minus(products::product(q, corners, 0, n), d as i64)
 }

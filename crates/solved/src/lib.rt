@@ -19,7 +19,6 @@ ghost use Rattle.builder.specs.Steps.{RowsFit, Filled};
 ghost use Rattle.stated.specs.Steps.{ReadTo, Files, masksOver};
 ghost use Rattle.solved.specs.Steps.{vectorsOver, Solving, Gives};
 use alphas::Ticks;
-use integers::cells;
 use levels::shape;
 use tables::Action;
 use tables::Chosen;
@@ -74,7 +73,7 @@ fn entries_of<'a>(
         (follows (uponIn c standing (now (masks .entry)) (now (entries .entry))) (λ o. getD (now (chosen .entry)) o 0)) s)) ⌝ }
 {
     let n = c.states;
-    let f = sums::foreseen(
+    let f = vectors::foreseen(
         observation,
         n,
         c.observations,
@@ -84,7 +83,7 @@ fn entries_of<'a>(
         Vector(0),
         a,
     );
-    let backed = sums::rounded(transition, reward, &f, n, c.discount, a);
+    let backed = vectors::rounded(transition, reward, &f, n, c.discount, a);
     lesser_each(ticks, backed, n)
 }
 
@@ -237,7 +236,7 @@ pub fn judge_level<'a, 'c>(
     let Verdict::Fine = ranges else {
         return ranges;
     };
-    ranges::weights_hold(given, c.states, points)
+    weights::weights_hold(given, c.states, points)
 }
 
 // ---- the level

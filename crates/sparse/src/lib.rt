@@ -159,7 +159,7 @@ pub fn backups(list: &[u32], reward: &[i64], f: &[i64], n: usize, g: u64, a: Act
     let later = onward(list, n, f, a);
     let mut e = [0i64; Tables::STATES];
     for s in 0..n {
-        e[s] = sums::backup_from(reward, n, g, later[s], State(s), a);
+        e[s] = vectors::backup_from(reward, n, g, later[s], State(s), a);
     }
     e
 }

@@ -15,7 +15,6 @@ use levels::shape;
 use tables::Counts;
 use tables::Tables;
 use tables::Verdict;
-use tables::judge;
 
 // The range of entries and corners at level t.
 pub fn range_of(t: usize) -> u64
@@ -91,7 +90,7 @@ pub fn standing_holds<'a, 'b>(
         (lent (now (state .entry)) (cells (now (actions .entry)) choices (now (masks .entry)) (now (entries .entry)) (now (corners .entry))
         (now (weights .entry)) (now (values .entry))) (rows (now (informed .entry)) (now (qmdp .entry))))) ⌝ }
 {
-    let tables = judge::judge_tables(transition, observation, reward, c);
+    let tables = validity::judge_tables(transition, observation, reward, c);
     let Verdict::Fine = tables else {
         return false;
     };
@@ -135,7 +134,7 @@ pub fn standing_holds<'a, 'b>(
     let Verdict::Fine = ranges else {
         return false;
     };
-    let totals = ranges::weights_hold(weights, c.states, s.points);
+    let totals = weights::weights_hold(weights, c.states, s.points);
     let Verdict::Fine = totals else {
         return false;
     };

@@ -6,8 +6,10 @@ use Rattle.drafts.specs.Drafts.{stated, rewarded}
 use Rattle.grammar.specs.Grammar.{Answer, got, refused, choose, key, colon, index}
 use Rattle.grammar.proofs.Alike.{Alike, alike-same, Wider, number-alike, signed-alike}
 use Rattle.entries.specs.Entries.{Outcome, filled, stopped, upon, wholly, Forms, probabilityBy, startNumberBy, indexed, row, entryBy, tableBy}
-use Rattle.statements.specs.Statements.{within, further, rewardNumberBy, starred, rewardBy, rewardsBy, outcomeKept, outcomeBy, outcomesBy}
-use Rattle.statements.specs.Statements.{rewardsOrOutcomesBy, Draft, draft, transitionKey}
+use Rattle.rewards.specs.Rewards.{rewardNumberBy, starred, rewardBy, rewardsBy, outcomeKept, outcomeBy, outcomesBy}
+use Rattle.statements.specs.Statements.{within, further}
+use Rattle.rewards.specs.Rewards.{rewardsOrOutcomesBy}
+use Rattle.statements.specs.Statements.{Draft, draft, transitionKey}
 use Rattle.statements.specs.Statements.{observationKey, rewardKey, rewardStatementBy, observationOrRewardBy, oneStatementBy, statementsBy}
 
 -- where the first fills the cells, the second fills them alike

@@ -19,7 +19,8 @@ use Rattle.entries.specs.Entries.{Outcome, filled, stopped}
 use Rattle.entries.specs.Steps.{CellsFit, outcomeOf, Leaves}
 use Rattle.entries.proofs.Laws.{leaves-earlier}
 use Rattle.statements.specs.Statements.{further, within, Draft, oneStatement, statements, statementsBy}
-use Rattle.statements.specs.Steps.{begin, OutcomesFit, RewardCells}
+use Rattle.rewards.specs.Steps.{OutcomesFit, RewardCells}
+use Rattle.statements.specs.Steps.{begin}
 
 -- ---- a statement's word and cells
 

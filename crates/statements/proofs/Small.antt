@@ -10,9 +10,12 @@ use Rattle.numerals.specs.Numeral.{probabilityForm, rewardForm, signed}
 use Rattle.grammar.specs.Grammar.{Answer, got, refused, choose, key, colon, index, magnitude, minus, signedNumber, unlessEnd}
 use Rattle.grammar.proofs.Gives.{Gives, gives-then, number-gives, magnitude-gives}
 use Rattle.entries.specs.Entries.{Outcome, filled, stopped, upon, wholly, probability, indexed, row, entry, table, entryBy, tableBy}
-use Rattle.statements.specs.Statements.{further, within, rewardNumber, starred, rewards, Draft, draft, transitionKey, observationKey, rewardKey}
-use Rattle.statements.specs.Statements.{outcomeKept, outcomes, rewardsOrOutcomes, rewardStatement, observationOrReward, oneStatement, statements}
-use Rattle.statements.specs.Statements.{observationOrRewardBy, oneStatementBy, rewardBy, rewardStatementBy, rewardsBy, outcomeBy, outcomesBy}
+use Rattle.rewards.specs.Rewards.{rewardNumber, starred, rewards}
+use Rattle.statements.specs.Statements.{further, within, Draft, draft, transitionKey, observationKey, rewardKey}
+use Rattle.rewards.specs.Rewards.{outcomeKept, outcomes, rewardsOrOutcomes}
+use Rattle.statements.specs.Statements.{rewardStatement, observationOrReward, oneStatement, statements}
+use Rattle.rewards.specs.Rewards.{rewardBy, rewardsBy, outcomeBy, outcomesBy}
+use Rattle.statements.specs.Statements.{observationOrRewardBy, oneStatementBy, rewardStatementBy}
 use Rattle.statements.specs.Statements.{statementsBy}
 
 -- ---- what holds of the cells that are read whole

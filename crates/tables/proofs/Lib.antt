@@ -3,4 +3,3 @@ pub mod Refusals
 pub mod Fitting
 pub mod Accepted
 pub mod Prelude
-pub mod Largest

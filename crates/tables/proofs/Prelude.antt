@@ -1,13 +1,6 @@
 -- What more than one proof of this crate names.
-pub use Rattle.integers.proofs.Kit.{_≡_, _∙_, refl, ap, sym, true, Bool, List, ℕ, _≤_, _<_, _+_, _*_, _-_, arith, mul-le-mul, needs, le-leb, lt-leb}
-pub use Rattle.integers.proofs.Kit.{not-false, not-true, leb, length, getD}
-pub use Rattle.integers.proofs.Lists.{cell-below, row-below}
-pub use Rattle.integers.proofs.Searches.{every-more, every-none, every-not}
-pub use Rattle.integers.proofs.Sums.{total-none, total-step}
+pub use Rattle.integers.proofs.Kit.{refl, _≤_, _<_, _+_, _*_, arith, mul-le-mul, needs, le-leb, lt-leb}
+pub use Rattle.integers.proofs.Lists.{cell-below}
 pub use Rattle.integers.proofs.Words.{back}
-pub use Rattle.integers.specs.Search.{every}
-pub use Rattle.integers.specs.Whole.{totalTo}
-pub use Rattle.tables.proofs.Fitting.{Few, cell-stored, row-stored, rows-stored, sizes}
-pub use Rattle.tables.specs.Limits.{maxStates, maxActions, one}
-pub use Rattle.tables.specs.Storage.{modelOf, rewardIn}
-unfoldable pub use Rattle.tables.specs.Judged.{limitsHold}
+pub use Rattle.tables.proofs.Fitting.{cell-stored, row-stored}
+pub use Rattle.tables.specs.Limits.{maxStates}

@@ -21,6 +21,11 @@ pub before-fine : (v w : Verdict) → (v before w) ≡ Fine → (v ≡ Fine) × 
 before-fine Fine w e = (refl, e)
 before-fine (Refused k i) w e = never e
 
+-- tests that follow others need be alike only where those are passed
+pub before-cong : (v : Verdict) {w w' : Verdict} → (v ≡ Fine → w ≡ w') → (v before w) ≡ (v before w')
+before-cong Fine h = h refl
+before-cong (Refused k i) h = refl
+
 pub refused-before : {v : Verdict} (w : Verdict) {k i : ℕ} → v ≡ Refused k i → (v before w) ≡ Refused k i
 refused-before w e = rw e
 

@@ -1,6 +1,8 @@
-// The model: its tables, and what they are refused for.
-pub mod judge; // refusals 3, 5 and 6
+// The model: its tables, their limits, and how a cell is read.
 pub mod read; // one cell of a table
+
+ghost use mathlib.Core.Path.{_≡_};
+ghost use Rattle.tables.specs.Judged.{countWithin};
 
 // Numbers of four kinds, all from 0, side by side: none passes for another.
 pub struct State(pub usize);
@@ -52,4 +54,14 @@ impl Tables {
     pub const REWARD: u64 = 100_000; // in ticks
 
     pub const K: u64 = 1_000_000_000; // a backup's units in a tick
+}
+
+// Whether a count is from 1 to its limit.
+pub fn count_within(limit: usize, n: usize) -> bool
+    ensures { λ r. ⌜ r ≡ countWithin limit n ⌝ }
+{
+    if n < 1 {
+        return false;
+    }
+    n <= limit
 }

@@ -13,7 +13,6 @@ use tables::Counts;
 use tables::State;
 use tables::Vector;
 use tables::Verdict;
-use tables::judge;
 use tables::read;
 use worths::Graph;
 use worths::Node;
@@ -41,7 +40,7 @@ fn nodes_within<'b>(actions: &'b [u8], next: &'b [u16], nodes: usize, k: usize) 
     requires { ⌜ k ≤ maxObservations ⌝ }
     ensures { λ r. ⌜ r ≡ countWithin maxNodes nodes && graphStored k (lentGraph nodes (now (actions .entry)) (now (next .entry))) ⌝ }
 {
-    if !judge::count_within(Graph::NODES, nodes) {
+    if !tables::count_within(Graph::NODES, nodes) {
         return false;
     }
     if actions.len() < nodes {
@@ -67,7 +66,7 @@ fn judge_worth<'a, 'b>(
         ≡ worthVerdict (tablesIn c (now (transition .entry)) (now (observation .entry)) (now (reward .entry)))
         (lentGraph nodes (now (actions .entry)) (now (next .entry))) (v .0) (s .0) d ⌝ }
 {
-    let tables = judge::judge_tables(transition, observation, reward, c);
+    let tables = validity::judge_tables(transition, observation, reward, c);
     let Verdict::Fine = tables else {
         return tables;
     };

@@ -11,7 +11,6 @@ ghost use Rattle.worths.specs.Limits.{maxSteps};
 ghost use Rattle.worths.specs.Graph.{worthOf};
 ghost use Rattle.worths.specs.Storage.{graphIn};
 ghost use Rattle.worths.specs.Steps.{GraphHeld, backedUpOf, worthsBy};
-use integers::cells;
 use levels::shape;
 use tables::Action;
 use tables::Counts;
@@ -64,8 +63,8 @@ fn worths_of<'a, 'b>(
     let k = c.observations;
     let a = action_at(actions, v);
     let all = [u64::MAX; Graph::NODES];
-    let f = sums::foreseen(observation, n, k, &all, before, next, Vector(v.0), a);
-    sums::rounded(transition, reward, &f, n, c.discount, a)
+    let f = vectors::foreseen(observation, n, k, &all, before, next, Vector(v.0), a);
+    vectors::rounded(transition, reward, &f, n, c.discount, a)
 }
 
 // The worths of all nodes at all states with one step more: each is worked out once.

@@ -1,4 +1,5 @@
-use Rattle.bounds.proofs.Prelude.{ℕ, _≡_, _∙_, ap, sym, true, arith, needs, not-true, not-false}
+use Rattle.bounds.proofs.Prelude.{ℕ, _≡_, _∙_, ap, sym, true, arith, needs}
+use Rattle.integers.proofs.Kit.{not-true, not-false}
 use Rattle.masks.specs.Steps.{someIncludes}
 use Rattle.runs.specs.State.{mixtureHolds}
 use Rattle.bounds.specs.Steps.{supportIn, widened}

@@ -1,5 +1,6 @@
-use Rattle.bounds.proofs.Prelude.{ℕ, _+_, _<_, _≡_, _∙_, ap, sym, true, arith, needs, weightIn}
-use Rattle.integers.proofs.Kit.{getD, pos, w64, toZ, ofZ}
+use Rattle.bounds.proofs.Prelude.{ℕ, _≡_, _∙_, ap, sym, true, arith, needs}
+use Rattle.tables.specs.Storage.{weightIn}
+use Rattle.integers.proofs.Kit.{_+_, _<_, getD, pos, w64, toZ, ofZ}
 use Rattle.integers.proofs.Lists.{row-below}
 use Rattle.integers.proofs.Words.{answer}
 use Rattle.masks.specs.Masks.{coveredIn, maskedIn}

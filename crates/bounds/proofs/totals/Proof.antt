@@ -1,10 +1,14 @@
-use Rattle.bounds.proofs.Prelude.{ℕ, _≡_, sym, _∙_, List, needs, [], Tables, tablesIn, Lent, cells, rows, lent, standingAt, stands}
+use Rattle.bounds.proofs.Prelude.{ℕ, _≡_, sym, _∙_, needs}
+use Rattle.integers.proofs.Kit.{List, []}
+use Rattle.tables.specs.Tables.{Tables}
+use Rattle.tables.specs.Storage.{tablesIn}
+use Rattle.levels.specs.Storage.{Lent, cells, rows, lent, standingAt}
 use Rattle.tables.specs.declared.Verdict.the-variants.{Fine}
 use Rattle.backups.proofs.Roofs.{corners-fit, points-fit, values-fit}
 use Rattle.runs.specs.declared.Bounds.{Bounds}
 use Rattle.runs.specs.State.{totalsOf, standingVerdict}
 use Rattle.runs.proofs.Demand3.{totals-demand}
-use Rattle.bounds.proofs.Bounds.{Gained, roofed, asked, gains-long, standing-holds, refused, answered}
+use Rattle.bounds.proofs.Bounds.{stands, Gained, roofed, asked, gains-long, standing-holds, refused, answered}
 use Rattle.bounds.proofs.totals.Statement.{statement}
 use Rattle.bounds.proofs.totals.Tie as tie
 

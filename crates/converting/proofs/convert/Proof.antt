@@ -1,7 +1,8 @@
 use Rattle.integers.proofs.Kit.{_≡_, _∙_, refl, subst, needs, le-leb, lt-leb, length}
 use Rattle.tables.specs.declared.Verdict.{Verdict}
 use Rattle.tables.specs.Verdicts.{_before_}
-use Rattle.modelfile.specs.ModelFile.{maxBytes, ModelFile}
+use Rattle.bodies.specs.Body.{ModelFile}
+use Rattle.modelfile.specs.ModelFile.{maxBytes}
 use Rattle.modelfile.proofs.Laws.{headed-within}
 use Rattle.written.specs.Text.{maxText}
 use Rattle.conversion.specs.Convert.{said, expectVerdict, convertVerdict, converted}

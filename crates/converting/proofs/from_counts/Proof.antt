@@ -2,7 +2,7 @@ use Rattle.integers.proofs.Kit.{_≡_, _∙_, refl, ap, sym, subst, true, ℕ, 
 use Rattle.tables.specs.declared.Verdict.{Verdict}
 use Rattle.tables.specs.Limits.{maxStates, maxConverted, maxActions, maxObservations}
 use Rattle.words.specs.Words.{wordsIn, between}
-use Rattle.modelfile.specs.ModelFile.{ModelFile, body, ended}
+use Rattle.bodies.specs.Body.{ModelFile, body, ended}
 use Rattle.modelfile.proofs.Opens.{body-holds}
 use Rattle.conversion.specs.Convert.{expectedText}
 use Rattle.conversion.specs.Steps.{fileOf, SoundFile, Long, nothing, AnswersFile}

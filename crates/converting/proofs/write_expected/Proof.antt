@@ -3,7 +3,7 @@ use Rattle.tables.specs.declared.Verdict.{Verdict}
 use Rattle.tables.specs.declared.Verdict.the-variants.{Fine}
 use Rattle.tables.specs.Verdicts.{left}
 use Rattle.tables.specs.Limits.{maxConverted, maxActions}
-use Rattle.modelfile.specs.ModelFile.{ModelFile}
+use Rattle.bodies.specs.Body.{ModelFile}
 use Rattle.digits.specs.Steps.{Wrote}
 use Rattle.written.specs.Text.{fileText}
 use Rattle.conversion.specs.Convert.{expectVerdict, expectedText, expectedRewards}

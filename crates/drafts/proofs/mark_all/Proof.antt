@@ -6,13 +6,12 @@ use Rattle.drafts.proofs.mark_all.Tie as tie
 mark-blocks-requires : tie.Need-mark-blocks-requires
 mark-blocks-requires c κs =
     let s = c .before .before .before in let l = s .before .before .before in let a = l .before .before in
-    let blocks = stands-within (a .args .m) (a .args .a) (l .lowest-of .ensures)
-    (s .before .before .spread-of .ensures) (a .pre .1 .0 .0) in
-    let rows = stands-within (a .args .n) (a .args .s) (s .before .lowest-of2 .ensures)
-    (s .spread-of2 .ensures) (a .pre .1 .0 .1 .0) in
-    let places = stands-within (a .args .w) (a .args .x) (c .before .before .lowest-of3 .ensures) (c .before .spread-of3 .ensures) (a .pre .1 .0 .1 .1) in (
-      (omega (arith, a .pre .0 .0, blocks), a .pre .0 .1),
-      ((rows, places), omega (arith, a .pre .1 .1, mul-le-mul-right (a .args .w) (mul-le-mul-right (a .args .n) blocks))),
+    let ((few, widths), ((block, (row, place)), long)) = a .pre in
+    let blocks = stands-within (a .args .m) (a .args .a) (l .lowest-of .ensures) (s .before .before .spread-of .ensures) block in
+    let rows = stands-within (a .args .n) (a .args .s) (s .before .lowest-of2 .ensures) (s .spread-of2 .ensures) row in
+    let places = stands-within (a .args .w) (a .args .x) (c .before .before .lowest-of3 .ensures) (c .before .spread-of3 .ensures) place in (
+      (omega (arith, few, blocks), widths),
+      ((rows, places), omega (arith, long, mul-le-mul-right (a .args .w) (mul-le-mul-right (a .args .n) blocks))),
     )
 
 returns : tie.Need-returns

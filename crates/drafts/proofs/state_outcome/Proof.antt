@@ -20,14 +20,15 @@ mark-outcomes-requires c κs =
     let s = of-state r in
     let t = of-action s in
     let a = t .before .before in
-    let groups = stands-within (a .args .m) (a .args .a) (t .before .lowest-of .ensures) (t .spread-of .ensures) (a .pre .1 .0 .0) in
-    let blocks = stands-within (a .args .n) (a .args .s) (s .before .lowest-of2 .ensures) (s .spread-of2 .ensures) (a .pre .1 .0 .1 .0) in
-    let rows = stands-within (a .args .n) (a .args .to) (r .before .lowest-of3 .ensures) (r .spread-of3 .ensures) (a .pre .1 .0 .1 .1 .0) in
-    let places = stands-within (a .args .k) (a .args .o) (e .before .lowest-of4 .ensures) (e .spread-of4 .ensures) (a .pre .1 .0 .1 .1 .1) in (
-      (omega (arith, a .pre .0 .0, groups), (a .pre .0 .1 .0, omega (arith, a .pre .0 .1 .1))),
+    let ((actions, (states, observations)), ((group, (block, (row, place))), long)) = a .pre in
+    let groups = stands-within (a .args .m) (a .args .a) (t .before .lowest-of .ensures) (t .spread-of .ensures) group in
+    let blocks = stands-within (a .args .n) (a .args .s) (s .before .lowest-of2 .ensures) (s .spread-of2 .ensures) block in
+    let rows = stands-within (a .args .n) (a .args .to) (r .before .lowest-of3 .ensures) (r .spread-of3 .ensures) row in
+    let places = stands-within (a .args .k) (a .args .o) (e .before .lowest-of4 .ensures) (e .spread-of4 .ensures) place in (
+      (omega (arith, actions, groups), (states, omega (arith, observations))),
       (
         (blocks, (rows, places)),
-        omega (arith, a .pre .1 .1, mul-le-mul-right (a .args .k) (mul-le-mul-right (a .args .n) (mul-le-mul-right (a .args .n) groups))),
+        omega (arith, long, mul-le-mul-right (a .args .k) (mul-le-mul-right (a .args .n) (mul-le-mul-right (a .args .n) groups))),
       ),
     )
 

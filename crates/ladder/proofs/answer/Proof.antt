@@ -1,8 +1,9 @@
 use Rattle.integers.proofs.Kit.{_∙_, refl, ℕ, _*_, needs, length-replicate, pos}
 use Rattle.tables.specs.Limits.{maxStates, maxActions, maxObservations}
 use Rattle.tables.proofs.Fitting.{Long}
-use Rattle.modelfile.specs.ModelFile.{ModelFile, room}
-use Rattle.modelfile.specs.Steps.{fileIn}
+use Rattle.bodies.specs.Body.{ModelFile}
+use Rattle.modelfile.specs.ModelFile.{room}
+use Rattle.bodies.specs.Steps.{fileIn}
 use Rattle.ladder.proofs.Own.{read-given}
 use Rattle.ladder.proofs.answer.Statement.{statement}
 use Rattle.ladder.proofs.answer.Tie as tie

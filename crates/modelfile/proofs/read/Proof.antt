@@ -1,5 +1,4 @@
-use Rattle.modelfile.proofs.Prelude.{_+_, needs, length}
-use Rattle.integers.proofs.Kit.{le-leb, lt-leb}
+use Rattle.integers.proofs.Kit.{_+_, needs, length, le-leb, lt-leb}
 use Rattle.modelfile.specs.ModelFile.{maxBytes, room, roomed}
 use Rattle.modelfile.proofs.Laws.{answers-long, answers-within, answers-unheaded, answers-headed, headed-within}
 use Rattle.modelfile.proofs.read.Statement.{statement}

@@ -1,5 +1,4 @@
-use Rattle.modelfile.proofs.Prelude.{_+_, _∙_, sym, needs, length}
-use Rattle.integers.proofs.Kit.{not-true, not-false}
+use Rattle.integers.proofs.Kit.{_+_, _∙_, sym, needs, length, not-true, not-false}
 use Rattle.words.specs.Words.{wordsIn, between}
 use Rattle.modelfile.specs.ModelFile.{room}
 use Rattle.modelfile.proofs.Laws.{answers-short, answers-roomy}

@@ -6,9 +6,10 @@ use Rattle.tables.specs.Storage.{countsOf, modelOf}
 use Rattle.tables.specs.Steps.{Stored}
 use Rattle.tables.specs.Model.{Valid}
 use Rattle.tables.proofs.Fitting.{Long, Sizes, sizes, stored-true}
-use Rattle.modelfile.specs.declared.TablesRead.{TablesRead}
-use Rattle.modelfile.specs.ModelFile.{ModelFile, Room, room, refusing}
-use Rattle.modelfile.specs.Steps.{fileIn}
+use Rattle.bodies.specs.declared.TablesRead.{TablesRead}
+use Rattle.bodies.specs.Body.{ModelFile, refusing}
+use Rattle.modelfile.specs.ModelFile.{Room, room}
+use Rattle.bodies.specs.Steps.{fileIn}
 use Rattle.modelfile.proofs.Opens.{opens, read-valid}
 use Rattle.reading.specs.Reading.{fileFor}
 use Rattle.reading.proofs.Room.{refused-file, short-start, long-start}

@@ -1,5 +1,6 @@
 use Rattle.statements.proofs.Prelude.{needs, value-next, draft, within, leaves-back, leaves-on, leaves-within, takes-begin}
-use Rattle.statements.specs.Statements.{rewardsOrOutcomes, rewardStatementBy}
+use Rattle.rewards.specs.Rewards.{rewardsOrOutcomes}
+use Rattle.statements.specs.Statements.{rewardStatementBy}
 use Rattle.statements.proofs.reward_statement_at.Statement.{statement}
 use Rattle.statements.proofs.reward_statement_at.Tie as tie
 

@@ -1,7 +1,7 @@
 use Rattle.statements.proofs.Prelude.{ℕ, _∙_, List, arith, needs, ℤ, draft, inside}
 use Rattle.integers.proofs.Kit.{_≡_, refl, Bool, _-_, length}
 use Rattle.entries.specs.Steps.{CellsFit}
-use Rattle.statements.specs.Steps.{RewardCells}
+use Rattle.rewards.specs.Steps.{RewardCells}
 use Rattle.statements.proofs.Laws.{fit-kept, rewards-kept, Left, left-start, left-end, left-back, left-next, left-on}
 use Rattle.statements.proofs.statements_at.Statement.{statement}
 use Rattle.statements.proofs.statements_at.Tie as tie
@@ -62,18 +62,21 @@ statement-at-requires c κs =
 
 same-length-4 : tie.Need-same-length-4 Inv-loop μ-loop
 same-length-4 c =
-    after-statement-at (c .before .before) .statement-at .kept .1 .1 .0 ∙ after-word-from (after-statement-at (c .before .before) .before) .before
-    .loop .inv .transition-long
+    let s = after-statement-at (c .before .before) in
+    let (_, (_, (transition, _))) = s .statement-at .kept in
+    transition ∙ after-word-from (s .before) .before .loop .inv .transition-long
 
 same-length-5 : tie.Need-same-length-5 Inv-loop μ-loop
 same-length-5 c =
-    after-statement-at (c .before .before) .statement-at .kept .1 .1 .1 .0 ∙ after-word-from (after-statement-at (c .before .before) .before) .before
-    .loop .inv .observation-long
+    let s = after-statement-at (c .before .before) in
+    let (_, (_, (_, (observation, _)))) = s .statement-at .kept in
+    observation ∙ after-word-from (s .before) .before .loop .inv .observation-long
 
 same-length-6 : tie.Need-same-length-6 Inv-loop μ-loop
 same-length-6 c =
-    after-statement-at (c .before .before) .statement-at .kept .1 .1 .1 .1 .0 ∙ after-word-from (after-statement-at (c .before .before) .before)
-    .before .loop .inv .reward-long
+    let s = after-statement-at (c .before .before) in
+    let (_, (_, (_, (_, (reward, _))))) = s .statement-at .kept in
+    reward ∙ after-word-from (s .before) .before .loop .inv .reward-long
 
 returns-2 : tie.Need-returns-2 Inv-loop μ-loop
 returns-2 c =
@@ -101,14 +104,15 @@ loop-again : tie.Need-loop-again Inv-loop μ-loop
 loop-again c =
     let st = after-statement-at (c .before .before .before) in let i = after-word-from (st .before) .before .loop .inv in
     let s = st .statement-at in
+    let (_, (_, (transition, (observation, (reward, _))))) = s .kept in
     let g = c .before .x .given in
     record {
-      transition-fits = fit-kept (i .transition-fits) (s .kept .1 .1 .0);
-      observation-fits = fit-kept (i .observation-fits) (s .kept .1 .1 .1 .0);
-      reward-fits = rewards-kept (i .reward-fits) (s .kept .1 .1 .1 .1 .0);
-      transition-long = s .kept .1 .1 .0 ∙ i .transition-long;
-      observation-long = s .kept .1 .1 .1 .0 ∙ i .observation-long;
-      reward-long = s .kept .1 .1 .1 .1 .0 ∙ i .reward-long;
+      transition-fits = fit-kept (i .transition-fits) transition;
+      observation-fits = fit-kept (i .observation-fits) observation;
+      reward-fits = rewards-kept (i .reward-fits) reward;
+      transition-long = transition ∙ i .transition-long;
+      observation-long = observation ∙ i .observation-long;
+      reward-long = reward ∙ i .reward-long;
       left = left-on _ _ _ _ _
           _ _ (i .left) (after-word-from (st .before) .word-from .result)
           (after-word-from (st .before) .word-from .ensures .within

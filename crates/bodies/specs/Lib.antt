@@ -1,0 +1,3 @@
+-- What follows the counts.
+pub mod Body
+pub mod Steps

@@ -1,0 +1,2 @@
+-- Laws for this crate's proofs and those above it.
+pub mod Same

@@ -1,0 +1,2 @@
+-- Tables that are compared.
+pub mod Steps

@@ -1,0 +1,3 @@
+-- The rewards that a file states.
+pub mod Rewards
+pub mod Steps

@@ -1,0 +1,3 @@
+-- Laws for this crate's proofs and those above it.
+pub mod Least
+pub mod Prelude

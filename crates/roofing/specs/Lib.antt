@@ -1,0 +1,2 @@
+-- Least values over storage.
+pub mod Steps

@@ -1,0 +1,3 @@
+-- Laws for this crate's proofs and those above it.
+pub mod Packed
+pub mod Prelude
