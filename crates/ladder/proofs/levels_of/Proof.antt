@@ -81,57 +81,41 @@ points s =
 -- as the opening left them, at the loop, and after a turn
 abbrev opened : tie.After-open Inv-loop μ-loop → Lent
 opened c =
-    let l = c .«open» .last .1 .1 .1 .1 in
-    let f = fresh .cells in
-    let r = l .1 .1 .1 .1 in
-    lent (l .0) (cells (l .1 .0) (l .1 .1 .0) (l .1 .1 .1 .0) (r .0) (r .1 .0) (f .weights) (f .values)) (rows (r .1 .1 .1 .1 .0) (r .1 .1 .1 .1 .1 .0))
+    let (_, (_, (_, (_, (state, (actions, (choices, (masks, (entries, (corners, (_, (_, (informed, (qmdp, _)))))))))))))) = c .«open» .last in
+    lent state (cells actions choices masks entries corners (fresh .cells .weights) (fresh .cells .values)) (rows informed qmdp)
 
 opened-sized : (c : tie.After-open Inv-loop μ-loop) → LentSized (opened c)
 opened-sized c =
-    let k = c .«open» .kept .1 .1 .1 .1 in
-    let r = k .1 .1 .1 .1 in
+    let (_, (_, (_, (_, (state, (actions, (choices, (masks, (entries, (corners, (_, (_, (informed, (qmdp, _)))))))))))))) = c .«open» .kept in
     let x : AsLong (fresh .cells) (opened c .cells) =
-    record { actions = k .1 .0; choices = k .1 .1 .0; masks = k .1 .1 .1 .0; entries = r .0; corners = r .1 .0; weights = refl; values = refl } in
-    lent-on fresh-sized (k .0) x (r .1 .1 .1 .1 .0) (r .1 .1 .1 .1 .1 .0)
+    record { actions = actions; choices = choices; masks = masks; entries = entries; corners = corners; weights = refl; values = refl } in
+    lent-on fresh-sized state x informed qmdp
 
 abbrev climbed : tie.After-rung Inv-loop μ-loop → Lent
 climbed c =
-    let l = c .rung .last .1 .1 .1 .1 .1 in
-    let r = l .1 .1 .1 .1 in
-    lent (l .0) (cells (l .1 .0) (l .1 .1 .0) (l .1 .1 .1 .0) (r .0) (r .1 .0) (r .1 .1 .0) (r .1 .1 .1 .0)) (rows (r .1 .1 .1 .1 .0) (r .1 .1 .1 .1 .1 .0))
+    let (_, (_, (_, (_, (_, (state, (actions, (choices, (masks, (entries, (corners, (weights, (values, (informed, (qmdp, _))))))))))))))) = c .rung .last in
+    lent state (cells actions choices masks entries corners weights values) (rows informed qmdp)
 
 abbrev built : tie.After-rung Inv-loop μ-loop → Cells
 built c =
-    let l = c .rung .last .1 .1 .1 .1 .1 .1 .1 .1 .1 .1 .1 .1 .1 .1 .1 .1 in
-    cells (l .0) (l .1 .0) (l .1 .1 .0) (l .1 .1 .1 .0) (l .1 .1 .1 .1 .0) (start (of-opening (in-turn c .before .before)) .args .t5) (l .1 .1 .1 .1 .1 .0)
+    let (_, (_, (_, (_, (_, (_, (_, (_, (_, (_, (_, (_, (_, (_, (_, (_, level)))))))))))))))) = c .rung .last in
+    let (actions, (choices, (masks, (entries, (corners, (values, _)))))) = level in
+    cells actions choices masks entries corners (start (of-opening (in-turn c .before .before)) .args .t5) values
 
 climbed-sized : (c : tie.After-rung Inv-loop μ-loop) → LentSized (climbed c)
 climbed-sized c =
-    let h = in-turn c .before .loop .inv .1 .1 .0 in
-    let k = c .rung .kept .1 .1 .1 .1 .1 in
-    let r = k .1 .1 .1 .1 in
-    lent-on h (k .0) record {
-      actions = k .1 .0;
-      choices = k .1 .1 .0;
-      masks = k .1 .1 .1 .0;
-      entries = r .0;
-      corners = r .1 .0;
-      weights = r .1 .1 .0;
-      values = r .1 .1 .1 .0;
-    } (r .1 .1 .1 .1 .0) (r .1 .1 .1 .1 .1 .0)
+    let (_, (_, (_, (_, (_, (state, (actions, (choices, (masks, (entries, (corners, (weights, (values, (informed, (qmdp, _))))))))))))))) = c .rung .kept in
+    let (_, (_, (sized, _))) = in-turn c .before .loop .inv in
+    lent-on sized state
+    record { actions = actions; choices = choices; masks = masks; entries = entries; corners = corners; weights = weights; values = values } informed qmdp
 
 built-sized : (c : tie.After-rung Inv-loop μ-loop) → Sized (built c)
 built-sized c =
-    let k = c .rung .kept .1 .1 .1 .1 .1 .1 .1 .1 .1 .1 .1 .1 .1 .1 .1 .1 in
-    sized-on (in-turn c .before .loop .inv .1 .1 .1) record {
-      actions = k .0;
-      choices = k .1 .0;
-      masks = k .1 .1 .0;
-      entries = k .1 .1 .1 .0;
-      corners = k .1 .1 .1 .1 .0;
-      weights = refl;
-      values = k .1 .1 .1 .1 .1 .0;
-    }
+    let (_, (_, (_, (_, (_, (_, (_, (_, (_, (_, (_, (_, (_, (_, (_, (_, level)))))))))))))))) = c .rung .kept in
+    let (actions, (choices, (masks, (entries, (corners, (values, _)))))) = level in
+    let (_, (_, (_, sized))) = in-turn c .before .loop .inv in
+    sized-on sized
+    record { actions = actions; choices = choices; masks = masks; entries = entries; corners = corners; weights = refl; values = values }
 
 served-requires : tie.Need-served-requires Inv-loop μ-loop
 served-requires c κs = let o = of-open c in o .«open» .ensures .0 ∙ opens (start o)
