@@ -115,10 +115,10 @@ returns-2 c =
     let f = p .before in
     let j = of-verdict f in
     let s = start j in
-    let e = l .lay-level-0 .ensures in (
+    let (actions, (choices, (masks, (entries, corners)))) = l .lay-level-0 .ensures in (
       sym (opens f),
-      opened-fine (tables s) (certifier s) (said j) (f .before .before .enum-told .given .1) (written p) (e .0)
-          (e .1 .0) (e .1 .1 .0) (e .1 .1 .1 .0) (e .1 .1 .1 .1) (k .clear-i64 .ensures) (c .before .clear-i642 .ensures),
+      opened-fine (tables s) (certifier s) (said j) (f .before .before .enum-told .given .1) (written p) actions choices masks entries corners
+          (k .clear-i64 .ensures) (c .before .clear-i642 .ensures),
     )
 
 pub open-spec : {M : Type 1} → statement M

@@ -65,12 +65,12 @@ weights-long c =
 backups-at-requires : tie.Need-backups-at-requires Inv-loop μ-loop
 backups-at-requires c κs =
     let l = c .before .before .before .before in let k = c .before .before .before in
-    let a = start k in (
-      roof-holds (a .pre .0) (l .before .gains .ensures),
+    let a = start k in let (roofed, (_, (_, (points, lists)))) = a .pre in (
+      roof-holds roofed (l .before .gains .ensures),
       (
-        point-light (a .args .c .states) (a .args .offered .now) (l .loop .i) (c .before .before .point-weights .ensures) (a .pre .0 .valid .few-states)
-            (a .pre .1 .1 .1 .0 (l .loop .i) (k .loop-test .taken)),
-        a .pre .1 .1 .1 .1,
+        point-light (a .args .c .states) (a .args .offered .now) (l .loop .i) (c .before .before .point-weights .ensures) (roofed .valid .few-states)
+            (points (l .loop .i) (k .loop-test .taken)),
+        lists,
       ),
     )
 
