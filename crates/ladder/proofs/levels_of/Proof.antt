@@ -22,7 +22,7 @@ Inv-loop transition observation reward c given state₀ actions₀ choices₀ ma
     newentries newcorners newvalues t =
     let z = lent state (cells actions choices masks entries corners weights values) (rows informed qmdp) in
     let y = cells newactions newchoices newmasks newentries newcorners given newvalues in
-    (t ≤ levels) × (Climbed t (tablesIn c transition observation reward) z y × (LentSized z × Sized y))
+    record { few : t ≤ levels; climbed : Climbed t (tablesIn c transition observation reward) z y; lent-sized : LentSized z; level-sized : Sized y }
 
 abbrev μ-loop : tie.MeasureT-loop
 μ-loop transition observation reward c given state₀ actions₀ choices₀ masks₀ entries₀ corners₀ weights₀ values₀ informed₀ qmdp₀ newactions₀ newchoices₀
@@ -105,16 +105,14 @@ built c =
 climbed-sized : (c : tie.After-rung Inv-loop μ-loop) → LentSized (climbed c)
 climbed-sized c =
     let (_, (_, (_, (_, (_, (state, (actions, (choices, (masks, (entries, (corners, (weights, (values, (informed, (qmdp, _))))))))))))))) = c .rung .kept in
-    let (_, (_, (sized, _))) = in-turn c .before .loop .inv in
-    lent-on sized state
+    lent-on (in-turn c .before .loop .inv .lent-sized) state
     record { actions = actions; choices = choices; masks = masks; entries = entries; corners = corners; weights = weights; values = values } informed qmdp
 
 built-sized : (c : tie.After-rung Inv-loop μ-loop) → Sized (built c)
 built-sized c =
     let (_, (_, (_, (_, (_, (_, (_, (_, (_, (_, (_, (_, (_, (_, (_, (_, level)))))))))))))))) = c .rung .kept in
     let (actions, (choices, (masks, (entries, (corners, (values, _)))))) = level in
-    let (_, (_, (_, sized))) = in-turn c .before .loop .inv in
-    sized-on sized
+    sized-on (in-turn c .before .loop .inv .level-sized)
     record { actions = actions; choices = choices; masks = masks; entries = entries; corners = corners; weights = refl; values = values }
 
 served-requires : tie.Need-served-requires Inv-loop μ-loop
@@ -124,12 +122,17 @@ loop-holds : tie.Need-loop-holds Inv-loop μ-loop
 loop-holds c =
     let o = of-opening c in
     let s = start o in
-    (omega arith, (climbed-0 {z = opened o} (opens s) (points s) (o .«open» .ensures .1), (opened-sized o, none-sized (s .args .t5) (wide s))))
+    record {
+      few = omega arith;
+      climbed = climbed-0 {z = opened o} (opens s) (points s) (o .«open» .ensures .1);
+      lent-sized = opened-sized o;
+      level-sized = none-sized (s .args .t5) (wide s);
+    }
 
 rung-requires : tie.Need-rung-requires Inv-loop μ-loop
 rung-requires c κs =
     let l = in-loop c in
-    (omega (arith, l .loop-test .taken), l .before .loop .inv .1 .0)
+    (omega (arith, l .loop-test .taken), l .before .loop .inv .climbed)
 
 print-totals-requires : tie.Need-print-totals-requires Inv-loop μ-loop
 print-totals-requires c κs =
@@ -139,22 +142,21 @@ print-totals-requires c κs =
 loop-again : tie.Need-loop-again Inv-loop μ-loop
 loop-again c =
     let r = of-rung (c .before .before) in
-    (omega (arith, in-turn r .loop-test .taken), (r .rung .ensures .0, (climbed-sized r, built-sized r)))
+    record { few = omega (arith, in-turn r .loop-test .taken); climbed = r .rung .ensures .0; lent-sized = climbed-sized r; level-sized = built-sized r }
 
 pub levels-of-spec : {M : Type 1} → statement M
 levels-of-spec =
-    tie.close (tie.spec Inv-loop μ-loop (λ c. refl) (λ c. refl) (λ c. refl) (λ c. refl) (λ c. refl) (λ c. refl) (λ c. refl) (λ c. refl) (λ c. refl)
-    (λ c. refl) (λ c κs. search needs) served-requires loop-holds (λ c. in-state c .before .loop .inv .1 .1 .0 .state)
-    (λ c. in-state (c .before) .before .loop .inv .1 .1 .0 .cells .actions)
-    (λ c. in-state (c .before .before) .before .loop .inv .1 .1 .0 .cells .choices) (λ c. at-loop c .loop .inv .1 .1 .0 .cells .masks)
-    (λ c. in-entries c .before .loop .inv .1 .1 .0 .cells .entries) (λ c. in-entries (c .before) .before .loop .inv .1 .1 .0 .cells .corners)
-    (λ c. in-entries (c .before .before) .before .loop .inv .1 .1 .0 .cells .weights)
-    (λ c. in-entries (c .before .before .before) .before .loop .inv .1 .1 .0 .cells .values)
-    (λ c. in-informed c .before .loop .inv .1 .1 .0 .informed) (λ c. in-informed (c .before) .before .loop .inv .1 .1 .0 .qmdp)
-    (λ c. in-informed (c .before .before) .before .loop .inv .1 .1 .1 .weights)
-    (λ c. in-informed (c .before .before .before) .before .loop .inv .1 .1 .1 .actions) (λ c. in-choices c .before .loop .inv .1 .1 .1 .choices)
-    (λ c. in-choices (c .before) .before .loop .inv .1 .1 .1 .masks) (λ c. in-choices (c .before .before) .before .loop .inv .1 .1 .1 .entries)
-    (λ c. in-choices (c .before .before .before) .before .loop .inv .1 .1 .1 .corners) (λ c. in-loop c .before .loop .inv .1 .1 .1 .values)
+    tie.close (tie.spec Inv-loop μ-loop (λ c. refl) (λ c. refl) (λ c. refl) (λ c. refl) (λ c. refl) (λ c. refl) (λ c. refl) (λ c. refl) (λ c. refl) (λ c. refl)
+    (λ c κs. search needs) served-requires loop-holds (λ c. in-state c .before .loop .inv .lent-sized .state)
+    (λ c. in-state (c .before) .before .loop .inv .lent-sized .cells .actions)
+    (λ c. in-state (c .before .before) .before .loop .inv .lent-sized .cells .choices) (λ c. at-loop c .loop .inv .lent-sized .cells .masks)
+    (λ c. in-entries c .before .loop .inv .lent-sized .cells .entries) (λ c. in-entries (c .before) .before .loop .inv .lent-sized .cells .corners)
+    (λ c. in-entries (c .before .before) .before .loop .inv .lent-sized .cells .weights)
+    (λ c. in-entries (c .before .before .before) .before .loop .inv .lent-sized .cells .values) (λ c. in-informed c .before .loop .inv .lent-sized .informed)
+    (λ c. in-informed (c .before) .before .loop .inv .lent-sized .qmdp) (λ c. in-informed (c .before .before) .before .loop .inv .level-sized .weights)
+    (λ c. in-informed (c .before .before .before) .before .loop .inv .level-sized .actions) (λ c. in-choices c .before .loop .inv .level-sized .choices)
+    (λ c. in-choices (c .before) .before .loop .inv .level-sized .masks) (λ c. in-choices (c .before .before) .before .loop .inv .level-sized .entries)
+    (λ c. in-choices (c .before .before .before) .before .loop .inv .level-sized .corners) (λ c. in-loop c .before .loop .inv .level-sized .values)
     rung-requires (λ c. omega (arith, in-turn (of-rung c) .loop-test .taken)) print-totals-requires (λ c. search needs)
-    (λ c. omega (arith, in-turn (of-rung (c .before .before)) .loop-test .taken))
-    (λ c. omega (arith, in-turn (of-rung (c .before .before)) .loop-test .taken)) loop-again (λ c. search needs))
+    (λ c. omega (arith, in-turn (of-rung (c .before .before)) .loop-test .taken)) (λ c. omega (arith, in-turn (of-rung (c .before .before)) .loop-test .taken))
+    loop-again (λ c. search needs))

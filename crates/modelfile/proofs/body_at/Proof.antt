@@ -43,7 +43,11 @@ at-after-start c = c .before .before .before .before .before .before .before
 
 -- where the statements begin
 abbrev next : tie.After-statements-at → ℕ
-next c = c .before .before .before .before .before .x .given .0 .1 .0
+next c = let ((_, (after, _)), _) = c .before .before .before .before .before .x .given in after
+
+-- the start numbers that were read
+abbrev starting : tie.After-start-at → List ℕ
+starting c = let (_, (_, (start, _))) = c .start-at .last in start
 
 -- ---- counts and cells
 
@@ -147,21 +151,21 @@ from-start : (transition observation : List ℕ) (reward : List ℤ) (start : Li
     → let a = begin (of-statements c) .args in
     let size = length (a .file .now) in
     Answers transition observation reward start
-    (ended size (after-start (a .full) (size + 1) (a .c) (of-statements c .start-at .last .1 .1 .0) (wordsIn between (a .file .now) (next c)))) h
+    (ended size (after-start (a .full) (size + 1) (a .c) (starting (of-statements c)) (wordsIn between (a .file .now) (next c)))) h
     → Answers transition observation reward start
     (ended size (body (a .full) (size + 1) (a .c) (wordsIn between (a .file .now) (a .at)))) h
 unfolding bodyBy
 from-start transition observation reward start c g =
     let s = of-statements c in let a = begin s .args in let size = length (a .file .now) in
-    let x = after-x (c .before) .x .given in
+    let ((value, _), told) = after-x (c .before) .x .given in
     answers-on transition observation reward start size (after-start (a .full) (size + 1) (a .c)) _ (a .file .now) (s .start-at .result)
-    (s .start-at .ensures .is) (x .0 .0) (next c) (x .1) g
+    (s .start-at .ensures .is) value (next c) told g
 
 returns-2 : tie.Need-returns-2
 returns-2 c =
     let st = of-statements (after-transition (c .before .before .before) .before) in
     let s = after-transition (c .before .before .before) .before in let a = begin st .args in
-    from-start _ _ _ _ s (answers-back _ _ _ _ (length (a .file .now)) (λ cells ws. got (textOf (a .c) (st .start-at .last .1 .1 .0) cells) ws) _
+    from-start _ _ _ _ s (answers-back _ _ _ _ (length (a .file .now)) (λ cells ws. got (textOf (a .c) (starting st) cells) ws) _
     (a .file .now) (s .statements-at .result) (statements-read s) (c .before .before .match2 .keys2) (c .back2 .ensures))
 
 totals-of-requires : tie.Need-totals-of-requires
@@ -187,7 +191,7 @@ returns-3 c =
     let t = c .before .before .before in let e = after-totals-of-arg (t .before) .before in let s = of-totals t in let a = begin (of-statements s) .args in
     let ((value, (after, _)), told) = e .enum-told2 .given in let (_, (_, (_, (_, (reward, _))))) = s .statements-at .last in
     from-start _ _ _ _ s (answers-on _ _ _ _ (length (a .file .now))
-    (λ cells ws. got (textOf (a .c) (of-statements s .start-at .last .1 .1 .0) cells) ws) _ (a .file .now) (s .statements-at .result)
+    (λ cells ws. got (textOf (a .c) (starting (of-statements s)) cells) ws) _ (a .file .now) (s .statements-at .result)
     (statements-read s) value after told (answers-total _ _ _ _ (length (a .file .now)) (a .c)
     (t .totals-of .ensures (a .c .discount) reward) (c .before .enum-told5 .given .1) (c .refusal .ensures)))
 
@@ -197,7 +201,7 @@ returns-4 c =
     let ((value, (after, _)), told) = after-totals-of-arg (t .before) .before .enum-told2 .given in
     let (_, (_, (_, (_, (reward, _))))) = s .statements-at .last in
     from-start _ _ _ _ s (answers-on _ _ _ _ (length (a .file .now))
-    (λ cells ws. got (textOf (a .c) (of-statements s .start-at .last .1 .1 .0) cells) ws) _ (a .file .now) (s .statements-at .result)
+    (λ cells ws. got (textOf (a .c) (starting (of-statements s)) cells) ws) _ (a .file .now) (s .statements-at .result)
     (statements-read s) value after told (answers-fine _ _ _ _ (length (a .file .now)) (a .c)
     (t .totals-of .ensures (a .c .discount) reward) (c .enum-told4 .given .1) refl))
 
