@@ -44,7 +44,7 @@ best-vector-requires c κs =
 
 -- the choices so far fill the row
 long : (c : tie.In-loop Inv-loop μ-loop) → length (c .before .loop .chosen) ≡ maxObservations
-long c = rw (c .before .loop .inv .1) (padded-length 0 maxObservations _ _ (omega (arith, start (c .before) .pre .0 .1 .0)))
+long c = let ((_, (few, _)), _) = start (c .before) .pre in rw (c .before .loop .inv .1) (padded-length 0 maxObservations _ _ (omega (arith, few)))
 
 put-choice-requires : tie.Need-put-choice-requires Inv-loop μ-loop
 put-choice-requires c κs =

@@ -37,7 +37,7 @@ choose-requires c κs =
     ((states, (observations, (action, some))), (moved-below states p (engine .transitions) moved, (observed, (rw moved reached, masked))))
 
 chosen-long : tie.Need-slice-aggregate-foreseen
-chosen-long c = sym (rw (c .before .choose .ensures) (padded-length 0 maxObservations _ _ (start (of-chosen (c .before)) .pre .0 .1 .0)))
+chosen-long c = let ((_, (few, _)), _) = start (of-chosen (c .before)) .pre in sym (rw (c .before .choose .ensures) (padded-length 0 maxObservations _ _ few))
 
 -- the vectors chosen are within the limits
 chosen-within : (c : tie.After-choose) → let a = start (of-chosen c) .args in

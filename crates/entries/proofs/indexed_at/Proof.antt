@@ -27,8 +27,8 @@ unfolding indexed
 returns-2 c =
     let k = c .before .before .before in let a = k .before .before .before .before in
     let ((mark, (past-mark, _)), told) = c .before .enum-told .given in let p = k .before .before .pair-from .ensures in
-    reads-on mark past-mark (λ _ ws. index (a .args .n) ws) (takes-reads (key colon) (p .first .within (a .pre .0)) (k .key-of .ensures))
-    told (takes-reads (index (a .args .n)) (second-word mark past-mark p (a .pre .0) (k .key-of .ensures) told) (c .index-of .ensures))
+    reads-on mark past-mark (λ _ ws. index (a .args .n) ws) (takes-reads (key colon) (p .first .within (a .pre .0)) (k .key-of .ensures)) told
+    (takes-reads (index (a .args .n)) (second-word mark past-mark p (a .pre .0) (k .key-of .ensures) told) (c .index-of .ensures))
 
 pub indexed-at-spec : {M : Type 1} → statement M
 indexed-at-spec =

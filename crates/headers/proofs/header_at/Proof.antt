@@ -59,8 +59,7 @@ counted-at-requires : tie.Need-counted-at-requires
 counted-at-requires c κs =
     let k = c .before .before .before in let y = before-key-at k in let ((discount, (past-discount, _)), discount-told) = after-x (y .before) .x .given in (
       value-next _ _ (k .key-at .ensures) (c .before .z .given .1) .1 .1,
-      value-next discount past-discount (before-keys-at y .field-at .ensures)
-          discount-told .0,
+      value-next discount past-discount (before-keys-at y .field-at .ensures) discount-told .0,
     )
 
 returns-4 : tie.Need-returns-4

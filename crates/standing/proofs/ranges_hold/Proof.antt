@@ -16,7 +16,7 @@ abbrev of-corners : tie.After-rows-within → tie.After-entries-within
 of-corners c = c .before .before .before
 
 small : (c : tie.After-range-of) → c .range-of .result ≤ maxEntry
-small c = rw (c .range-of .ensures) (range-limit (start c .args .t) (start c .pre .0 .1 .0))
+small c = let ((_, (levels, _)), _) = start c .pre in rw (c .range-of .ensures) (range-limit (start c .args .t) levels)
 
 entries-within-requires : tie.Need-entries-within-requires
 entries-within-requires c κs =
