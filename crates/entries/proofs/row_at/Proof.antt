@@ -32,8 +32,8 @@ returns c =
 
 cast-state : tie.Need-cast-state Inv-loop μ-loop
 cast-state c =
-    let n = c .before .before .before .before in let (_, (_, (_, (_, few)))) = start (at-loop c) .pre in
-    omega (arith, few, value-next _ _ (n .number-at .ensures) (c .before .before .p .given .1) .0)
+    let n = c .before .before .before .before in let (_, (_, (_, (_, most)))) = start (at-loop c) .pre in
+    omega (arith, most, value-next _ _ (n .number-at .ensures) (c .before .before .p .given .1) .0)
 
 state-requires : tie.Need-state-requires Inv-loop μ-loop
 state-requires c κs =
