@@ -28,22 +28,22 @@ returns-2 : tie.Need-returns-2
 unfolding alpha action
 returns-2 c =
     let m = c .before .before .before in let p = m .before .before .before in
-    let a = p .before .before .before .before .args in let g = p .x .given in
+    let a = p .before .before .before .before .args in let ((acts, (past-action, _)), told) = p .x .given in
     let x = p .before .before .number-at .ensures in let y = m .before .ticks-at in
-    gave-back (λ _. take (a .n) (y .result .ticks)) (a .file .now) (a .at) _ _ (y .result .read) (made (g .0 .0))
+    gave-back (λ _. take (a .n) (y .result .ticks)) (a .file .now) (a .at) _ _ (y .result .read) (made acts)
     (c .no-alpha2 .ensures ∙ c .before .back2 .ensures) (m .match2 .keys2) (y .ensures .is)
-    (ap (λ (x : Answer ℕ). x then after (a .n)) (value-is (g .0 .0) (g .0 .1 .0) x (g .1)))
+    (ap (λ (x : Answer ℕ). x then after (a .n)) (value-is acts past-action x told))
 
 returns-3 : tie.Need-returns-3
 unfolding alpha action
 returns-3 c =
     let ti = c .before .before .before .before in let n = ti .before .before .before .before in let a = n .before .before .args in
-    let g = ti .before .before .x .given in
-    let h = c .before .before .y .given in
+    let ((acts, (past-action, _)), told) = ti .before .before .x .given in
+    let ((value, (past-ticks, _)), ticks-told) = c .before .before .y .given in
     let x = n .number-at .ensures in
-    let first = value-next (g .0 .0) (g .0 .1 .0) x (g .1) in
-    let last = lists-value (h .0 .0) (h .0 .1 .0) (ti .ticks-at .ensures) (h .1) in (
-      ap (λ (t : Answer (List ℤ)). t then made (g .0 .0)) (last .0) ∙ ap (λ (x : Answer ℕ). x then after (a .n)) (value-is (g .0 .0) (g .0 .1 .0) x (g .1)),
+    let first = value-next acts past-action x told in
+    let last = lists-value value past-ticks (ti .ticks-at .ensures) ticks-told in (
+      ap (λ (t : Answer (List ℤ)). t then made acts) (last .0) ∙ ap (λ (x : Answer ℕ). x then after (a .n)) (value-is acts past-action x told),
       (omega (arith, first, last .1), last .1 .1),
     )
 

@@ -27,10 +27,10 @@ returns c =
 returns-2 : tie.Need-returns-2
 unfolding nextNode
 returns-2 c =
-    let k = c .before .before .before in let g = c .before .x .given in
+    let k = c .before .before .before in let ((value, (past, _)), value-told) = c .before .x .given in
     let a = k .before .before .before .before .args in
     takes-reads nextNode (worded (k .before .before)) (takes-on noNode
-    (number nodeForm 0 (noNode - 1) (told (a .file .now) (k .before .before .word-from .result))) (g .0 .0) (g .0 .1 .0) (k .key-of .ensures) (g .1))
+    (number nodeForm 0 (noNode - 1) (told (a .file .now) (k .before .before .word-from .result))) value past (k .key-of .ensures) value-told)
 
 pub next-at-spec : {M : Type 1} → statement M
 next-at-spec =

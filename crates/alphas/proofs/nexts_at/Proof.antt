@@ -26,8 +26,8 @@ below c = omega (arith, at-loop c .loop .inv .few)
 
 loop-again : tie.Need-loop-again Inv-loop μ-loop
 loop-again c =
-    let g = c .before .x .given in
-    filled-more _ _ _ _ _ (at-loop c .loop .inv) (c .before .before .before .next-at .ensures) (g .0 .0) (g .0 .1 .0) (g .1) refl (omega arith)
+    let ((value, (past, _)), value-told) = c .before .x .given in
+    filled-more _ _ _ _ _ (at-loop c .loop .inv) (c .before .before .before .next-at .ensures) value past value-told refl (omega arith)
 
 returns-2 : tie.Need-returns-2 Inv-loop μ-loop
 returns-2 c = filled-end _ _ _ _ _ (c .before .loop .inv) (omega (arith, c .before .loop .inv .low))

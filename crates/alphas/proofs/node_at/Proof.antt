@@ -44,9 +44,9 @@ unfolding node action
 returns-2 c =
     let m = c .before .before .before in let y = m .before .number-at2 in
     let x = before-action (m .before) .number-at .ensures in
-    let a = before-number (before-action (m .before)) .args in let g = m .before .before .before .x .given in
+    let a = before-number (before-action (m .before)) .args in let ((number, (past-number, _)), told) = m .before .before .before .x .given in
     gave-back (λ v. v) (a .file .now) (a .at) _ _ (y .result) (after (a .k)) (c .no-node2 .ensures ∙ c .before .back2 .ensures) (m .match2 .keys2)
-    (y .ensures .is) (ap (λ (x : Answer ℕ). x then numbered (a .k)) (value-is (g .0 .0) (g .0 .1 .0) x (g .1)))
+    (y .ensures .is) (ap (λ (x : Answer ℕ). x then numbered (a .k)) (value-is number past-number x told))
 
 nexts-at-requires : tie.Need-nexts-at-requires
 nexts-at-requires c κs =
@@ -56,34 +56,34 @@ nexts-at-requires c κs =
 -- the number and the action were read: what is left
 module _ (c : tie.After-nexts-at) where
   left : let a = before-number (before-action (before-nexts c)) .args in
-      let h = c .before .before .y .given in
-      (several nextNode (a .k) (wordsIn between (a .file .now) (h .0 .1 .0)) then made (h .0 .0)) ≡ node (a .k) (a .i) (wordsIn between (a .file .now) (a .at))
+      let ((acts, (past-action, _)), _) = c .before .before .y .given in
+      (several nextNode (a .k) (wordsIn between (a .file .now) past-action) then made acts) ≡ node (a .k) (a .i) (wordsIn between (a .file .now) (a .at))
   unfolding node action
   left =
       let a = before-number (before-action (before-nexts c)) .args in
-      let g = before-nexts c .before .before .x .given in
-      let h = c .before .before .y .given in
-      ap (λ (x : Answer ℕ). x then after (a .k)) (value-is (h .0 .0) (h .0 .1 .0) (before-nexts c .number-at2 .ensures) (h .1))
-      ∙ ap (λ (x : Answer ℕ). x then numbered (a .k)) (value-is (g .0 .0) (g .0 .1 .0) (before-action (before-nexts c) .number-at .ensures) (g .1))
+      let ((number, (past-number, _)), number-told) = before-nexts c .before .before .x .given in
+      let ((acts, (past-action, _)), action-told) = c .before .before .y .given in
+      ap (λ (x : Answer ℕ). x then after (a .k)) (value-is acts past-action (before-nexts c .number-at2 .ensures) action-told)
+      ∙ ap (λ (x : Answer ℕ). x then numbered (a .k)) (value-is number past-number (before-action (before-nexts c) .number-at .ensures) number-told)
 
 returns-3 : tie.Need-returns-3
 returns-3 c =
     let m = c .before .before .before in let z = m .before .nexts-at in
     let a = before-number (before-action (before-nexts (m .before))) .args in
-    let h = m .before .before .before .y .given in
-    gave-back (λ _. take (a .k) (z .result .next)) (a .file .now) (a .at) _ _ (z .result .read) (made (h .0 .0))
+    let ((acts, _), _) = m .before .before .before .y .given in
+    gave-back (λ _. take (a .k) (z .result .next)) (a .file .now) (a .at) _ _ (z .result .read) (made acts)
     (c .no-node3 .ensures ∙ c .before .back3 .ensures) (m .match3 .keys2) (z .ensures .is) (left (m .before))
 
 returns-4 : tie.Need-returns-4
 returns-4 c =
     let y = c .before .before .before .before .before .before in let d = c .before .before .before .before in
-    let g = before-nexts d .before .before .x .given in
-    let h = y .y .given in
-    let e = c .before .before .z .given in
-    let first = value-next (g .0 .0) (g .0 .1 .0) (before-action (before-nexts d) .number-at .ensures) (g .1) in
-    let second = value-next (h .0 .0) (h .0 .1 .0) (before-nexts d .number-at2 .ensures) (h .1) in
-    let last = lists-value (e .0 .0) (e .0 .1 .0) (d .nexts-at .ensures) (e .1) in (
-      ap (λ (t : Answer (List ℕ)). t then made (h .0 .0)) (last .0) ∙ left d,
+    let ((number, (past-number, _)), number-told) = before-nexts d .before .before .x .given in
+    let ((acts, (past-action, _)), action-told) = y .y .given in
+    let ((value, (past-nexts, _)), nexts-told) = c .before .before .z .given in
+    let first = value-next number past-number (before-action (before-nexts d) .number-at .ensures) number-told in
+    let second = value-next acts past-action (before-nexts d .number-at2 .ensures) action-told in
+    let last = lists-value value past-nexts (d .nexts-at .ensures) nexts-told in (
+      ap (λ (t : Answer (List ℕ)). t then made acts) (last .0) ∙ left d,
       (omega (arith, first .1, second .1, last .1), last .1 .1),
     )
 

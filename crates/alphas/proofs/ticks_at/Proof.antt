@@ -36,10 +36,10 @@ returns c =
 
 loop-again : tie.Need-loop-again Inv-loop μ-loop
 loop-again c =
-    let x = c .before .before .before in let l = at-loop c .loop in let g = x .x .given in
+    let x = c .before .before .before in let l = at-loop c .loop in let ((value, (past, _)), value-told) = x .x .given in
     let d = x .before .before in
     let fit : mag (d .signed-at .result .value) < 2 ^ 63 = search (needs, d .signed-at .ok .1 .1) in
-    filled-more _ _ _ _ _ (l .inv) (told d) (g .0 .0) (g .0 .1 .0) (g .1)
+    filled-more _ _ _ _ _ (l .inv) (told d) value past value-told
     (answer (c .floor-div .ok) (c .floor-div .ensures ∙ ap (λ (z : ℤ). floorDiv z perTick) (back _ fit))) (omega arith)
 
 returns-2 : tie.Need-returns-2 Inv-loop μ-loop

@@ -17,10 +17,11 @@ abbrev after-moved : tie.After-scaled → tie.After-moved
 after-moved c = c .before .before
 
 moved-requires : tie.Need-moved-requires
-moved-requires c κs = let pre = start c .pre in ((pre .0 .0, pre .0 .1 .1 .0), (weights-below (pre .1 .0), pre .1 .1 .0 .0))
+moved-requires c κs = let ((states, (_, (action, _))), (p, ((engine, _), _))) = start c .pre in ((states, action), (weights-below p, engine))
 
 expected-reward-requires : tie.Need-expected-reward-requires
-expected-reward-requires c κs = let pre = start (c .before) .pre in ((pre .0 .0, pre .0 .1 .1 .0), (weights-below (pre .1 .0), pre .1 .1 .0 .1 .1))
+expected-reward-requires c κs =
+    let ((states, (_, (action, _))), (p, ((_, (_, rewards)), _))) = start (c .before) .pre in ((states, action), (weights-below p, rewards))
 
 expected : (c : tie.After-expected-reward)
     → let a = start (c .before .before) .args in
@@ -29,7 +30,7 @@ expected c = answer (c .expected-reward .ok) (c .expected-reward .ensures)
 
 scaled-requires : tie.Need-scaled-requires
 unfolding K
-scaled-requires c κs = let pre = start (c .before .before) .pre in (lit< tt, expected-fits (pre .0 .0) (pre .1 .0) (pre .1 .1 .0 .1 .1) (expected c))
+scaled-requires c κs = let ((states, _), (p, ((_, (_, rewards)), _))) = start (c .before .before) .pre in (lit< tt, expected-fits states p rewards (expected c))
 
 slice-aggregate-ceilings : tie.Need-slice-aggregate-ceilings
 slice-aggregate-ceilings c =
@@ -37,15 +38,9 @@ slice-aggregate-ceilings c =
 
 ceilings-requires : tie.Need-ceilings-requires
 ceilings-requires c κs =
-    let pre = start (after-moved (c .before) .before) .pre in
-    let u = after-moved (c .before) .moved .ensures in
-    let level = pre .1 .1 .1 .0 in (
-      (pre .0 .0, (pre .0 .1 .0, pre .0 .1 .1 .0)),
-      (
-        moved-below (pre .0 .0) (pre .1 .0) (pre .1 .1 .0 .0 .transitions) u,
-        (pre .1 .1 .0 .1 .0, (level .0, (level .1 .0, (level .1 .1, rw u (pre .1 .1 .1 .1))))),
-      ),
-    )
+    let m = after-moved (c .before) in let u = m .moved .ensures in
+    let ((states, (observations, (action, _))), (p, ((engine, (observed, _)), ((corners, (points, gains)), roof)))) = start (m .before) .pre in
+    ((states, (observations, action)), (moved-below states p (engine .transitions) u, (observed, (corners, (points, (gains, rw u roof))))))
 
 -- K × the expected reward
 now : (c : tie.After-scaled)
@@ -64,8 +59,8 @@ ahead c = let m = c .before .before .before .before in answer (c .ceilings .ok) 
 
 add-scaled-requires : tie.Need-add-scaled-requires
 add-scaled-requires c κs =
-    let pre = start (after-moved (c .before .before) .before) .pre in
-    (omega arith, parts-fit (pre .0 .0) (pre .1 .0) (pre .1 .1 .0 .1 .1) (pre .0 .1 .1 .1) (pre .1 .1 .1 .1) (now (c .before .before)) (ahead c))
+    let ((states, (_, (_, discount))), (p, ((_, (_, rewards)), (_, roof)))) = start (after-moved (c .before .before) .before) .pre in
+    (omega arith, parts-fit states p rewards discount roof (now (c .before .before)) (ahead c))
 
 returns : tie.Need-returns
 unfolding backupAtIn

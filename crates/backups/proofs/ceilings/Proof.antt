@@ -22,20 +22,16 @@ in-loop c = c .before .before .before
 
 successors-requires : tie.Need-successors-requires Inv-loop μ-loop
 successors-requires c κs =
-    let pre = start (c .before) .pre in ((pre .0 .0, (pre .0 .1 .0, (pre .0 .1 .1, c .loop-test .taken))), (pre .1 .0, pre .1 .1 .0))
+    let ((states, (observations, action)), (moved, (observed, _))) = start (c .before) .pre in
+    ((states, (observations, (action, c .loop-test .taken))), (moved, observed))
 
 slice-aggregate-ceiling : tie.Need-slice-aggregate-ceiling Inv-loop μ-loop
 slice-aggregate-ceiling c = sym (rw (c .before .successors .ensures) (padded-length 0 maxStates _ _ (start (c .before .before .before) .pre .0 .0)))
 
 ceiling-requires : tie.Need-ceiling-requires Inv-loop μ-loop
 ceiling-requires c κs =
-    let pre = start (c .before .before .before) .pre in let level = pre .1 .1 .1 in (
-      pre .0 .0,
-      (
-        ahead-below (level .1 .1 .1) _ (c .before .before .loop-test .taken) (c .before .successors .ensures) (pre .0 .0),
-        (level .0, (level .1 .0, level .1 .1 .0)),
-      ),
-    )
+    let ((states, _), (_, (_, (corners, (points, (gains, ahead)))))) = start (c .before .before .before) .pre in
+    (states, (ahead-below ahead _ (c .before .before .loop-test .taken) (c .before .successors .ensures) states, (corners, (points, gains))))
 
 -- the ceiling at the successor weights
 here : (c : tie.After-ceiling Inv-loop μ-loop)
@@ -46,7 +42,8 @@ here c = answer (c .ceiling .ok) (c .ceiling .ensures ∙ rw (c .before .before 
 
 plus-requires : tie.Need-plus-requires Inv-loop μ-loop
 plus-requires c κs =
-    let l = in-loop c .before in ahead-fits (start l .pre .1 .1 .1 .1 .1 .1) _ (in-loop c .loop-test .taken) (l .loop .inv .1) (here c)
+    let l = in-loop c .before in let (_, (_, (_, (_, (_, (_, ahead)))))) = start l .pre in
+    ahead-fits ahead _ (in-loop c .loop-test .taken) (l .loop .inv .1) (here c)
 
 loop-again : tie.Need-loop-again Inv-loop μ-loop
 loop-again c =

@@ -57,10 +57,8 @@ certifier s =
 
 abbrev certified : tie.After-offer → Lent
 certified c =
-    let l = c .offer .last .1 .1 .1 .1 .1 in
-    lent (l .0)
-    (cells (l .1 .0) (l .1 .1 .0) (l .1 .1 .1 .0) (l .1 .1 .1 .1 .0) (l .1 .1 .1 .1 .1 .0) (l .1 .1 .1 .1 .1 .1 .0) (l .1 .1 .1 .1 .1 .1 .1 .0))
-    (rows (l .1 .1 .1 .1 .1 .1 .1 .1 .0) (l .1 .1 .1 .1 .1 .1 .1 .1 .1 .0))
+    let (_, (_, (_, (_, (_, (state, (actions, (choices, (masks, (entries, (corners, (weights, (values, (informed, (qmdp, _))))))))))))))) = c .offer .last in
+    lent state (cells actions choices masks entries corners weights values) (rows informed qmdp)
 
 abbrev offers : tie.Start → Packed
 offers s =
@@ -123,25 +121,21 @@ returns c =
 
 pub offer-block-spec : {M : Type 1} → statement M
 offer-block-spec =
-    tie.close (tie.spec
-    (λ c. choices-few (start c)) (λ c. entries-few (start c)) (λ c. weights-few (start c))
-    (λ c. in-actions (start c) .start) (λ c. in-choices (start c) .start) (λ c. in-entries (start c) .start)
-    (λ c. in-corners (start c) .start) (λ c. in-weights (start c) .start) (λ c. in-values (start c) .start) (λ c. search needs)
-    (λ c. in-counts (of-slices c) .0) (λ c. in-counts (of-slices (c .before)) .1 .0)
-    (λ c. in-counts (of-slices (c .before)) .0) (λ c. in-counts (of-counts c) .1 .1)
-    (λ c. in-actions (of-counts c) .end) (λ c. in-actions (of-counts c) .ordered) (λ c. in-actions (of-counts c) .ordered)
-    (λ c. in-actions (of-counts c) .within) (λ c. in-choices (of-choices c) .end) (λ c. in-choices (of-choices c) .byte)
-    (λ c. in-choices (of-choices c) .ordered) (λ c. in-choices (of-choices c) .ordered) (λ c. in-choices (of-choices c) .within)
-    (λ c. in-masks (of-masks c) .end) (λ c. in-masks (of-masks c) .byte) (λ c. in-masks (of-masks c) .ordered) (λ c. in-masks (of-masks c) .ordered)
-    (λ c. in-masks (of-masks c) .within) (λ c. in-entries (of-entries c) .end) (λ c. in-entries (of-entries c) .byte)
-    (λ c. in-entries (of-entries c) .ordered) (λ c. in-entries (of-entries c) .ordered) (λ c. in-entries (of-entries c) .within)
-    (λ c. in-corners (of-corners c) .end) (λ c. in-corners (of-corners c) .byte) (λ c. in-corners (of-corners c) .ordered)
-    (λ c. in-corners (of-corners c) .ordered) (λ c. in-corners (of-corners c) .within) (λ c. in-weights (of-weights c) .end)
-    (λ c. in-weights (of-weights c) .byte) (λ c. in-weights (of-weights c) .ordered) (λ c. in-weights (of-weights c) .ordered)
-    (λ c. in-weights (of-weights c) .within) (λ c. in-values (of-values c) .end) (λ c. in-values (of-values c) .byte) (λ c. in-values (of-values c) .ordered)
-    (λ c. in-values (of-values c) .ordered) (λ c. in-values (of-values c) .within) (λ c κs. search needs) (λ c. of-offer c .offer .kept .1 .1 .1 .1 .1 .0)
-    (λ c. of-offer c .offer .kept .1 .1 .1 .1 .1 .1 .0) (λ c. of-offer c .offer .kept .1 .1 .1 .1 .1 .1 .1 .0)
-    (λ c. of-offer c .offer .kept .1 .1 .1 .1 .1 .1 .1 .1 .0) (λ c. of-offer c .offer .kept .1 .1 .1 .1 .1 .1 .1 .1 .1 .0)
-    (λ c. of-offer c .offer .kept .1 .1 .1 .1 .1 .1 .1 .1 .1 .1 .0) (λ c. of-offer c .offer .kept .1 .1 .1 .1 .1 .1 .1 .1 .1 .1 .1 .0)
-    (λ c. of-offer c .offer .kept .1 .1 .1 .1 .1 .1 .1 .1 .1 .1 .1 .1 .0) (λ c. of-offer c .offer .kept .1 .1 .1 .1 .1 .1 .1 .1 .1 .1 .1 .1 .1 .0)
-    (λ c. of-offer c .offer .kept .1 .1 .1 .1 .1 .1 .1 .1 .1 .1 .1 .1 .1 .1 .0) returns)
+    tie.close (tie.spec (λ c. choices-few (start c)) (λ c. entries-few (start c)) (λ c. weights-few (start c)) (λ c. in-actions (start c) .start)
+    (λ c. in-choices (start c) .start) (λ c. in-entries (start c) .start) (λ c. in-corners (start c) .start) (λ c. in-weights (start c) .start)
+    (λ c. in-values (start c) .start) (λ c. search needs) (λ c. in-counts (of-slices c) .0) (λ c. in-counts (of-slices (c .before)) .1 .0)
+    (λ c. in-counts (of-slices (c .before)) .0) (λ c. in-counts (of-counts c) .1 .1) (λ c. in-actions (of-counts c) .end)
+    (λ c. in-actions (of-counts c) .ordered) (λ c. in-actions (of-counts c) .ordered) (λ c. in-actions (of-counts c) .within)
+    (λ c. in-choices (of-choices c) .end) (λ c. in-choices (of-choices c) .byte) (λ c. in-choices (of-choices c) .ordered)
+    (λ c. in-choices (of-choices c) .ordered) (λ c. in-choices (of-choices c) .within) (λ c. in-masks (of-masks c) .end) (λ c. in-masks (of-masks c) .byte)
+    (λ c. in-masks (of-masks c) .ordered) (λ c. in-masks (of-masks c) .ordered) (λ c. in-masks (of-masks c) .within) (λ c. in-entries (of-entries c) .end)
+    (λ c. in-entries (of-entries c) .byte) (λ c. in-entries (of-entries c) .ordered) (λ c. in-entries (of-entries c) .ordered)
+    (λ c. in-entries (of-entries c) .within) (λ c. in-corners (of-corners c) .end) (λ c. in-corners (of-corners c) .byte)
+    (λ c. in-corners (of-corners c) .ordered) (λ c. in-corners (of-corners c) .ordered) (λ c. in-corners (of-corners c) .within)
+    (λ c. in-weights (of-weights c) .end) (λ c. in-weights (of-weights c) .byte) (λ c. in-weights (of-weights c) .ordered)
+    (λ c. in-weights (of-weights c) .ordered) (λ c. in-weights (of-weights c) .within) (λ c. in-values (of-values c) .end) (λ c. in-values (of-values c) .byte)
+    (λ c. in-values (of-values c) .ordered) (λ c. in-values (of-values c) .ordered) (λ c. in-values (of-values c) .within) (λ c κs. search needs)
+    (λ c. search (of-offer c .offer .kept)) (λ c. search (of-offer c .offer .kept)) (λ c. search (of-offer c .offer .kept))
+    (λ c. search (of-offer c .offer .kept)) (λ c. search (of-offer c .offer .kept)) (λ c. search (of-offer c .offer .kept))
+    (λ c. search (of-offer c .offer .kept)) (λ c. search (of-offer c .offer .kept)) (λ c. search (of-offer c .offer .kept))
+    (λ c. search (of-offer c .offer .kept)) returns)

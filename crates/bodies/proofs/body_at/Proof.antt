@@ -43,7 +43,11 @@ at-after-start c = c .before .before .before .before .before .before .before
 
 -- where the statements begin
 abbrev next : tie.After-statements-at → ℕ
-next c = c .before .before .before .before .before .x .given .0 .1 .0
+next c = let ((_, (after, _)), _) = c .before .before .before .before .before .x .given in after
+
+-- the start numbers that were read
+abbrev starting : tie.After-start-at → List ℕ
+starting c = let (_, (_, (start, _))) = c .start-at .last in start
 
 -- ---- counts and cells
 
@@ -106,17 +110,17 @@ cells-read : (full : Bool) {transition observation : List ℕ} {reward : List �
 cells-read full t o r = rw (t, o, r)
 
 statements-read : (c : tie.After-statements-at) → let a = begin (of-statements c) .args in
-    let s = c .statements-at in
-    answerOf (λ _. draft (s .last .1 .1 .0) (s .last .1 .1 .1 .0) (s .last .1 .1 .1 .1 .0)) (a .file .now) (s .result) ≡
+    let s = c .statements-at in let (_, (_, (transition, (observation, (reward, _))))) = s .last in
+    answerOf (λ _. draft transition observation reward) (a .file .now) (s .result) ≡
     wholly (statements (a .full) (length (a .file .now) + 1) (a .c .actions) (a .c .states) (a .c .observations) (noCells (a .full))
     (wordsIn between (a .file .now) (next c)))
 statements-read c =
     let a = begin (of-statements c) .args in
-    let p = begin (of-statements c) .pre .1 .1 in
+    let (_, (_, (transition, (observation, (reward, _))))) = begin (of-statements c) .pre in
     let s = c .statements-at in
     whole-answer _ (a .file .now) (s .result) (s .ensures ∙ ap (λ (d : Draft). statements (a .full) (length (a .file .now) + 1) (a .c .actions) (a .c .states)
     (a .c .observations) d (wordsIn between (a .file .now) (next c)))
-    (cells-read (a .full) (p .0) (p .1 .0) (p .1 .1 .0)))
+    (cells-read (a .full) transition observation reward))
 
 returns : tie.Need-returns
 unfolding bodyBy
@@ -129,15 +133,15 @@ returns c =
 statements-at-requires : tie.Need-statements-at-requires
 statements-at-requires c κs =
     let from = begin (at-after-start c .before) in let s = at-after-start c .before in
-    let p = from .pre .1 in
+    let (_, (counts, (transition, (observation, (reward, _))))) = from .pre in
     let f = few from in
-    let k = p .0 .observations in (
+    let k = counts .observations in (
       value-next _ _ (s .start-at .ensures) (after-x c .x .given .1) .1 .1,
       (
-        fits 0 (maxActions * maxStates * maxStates) (p .1 .0) (p .0 .actions) (p .0 .states) (p .0 .states) (f .transitions),
+        fits 0 (maxActions * maxStates * maxStates) transition (counts .actions) (counts .states) (counts .states) (f .transitions),
         (
-          fits 0 (maxActions * maxStates * maxObservations) (p .1 .1 .0) (p .0 .actions) (p .0 .states) (k .0, omega (arith, k .1)) (f .observed),
-          rewards-fit (from .args .full) (p .1 .1 .1 .0) (p .0),
+          fits 0 (maxActions * maxStates * maxObservations) observation (counts .actions) (counts .states) (k .0, omega (arith, k .1)) (f .observed),
+          rewards-fit (from .args .full) reward counts,
         ),
       ),
     )
@@ -147,37 +151,37 @@ from-start : (transition observation : List ℕ) (reward : List ℤ) (start : Li
     → let a = begin (of-statements c) .args in
     let size = length (a .file .now) in
     Answers transition observation reward start
-    (ended size (after-start (a .full) (size + 1) (a .c) (of-statements c .start-at .last .1 .1 .0) (wordsIn between (a .file .now) (next c)))) h
+    (ended size (after-start (a .full) (size + 1) (a .c) (starting (of-statements c)) (wordsIn between (a .file .now) (next c)))) h
     → Answers transition observation reward start
     (ended size (body (a .full) (size + 1) (a .c) (wordsIn between (a .file .now) (a .at)))) h
 unfolding bodyBy
 from-start transition observation reward start c g =
     let s = of-statements c in let a = begin s .args in let size = length (a .file .now) in
-    let x = after-x (c .before) .x .given in
+    let ((value, _), told) = after-x (c .before) .x .given in
     answers-on transition observation reward start size (after-start (a .full) (size + 1) (a .c)) _ (a .file .now) (s .start-at .result)
-    (s .start-at .ensures .is) (x .0 .0) (next c) (x .1) g
+    (s .start-at .ensures .is) value (next c) told g
 
 returns-2 : tie.Need-returns-2
 returns-2 c =
     let st = of-statements (after-transition (c .before .before .before) .before) in
     let s = after-transition (c .before .before .before) .before in let a = begin st .args in
-    from-start _ _ _ _ s (answers-back _ _ _ _ (length (a .file .now)) (λ cells ws. got (textOf (a .c) (st .start-at .last .1 .1 .0) cells) ws) _
+    from-start _ _ _ _ s (answers-back _ _ _ _ (length (a .file .now)) (λ cells ws. got (textOf (a .c) (starting st) cells) ws) _
     (a .file .now) (s .statements-at .result) (statements-read s) (c .before .before .match2 .keys2) (c .back2 .ensures))
 
 totals-of-requires : tie.Need-totals-of-requires
 totals-of-requires c κs =
     let st = of-statements (after-transition (after-totals-of-arg c .before .before .before) .before) in
     let s = after-transition (after-totals-of-arg c .before .before .before) .before in
-    let b = begin st in
-    let p = b .pre .1 in
-    let k = s .statements-at .kept .1 .1 in
-    let f = few b in (
-      (p .0 .actions .1, (p .0 .states .1, p .0 .observations .1)),
+    let (_, (counts, (transition, (observation, (_, start))))) = begin st .pre in
+    let (_, (_, (transition-long, (observation-long, _)))) = s .statements-at .kept in
+    let (_, (_, (start-long, _))) = st .start-at .kept in
+    let f = few (begin st) in (
+      (counts .actions .1, (counts .states .1, counts .observations .1)),
       (
-        rw (k .0, same-cells {A = ℕ} 0 (maxActions * maxStates * maxStates) (p .1 .0)) (f .transitions),
+        rw (transition-long, same-cells {A = ℕ} 0 (maxActions * maxStates * maxStates) transition) (f .transitions),
         (
-          rw (k .1 .0, same-cells {A = ℕ} 0 (maxActions * maxStates * maxObservations) (p .1 .1 .0)) (f .observed),
-          rw (st .start-at .kept .1 .1 .0, same-cells {A = ℕ} 0 maxStates (p .1 .1 .1 .1)) (p .0 .states .1),
+          rw (observation-long, same-cells {A = ℕ} 0 (maxActions * maxStates * maxObservations) observation) (f .observed),
+          rw (start-long, same-cells {A = ℕ} 0 maxStates start) (counts .states .1),
         ),
       ),
     )
@@ -185,20 +189,21 @@ totals-of-requires c κs =
 returns-3 : tie.Need-returns-3
 returns-3 c =
     let t = c .before .before .before in let e = after-totals-of-arg (t .before) .before in let s = of-totals t in let a = begin (of-statements s) .args in
-    let y = e .enum-told2 .given in
+    let ((value, (after, _)), told) = e .enum-told2 .given in let (_, (_, (_, (_, (reward, _))))) = s .statements-at .last in
     from-start _ _ _ _ s (answers-on _ _ _ _ (length (a .file .now))
-    (λ cells ws. got (textOf (a .c) (of-statements s .start-at .last .1 .1 .0) cells) ws) _ (a .file .now) (s .statements-at .result)
-    (statements-read s) (y .0 .0) (y .0 .1 .0) (y .1) (answers-total _ _ _ _ (length (a .file .now)) (a .c)
-    (t .totals-of .ensures (a .c .discount) (s .statements-at .last .1 .1 .1 .1 .0)) (c .before .enum-told5 .given .1) (c .refusal .ensures)))
+    (λ cells ws. got (textOf (a .c) (starting (of-statements s)) cells) ws) _ (a .file .now) (s .statements-at .result)
+    (statements-read s) value after told (answers-total _ _ _ _ (length (a .file .now)) (a .c)
+    (t .totals-of .ensures (a .c .discount) reward) (c .before .enum-told5 .given .1) (c .refusal .ensures)))
 
 returns-4 : tie.Need-returns-4
 returns-4 c =
     let t = c .before .before in let s = of-totals t in let a = begin (of-statements s) .args in
-    let y = after-totals-of-arg (t .before) .before .enum-told2 .given in
+    let ((value, (after, _)), told) = after-totals-of-arg (t .before) .before .enum-told2 .given in
+    let (_, (_, (_, (_, (reward, _))))) = s .statements-at .last in
     from-start _ _ _ _ s (answers-on _ _ _ _ (length (a .file .now))
-    (λ cells ws. got (textOf (a .c) (of-statements s .start-at .last .1 .1 .0) cells) ws) _ (a .file .now) (s .statements-at .result)
-    (statements-read s) (y .0 .0) (y .0 .1 .0) (y .1) (answers-fine _ _ _ _ (length (a .file .now)) (a .c)
-    (t .totals-of .ensures (a .c .discount) (s .statements-at .last .1 .1 .1 .1 .0)) (c .enum-told4 .given .1) refl))
+    (λ cells ws. got (textOf (a .c) (starting (of-statements s)) cells) ws) _ (a .file .now) (s .statements-at .result)
+    (statements-read s) value after told (answers-fine _ _ _ _ (length (a .file .now)) (a .c)
+    (t .totals-of .ensures (a .c .discount) reward) (c .enum-told4 .given .1) refl))
 
 pub body-at-spec : {M : Type 1} → statement M
 body-at-spec =

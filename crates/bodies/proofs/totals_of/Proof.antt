@@ -31,7 +31,7 @@ returns c discount reward =
     breaks _ (ne-eqb _ startTotal (λ e. c .if1 .taken (c .before .row-total .ensures ∙ total (a .start .now) (a .n) ∙ e)))
 
 rows-total-requires : tie.Need-rows-total-requires
-rows-total-requires c κs = let p = start c .pre in ((p .0 .0, (p .0 .1 .0, p .0 .1 .0)), p .1 .0)
+rows-total-requires c κs = let ((actions, (states, _)), (transition, _)) = start c .pre in ((actions, (states, states)), transition)
 
 returns-2 : tie.Need-returns-2
 unfolding sumsVerdict
@@ -42,7 +42,9 @@ returns-2 c discount reward =
     (c .placed-at .ensures ∙ ap (placed size) (c .before .enum-told2 .given .1)))
 
 rows-total-requires-2 : tie.Need-rows-total-requires-2
-rows-total-requires-2 c κs = let p = start (of-rows (c .before .before)) .pre in ((p .0 .0, (p .0 .1 .0, omega (arith, p .0 .1 .1))), p .1 .1 .0)
+rows-total-requires-2 c κs =
+    let ((actions, (states, observations)), (_, (observation, _))) = start (of-rows (c .before .before)) .pre in
+    ((actions, (states, omega (arith, observations))), observation)
 
 returns-3 : tie.Need-returns-3
 unfolding sumsVerdict

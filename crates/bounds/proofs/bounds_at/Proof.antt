@@ -36,14 +36,14 @@ from-entry c = c .before .before .before .before .before
 -- what is known there
 at-best : (c : tie.After-best-vector)
     → let a = start c .args in c .best-vector .result .0 ≡ bestIn (a .n) (a .vectors) (a .masks .now) (a .entries .now) (a .q .now)
-at-best c = rw (start c .pre .1 .1 .0) at (c .best-vector .ensures)
+at-best c = let (_, (_, (support, _))) = start c .pre in rw support at (c .best-vector .ensures)
 
 -- the best vector counts
 covers : (c : tie.After-best-vector)
     → let a = start c .args in (s : ℕ) → s < a .n → 0 < weightIn (a .q .now) s → coveredIn (a .masks .now) (c .best-vector .result .0) s ≡ true
 covers c =
-    let a = start c in
-    let counted = sym (ap (λ (x : ℕ). someIncludes (a .args .masks .now) (a .args .vectors) x) (a .pre .1 .1 .0)) ∙ a .pre .1 .1 .1 in
+    let a = start c in let (_, (_, (support, some))) = a .pre in
+    let counted = sym (ap (λ (x : ℕ). someIncludes (a .args .masks .now) (a .args .vectors) x) support) ∙ some in
     best-covers (a .args .n) (a .args .vectors) (a .args .masks .now) (a .args .entries .now) (a .args .q .now) counted (at-best c)
 
 at-lower : (c : tie.After-product)
@@ -77,9 +77,9 @@ below c = let a = start c in best-below (a .args .n) (a .args .masks .now) (a .a
 
 best-vector-requires : tie.Need-best-vector-requires
 best-vector-requires c κs =
-    let a = from-entry c in let h = a .pre in (
-      (h .0 .few-states, h .0 .some-vectors),
-      (below-reached (h .1 .0), (h .0 .entries-fit, λ s l above. rw (h .1 .1 .0) (support-covers (a .args .n) (a .args .q .now) s l above))),
+    let a = from-entry c in let (asked, (weights, (support, _))) = a .pre in (
+      (asked .few-states, asked .some-vectors),
+      (below-reached weights, (asked .entries-fit, λ s l above. rw support (support-covers (a .args .n) (a .args .q .now) s l above))),
     )
 
 start-requires : tie.Need-start-requires

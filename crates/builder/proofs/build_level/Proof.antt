@@ -26,30 +26,30 @@ tables c = let a = c .args in tablesIn (a .c) (a .transition .now) (a .observati
 
 -- they are long enough
 fit : (c : tie.Start) → Complete (tables c) (lentFor (c .args .c .states + c .args .count) (c .args .count) (lent c))
-fit c = complete-true _ _ (c .pre .1 .1 .1 .0)
+fit c = let (_, (_, (_, (whole, _)))) = c .pre in complete-true _ _ whole
 
 build-vectors-requires : tie.Need-build-vectors-requires
 build-vectors-requires c κs =
     let s = begun c in
     let f = fit s in
-    let p = s .pre .1 .1 .0 in
+    let (upon, (_, ((few, points), (_, lists)))) = s .pre in
     let r = f .read in (
-      s .pre .0,
+      upon,
       (
-        (p .0, r .weights),
-        (p .1, (record { actions-fit = r .actions; choices-fit = f .choices; masks-fit = r .masks; entries-fit = r .entries }, s .pre .1 .1 .1 .1)),
+        (few, r .weights),
+        (points, (record { actions-fit = r .actions; choices-fit = f .choices; masks-fit = r .masks; entries-fit = r .entries }, lists)),
       ),
     )
 
 build-corners-requires : tie.Need-build-corners-requires
-build-corners-requires c κs = let s = begun (vectors-made c .before) in (s .pre .1 .0, (fit s .read .corners, s .pre .1 .1 .1 .1))
+build-corners-requires c κs = let s = begun (vectors-made c .before) in let (_, (roofed, (_, (_, lists)))) = s .pre in (roofed, (fit s .read .corners, lists))
 
 build-values-requires : tie.Need-build-values-requires
 build-values-requires c κs =
     let s = begun (vectors-made (corners-made c .before) .before) in
-    let f = fit s in
-    let p = s .pre .1 .1 .0 in
-    (s .pre .1 .0, ((p .0, f .read .weights), (p .1, (f .read .values, s .pre .1 .1 .1 .1))))
+    let f = fit s .read in
+    let (_, (roofed, ((few, points), (_, lists)))) = s .pre in
+    (roofed, ((few, f .weights), (points, (f .values, lists))))
 
 returns : tie.Need-returns
 returns c =

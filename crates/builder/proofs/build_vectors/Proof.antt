@@ -48,36 +48,36 @@ abbrev of-entries : tie.After-paste-i64-arg Inv-loop μ-loop → tie.After-best-
 of-entries c = of-choices (c .before .before .before .before .before .before)
 
 add-count : tie.Need-add-count Inv-loop μ-loop
-add-count c = let p = from-entry c .pre in omega (arith, p .0 .valid .few-states, p .1 .0 .0)
+add-count c = let (upon, ((few, _), _)) = from-entry c .pre in omega (arith, upon .valid .few-states, few)
 
 all-requires : tie.Need-all-requires Inv-loop μ-loop
 all-requires c κs = let v = from-entry c .pre .0 .valid in (omega (arith, v .some-states), omega (arith, v .few-states))
 
 below : (c : tie.In-loop Inv-loop μ-loop) → c .before .loop .v < maxVectors
-below c = let p = start (c .before) .pre in omega (arith, c .loop-test .taken, p .0 .valid .few-states, p .1 .0 .0)
+below c = let (upon, ((few, _), _)) = start (c .before) .pre in omega (arith, c .loop-test .taken, upon .valid .few-states, few)
 
 seed-weights-requires : tie.Need-seed-weights-requires Inv-loop μ-loop
 seed-weights-requires c κs =
-    let s = start (c .before) in
+    let s = start (c .before) in let (upon, ((few, stored), _)) = s .pre in
     let a = s .args in (
-      (s .pre .0 .valid .few-states, omega (arith, c .loop-test .taken, s .pre .1 .0 .0)),
-      λ h. rows-stored (a .c .states) (c .before .loop .v - a .c .states) (a .points) (omega (arith, c .loop-test .taken)) (s .pre .1 .0 .1),
+      (upon .valid .few-states, omega (arith, c .loop-test .taken, few)),
+      λ h. rows-stored (a .c .states) (c .before .loop .v - a .c .states) (a .points) (omega (arith, c .loop-test .taken)) stored,
     )
 
 best-candidate-requires : tie.Need-best-candidate-requires Inv-loop μ-loop
 best-candidate-requires c κs =
     let i = c .before .before in
-    let s = start (i .before) in
+    let s = start (i .before) in let (upon, (_, (points, (_, lists)))) = s .pre in
     let a = s .args in
     let made = c .before .seed-weights .ensures in (
-      s .pre .0,
+      upon,
       (
         record {
-          long = omega (arith, made .1, s .pre .0 .valid .few-states);
+          long = omega (arith, made .1, upon .valid .few-states);
           light = rw (total-cong (a .c .states) _ _ (made .0))
-              (seed-light (a .c .states) (a .points) (pointIn (a .c .states) (a .weights .now)) (s .pre .1 .1 .0) (i .before .loop .v) (i .loop-test .taken));
+              (seed-light (a .c .states) (a .points) (pointIn (a .c .states) (a .weights .now)) points (i .before .loop .v) (i .loop-test .taken));
         },
-        s .pre .1 .1 .1 .1,
+        lists,
       ),
     )
 
@@ -100,8 +100,8 @@ room : (c : tie.After-best-candidate Inv-loop μ-loop)
     let m = start l .args .c in
     Room (m .states) (m .observations) (l .loop .v) (l .loop .actions) (l .loop .choices) (l .loop .masks) (l .loop .entries)
 room c =
-    let i = of-best c in
-    rows-room _ _ _ (start (i .before) .pre .1 .1 .1 .0) (i .before .loop .inv .1) (i .loop-test .taken)
+    let i = of-best c in let (_, (_, (_, (fits, _)))) = start (i .before) .pre in
+    rows-room _ _ _ fits (i .before .loop .inv .1) (i .loop-test .taken)
 
 start-requires : tie.Need-start-requires Inv-loop μ-loop
 start-requires c κs =
@@ -131,9 +131,9 @@ loop-again c =
     let b = of-entries (s .before) in
     let i = of-best b in
     let l = i .before in
-    let p = start l .pre in (
+    let (upon, (_, (_, (fits, _)))) = start l .pre in (
       omega (arith, i .loop-test .taken),
-      filled-more _ _ _ (p .1 .1 .1 .0) (l .loop .inv .1) (i .loop-test .taken) (made b) (p .0 .valid .few-observations) (p .0 .valid .few-states)
+      filled-more _ _ _ fits (l .loop .inv .1) (i .loop-test .taken) (made b) (upon .valid .few-observations) (upon .valid .few-states)
           (n .number .ensures) (l .before .all .ensures)
           (rw (pa .before .before .start .ensures) at
           (pa .paste-u16 .ensures))
@@ -145,7 +145,7 @@ long : (c : tie.After-loop Inv-loop μ-loop)
     → let a = start (c .before) .args in
     let l = c .before .loop in
     VectorsAsLong (a .actions .now) (a .choices .now) (a .masks .now) (a .entries .now) (l .actions) (l .choices) (l .masks) (l .entries)
-long c = filled-long _ _ _ (start (c .before) .pre .1 .1 .1 .0) (c .before .loop .inv .1) (c .before .loop .inv .0)
+long c = let (_, (_, (_, (fits, _)))) = start (c .before) .pre in filled-long _ _ _ fits (c .before .loop .inv .1) (c .before .loop .inv .0)
 
 returns : tie.Need-returns Inv-loop μ-loop
 returns c =

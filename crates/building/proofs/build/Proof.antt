@@ -77,8 +77,9 @@ level s choices = levelOf (tables s) (standingIn (certifier s choices))
 -- what is left in the slices
 abbrev left : (s : tie.Start) → tie.After-build-level → Cells
 left s c =
-    let l = c .build-level .last .1 .1 .1 .1 .1 .1 .1 .1 .1 .1 .1 .1 .1 .1 in
-    cells (l .0) (l .1 .0) (l .1 .1 .0) (l .1 .1 .1 .0) (l .1 .1 .1 .1 .0) (s .args .given .now) (l .1 .1 .1 .1 .1 .0)
+    let (_, (_, (_, (_, (_, (_, (_, (_, (_, (_, (_, (_, (_, (_, level)))))))))))))) = c .build-level .last in
+    let (actions, (choices, (masks, (entries, (corners, (values, _)))))) = level in
+    cells actions choices masks entries corners (s .args .given .now) values
 
 laid : (c : tie.After-build-level) (choices : List ℕ) → let s = start (of-verdict (of-standing c .before)) in
     left s c ≡ over (tables s) (builtFrom (tables s) (level s choices) (s .args .count) (answer s)) (answer s)
@@ -155,10 +156,6 @@ returns-3 c =
 pub build-spec : {M : Type 1} → statement M
 build-spec =
     tie.close (tie.spec (λ c κs. search needs) returns (λ c κs. search needs) (λ c. search needs) (λ c. search needs) returns-2 standing-in-requires
-    build-level-requires
-    (λ c. of-level c .build-level .kept .1 .1 .1 .1 .1 .1 .1 .1 .1 .1 .1 .1 .1 .1 .0)
-    (λ c. of-level c .build-level .kept .1 .1 .1 .1 .1 .1 .1 .1 .1 .1 .1 .1 .1 .1 .1 .0)
-    (λ c. of-level c .build-level .kept .1 .1 .1 .1 .1 .1 .1 .1 .1 .1 .1 .1 .1 .1 .1 .1 .0)
-    (λ c. of-level c .build-level .kept .1 .1 .1 .1 .1 .1 .1 .1 .1 .1 .1 .1 .1 .1 .1 .1 .1 .0)
-    (λ c. of-level c .build-level .kept .1 .1 .1 .1 .1 .1 .1 .1 .1 .1 .1 .1 .1 .1 .1 .1 .1 .1 .0)
-    (λ c. of-level c .build-level .kept .1 .1 .1 .1 .1 .1 .1 .1 .1 .1 .1 .1 .1 .1 .1 .1 .1 .1 .1 .0) returns-3)
+    build-level-requires (λ c. search (of-level c .build-level .kept)) (λ c. search (of-level c .build-level .kept))
+    (λ c. search (of-level c .build-level .kept)) (λ c. search (of-level c .build-level .kept)) (λ c. search (of-level c .build-level .kept))
+    (λ c. search (of-level c .build-level .kept)) returns-3)

@@ -24,7 +24,7 @@ abbrev in-loop : tie.After-chosen Inv-loop μ-loop → tie.In-loop Inv-loop μ-l
 in-loop c = c .before .before .before .before
 
 all-requires : tie.Need-all-requires Inv-loop μ-loop
-all-requires c κs = let p = c .before .before .before .pre .0 in (omega (arith, p .1 .1 .1 .0), omega (arith, p .0))
+all-requires c κs = let ((states, (_, (_, (some-state, _)))), _) = c .before .before .before .pre in (omega (arith, some-state), omega (arith, states))
 
 weights-long : tie.Need-slice-aggregate-best-vector Inv-loop μ-loop
 weights-long c = sym (rw (c .before .successors .ensures) (padded-length 0 maxStates _ _ (start (c .before .before .before) .pre .0 .0)))
@@ -33,24 +33,24 @@ best-vector-requires : tie.Need-best-vector-requires Inv-loop μ-loop
 best-vector-requires c κs =
     let al = c .before .before .before .before in let from = start (c .before .before .before) in let l = c .before .before .before in
     let a = from .args in
-    let p = from .pre in (
-      (p .0 .0, p .0 .1 .1 .1 .1),
+    let ((states, (_, (_, (_, some-vector)))), (_, (_, (reached, masked)))) = from .pre in (
+      (states, some-vector),
       (
-        filled-below maxStates (seenIn (a .n) (a .k) (a .observation .now) (a .u .now) (a .a .0) (l .loop .o)) (c .before .successors .ensures) (p .0 .0)
-            (p .1 .1 .1 .0 (l .loop .o) (omega arith)),
-        (p .1 .1 .1 .1, λ s b above. rw (al .all .ensures) (mask-covers (a .n) (λ s. true) s b)),
+        filled-below maxStates (seenIn (a .n) (a .k) (a .observation .now) (a .u .now) (a .a .0) (l .loop .o)) (c .before .successors .ensures) states
+            (reached (l .loop .o) (omega arith)),
+        (masked, λ s b above. rw (al .all .ensures) (mask-covers (a .n) (λ s. true) s b)),
       ),
     )
 
 -- the choices so far fill the row
 long : (c : tie.In-loop Inv-loop μ-loop) → length (c .before .loop .chosen) ≡ maxObservations
-long c = rw (c .before .loop .inv .1) (padded-length 0 maxObservations _ _ (omega (arith, start (c .before) .pre .0 .1 .0)))
+long c = let ((_, (few, _)), _) = start (c .before) .pre in rw (c .before .loop .inv .1) (padded-length 0 maxObservations _ _ (omega (arith, few)))
 
 put-choice-requires : tie.Need-put-choice-requires Inv-loop μ-loop
 put-choice-requires c κs =
-    let i = in-loop c in let p = start (i .before) .pre in (
-      (p .0 .1 .0, (omega arith, omega arith)),
-      (omega (arith, long i, p .0 .1 .0), found-in _ _ _ (c .before .best-vector .ensures) (p .0 .1 .1 .1 .1) (p .1 .1 .1 .1 .few)),
+    let i = in-loop c in let ((_, (observations, (_, (_, some-vector)))), (_, (_, (_, masked)))) = start (i .before) .pre in (
+      (observations, (omega arith, omega arith)),
+      (omega (arith, long i, observations), found-in _ _ _ (c .before .best-vector .ensures) some-vector (masked .few)),
     )
 
 loop-again : tie.Need-loop-again Inv-loop μ-loop

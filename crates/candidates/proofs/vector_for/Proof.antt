@@ -25,36 +25,33 @@ abbrev from-entry : tie.After-shared-slice-known5 → tie.Start
 from-entry c = c .before .before .before .before .before
 
 moved-requires : tie.Need-moved-requires
-moved-requires c κs = let p = from-entry c .pre in ((p .0 .0, p .0 .1 .1 .0), (weights-below (p .1 .1 .0), p .1 .1 .1 .0 .0))
+moved-requires c κs = let ((states, (_, (action, _))), (_, (p, ((engine, _), _)))) = from-entry c .pre in ((states, action), (weights-below p, engine))
 
 moved-long : tie.Need-slice-aggregate-choose
 moved-long c = sym (rw (c .before .moved .ensures) (padded-length 0 maxStates _ _ (start (c .before) .pre .0 .0)))
 
 choose-requires : tie.Need-choose-requires
 choose-requires c κs =
-    let p = start (c .before) .pre in
-    let fits = p .1 .1 .1 .0 in
-    let moved = c .before .moved .ensures in (
-      (p .0 .0, (p .0 .1 .0, (p .0 .1 .1 .0, p .1 .0))),
-      (moved-below (p .0 .0) (p .1 .1 .0) (fits .0 .transitions) moved, (fits .1 .0, (rw moved (p .1 .1 .1 .1 .0), p .1 .1 .1 .1 .1))),
-    )
+    let ((states, (observations, (action, _))), (some, (p, ((engine, (observed, _)), (reached, masked))))) = start (c .before) .pre in
+    let moved = c .before .moved .ensures in
+    ((states, (observations, (action, some))), (moved-below states p (engine .transitions) moved, (observed, (rw moved reached, masked))))
 
 chosen-long : tie.Need-slice-aggregate-foreseen
-chosen-long c = sym (rw (c .before .choose .ensures) (padded-length 0 maxObservations _ _ (start (of-chosen (c .before)) .pre .0 .1 .0)))
+chosen-long c = let ((_, (few, _)), _) = start (of-chosen (c .before)) .pre in sym (rw (c .before .choose .ensures) (padded-length 0 maxObservations _ _ few))
 
 -- the vectors chosen are within the limits
 chosen-within : (c : tie.After-choose) → let a = start (of-chosen c) .args in
     ChosenFit (a .c .states) (a .c .observations) (a .masks .now) (a .entries .now) (c .choose .result) 0
 chosen-within c =
     let a = start (of-chosen c) .args in
-    let p = start (of-chosen c) .pre in
+    let ((_, (observations, _)), ((_, some-vector), (_, (_, (_, masked))))) = start (of-chosen c) .pre in
     chosen-fit (a .c .states) (a .c .observations) (a .observation .now) (of-chosen c .moved .result) (a .masks .now) (a .entries .now) (a .count) (a .a .0)
-    (c .choose .ensures) (p .0 .1 .0) (p .1 .0 .1) (p .1 .1 .1 .1 .1)
+    (c .choose .ensures) observations some-vector masked
 
 foreseen-requires : tie.Need-foreseen-requires
 foreseen-requires c κs =
-    let p = start (of-chosen (c .before)) .pre in
-    ((p .0 .0, (p .0 .1 .0, p .0 .1 .1 .0)), (p .1 .1 .1 .0 .1 .0, chosen-within (c .before)))
+    let ((states, (observations, (action, _))), (_, (_, ((_, (observed, _)), _)))) = start (of-chosen (c .before)) .pre in
+    ((states, (observations, action)), (observed, chosen-within (c .before)))
 
 foreseen-long : tie.Need-slice-aggregate-backups
 foreseen-long c = sym (rw (c .before .foreseen .ensures) (padded-length _ maxStates _ _ (start (of-chosen (of-foreseen (c .before))) .pre .0 .0)))
@@ -63,16 +60,15 @@ backups-requires : tie.Need-backups-requires
 backups-requires c κs =
     let chose = of-foreseen (c .before) in
     let a = start (of-chosen chose) .args in
-    let p = start (of-chosen chose) .pre in
-    let fits = p .1 .1 .1 .0 in (
-      (p .0 .0, p .0 .1 .1),
+    let ((states, (observations, (action, discount))), (_, (_, ((engine, (observed, rewards)), _)))) = start (of-chosen chose) .pre in (
+      (states, (action, discount)),
       (
-        fits .0,
+        engine,
         (
-          fits .1 .1,
+          rewards,
           filled-within maxStates (foreseenIn (a .c .states) (a .c .observations) (a .observation .now) (a .masks .now) (a .entries .now)
               (chose .choose .result) 0 (a .a .0))
-              (c .before .foreseen .ensures) (p .0 .0) (λ s l. foreseen-limit (fits .1 .0) (chosen-within chose) (p .0 .1 .0) l),
+              (c .before .foreseen .ensures) states (λ s l. foreseen-limit observed (chosen-within chose) observations l),
         ),
       ),
     )

@@ -12,13 +12,12 @@ abbrev start : tie.After-largest-drop → tie.Start
 start c = c .before .before .before .before
 
 product-requires : tie.Need-product-requires
-product-requires c κs = let a = start c .pre in ((search needs, search needs), (a .1 .0, λ s l above. first-fit (a .1 .1 .0) s l))
+product-requires c κs = let (_, (reached, (corners, _))) = start c .pre in ((search needs, search needs), (reached, λ s l above. first-fit corners s l))
 
 small : (c : tie.After-largest-drop) → c .largest-drop .result ≤ maxReached * maxGain
 small c =
-    let a = start c in
-    rw (c .largest-drop .ensures)
-    (largest-limit (a .args .n) (a .args .points) (a .args .weights .now) (a .args .gains .now) (a .args .q .now) (a .pre .1 .0) (a .pre .1 .1 .1 .1))
+    let a = start c .args in let (_, (reached, (_, (_, gains)))) = start c .pre in
+    rw (c .largest-drop .ensures) (largest-limit (a .n) (a .points) (a .weights .now) (a .gains .now) (a .q .now) reached gains)
 
 drop : (c : tie.After-largest-drop) → toZ w64 (c .largest-drop .result) ≡ pos (c .largest-drop .result)
 drop c = toZ-pos w64 {n = c .largest-drop .result} (omega (arith, small c))
@@ -31,9 +30,9 @@ at-corners c =
 
 minus-requires : tie.Need-minus-requires
 minus-requires c κs =
-    let a = start (c .before) in
+    let s = start (c .before) in let (states, (reached, (corners, _))) = s .pre in
     rw (at-corners c, drop (c .before))
-    (omega (arith, small (c .before), product-limit maxReached (weightIn (a .args .q .now)) (a .pre .0) (a .pre .1 .1 .0) (a .pre .1 .0 .below)))
+    (omega (arith, small (c .before), product-limit maxReached (weightIn (s .args .q .now)) states corners (reached .below)))
 
 returns : tie.Need-returns
 unfolding ceilingIn

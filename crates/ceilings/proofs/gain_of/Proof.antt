@@ -10,12 +10,9 @@ start c = c .before .before .before
 
 product-requires : tie.Need-product-requires
 product-requires c κs =
-    let a = c .before in (
+    let (_, (corners, (weights, _))) = c .before .pre in (
       (search needs, search needs),
-      (
-        record { long = a .pre .1 .1 .0 .long; below = λ i l. omega (arith, a .pre .1 .1 .0 .below i l) },
-        λ s l above. first-fit (a .pre .1 .0) s l,
-      ),
+      (record { long = weights .long; below = λ i l. omega (arith, weights .below i l) }, λ s l above. first-fit corners s l),
     )
 
 abbrev gained : tie.Start → ℤ
@@ -28,20 +25,19 @@ at-corners c = answer (c .product .ok) (c .product .ensures ∙ first-cells _ _ 
 
 minus-requires : tie.Need-minus-requires
 minus-requires c κs =
-    let a = c .before .before in
+    let a = c .before .before in let (states, (corners, (weights, value))) = a .pre in
     rw (at-corners c, toZ-ofZ (a .fits .value))
-    (omega (arith, gain-parts (weightIn (a .args .p .now)) (a .args .value) (a .pre .0) (a .pre .1 .0) (a .pre .1 .1 .0 .below) (a .pre .1 .1 .1)))
+    (omega (arith, gain-parts (weightIn (a .args .p .now)) (a .args .value) states corners (weights .below) value))
 
 gain : (c : tie.After-minus) → toZ w64 (ofZ w64 (c .minus .result)) ≡ gained (start c)
 gain c = answer (c .minus .ok) (c .minus .ensures ∙ rw (at-corners (c .before), toZ-ofZ (start c .fits .value)))
 
 cast-result : tie.Need-cast-result
 cast-result c =
-    let a = start (c .before) in
+    let a = start (c .before) in let (states, (corners, (weights, value))) = a .pre in
     rw (gain (c .before)) (
       positive-from (gained a) (rw (gain (c .before)) at (c .if1 .left)) .0,
-      omega
-          (arith, gain-limit (weightIn (a .args .p .now)) (a .args .value) (a .pre .0) (a .pre .1 .0) (a .pre .1 .1 .0 .below) (a .pre .1 .1 .1)),
+      omega (arith, gain-limit (weightIn (a .args .p .now)) (a .args .value) states corners (weights .below) value),
     )
 
 returns-2 : tie.Need-returns-2

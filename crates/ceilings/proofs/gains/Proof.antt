@@ -19,8 +19,8 @@ start c = c .before .before .before .before
 
 point-weights-requires : tie.Need-point-weights-requires Inv-loop μ-loop
 point-weights-requires c κs =
-    let a = c .before .before .before in let p = a .pre .1 .1 .0 in
-    ((a .pre .0, omega (arith, p .few)), rows-stored (a .args .n) (c .before .loop .i) (a .args .points) (omega arith) (p .stored))
+    let a = c .before .before .before in let (states, (_, (points, _))) = a .pre in
+    ((states, omega (arith, points .few)), rows-stored (a .args .n) (c .before .loop .i) (a .args .points) (omega arith) (points .stored))
 
 slice-aggregate-gain-of : tie.Need-slice-aggregate-gain-of Inv-loop μ-loop
 slice-aggregate-gain-of c =
@@ -29,14 +29,13 @@ slice-aggregate-gain-of c =
 
 gain-of-requires : tie.Need-gain-of-requires Inv-loop μ-loop
 gain-of-requires c κs =
-    let a = start (c .before .before) in let i = c .before .before .before .before .loop .i in (
-      a .pre .0,
+    let a = start (c .before .before) in let i = c .before .before .before .before .loop .i in let (states, (corners, (points, values))) = a .pre in (
+      states,
       (
-        a .pre .1 .0,
+        corners,
         (
-          filled-below _ i _ _ (c .before .before .point-weights .ensures) (a .pre .1 .1 .0) (omega arith) (a .pre .0),
-          rw
-              (back (getD (a .args .values .now) i (pos 0)) (c .gain-of-arg .given)) (a .pre .1 .1 .1 .value i (omega arith)),
+          filled-below _ i _ _ (c .before .before .point-weights .ensures) points (omega arith) states,
+          rw (back (getD (a .args .values .now) i (pos 0)) (c .gain-of-arg .given)) (values .value i (omega arith)),
         ),
       ),
     )

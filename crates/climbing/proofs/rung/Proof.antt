@@ -6,6 +6,7 @@ use Rattle.plans.specs.Build.{someCoversAll}
 use Rattle.runs.specs.Demand3.{ModelAccepted, Event, after, steps, claim, PointsHold, BuildHolds}
 use Rattle.runs.specs.Demand3 as demand
 use Rattle.levels.specs.Storage.{Cells, Lent, cells, rows, lent}
+use Rattle.levels.proofs.Over.{AsLong}
 use Rattle.climbing.specs.Climb.{Climbed}
 use Rattle.climbing.proofs.Climbing.{few-states, built-given, built-accepted, climbed-next}
 use Rattle.climbing.proofs.rung.Statement.{statement}
@@ -38,20 +39,32 @@ of-accepted c = of-offer (of-totals c .before)
 abbrev of-built : tie.After-totals → tie.After-build
 of-built c = of-building (of-accepted c)
 
+-- what is handed in for the level, and what is left there
+abbrev answer : tie.Start → Cells
+answer s =
+    let a = s .args in
+    cells (a .newactions .now) (a .newchoices .now) (a .newmasks .now) (a .newentries .now) (a .newcorners .now) (a .given .now) (a .newvalues .now)
+
 abbrev built : tie.After-build → Cells
 built c =
-    let l = c .build .last .1 .1 .1 .1 .1 .1 .1 .1 .1 .1 .1 .1 .1 .1 .1 .1 in
-    cells (l .0) (l .1 .0) (l .1 .1 .0) (l .1 .1 .1 .0) (l .1 .1 .1 .1 .0) (start c .args .given .now) (l .1 .1 .1 .1 .1 .0)
+    let (_, (_, (_, (_, (_, (_, (_, (_, (_, (_, (_, (_, (_, (_, (_, (_, level)))))))))))))))) = c .build .last in
+    let (actions, (choices, (masks, (entries, (corners, (values, _)))))) = level in
+    cells actions choices masks entries corners (start c .args .given .now) values
+
+built-long : (c : tie.After-build) → AsLong (answer (start c)) (built c)
+built-long c =
+    let (_, (_, (_, (_, (_, (_, (_, (_, (_, (_, (_, (_, (_, (_, (_, (_, level)))))))))))))))) = c .build .kept in
+    let (actions, (choices, (masks, (entries, (corners, (values, _)))))) = level in
+    record { actions = actions; choices = choices; masks = masks; entries = entries; corners = corners; weights = refl; values = values }
 
 -- what is built without a list
 unlisted : (c : tie.After-build) → let a = start c .args in
     let m = tablesIn (a .c) (a .transition .now) (a .observation .now) (a .reward .now) in
     let x = lent (a .state .now) (cells (a .actions .now) (a .choices .now) (a .masks .now) (a .entries .now) (a .corners .now) (a .weights .now)
     (a .values .now)) (rows (a .informed .now) (a .qmdp .now)) in
-    let y = cells (a .newactions .now) (a .newchoices .now) (a .newmasks .now) (a .newentries .now) (a .newcorners .now) (a .given .now) (a .newvalues .now) in
     (m₀ : Tables) (x₀ : Lent) (es : List Event) → ModelAccepted m₀ x₀ → demand.certifier m x ≡ after m₀ x₀ es → steps m₀ x₀ es < maxLevels
-    → someCoversAll (modelOf m) (claim m₀ x₀ es .level) ≡ true → PointsHold m x₀ 1 y
-    → BuildHolds m x (claim m₀ x₀ es) 1 y (c .build .result) (built c)
+    → someCoversAll (modelOf m) (claim m₀ x₀ es .level) ≡ true → PointsHold m x₀ 1 (answer (start c))
+    → BuildHolds m x (claim m₀ x₀ es) 1 (answer (start c)) (c .build .result) (built c)
 unlisted c m₀ x₀ es o q h k p = c .build .ensures .1 .1 (start c .args .choices .now) m₀ x₀ es o q h k p refl
 
 served-requires : tie.Need-served-requires
@@ -73,9 +86,8 @@ served-requires-2 c κs =
 -- what is left in the slices
 abbrev certifier : tie.After-offer → Lent
 certifier c =
-    let l = c .offer .last .1 .1 .1 .1 .1 in
-    let r = l .1 .1 .1 .1 in
-    lent (l .0) (cells (l .1 .0) (l .1 .1 .0) (l .1 .1 .1 .0) (r .0) (r .1 .0) (r .1 .1 .0) (r .1 .1 .1 .0)) (rows (r .1 .1 .1 .1 .0) (r .1 .1 .1 .1 .1 .0))
+    let (_, (_, (_, (_, (_, (state, (actions, (choices, (masks, (entries, (corners, (weights, (values, (informed, (qmdp, _))))))))))))))) = c .offer .last in
+    lent state (cells actions choices masks entries corners weights values) (rows informed qmdp)
 
 -- one level higher
 climbed : (c : tie.After-served2) → let o = of-offer (c .before) in let a = start (of-building o) .args in
@@ -91,16 +103,10 @@ returns c = (climbed (of-totals c), c .totals .ensures .0 (certifier (of-accepte
 
 pub rung-spec : {M : Type 1} → statement M
 rung-spec =
-    tie.close (tie.spec (λ c. search needs) (λ c κs. search needs) served-requires (λ c. search needs) add-offer (λ c κs. search needs)
-    served-requires-2 (λ c κs. search needs)
-    (λ c. of-accepted c .offer .kept .1 .1 .1 .1 .1 .0) (λ c. of-accepted c .offer .kept .1 .1 .1 .1 .1 .1 .0)
-    (λ c. of-accepted c .offer .kept .1 .1 .1 .1 .1 .1 .1 .0) (λ c. of-accepted c .offer .kept .1 .1 .1 .1 .1 .1 .1 .1 .0)
-    (λ c. of-accepted c .offer .kept .1 .1 .1 .1 .1 .1 .1 .1 .1 .0) (λ c. of-accepted c .offer .kept .1 .1 .1 .1 .1 .1 .1 .1 .1 .1 .0)
-    (λ c. of-accepted c .offer .kept .1 .1 .1 .1 .1 .1 .1 .1 .1 .1 .1 .0) (λ c. of-accepted c .offer .kept .1 .1 .1 .1 .1 .1 .1 .1 .1 .1 .1 .1 .0)
-    (λ c. of-accepted c .offer .kept .1 .1 .1 .1 .1 .1 .1 .1 .1 .1 .1 .1 .1 .0) (λ c. of-accepted c .offer .kept .1 .1 .1 .1 .1 .1 .1 .1 .1 .1 .1 .1 .1 .1 .0)
-    (λ c. of-built c .build .kept .1 .1 .1 .1 .1 .1 .1 .1 .1 .1 .1 .1 .1 .1 .1 .1 .0)
-    (λ c. of-built c .build .kept .1 .1 .1 .1 .1 .1 .1 .1 .1 .1 .1 .1 .1 .1 .1 .1 .1 .0)
-    (λ c. of-built c .build .kept .1 .1 .1 .1 .1 .1 .1 .1 .1 .1 .1 .1 .1 .1 .1 .1 .1 .1 .0)
-    (λ c. of-built c .build .kept .1 .1 .1 .1 .1 .1 .1 .1 .1 .1 .1 .1 .1 .1 .1 .1 .1 .1 .1 .0)
-    (λ c. of-built c .build .kept .1 .1 .1 .1 .1 .1 .1 .1 .1 .1 .1 .1 .1 .1 .1 .1 .1 .1 .1 .1 .0)
-    (λ c. of-built c .build .kept .1 .1 .1 .1 .1 .1 .1 .1 .1 .1 .1 .1 .1 .1 .1 .1 .1 .1 .1 .1 .1 .0) returns)
+    tie.close (tie.spec (λ c. search needs) (λ c κs. search needs) served-requires (λ c. search needs) add-offer (λ c κs. search needs) served-requires-2
+    (λ c κs. search needs) (λ c. search (of-accepted c .offer .kept)) (λ c. search (of-accepted c .offer .kept)) (λ c. search (of-accepted c .offer .kept))
+    (λ c. search (of-accepted c .offer .kept)) (λ c. search (of-accepted c .offer .kept)) (λ c. search (of-accepted c .offer .kept))
+    (λ c. search (of-accepted c .offer .kept)) (λ c. search (of-accepted c .offer .kept)) (λ c. search (of-accepted c .offer .kept))
+    (λ c. search (of-accepted c .offer .kept)) (λ c. built-long (of-built c) .actions) (λ c. built-long (of-built c) .choices)
+    (λ c. built-long (of-built c) .masks) (λ c. built-long (of-built c) .entries) (λ c. built-long (of-built c) .corners) (λ c. built-long (of-built c) .values)
+    returns)

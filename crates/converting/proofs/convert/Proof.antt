@@ -42,26 +42,25 @@ returns-2 c =
 from-counts-requires : tie.Need-from-counts-requires
 from-counts-requires c κs =
     let h = c .before .before .before .before in let p = of-header h .before in
-    let g = c .before .before .n .given in let n = g .0 .1 .1 in
-    let w = headed-within (start (h .before) .args .file .now) (g .0 .0) (g .0 .1 .0) (n .0) (n .1 .0) (n .1 .1 .0) (h .header-at .ensures .within)
-    (g .1) in
+    let ((states, (actions, (observations, (discount, (next, _))))), told) = c .before .before .n .given in
+    let w = headed-within (start (h .before) .args .file .now) states actions observations discount next (h .header-at .ensures .within) told in
     (w .1, (w .0, p .if1 .left))
 
 returns-3 : tie.Need-returns-3
 returns-3 c =
     let h = c .before .before .before .before in let p = of-header h in
-    let a = start p .args in let g = c .before .before .number .given in
+    let a = start p .args in let ((number, (place, _)), told) = c .before .before .number .given in
     convert-answers (a .file .now) (a .out .now) (answers-refused (converted (a .file .now)) (a .out .now)
-    (unheaded (a .file .now) (h .header-at .ensures) (g .0 .0) (g .0 .1 .0) (g .1) ∙ judged p) (c .refusal3 .ensures) refl)
+    (unheaded (a .file .now) (h .header-at .ensures) number place told ∙ judged p) (c .refusal3 .ensures) refl)
 
 returns-4 : tie.Need-returns-4
 returns-4 c =
     let p = c .before .before .before .before .before in let f = c .before .before in let h = p .before .before in
-    let a = start (h .before) .args in let g = p .n .given in let n = g .0 .1 .1 in
-    let r = f .from-counts .result in let after = f .from-counts .last .1 .1 .1 .0 in
-    convert-answers (a .file .now) (a .out .now) (subst (λ (v : Verdict). AnswersText v (converted (a .file .now)) (a .out .now) r after)
-    (judged (h .before)) (subst (λ (x : ModelFile). AnswersFile x (a .out .now) r after)
-    (headed (a .file .now) (h .header-at .ensures) (g .0 .0) (g .0 .1 .0) (n .0) (n .1 .0) (n .1 .1 .0) (g .1)) (f .from-counts .ensures)))
+    let a = start (h .before) .args in let ((states, (actions, (observations, (discount, (next, _))))), told) = p .n .given in
+    let r = f .from-counts .result in let (_, (_, (_, (out, _)))) = f .from-counts .last in
+    convert-answers (a .file .now) (a .out .now) (subst (λ (v : Verdict). AnswersText v (converted (a .file .now)) (a .out .now) r out)
+    (judged (h .before)) (subst (λ (x : ModelFile). AnswersFile x (a .out .now) r out)
+    (headed (a .file .now) (h .header-at .ensures) states actions observations discount next told) (f .from-counts .ensures)))
 
 pub convert-spec : {M : Type 1} → statement M
 convert-spec =

@@ -31,7 +31,9 @@ abbrev file : tie.After-body-at → ModelFile
 file c = let a = start c .args in ended (length (a .file .now)) (body true (length (a .file .now) + 1) (a .c) (wordsIn between (a .file .now) (a .at)))
 
 abbrev read : tie.After-body-at → ModelFile
-read c = let l = c .body-at .last .1 .1 .1 .1 in fileOf (c .body-at .result .counts) (l .0) (l .1 .0) (l .1 .1 .0) (l .1 .1 .1 .0)
+read c =
+    let (_, (_, (_, (_, (transition, (observation, (outcomes, (start, _)))))))) = c .body-at .last in
+    fileOf (c .body-at .result .counts) transition observation outcomes start
 
 same : (c : tie.After-enum-told) → read (of-body c) ≡ file (of-body c)
 same c =
@@ -45,12 +47,12 @@ sound c =
     let f = s .args .file .now in
     body-sound (body-holds (s .args .c) (s .pre .1 .0) (length f) true (length f + 1) (wordsIn between f (s .args .at)) (same c) refl)
 
-long : (c : tie.After-body-at) → let l = c .body-at .last .1 .1 .1 .1 in Long (l .0) (l .1 .0) (l .1 .1 .0) (l .1 .1 .1 .0)
-long c = let k = c .body-at .kept .1 .1 .1 .1 in record {
-  transitions = k .0 ∙ length-replicate {A = ℕ} (maxActions * maxStates * maxStates) 0;
-  observed = k .1 .0 ∙ length-replicate {A = ℕ} (maxActions * maxStates * maxObservations) 0;
-  stated = k .1 .1 .0 ∙ length-replicate {A = ℤ} (maxActions * maxConverted * maxConverted * maxObservations) (pos 0);
-  begins = k .1 .1 .1 .0 ∙ length-replicate {A = ℕ} maxStates 0;
+long : (c : tie.After-body-at) → let m = read c .tables in Long (m .transition) (m .observation) (m .reward) (read c .start)
+long c = let (_, (_, (_, (_, (transition, (observation, (outcomes, (start, _)))))))) = c .body-at .kept in record {
+  transitions = transition ∙ length-replicate {A = ℕ} (maxActions * maxStates * maxStates) 0;
+  observed = observation ∙ length-replicate {A = ℕ} (maxActions * maxStates * maxObservations) 0;
+  stated = outcomes ∙ length-replicate {A = ℤ} (maxActions * maxConverted * maxConverted * maxObservations) (pos 0);
+  begins = start ∙ length-replicate {A = ℕ} maxStates 0;
 }
 
 body-at-requires : tie.Need-body-at-requires
@@ -68,9 +70,8 @@ write-expected-requires c κs = let t = after-transition3 c .before in (sound t,
 returns-2 : tie.Need-returns-2
 returns-2 c =
     let w = c .before .before in let t = after-transition3 (w .before) .before in
-    let after = w .write-expected .last .1 .1 .1 .1 .1 .0 in
-    subst (λ (x : ModelFile). AnswersFile x (start (of-body t) .args .out .now) (w .write-expected .result) after) (same t)
-    (w .write-expected .ensures)
+    let (_, (_, (_, (_, (_, (out, _)))))) = w .write-expected .last in
+    subst (λ (x : ModelFile). AnswersFile x (start (of-body t) .args .out .now) (w .write-expected .result) out) (same t) (w .write-expected .ensures)
 
 pub from-counts-spec : {M : Type 1} → statement M
 from-counts-spec =

@@ -55,7 +55,8 @@ returns-2 c =
     answers-refused (expectedText (read s)) (s .args .out .now) (sym e ∙ judged x) (c .refusal2 .ensures ∙ ap nothing e) refl
 
 -- the rewards that are laid where nothing is refused
-laid : (c : tie.After-expect) → c .expect .result ≡ Fine → c .expect .last .1 .1 .1 .1 .0 ≡ expectedRewards (read (start (few c)))
+laid : (c : tie.After-expect) → c .expect .result ≡ Fine
+    → let (_, (_, (_, (_, (reward, _))))) = c .expect .last in reward ≡ expectedRewards (read (start (few c)))
 laid c e =
     c .expect .ensures .1
     ∙ ap (λ (v : Verdict). left v (expectedRewards (read (start (few c)))) (replicate (maxActions * maxConverted) (pos 0))) (sym (c .expect .ensures .0) ∙ e)

@@ -15,7 +15,7 @@ says : (c : tie.Else1) → let a = c .before .before .before .args in Says (a .n
 says c = c .before .before .before .pre .1 .0 .listed (omega (arith, c .if1 .left))
 
 backups-requires-2 : tie.Need-backups-requires-2
-backups-requires-2 c κs = let pre = start c .pre in (pre .0, (says c .columns, (pre .1 .1 .0, pre .1 .1 .1)))
+backups-requires-2 c κs = let (counts, (_, (rewards, foreseen))) = start c .pre in (counts, (says c .columns, (rewards, foreseen)))
 
 returns-2 : tie.Need-returns-2
 returns-2 c =

@@ -43,24 +43,24 @@ returns-2 : tie.Need-returns-2
 unfolding entryBy
 returns-2 c =
     let from = before-pair-from (before-number-of (c .before .before) .before) in let a = from .args in
-    let g = c .before .before .before .before .i .given in
+    let ((place, (past-place, _)), place-told) = c .before .before .before .before .i .given in
     let p = before-number-of (c .before .before) .before .pair-from .ensures in
-    leaves-on (a .cells .now) (g .0 .0) (g .0 .1 .0)
+    leaves-on (a .cells .now) place past-place
     (λ x ws. upon (a .cells .now) (probability ws) (λ p ws. filled (stated (a .m) (a .n) (a .w) (a .a) (a .s) x p (a .cells .now)) ws))
-    (takes-reads (index (a .w)) (p .first .within (from .pre .0 .0)) (before-number-of (c .before .before) .index-of .ensures)) (g .1)
-    (leaves-back (a .cells .now) (λ p ws. filled (stated (a .m) (a .n) (a .w) (a .a) (a .s) (g .0 .0) p (a .cells .now)) ws) (takes-reads probability
-    (second-word (g .0 .0) (g .0 .1 .0) p (from .pre .0 .0) (before-number-of (c .before .before) .index-of .ensures) (g .1))
+    (takes-reads (index (a .w)) (p .first .within (from .pre .0 .0)) (before-number-of (c .before .before) .index-of .ensures)) place-told
+    (leaves-back (a .cells .now) (λ p ws. filled (stated (a .m) (a .n) (a .w) (a .a) (a .s) place p (a .cells .now)) ws) (takes-reads probability
+    (second-word place past-place p (from .pre .0 .0) (before-number-of (c .before .before) .index-of .ensures) place-told)
     (c .before .before .number-of .ensures)) (c .before .match2 .keys2))
 
 cast-state : tie.Need-cast-state
 cast-state c =
-    let n = c .before .before .before .before in let g = after-i c .i .given in
+    let n = c .before .before .before .before in let ((place, (past-place, _)), place-told) = after-i c .i .given in
     let p = before-number-of n .before .pair-from .ensures in
     omega (
       arith,
-      value-next _ _ (takes-reads probability (second-word (g .0 .0) (g .0 .1 .0) p
+      value-next _ _ (takes-reads probability (second-word place past-place p
           (before-pair-from (before-number-of n .before) .pre .0 .0)
-          (before-number-of n .index-of .ensures) (g .1)) (n .number-of .ensures))
+          (before-number-of n .index-of .ensures) place-told) (n .number-of .ensures))
           (c .before .before .p .given .1) .0,
     )
 
@@ -86,14 +86,14 @@ unfolding entryBy
 returns-3 c =
     let u = c .before .before .before .before .before in
     let from = before-pair-from (before-number-of (u .before .before) .before) in let a = from .args in
-    let g = after-i (c .before .before .before) .i .given in let h = u .p .given in
+    let ((place, (past-place, _)), place-told) = after-i (c .before .before .before) .i .given in let ((number, (past-number, _)), number-told) = u .p .given in
     let p = before-number-of (u .before .before) .before .pair-from .ensures in
-    leaves-on (a .cells .now) (g .0 .0) (g .0 .1 .0)
+    leaves-on (a .cells .now) place past-place
     (λ x ws. upon (a .cells .now) (probability ws) (λ p ws. filled (stated (a .m) (a .n) (a .w) (a .a) (a .s) x p (a .cells .now)) ws))
-    (takes-reads (index (a .w)) (p .first .within (from .pre .0 .0)) (before-number-of (u .before .before) .index-of .ensures)) (g .1)
-    (leaves-done (a .cells .now) (λ p. stated (a .m) (a .n) (a .w) (a .a) (a .s) (g .0 .0) p (a .cells .now)) (h .0 .0) (h .0 .1 .0)
-    (takes-reads probability (second-word (g .0 .0) (g .0 .1 .0) p (from .pre .0 .0) (before-number-of (u .before .before) .index-of .ensures) (g .1))
-    (u .before .before .number-of .ensures)) (h .1) (c .before .before .state .ensures))
+    (takes-reads (index (a .w)) (p .first .within (from .pre .0 .0)) (before-number-of (u .before .before) .index-of .ensures)) place-told
+    (leaves-done (a .cells .now) (λ p. stated (a .m) (a .n) (a .w) (a .a) (a .s) place p (a .cells .now)) number past-number
+    (takes-reads probability (second-word place past-place p (from .pre .0 .0) (before-number-of (u .before .before) .index-of .ensures) place-told)
+    (u .before .before .number-of .ensures)) number-told (c .before .before .state .ensures))
 
 pub entry-at-spec : {M : Type 1} → statement M
 entry-at-spec =

@@ -26,9 +26,9 @@ returns-2 : tie.Need-returns-2
 unfolding indexed
 returns-2 c =
     let k = c .before .before .before in let a = k .before .before .before .before in
-    let g = c .before .enum-told .given in let p = k .before .before .pair-from .ensures in
-    reads-on (g .0 .0) (g .0 .1 .0) (λ _ ws. index (a .args .n) ws) (takes-reads (key colon) (p .first .within (a .pre .0)) (k .key-of .ensures))
-    (g .1) (takes-reads (index (a .args .n)) (second-word (g .0 .0) (g .0 .1 .0) p (a .pre .0) (k .key-of .ensures) (g .1)) (c .index-of .ensures))
+    let ((mark, (past-mark, _)), told) = c .before .enum-told .given in let p = k .before .before .pair-from .ensures in
+    reads-on mark past-mark (λ _ ws. index (a .args .n) ws) (takes-reads (key colon) (p .first .within (a .pre .0)) (k .key-of .ensures)) told
+    (takes-reads (index (a .args .n)) (second-word mark past-mark p (a .pre .0) (k .key-of .ensures) told) (c .index-of .ensures))
 
 pub indexed-at-spec : {M : Type 1} → statement M
 indexed-at-spec =

@@ -23,7 +23,7 @@ abbrev after-number-at : tie.After-enum-told Inv-loop μ-loop → tie.After-numb
 after-number-at c = c .before .before
 
 number-at-requires : tie.Need-number-at-requires Inv-loop μ-loop
-number-at-requires c κs = (c .before .loop .inv .1 .inside, start (c .before) .pre .1 .1 .1 .0)
+number-at-requires c κs = let (_, (_, (_, (short, _)))) = start (c .before) .pre in (c .before .loop .inv .1 .inside, short)
 
 returns : tie.Need-returns Inv-loop μ-loop
 returns c =
@@ -32,22 +32,22 @@ returns c =
 
 cast-state : tie.Need-cast-state Inv-loop μ-loop
 cast-state c =
-    let n = c .before .before .before .before in
-    omega (arith, start (at-loop c) .pre .1 .1 .1 .1, value-next _ _ (n .number-at .ensures) (c .before .before .p .given .1) .0)
+    let n = c .before .before .before .before in let (_, (_, (_, (_, most)))) = start (at-loop c) .pre in
+    omega (arith, most, value-next _ _ (n .number-at .ensures) (c .before .before .p .given .1) .0)
 
 state-requires : tie.Need-state-requires Inv-loop μ-loop
 state-requires c κs =
-    let a = start (at-loop c) in let r = a .pre .0 .1 in (
-      (r .few-blocks, (r .few-rows, r .few-places)),
-      ((a .pre .1 .0, (a .pre .1 .1 .0, omega arith)), omega (arith, r .long, at-loop c .loop .inv .1 .long)),
+    let ((_, fits), (block, (row, _))) = start (at-loop c) .pre in (
+      (fits .few-blocks, (fits .few-rows, fits .few-places)),
+      ((block, (row, omega arith)), omega (arith, fits .long, at-loop c .loop .inv .1 .long)),
     )
 
 loop-again : tie.Need-loop-again Inv-loop μ-loop
 loop-again c =
-    let p = c .before .before .before .before .before in let g = p .p .given in (
+    let p = c .before .before .before .before .before in let ((value, (next, _)), told) = p .p .given in (
       omega arith,
-      row-on _ _ _ _ _ _ (at-loop (c .before .before .before) .loop .inv .1) (g .0 .0) (g .0 .1 .0) (omega arith)
-          (p .before .before .number-at .ensures) (g .1) (c .before .before .state .ensures) (c .before .before .state .kept .0),
+      row-on _ _ _ _ _ _ (at-loop (c .before .before .before) .loop .inv .1) value next (omega arith)
+          (p .before .before .number-at .ensures) told (c .before .before .state .ensures) (c .before .before .state .kept .0),
     )
 
 returns-2 : tie.Need-returns-2 Inv-loop μ-loop

@@ -42,10 +42,10 @@ returns-2 : tie.Need-returns-2
 unfolding tableBy
 returns-2 c =
     let a = before-indexed-at (before-indexed-at2 (c .before .before)) .args in
-    let g = c .before .before .before .before .i .given in
-    leaves-on (a .cells .now) (g .0 .0) (g .0 .1 .0) (after (a .m) (a .n) (a .w) (a .cells .now))
-    (before-indexed-at2 (c .before .before) .indexed-at .ensures) (g .1) (leaves-back (a .cells .now)
-    (cells-after (a .m) (a .n) (a .w) (a .cells .now) (g .0 .0)) (c .before .before .indexed-at2 .ensures) (c .before .match2 .keys2))
+    let ((action, (past-action, _)), action-told) = c .before .before .before .before .i .given in
+    leaves-on (a .cells .now) action past-action (after (a .m) (a .n) (a .w) (a .cells .now))
+    (before-indexed-at2 (c .before .before) .indexed-at .ensures) action-told (leaves-back (a .cells .now)
+    (cells-after (a .m) (a .n) (a .w) (a .cells .now) action) (c .before .before .indexed-at2 .ensures) (c .before .match2 .keys2))
 
 key-at-requires : tie.Need-key-at-requires
 key-at-requires c κs = let i = c .before .before .before .before in value-next _ _ (i .indexed-at2 .ensures) (c .before .before .j .given .1) .1 .1
@@ -54,8 +54,8 @@ row-at-requires : tie.Need-row-at-requires
 row-at-requires c κs =
     let p = after-j (c .before .before .before) in let i = value-next _ _ (before-indexed-at2 (p .before .before) .indexed-at .ensures)
     (before-key-at (c .before .before .before) .before .before .i .given .1) in
-    let h = p .j .given in
-    let j = value-next (h .0 .0) (h .0 .1 .0) (p .before .before .indexed-at2 .ensures) (h .1) in (
+    let ((state, (past-state, _)), state-told) = p .j .given in
+    let j = value-next state past-state (p .before .before .indexed-at2 .ensures) state-told in (
       (j .1 .1, before-indexed-at (before-indexed-at2 (p .before .before)) .pre .1),
       (i .0, (j .0, (omega arith, omega arith))),
     )
@@ -65,11 +65,12 @@ unfolding tableBy
 returns-3 c =
     let m = c .before .before .before .before .before in
     let a = before-indexed-at (before-indexed-at2 (before-key-at (m .before))) .args in
-    let g = before-key-at (m .before) .before .before .i .given in let h = after-j (m .before) .j .given in
-    leaves-on (a .cells .now) (g .0 .0) (g .0 .1 .0) (after (a .m) (a .n) (a .w) (a .cells .now))
-    (before-indexed-at2 (before-key-at (m .before)) .indexed-at .ensures) (g .1) (leaves-on (a .cells .now) (h .0 .0) (h .0 .1 .0)
-    (cells-after (a .m) (a .n) (a .w) (a .cells .now) (g .0 .0)) (before-key-at (m .before) .indexed-at2 .ensures) (h .1) (chooses-back
-    (λ ws. entry (a .m) (a .n) (a .w) (g .0 .0) (h .0 .0) (a .cells .now) ws) _ (m .before .key-at .ensures) (m .match3 .keys2)
+    let ((action, (past-action, _)), action-told) = before-key-at (m .before) .before .before .i .given in
+    let ((state, (past-state, _)), state-told) = after-j (m .before) .j .given in
+    leaves-on (a .cells .now) action past-action (after (a .m) (a .n) (a .w) (a .cells .now))
+    (before-indexed-at2 (before-key-at (m .before)) .indexed-at .ensures) action-told (leaves-on (a .cells .now) state past-state
+    (cells-after (a .m) (a .n) (a .w) (a .cells .now) action) (before-key-at (m .before) .indexed-at2 .ensures) state-told (chooses-back
+    (λ ws. entry (a .m) (a .n) (a .w) action state (a .cells .now) ws) _ (m .before .key-at .ensures) (m .match3 .keys2)
     (c .before .before .row-at .ensures)))
 
 entry-at-requires : tie.Need-entry-at-requires
@@ -90,14 +91,14 @@ unfolding tableBy
 returns-4 c =
     let p = c .before .before .before .before .before in
     let a = before-indexed-at (before-indexed-at2 (before-key-at (p .before .before))) .args in
-    let g = before-key-at (p .before .before) .before .before .i .given in let e = p .c .given in
-    let h = after-j (p .before .before) .j .given in
-    leaves-on (a .cells .now) (g .0 .0) (g .0 .1 .0) (after (a .m) (a .n) (a .w) (a .cells .now))
-    (before-indexed-at2 (before-key-at (p .before .before)) .indexed-at .ensures) (g .1) (leaves-on (a .cells .now) (h .0 .0) (h .0 .1 .0)
-    (cells-after (a .m) (a .n) (a .w) (a .cells .now) (g .0 .0)) (before-key-at (p .before .before) .indexed-at2 .ensures) (h .1)
-    (chooses-on (λ ws. entry (a .m) (a .n) (a .w) (g .0 .0) (h .0 .0) (a .cells .now) ws)
-    (row probability (stated (a .m) (a .n) (a .w) (g .0 .0) (h .0 .0)) 0 (a .w) (a .cells .now) (wordsIn between (a .file .now) (h .0 .1 .0)))
-    (e .0 .0) (e .0 .1 .0) (p .before .before .key-at .ensures) (e .1) (c .before .before .entry-at .ensures)))
+    let ((action, (past-action, _)), action-told) = before-key-at (p .before .before) .before .before .i .given in
+    let ((mark, (past-mark, _)), mark-told) = p .c .given in let ((state, (past-state, _)), state-told) = after-j (p .before .before) .j .given in
+    leaves-on (a .cells .now) action past-action (after (a .m) (a .n) (a .w) (a .cells .now))
+    (before-indexed-at2 (before-key-at (p .before .before)) .indexed-at .ensures) action-told (leaves-on (a .cells .now) state past-state
+    (cells-after (a .m) (a .n) (a .w) (a .cells .now) action) (before-key-at (p .before .before) .indexed-at2 .ensures) state-told
+    (chooses-on (λ ws. entry (a .m) (a .n) (a .w) action state (a .cells .now) ws)
+    (row probability (stated (a .m) (a .n) (a .w) action state) 0 (a .w) (a .cells .now) (wordsIn between (a .file .now) past-state))
+    mark past-mark (p .before .before .key-at .ensures) mark-told (c .before .before .entry-at .ensures)))
 
 pub table-at-spec : {M : Type 1} → statement M
 table-at-spec = tie.close (tie.spec (λ c κs. search needs) (λ c. search needs) (λ c. search needs) returns indexed-at-requires-2 (λ c. search needs)

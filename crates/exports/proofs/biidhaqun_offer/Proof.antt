@@ -14,9 +14,7 @@ returns c =
 
 pub biidhaqun-offer-spec : {M : Type 1} → statement M
 biidhaqun-offer-spec =
-    tie.close (tie.spec (λ c κs. search needs) (λ c κs. search needs)
-    (λ c. called c .offer .kept .1 .1 .1 .1 .1 .0) (λ c. called c .offer .kept .1 .1 .1 .1 .1 .1 .0) (λ c. called c .offer .kept .1 .1 .1 .1 .1 .1 .1 .0)
-    (λ c. called c .offer .kept .1 .1 .1 .1 .1 .1 .1 .1 .0) (λ c. called c .offer .kept .1 .1 .1 .1 .1 .1 .1 .1 .1 .0)
-    (λ c. called c .offer .kept .1 .1 .1 .1 .1 .1 .1 .1 .1 .1 .0) (λ c. called c .offer .kept .1 .1 .1 .1 .1 .1 .1 .1 .1 .1 .1 .0)
-    (λ c. called c .offer .kept .1 .1 .1 .1 .1 .1 .1 .1 .1 .1 .1 .1 .0) (λ c. called c .offer .kept .1 .1 .1 .1 .1 .1 .1 .1 .1 .1 .1 .1 .1 .0)
-    (λ c. called c .offer .kept .1 .1 .1 .1 .1 .1 .1 .1 .1 .1 .1 .1 .1 .1 .0) returns)
+    tie.close (tie.spec (λ c κs. search needs) (λ c κs. search needs) (λ c. search (called c .offer .kept)) (λ c. search (called c .offer .kept))
+    (λ c. search (called c .offer .kept)) (λ c. search (called c .offer .kept)) (λ c. search (called c .offer .kept)) (λ c. search (called c .offer .kept))
+    (λ c. search (called c .offer .kept)) (λ c. search (called c .offer .kept)) (λ c. search (called c .offer .kept)) (λ c. search (called c .offer .kept))
+    returns)

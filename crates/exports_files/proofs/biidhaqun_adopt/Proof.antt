@@ -17,10 +17,6 @@ returns c =
 
 pub biidhaqun-adopt-spec : {M : Type 1} → statement M
 biidhaqun-adopt-spec =
-    tie.close (tie.spec (λ c κs. search needs) (λ c κs. search needs)
-    (λ c. called c .adopt .kept .1 .1 .1 .1 .1 .1 .1 .1 .1 .1 .1 .1 .1 .1 .1 .1 .1 .0)
-    (λ c. called c .adopt .kept .1 .1 .1 .1 .1 .1 .1 .1 .1 .1 .1 .1 .1 .1 .1 .1 .1 .1 .0)
-    (λ c. called c .adopt .kept .1 .1 .1 .1 .1 .1 .1 .1 .1 .1 .1 .1 .1 .1 .1 .1 .1 .1 .1 .0)
-    (λ c. called c .adopt .kept .1 .1 .1 .1 .1 .1 .1 .1 .1 .1 .1 .1 .1 .1 .1 .1 .1 .1 .1 .1 .0)
-    (λ c. called c .adopt .kept .1 .1 .1 .1 .1 .1 .1 .1 .1 .1 .1 .1 .1 .1 .1 .1 .1 .1 .1 .1 .1 .0)
-    (λ c. called c .adopt .kept .1 .1 .1 .1 .1 .1 .1 .1 .1 .1 .1 .1 .1 .1 .1 .1 .1 .1 .1 .1 .1 .1 .0) returns)
+    tie.close (tie.spec (λ c κs. search needs) (λ c κs. search needs) (λ c. search (called c .adopt .kept)) (λ c. search (called c .adopt .kept))
+    (λ c. search (called c .adopt .kept)) (λ c. search (called c .adopt .kept)) (λ c. search (called c .adopt .kept)) (λ c. search (called c .adopt .kept))
+    returns)

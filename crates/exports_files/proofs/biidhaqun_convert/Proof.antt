@@ -11,4 +11,4 @@ returns : tie.Need-returns
 returns c = let a = called c .convert .ensures in (rw (c .refusal-of .ensures) (ap conversionBy (a .0)), a .1)
 
 pub biidhaqun-convert-spec : {M : Type 1} → statement M
-biidhaqun-convert-spec = tie.close (tie.spec (λ c κs. search needs) (λ c κs. search needs) (λ c. called c .convert .kept .1 .0) returns)
+biidhaqun-convert-spec = tie.close (tie.spec (λ c κs. search needs) (λ c κs. search needs) (λ c. search (called c .convert .kept)) returns)

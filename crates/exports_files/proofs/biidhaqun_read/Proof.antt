@@ -12,5 +12,5 @@ returns c = let a = called c .read .ensures in (rw (c .before .refusal-of .ensur
 
 pub biidhaqun-read-spec : {M : Type 1} → statement M
 biidhaqun-read-spec =
-    tie.close (tie.spec (λ c κs. search needs) (λ c κs. search needs) (λ c. called c .read .kept .1 .0) (λ c. called c .read .kept .1 .1 .0)
-    (λ c. called c .read .kept .1 .1 .1 .0) (λ c. called c .read .kept .1 .1 .1 .1 .0) returns)
+    tie.close (tie.spec (λ c κs. search needs) (λ c κs. search needs) (λ c. search (called c .read .kept)) (λ c. search (called c .read .kept))
+    (λ c. search (called c .read .kept)) (λ c. search (called c .read .kept)) returns)

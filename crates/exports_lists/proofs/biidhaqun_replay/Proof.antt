@@ -19,9 +19,7 @@ returns c =
 
 pub biidhaqun-replay-spec : {M : Type 1} → statement M
 biidhaqun-replay-spec =
-    tie.close (tie.spec (λ c κs. search needs) (λ c κs. search needs)
-    (λ c. called c .replay .kept .1 .1 .1 .1 .0) (λ c. called c .replay .kept .1 .1 .1 .1 .1 .0) (λ c. called c .replay .kept .1 .1 .1 .1 .1 .1 .0)
-    (λ c. called c .replay .kept .1 .1 .1 .1 .1 .1 .1 .0) (λ c. called c .replay .kept .1 .1 .1 .1 .1 .1 .1 .1 .0)
-    (λ c. called c .replay .kept .1 .1 .1 .1 .1 .1 .1 .1 .1 .0) (λ c. called c .replay .kept .1 .1 .1 .1 .1 .1 .1 .1 .1 .1 .0)
-    (λ c. called c .replay .kept .1 .1 .1 .1 .1 .1 .1 .1 .1 .1 .1 .0) (λ c. called c .replay .kept .1 .1 .1 .1 .1 .1 .1 .1 .1 .1 .1 .1 .0)
-    (λ c. called c .replay .kept .1 .1 .1 .1 .1 .1 .1 .1 .1 .1 .1 .1 .1 .0) returns)
+    tie.close (tie.spec (λ c κs. search needs) (λ c κs. search needs) (λ c. search (called c .replay .kept)) (λ c. search (called c .replay .kept))
+    (λ c. search (called c .replay .kept)) (λ c. search (called c .replay .kept)) (λ c. search (called c .replay .kept)) (λ c. search (called c .replay .kept))
+    (λ c. search (called c .replay .kept)) (λ c. search (called c .replay .kept)) (λ c. search (called c .replay .kept)) (λ c. search (called c .replay .kept))
+    returns)

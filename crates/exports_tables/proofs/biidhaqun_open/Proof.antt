@@ -14,8 +14,6 @@ returns c =
 
 pub biidhaqun-open-spec : {M : Type 1} → statement M
 biidhaqun-open-spec =
-    tie.close (tie.spec (λ c κs. search needs) (λ c κs. search needs)
-    (λ c. called c .«open» .kept .1 .1 .1 .1 .0) (λ c. called c .«open» .kept .1 .1 .1 .1 .1 .0) (λ c. called c .«open» .kept .1 .1 .1 .1 .1 .1 .0)
-    (λ c. called c .«open» .kept .1 .1 .1 .1 .1 .1 .1 .0) (λ c. called c .«open» .kept .1 .1 .1 .1 .1 .1 .1 .1 .0)
-    (λ c. called c .«open» .kept .1 .1 .1 .1 .1 .1 .1 .1 .1 .0) (λ c. called c .«open» .kept .1 .1 .1 .1 .1 .1 .1 .1 .1 .1 .1 .1 .0)
-    (λ c. called c .«open» .kept .1 .1 .1 .1 .1 .1 .1 .1 .1 .1 .1 .1 .1 .0) returns)
+    tie.close (tie.spec (λ c κs. search needs) (λ c κs. search needs) (λ c. search (called c .«open» .kept)) (λ c. search (called c .«open» .kept))
+    (λ c. search (called c .«open» .kept)) (λ c. search (called c .«open» .kept)) (λ c. search (called c .«open» .kept)) (λ c. search (called c .«open» .kept))
+    (λ c. search (called c .«open» .kept)) (λ c. search (called c .«open» .kept)) returns)

@@ -14,7 +14,5 @@ returns c =
 
 pub biidhaqun-reprice-spec : {M : Type 1} → statement M
 biidhaqun-reprice-spec =
-    tie.close (tie.spec (λ c κs. search needs) (λ c κs. search needs) (λ c. called c .reprice .kept .1 .1 .1 .1 .1 .1 .1 .1 .1 .1 .1 .0)
-    (λ c. called c .reprice .kept .1 .1 .1 .1 .1 .1 .1 .1 .1 .1 .1 .1 .0) (λ c. called c .reprice .kept .1 .1 .1 .1 .1 .1 .1 .1 .1 .1 .1 .1 .1 .1 .0)
-    (λ c. called c .reprice .kept .1 .1 .1 .1 .1 .1 .1 .1 .1 .1 .1 .1 .1 .1 .1 .0)
-    (λ c. called c .reprice .kept .1 .1 .1 .1 .1 .1 .1 .1 .1 .1 .1 .1 .1 .1 .1 .1 .0) returns)
+    tie.close (tie.spec (λ c κs. search needs) (λ c κs. search needs) (λ c. search (called c .reprice .kept)) (λ c. search (called c .reprice .kept))
+    (λ c. search (called c .reprice .kept)) (λ c. search (called c .reprice .kept)) (λ c. search (called c .reprice .kept)) returns)

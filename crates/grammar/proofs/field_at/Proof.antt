@@ -19,8 +19,8 @@ number-at-requires c κs = let k = c .before .before .before in (value-next _ _ 
 returns-2 : tie.Need-returns-2
 unfolding field
 returns-2 c =
-    let k = c .before .before .before .before in let a = start k .args in let g = c .before .before .x .given in
-    reads-on (g .0 .0) (g .0 .1 .0) (λ _ ws. number (a .form) (a .least) (a .most) ws) (k .keys-at .ensures) (g .1) (c .number-at .ensures)
+    let k = c .before .before .before .before in let a = start k .args in let ((value, (next, _)), value-told) = c .before .before .x .given in
+    reads-on value next (λ _ ws. number (a .form) (a .least) (a .most) ws) (k .keys-at .ensures) value-told (c .number-at .ensures)
 
 pub field-at-spec : {M : Type 1} → statement M
 field-at-spec =

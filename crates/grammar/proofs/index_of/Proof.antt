@@ -20,8 +20,8 @@ returns c =
 returns-2 : tie.Need-returns-2
 unfolding index
 returns-2 c =
-    let k = c .before .before .before in let a = start k .args in let g = c .before .x .given in
-    takes-on (a .n) (number countForm 0 (a .n - 1) (told (a .file .now) (a .w))) (g .0 .0) (g .0 .1 .0) (k .key-of .ensures) (g .1)
+    let k = c .before .before .before in let a = start k .args in let ((value, (next, _)), value-told) = c .before .x .given in
+    takes-on (a .n) (number countForm 0 (a .n - 1) (told (a .file .now) (a .w))) value next (k .key-of .ensures) value-told
 
 pub index-of-spec : {M : Type 1} → statement M
 index-of-spec =

@@ -46,15 +46,15 @@ part-is-same-end c = omega (arith, lies-in (at-start (c .before) .args .file .no
 returns-2 : tie.Need-returns-2
 unfolding key
 returns-2 c =
-    let g = after-w (c .before) .w .given in
-    key-found (at-start (after-w (c .before)) .args .k .now) (at-start (after-w (c .before)) .args .file .now) (g .0 .0) (g .0 .1 .0) true (g .1)
+    let ((from, (to, _)), word-told) = after-w (c .before) .w .given in
+    key-found (at-start (after-w (c .before)) .args .k .now) (at-start (after-w (c .before)) .args .file .now) from to true word-told
     (sym (c .before .is-same .ensures) ∙ c .if1 .taken)
 
 returns-3 : tie.Need-returns-3
 unfolding key
 returns-3 c =
-    let g = after-w (c .before) .w .given in
-    key-found (at-start (after-w (c .before)) .args .k .now) (at-start (after-w (c .before)) .args .file .now) (g .0 .0) (g .0 .1 .0) false (g .1)
+    let ((from, (to, _)), word-told) = after-w (c .before) .w .given in
+    key-found (at-start (after-w (c .before)) .args .k .now) (at-start (after-w (c .before)) .args .file .now) from to false word-told
     (sym (c .before .is-same .ensures) ∙ c .if1 .left)
 
 pub key-of-spec : {M : Type 1} → statement M

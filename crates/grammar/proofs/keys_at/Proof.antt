@@ -27,11 +27,11 @@ key-of-requires-2 c κs =
 returns-2 : tie.Need-returns-2
 unfolding keys
 returns-2 c =
-    let k = c .before .before .before in let a = start (k .before) in let g = c .before .enum-told .given in
+    let k = c .before .before .before in let a = start (k .before) in let ((value, (next, _)), value-told) = c .before .enum-told .given in
     let p = k .before .pair-from .ensures in
-    reads-on (g .0 .0) (g .0 .1 .0) (λ _ ws. key (a .args .second .now) ws)
-    (takes-reads (key (a .args .first .now)) (p .first .within (a .pre)) (k .key-of .ensures)) (g .1)
-    (takes-reads (key (a .args .second .now)) (second-word (g .0 .0) (g .0 .1 .0) p (a .pre) (k .key-of .ensures) (g .1)) (c .key-of2 .ensures))
+    reads-on value next (λ _ ws. key (a .args .second .now) ws)
+    (takes-reads (key (a .args .first .now)) (p .first .within (a .pre)) (k .key-of .ensures)) value-told
+    (takes-reads (key (a .args .second .now)) (second-word value next p (a .pre) (k .key-of .ensures) value-told) (c .key-of2 .ensures))
 
 pub keys-at-spec : {M : Type 1} → statement M
 keys-at-spec = tie.close (tie.spec (λ c κs. search needs) key-of-requires (λ c. search needs) (λ c. search needs) returns key-of-requires-2 returns-2)

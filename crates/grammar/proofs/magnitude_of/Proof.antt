@@ -41,13 +41,13 @@ amount-in-requires c κs =
 returns-2 : tie.Need-returns-2
 unfolding magnitude
 returns-2 c =
-    let a = start (after-w (c .before)) .args in let g = after-w (c .before) .w .given in
-    let b = bytesOf (a .file .now) (g .0 .0) (g .0 .1 .0) in
+    let a = start (after-w (c .before)) .args in let ((from, (to, _)), word-told) = after-w (c .before) .w .given in
+    let b = bytesOf (a .file .now) from to in
     let e : drop (boolByte (c .before .is-negative .result)) b ≡ unsigned b =
     ap (λ (t : Bool). drop (boolByte t) b) (c .before .is-negative .ensures) ∙ past-minus (negative b) b in
-    takes-word (λ (w : List ℕ). limited 0 (a .most) (amountOf (a .form) (unsigned w))) (a .most) (g .0 .0) (g .0 .1 .0) (g .1)
+    takes-word (λ (w : List ℕ). limited 0 (a .most) (amountOf (a .form) (unsigned w))) (a .most) from to word-told
     (limited-below 0 (a .most) (amountOf (a .form) (unsigned b)))
-    (c .amount-in .ensures ∙ ap (λ (x : List ℕ). found (g .0 .0) (g .0 .1 .0) (limited 0 (a .most) (amountOf (a .form) x))) e)
+    (c .amount-in .ensures ∙ ap (λ (x : List ℕ). found from to (limited 0 (a .most) (amountOf (a .form) x))) e)
 
 pub magnitude-of-spec : {M : Type 1} → statement M
 magnitude-of-spec =

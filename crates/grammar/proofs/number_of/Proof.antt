@@ -20,9 +20,9 @@ amount-in-requires c κs =
 returns-2 : tie.Need-returns-2
 unfolding number
 returns-2 c =
-    let a = start (c .before .before) .args in let g = c .before .before .w .given in
-    takes-word (λ (w : List ℕ). limited (a .least) (a .most) (amountOf (a .form) w)) (a .most) (g .0 .0) (g .0 .1 .0) (g .1)
-    (limited-below (a .least) (a .most) (amountOf (a .form) (bytesOf (a .file .now) (g .0 .0) (g .0 .1 .0)))) (c .amount-in .ensures)
+    let a = start (c .before .before) .args in let ((from, (to, _)), word-told) = c .before .before .w .given in
+    takes-word (λ (w : List ℕ). limited (a .least) (a .most) (amountOf (a .form) w)) (a .most) from to word-told
+    (limited-below (a .least) (a .most) (amountOf (a .form) (bytesOf (a .file .now) from to))) (c .amount-in .ensures)
 
 pub number-of-spec : {M : Type 1} → statement M
 number-of-spec = tie.close (tie.spec (λ c. search needs) (λ c. search needs) returns amount-in-requires returns-2)

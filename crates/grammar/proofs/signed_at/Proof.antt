@@ -39,9 +39,9 @@ returns-2 : tie.Need-returns-2
 unfolding signedNumber
 returns-2 c =
     let x = c .before .before .before in let m = x .before .before in let a = start m .args in
-    let ws = wordsIn between (a .file .now) (a .at) in let g = x .x .given in
-    tells-as (signed (minus ws)) (g .0 .0) (g .0 .1 .0) (read m) (g .1) (answer (c .with-sign .ok)
-    (c .with-sign .ensures ∙ ap (λ (t : Bool). signed t (g .0 .0)) (c .before .minus-of .ensures ∙ sym (ap minus (worded (m .before) .is)))))
+    let ws = wordsIn between (a .file .now) (a .at) in let ((value, (next, _)), value-told) = x .x .given in
+    tells-as (signed (minus ws)) value next (read m) value-told (answer (c .with-sign .ok)
+    (c .with-sign .ensures ∙ ap (λ (t : Bool). signed t value) (c .before .minus-of .ensures ∙ sym (ap minus (worded (m .before) .is)))))
 
 pub signed-at-spec : {M : Type 1} → statement M
 signed-at-spec =

@@ -49,10 +49,10 @@ field-at-requires-2 c κs =
 returns-2 : tie.Need-returns-2
 returns-2 c =
     let f = c .before .before .before in let d = before-field-at (before-field-at2 f) .args .discount in
-    let g = after-x f .x .given in
+    let ((states, (past-states, _)), states-told) = after-x f .x .given in
     heads-on (λ n ws. field actionsName countForm 1 maxActions ws then λ m ws. field observationsName countForm 1 maxObservations ws then λ k ws. got
-    (countsWith n m k d) ws) (before-field-at2 f .field-at .ensures) (g .0 .0) (g .0 .1 .0) (g .1) (heads-back
-    (λ m ws. field observationsName countForm 1 maxObservations ws then λ k ws. got (countsWith (g .0 .0) m k d) ws) (f .field-at2 .ensures)
+    (countsWith n m k d) ws) (before-field-at2 f .field-at .ensures) states past-states states-told (heads-back
+    (λ m ws. field observationsName countForm 1 maxObservations ws then λ k ws. got (countsWith states m k d) ws) (f .field-at2 .ensures)
     (c .before .before .match2 .keys2) (c .back2 .ensures))
 
 field-at-requires-3 : tie.Need-field-at-requires-3
@@ -63,36 +63,36 @@ returns-3 : tie.Need-returns-3
 returns-3 c =
     let y = after-y (c .before .before .before) in let z = c .before .before .before in
     let d = before-field-at (before-field-at2 (before-field-at3 z)) .args .discount in
-    let g = after-x (before-field-at3 z) .x .given in let h = y .y .given in
+    let ((states, (past-states, _)), states-told) = after-x (before-field-at3 z) .x .given in let ((actions, (past-actions, _)), actions-told) = y .y .given in
     heads-on (λ n ws. field actionsName countForm 1 maxActions ws then λ m ws. field observationsName countForm 1 maxObservations ws then λ k ws. got
-    (countsWith n m k d) ws) (before-field-at2 (before-field-at3 z) .field-at .ensures) (g .0 .0) (g .0 .1 .0) (g .1) (heads-on
-    (λ m ws. field observationsName countForm 1 maxObservations ws then λ k ws. got (countsWith (g .0 .0) m k d) ws)
-    (before-field-at3 z .field-at2 .ensures) (h .0 .0) (h .0 .1 .0) (h .1)
-    (heads-back (λ k ws. got (countsWith (g .0 .0) (h .0 .0) k d) ws) (z .field-at3 .ensures) (c .before .before .match3 .keys2) (c .back3 .ensures)))
+    (countsWith n m k d) ws) (before-field-at2 (before-field-at3 z) .field-at .ensures) states past-states states-told (heads-on
+    (λ m ws. field observationsName countForm 1 maxObservations ws then λ k ws. got (countsWith states m k d) ws)
+    (before-field-at3 z .field-at2 .ensures) actions past-actions actions-told
+    (heads-back (λ k ws. got (countsWith states actions k d) ws) (z .field-at3 .ensures) (c .before .before .match3 .keys2) (c .back3 .ensures)))
 
 returns-4 : tie.Need-returns-4
 returns-4 c =
     let y = after-y (c .before .before .before) in let z = c .before .before .before in
     let start = before-field-at (before-field-at2 (before-field-at3 z)) in
     let d = start .args .discount in
-    let g = after-x (before-field-at3 z) .x .given in
-    let h = y .y .given in
-    let e = c .before .z .given in
+    let ((states, (past-states, _)), states-told) = after-x (before-field-at3 z) .x .given in
+    let ((actions, (past-actions, _)), actions-told) = y .y .given in
+    let ((observations, (past-observations, _)), observations-told) = c .before .z .given in
     heads-on (λ n ws. field actionsName countForm 1 maxActions ws then λ m ws. field observationsName countForm 1 maxObservations ws then λ k ws. got
-    (countsWith n m k d) ws) (before-field-at2 (before-field-at3 z) .field-at .ensures) (g .0 .0) (g .0 .1 .0) (g .1)
-    (heads-on (λ m ws. field observationsName countForm 1 maxObservations ws then λ k ws. got (countsWith (g .0 .0) m k d) ws)
-    (before-field-at3 z .field-at2 .ensures) (h .0 .0) (h .0 .1 .0) (h .1)
-    (heads-on (λ k ws. got (countsWith (g .0 .0) (h .0 .0) k d) ws) (z .field-at3 .ensures) (e .0 .0) (e .0 .1 .0) (e .1)
+    (countsWith n m k d) ws) (before-field-at2 (before-field-at3 z) .field-at .ensures) states past-states states-told
+    (heads-on (λ m ws. field observationsName countForm 1 maxObservations ws then λ k ws. got (countsWith states m k d) ws)
+    (before-field-at3 z .field-at2 .ensures) actions past-actions actions-told
+    (heads-on (λ k ws. got (countsWith states actions k d) ws) (z .field-at3 .ensures) observations past-observations observations-told
     (record {
       is = refl;
       within = (
         record {
-          states = count-within statesName maxStates (g .0 .0) (g .0 .1 .0) (before-field-at2 (before-field-at3 z) .field-at .ensures) (g .1);
-          actions = count-within actionsName maxActions (h .0 .0) (h .0 .1 .0) (before-field-at3 z .field-at2 .ensures) (h .1);
-          observations = count-within observationsName maxObservations (e .0 .0) (e .0 .1 .0) (z .field-at3 .ensures) (e .1);
+          states = count-within statesName maxStates states past-states (before-field-at2 (before-field-at3 z) .field-at .ensures) states-told;
+          actions = count-within actionsName maxActions actions past-actions (before-field-at3 z .field-at2 .ensures) actions-told;
+          observations = count-within observationsName maxObservations observations past-observations (z .field-at3 .ensures) observations-told;
           discount = start .pre .1;
         },
-        value-next (e .0 .0) (e .0 .1 .0) (z .field-at3 .ensures) (e .1) .1 .1,
+        value-next observations past-observations (z .field-at3 .ensures) observations-told .1 .1,
       );
     })))
 

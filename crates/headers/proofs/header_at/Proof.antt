@@ -39,9 +39,9 @@ returns-2 : tie.Need-returns-2
 unfolding headerBy
 returns-2 c =
     let y = c .before .before .before in let x = after-x (y .before) in
-    let g = x .x .given in
-    heads-on after-discount (before-keys-at y .field-at .ensures) (g .0 .0) (g .0 .1 .0) (g .1)
-    (heads-back (after-values (g .0 .0)) (y .keys-at .ensures) (c .before .before .match2 .keys2) (c .back2 .ensures))
+    let ((discount, (past-discount, _)), discount-told) = x .x .given in
+    heads-on after-discount (before-keys-at y .field-at .ensures) discount past-discount discount-told
+    (heads-back (after-values discount) (y .keys-at .ensures) (c .before .before .match2 .keys2) (c .back2 .ensures))
 
 key-at-requires : tie.Need-key-at-requires
 key-at-requires c κs = let k = c .before .before .before .before in value-next _ _ (k .keys-at .ensures) (c .before .before .y .given .1) .1 .1
@@ -50,28 +50,27 @@ returns-3 : tie.Need-returns-3
 unfolding headerBy
 returns-3 c =
     let p = after-y (c .before .before .before) in let z = c .before .before .before in let y = before-key-at z in
-    let g = after-x (y .before) .x .given in let h = p .y .given in
-    heads-on after-discount (before-keys-at y .field-at .ensures) (g .0 .0) (g .0 .1 .0) (g .1) (heads-on (after-values (g .0 .0))
-    (y .keys-at .ensures) (h .0 .0) (h .0 .1 .0) (h .1)
-    (heads-back (λ _ ws. headerCounts (g .0 .0) ws) (z .key-at .ensures) (c .before .before .match3 .keys2) (c .back3 .ensures)))
+    let ((discount, (past-discount, _)), discount-told) = after-x (y .before) .x .given in let ((values, (past-values, _)), values-told) = p .y .given in
+    heads-on after-discount (before-keys-at y .field-at .ensures) discount past-discount discount-told (heads-on (after-values discount)
+    (y .keys-at .ensures) values past-values values-told
+    (heads-back (λ _ ws. headerCounts discount ws) (z .key-at .ensures) (c .before .before .match3 .keys2) (c .back3 .ensures)))
 
 counted-at-requires : tie.Need-counted-at-requires
 counted-at-requires c κs =
-    let k = c .before .before .before in let y = before-key-at k in let g = after-x (y .before) .x .given in (
+    let k = c .before .before .before in let y = before-key-at k in let ((discount, (past-discount, _)), discount-told) = after-x (y .before) .x .given in (
       value-next _ _ (k .key-at .ensures) (c .before .z .given .1) .1 .1,
-      value-next (g .0 .0) (g .0 .1 .0) (before-keys-at y .field-at .ensures)
-          (g .1) .0,
+      value-next discount past-discount (before-keys-at y .field-at .ensures) discount-told .0,
     )
 
 returns-4 : tie.Need-returns-4
 unfolding headerBy
 returns-4 c =
     let z = c .before .before .before .before in let p = after-y z in
-    let y = before-key-at z in let g = after-x (y .before) .x .given in let h = p .y .given in
-    let e = c .before .before .z .given in
-    heads-on after-discount (before-keys-at y .field-at .ensures) (g .0 .0) (g .0 .1 .0) (g .1) (heads-on (after-values (g .0 .0))
-    (y .keys-at .ensures) (h .0 .0) (h .0 .1 .0) (h .1)
-    (heads-on (λ _ ws. headerCounts (g .0 .0) ws) (z .key-at .ensures) (e .0 .0) (e .0 .1 .0) (e .1) (c .counted-at .ensures)))
+    let y = before-key-at z in let ((discount, (past-discount, _)), discount-told) = after-x (y .before) .x .given in
+    let ((values, (past-values, _)), values-told) = p .y .given in let ((reward, (past-reward, _)), reward-told) = c .before .before .z .given in
+    heads-on after-discount (before-keys-at y .field-at .ensures) discount past-discount discount-told (heads-on (after-values discount)
+    (y .keys-at .ensures) values past-values values-told
+    (heads-on (λ _ ws. headerCounts discount ws) (z .key-at .ensures) reward past-reward reward-told (c .counted-at .ensures)))
 
 pub header-at-spec : {M : Type 1} → statement M
 header-at-spec =

@@ -33,8 +33,8 @@ returns c =
 
 row-at-requires : tie.Need-row-at-requires
 row-at-requires c κs =
-    let k = c .before .before .before .before in let s = at-start k in
-    let long : length (s .args .start .now) ≡ maxStates = ap length (s .pre .1) ∙ length-replicate {A = ℕ} maxStates 0 in (
+    let k = c .before .before .before .before in let s = at-start k in let ((_, (some, few)), zeros) = s .pre in
+    let long : length (s .args .start .now) ≡ maxStates = ap length zeros ∙ length-replicate {A = ℕ} maxStates 0 in (
       (
         value-next _ _ (k .keys-at .ensures) (c .before .before .x .given .1) .1 .1,
         record {
@@ -42,9 +42,9 @@ row-at-requires c κs =
           few-blocks = omega arith;
           some-rows = omega arith;
           few-rows = omega arith;
-          some-places = s .pre .0 .1 .0;
-          few-places = s .pre .0 .1 .1;
-          long = omega (arith, long, s .pre .0 .1 .1);
+          some-places = some;
+          few-places = few;
+          long = omega (arith, long, few);
         },
       ),
       (omega arith, (omega arith, (omega arith, omega arith))),
@@ -54,8 +54,8 @@ returns-2 : tie.Need-returns-2
 unfolding startBy
 returns-2 c =
     let x = c .before .before .before .before .before in let k = x .before .before in let s = at-start k in
-    let n = s .args .n in let g = x .x .given in
-    reads-on (g .0 .0) (g .0 .1 .0) (λ _ ws. wholly (row startNumber (stated 1 1 n 0 0) 0 n (replicate maxStates 0) ws)) (k .keys-at .ensures) (g .1)
+    let n = s .args .n in let ((value, (next, _)), told) = x .x .given in
+    reads-on value next (λ _ ws. wholly (row startNumber (stated 1 1 n 0 0) 0 n (replicate maxStates 0) ws)) (k .keys-at .ensures) told
     (numbers-tell n (s .pre .1) (c .before .before .row-at .ensures))
 
 pub start-at-spec : {M : Type 1} → statement M

@@ -45,19 +45,19 @@ covers : (c : tie.Then1 Inv-loop μ-loop) → let l = turn (c .before) in
     (s : ℕ) → s < a .n → 0 < weightIn (a .highs .now) s → coveredIn (a .masks .now) (l .loop .v) s ≡ true
 covers c s b above =
     let l = turn (c .before) in
-    let a = start l in
+    let a = start l in let (_, (_, (_, (support, _)))) = a .pre in
     includes-covers (getD (a .args .masks .now) (l .loop .v) 0) (a .args .states) s (sym (c .before .has .ensures) ∙ c .if1 .taken)
-    (rw (a .pre .1 .1 .1 .0) (support-covers (a .args .n) (a .args .highs .now) s b above))
+    (rw support (support-covers (a .args .n) (a .args .highs .now) s b above))
 
 sure-product-requires : tie.Need-sure-product-requires Inv-loop μ-loop
 sure-product-requires c κs =
     let l = turn (c .before .before) in
     let a = start l in
-    let fit = a .pre .1 .0 in
+    let (few, (ranged, (masked, _))) = a .pre in
     let h = here-masked (a .args .highs .now) (a .args .entries .now) (a .args .n) (a .args .vectors) (l .loop .v) (omega arith) (c .start .ensures)
-    (a .args .masks .now) (a .pre .1 .1 .0) (covers (c .before)) in (
-      (a .pre .0, h .inside),
-      ((fit .lows-fit, fit .highs-fit), λ s b above. h .within s b (omega (arith, above, fit .ordered s b))),
+    (a .args .masks .now) masked (covers (c .before)) in (
+      (few, h .inside),
+      ((ranged .lows-fit, ranged .highs-fit), λ s b above. h .within s b (omega (arith, above, ranged .ordered s b))),
     )
 
 -- the least product of the vector
@@ -105,11 +105,11 @@ loop-again c =
 returns : tie.Need-returns Inv-loop μ-loop
 returns c =
     let l = c .before in
-    let a = start l in
+    let a = start l in let (_, (_, (_, (_, some)))) = a .pre in
     let e : l .loop .v ≡ a .args .vectors = omega arith in
     let p = counted (a .args .masks .now) (a .args .states) in
     let f = leastIn (a .args .n) (a .args .masks .now) (a .args .entries .now) (a .args .lows .now) (a .args .highs .now) in
-    found-some p f (rw e at (l .loop .inv .1)) (a .pre .1 .1 .1 .1)
+    found-some p f (rw e at (l .loop .inv .1)) some
 
 pub surest-product-spec : {M : Type 1} → statement M
 surest-product-spec =

@@ -147,10 +147,10 @@ judge-level-requires c κs =
     let e = of-offered (of-room (c .before)) in
     let s = of-certifier (of-number (of-counts e)) in
     let l = complete-true (tables s) (offered s) (offered-complete (of-room (c .before))) in
-    let f = small e in
+    let (states, (observations, (vectors, points))) = small e in
     let n = of-counts e .before .before in
     rw (number-is n) (
-      (f .0, (f .1 .0, (f .1 .1 .0, (f .1 .1 .1, omega (arith, below (of-counts e)))))),
+      (states, (observations, (vectors, (points, omega (arith, below (of-counts e)))))),
       ((l .read .actions, (l .choices, (l .read .masks, l .read .entries))), (l .read .corners, (l .read .weights, l .read .values))),
     )
 

@@ -20,13 +20,15 @@ after-transition3 c = c .before .before .before
 
 -- what was read, in the program's arrays
 abbrev drafted : tie.After-read → ModelFile
-drafted c = let l = c .read .last .1 .1 .1 .1 in fileIn (c .read .result) (l .0) (l .1 .0) (l .1 .1 .0) (l .1 .1 .1 .0)
+drafted c =
+    let (_, (_, (_, (_, (transition, (observation, (reward, (start, _)))))))) = c .read .last in
+    fileIn (c .read .result) transition observation reward start
 
 long : (c : tie.After-read) → Long (drafted c .tables)
-long c = let k = c .read .kept .1 .1 .1 .1 in record {
-  transition = k .0 ∙ length-replicate {A = ℕ} (maxActions * maxStates * maxStates) 0;
-  observation = k .1 .0 ∙ length-replicate {A = ℕ} (maxActions * maxStates * maxObservations) 0;
-  reward = k .1 .1 .0 ∙ length-replicate (maxActions * maxStates) (pos 0);
+long c = let (_, (_, (_, (_, (transition, (observation, (reward, _))))))) = c .read .kept in record {
+  transition = transition ∙ length-replicate {A = ℕ} (maxActions * maxStates * maxStates) 0;
+  observation = observation ∙ length-replicate {A = ℕ} (maxActions * maxStates * maxObservations) 0;
+  reward = reward ∙ length-replicate (maxActions * maxStates) (pos 0);
 }
 
 levels-of-requires : tie.Need-levels-of-requires

@@ -22,7 +22,7 @@ Inv-loop transition observation reward c given state₀ actions₀ choices₀ ma
     newentries newcorners newvalues t =
     let z = lent state (cells actions choices masks entries corners weights values) (rows informed qmdp) in
     let y = cells newactions newchoices newmasks newentries newcorners given newvalues in
-    (t ≤ levels) × (Climbed t (tablesIn c transition observation reward) z y × (LentSized z × Sized y))
+    record { few : t ≤ levels; climbed : Climbed t (tablesIn c transition observation reward) z y; lent-sized : LentSized z; level-sized : Sized y }
 
 abbrev μ-loop : tie.MeasureT-loop
 μ-loop transition observation reward c given state₀ actions₀ choices₀ masks₀ entries₀ corners₀ weights₀ values₀ informed₀ qmdp₀ newactions₀ newchoices₀
@@ -81,57 +81,39 @@ points s =
 -- as the opening left them, at the loop, and after a turn
 abbrev opened : tie.After-open Inv-loop μ-loop → Lent
 opened c =
-    let l = c .«open» .last .1 .1 .1 .1 in
-    let f = fresh .cells in
-    let r = l .1 .1 .1 .1 in
-    lent (l .0) (cells (l .1 .0) (l .1 .1 .0) (l .1 .1 .1 .0) (r .0) (r .1 .0) (f .weights) (f .values)) (rows (r .1 .1 .1 .1 .0) (r .1 .1 .1 .1 .1 .0))
+    let (_, (_, (_, (_, (state, (actions, (choices, (masks, (entries, (corners, (_, (_, (informed, (qmdp, _)))))))))))))) = c .«open» .last in
+    lent state (cells actions choices masks entries corners (fresh .cells .weights) (fresh .cells .values)) (rows informed qmdp)
 
 opened-sized : (c : tie.After-open Inv-loop μ-loop) → LentSized (opened c)
 opened-sized c =
-    let k = c .«open» .kept .1 .1 .1 .1 in
-    let r = k .1 .1 .1 .1 in
+    let (_, (_, (_, (_, (state, (actions, (choices, (masks, (entries, (corners, (_, (_, (informed, (qmdp, _)))))))))))))) = c .«open» .kept in
     let x : AsLong (fresh .cells) (opened c .cells) =
-    record { actions = k .1 .0; choices = k .1 .1 .0; masks = k .1 .1 .1 .0; entries = r .0; corners = r .1 .0; weights = refl; values = refl } in
-    lent-on fresh-sized (k .0) x (r .1 .1 .1 .1 .0) (r .1 .1 .1 .1 .1 .0)
+    record { actions = actions; choices = choices; masks = masks; entries = entries; corners = corners; weights = refl; values = refl } in
+    lent-on fresh-sized state x informed qmdp
 
 abbrev climbed : tie.After-rung Inv-loop μ-loop → Lent
 climbed c =
-    let l = c .rung .last .1 .1 .1 .1 .1 in
-    let r = l .1 .1 .1 .1 in
-    lent (l .0) (cells (l .1 .0) (l .1 .1 .0) (l .1 .1 .1 .0) (r .0) (r .1 .0) (r .1 .1 .0) (r .1 .1 .1 .0)) (rows (r .1 .1 .1 .1 .0) (r .1 .1 .1 .1 .1 .0))
+    let (_, (_, (_, (_, (_, (state, (actions, (choices, (masks, (entries, (corners, (weights, (values, (informed, (qmdp, _))))))))))))))) = c .rung .last in
+    lent state (cells actions choices masks entries corners weights values) (rows informed qmdp)
 
 abbrev built : tie.After-rung Inv-loop μ-loop → Cells
 built c =
-    let l = c .rung .last .1 .1 .1 .1 .1 .1 .1 .1 .1 .1 .1 .1 .1 .1 .1 .1 in
-    cells (l .0) (l .1 .0) (l .1 .1 .0) (l .1 .1 .1 .0) (l .1 .1 .1 .1 .0) (start (of-opening (in-turn c .before .before)) .args .t5) (l .1 .1 .1 .1 .1 .0)
+    let (_, (_, (_, (_, (_, (_, (_, (_, (_, (_, (_, (_, (_, (_, (_, (_, level)))))))))))))))) = c .rung .last in
+    let (actions, (choices, (masks, (entries, (corners, (values, _)))))) = level in
+    cells actions choices masks entries corners (start (of-opening (in-turn c .before .before)) .args .t5) values
 
 climbed-sized : (c : tie.After-rung Inv-loop μ-loop) → LentSized (climbed c)
 climbed-sized c =
-    let h = in-turn c .before .loop .inv .1 .1 .0 in
-    let k = c .rung .kept .1 .1 .1 .1 .1 in
-    let r = k .1 .1 .1 .1 in
-    lent-on h (k .0) record {
-      actions = k .1 .0;
-      choices = k .1 .1 .0;
-      masks = k .1 .1 .1 .0;
-      entries = r .0;
-      corners = r .1 .0;
-      weights = r .1 .1 .0;
-      values = r .1 .1 .1 .0;
-    } (r .1 .1 .1 .1 .0) (r .1 .1 .1 .1 .1 .0)
+    let (_, (_, (_, (_, (_, (state, (actions, (choices, (masks, (entries, (corners, (weights, (values, (informed, (qmdp, _))))))))))))))) = c .rung .kept in
+    lent-on (in-turn c .before .loop .inv .lent-sized) state
+    record { actions = actions; choices = choices; masks = masks; entries = entries; corners = corners; weights = weights; values = values } informed qmdp
 
 built-sized : (c : tie.After-rung Inv-loop μ-loop) → Sized (built c)
 built-sized c =
-    let k = c .rung .kept .1 .1 .1 .1 .1 .1 .1 .1 .1 .1 .1 .1 .1 .1 .1 .1 in
-    sized-on (in-turn c .before .loop .inv .1 .1 .1) record {
-      actions = k .0;
-      choices = k .1 .0;
-      masks = k .1 .1 .0;
-      entries = k .1 .1 .1 .0;
-      corners = k .1 .1 .1 .1 .0;
-      weights = refl;
-      values = k .1 .1 .1 .1 .1 .0;
-    }
+    let (_, (_, (_, (_, (_, (_, (_, (_, (_, (_, (_, (_, (_, (_, (_, (_, level)))))))))))))))) = c .rung .kept in
+    let (actions, (choices, (masks, (entries, (corners, (values, _)))))) = level in
+    sized-on (in-turn c .before .loop .inv .level-sized)
+    record { actions = actions; choices = choices; masks = masks; entries = entries; corners = corners; weights = refl; values = values }
 
 served-requires : tie.Need-served-requires Inv-loop μ-loop
 served-requires c κs = let o = of-open c in o .«open» .ensures .0 ∙ opens (start o)
@@ -140,12 +122,17 @@ loop-holds : tie.Need-loop-holds Inv-loop μ-loop
 loop-holds c =
     let o = of-opening c in
     let s = start o in
-    (omega arith, (climbed-0 {z = opened o} (opens s) (points s) (o .«open» .ensures .1), (opened-sized o, none-sized (s .args .t5) (wide s))))
+    record {
+      few = omega arith;
+      climbed = climbed-0 {z = opened o} (opens s) (points s) (o .«open» .ensures .1);
+      lent-sized = opened-sized o;
+      level-sized = none-sized (s .args .t5) (wide s);
+    }
 
 rung-requires : tie.Need-rung-requires Inv-loop μ-loop
 rung-requires c κs =
     let l = in-loop c in
-    (omega (arith, l .loop-test .taken), l .before .loop .inv .1 .0)
+    (omega (arith, l .loop-test .taken), l .before .loop .inv .climbed)
 
 print-totals-requires : tie.Need-print-totals-requires Inv-loop μ-loop
 print-totals-requires c κs =
@@ -155,22 +142,21 @@ print-totals-requires c κs =
 loop-again : tie.Need-loop-again Inv-loop μ-loop
 loop-again c =
     let r = of-rung (c .before .before) in
-    (omega (arith, in-turn r .loop-test .taken), (r .rung .ensures .0, (climbed-sized r, built-sized r)))
+    record { few = omega (arith, in-turn r .loop-test .taken); climbed = r .rung .ensures .0; lent-sized = climbed-sized r; level-sized = built-sized r }
 
 pub levels-of-spec : {M : Type 1} → statement M
 levels-of-spec =
-    tie.close (tie.spec Inv-loop μ-loop (λ c. refl) (λ c. refl) (λ c. refl) (λ c. refl) (λ c. refl) (λ c. refl) (λ c. refl) (λ c. refl) (λ c. refl)
-    (λ c. refl) (λ c κs. search needs) served-requires loop-holds (λ c. in-state c .before .loop .inv .1 .1 .0 .state)
-    (λ c. in-state (c .before) .before .loop .inv .1 .1 .0 .cells .actions)
-    (λ c. in-state (c .before .before) .before .loop .inv .1 .1 .0 .cells .choices) (λ c. at-loop c .loop .inv .1 .1 .0 .cells .masks)
-    (λ c. in-entries c .before .loop .inv .1 .1 .0 .cells .entries) (λ c. in-entries (c .before) .before .loop .inv .1 .1 .0 .cells .corners)
-    (λ c. in-entries (c .before .before) .before .loop .inv .1 .1 .0 .cells .weights)
-    (λ c. in-entries (c .before .before .before) .before .loop .inv .1 .1 .0 .cells .values)
-    (λ c. in-informed c .before .loop .inv .1 .1 .0 .informed) (λ c. in-informed (c .before) .before .loop .inv .1 .1 .0 .qmdp)
-    (λ c. in-informed (c .before .before) .before .loop .inv .1 .1 .1 .weights)
-    (λ c. in-informed (c .before .before .before) .before .loop .inv .1 .1 .1 .actions) (λ c. in-choices c .before .loop .inv .1 .1 .1 .choices)
-    (λ c. in-choices (c .before) .before .loop .inv .1 .1 .1 .masks) (λ c. in-choices (c .before .before) .before .loop .inv .1 .1 .1 .entries)
-    (λ c. in-choices (c .before .before .before) .before .loop .inv .1 .1 .1 .corners) (λ c. in-loop c .before .loop .inv .1 .1 .1 .values)
+    tie.close (tie.spec Inv-loop μ-loop (λ c. refl) (λ c. refl) (λ c. refl) (λ c. refl) (λ c. refl) (λ c. refl) (λ c. refl) (λ c. refl) (λ c. refl) (λ c. refl)
+    (λ c κs. search needs) served-requires loop-holds (λ c. in-state c .before .loop .inv .lent-sized .state)
+    (λ c. in-state (c .before) .before .loop .inv .lent-sized .cells .actions)
+    (λ c. in-state (c .before .before) .before .loop .inv .lent-sized .cells .choices) (λ c. at-loop c .loop .inv .lent-sized .cells .masks)
+    (λ c. in-entries c .before .loop .inv .lent-sized .cells .entries) (λ c. in-entries (c .before) .before .loop .inv .lent-sized .cells .corners)
+    (λ c. in-entries (c .before .before) .before .loop .inv .lent-sized .cells .weights)
+    (λ c. in-entries (c .before .before .before) .before .loop .inv .lent-sized .cells .values) (λ c. in-informed c .before .loop .inv .lent-sized .informed)
+    (λ c. in-informed (c .before) .before .loop .inv .lent-sized .qmdp) (λ c. in-informed (c .before .before) .before .loop .inv .level-sized .weights)
+    (λ c. in-informed (c .before .before .before) .before .loop .inv .level-sized .actions) (λ c. in-choices c .before .loop .inv .level-sized .choices)
+    (λ c. in-choices (c .before) .before .loop .inv .level-sized .masks) (λ c. in-choices (c .before .before) .before .loop .inv .level-sized .entries)
+    (λ c. in-choices (c .before .before .before) .before .loop .inv .level-sized .corners) (λ c. in-loop c .before .loop .inv .level-sized .values)
     rung-requires (λ c. omega (arith, in-turn (of-rung c) .loop-test .taken)) print-totals-requires (λ c. search needs)
-    (λ c. omega (arith, in-turn (of-rung (c .before .before)) .loop-test .taken))
-    (λ c. omega (arith, in-turn (of-rung (c .before .before)) .loop-test .taken)) loop-again (λ c. search needs))
+    (λ c. omega (arith, in-turn (of-rung (c .before .before)) .loop-test .taken)) (λ c. omega (arith, in-turn (of-rung (c .before .before)) .loop-test .taken))
+    loop-again (λ c. search needs))

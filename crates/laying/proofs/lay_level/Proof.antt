@@ -70,6 +70,6 @@ pub lay-level-spec : {M : Type 1} → statement M
 lay-level-spec =
     tie.close (tie.spec (λ c κs. search needs) (λ c. search needs) (λ c κs. search needs) (λ c κs. search needs) (λ c κs. search needs) (λ c κs. search needs)
     mul-paste-u32 paste-u32-requires paste-i64-requires-2 (λ c. of-choices (of-masks (to-masks (c .before))) .paste-u8 .kept .0)
-    (λ c. of-masks (to-masks (c .before)) .paste-u16 .kept .0) (λ c. to-masks (c .before) .lay-masks .kept .0)
+    (λ c. of-masks (to-masks (c .before)) .paste-u16 .kept .0) (λ c. search (to-masks (c .before) .lay-masks .kept))
     (λ c. of-corners (of-weights (of-values (c .before))) .lay-entries .kept .0) (λ c. of-weights (of-values (c .before)) .paste-i64 .kept .0)
-    (λ c. of-values (c .before) .paste-u32 .kept .0) (λ c. c .before .paste-i642 .kept .0) returns)
+    (λ c. search (of-values (c .before) .paste-u32 .kept)) (λ c. search (c .before .paste-i642 .kept)) returns)

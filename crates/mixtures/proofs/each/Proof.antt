@@ -173,8 +173,6 @@ returns-4 c =
 pub each-spec : {M : Type 1} → statement M
 each-spec =
     tie.close (tie.spec (λ c κs. search needs) (λ c. search needs) (λ c. search needs) returns some-states returns-2 (λ c κs. search needs) returns-3
-    standing-in-requires gains-requires as-long write-answers-requires
-    (λ c. of-answers c .write-answers .kept .1 .1 .1 .1 .1 .1 .1 .1 .1 .1 .1 .1 .1 .0)
-    (λ c. of-answers c .write-answers .kept .1 .1 .1 .1 .1 .1 .1 .1 .1 .1 .1 .1 .1 .1 .0)
-    (λ c. of-answers c .write-answers .kept .1 .1 .1 .1 .1 .1 .1 .1 .1 .1 .1 .1 .1 .1 .1 .0)
-    (λ c. of-answers c .write-answers .kept .1 .1 .1 .1 .1 .1 .1 .1 .1 .1 .1 .1 .1 .1 .1 .1 .0) returns-4)
+    standing-in-requires gains-requires as-long write-answers-requires (λ c. search (of-answers c .write-answers .kept))
+    (λ c. search (of-answers c .write-answers .kept)) (λ c. search (of-answers c .write-answers .kept)) (λ c. search (of-answers c .write-answers .kept))
+    returns-4)

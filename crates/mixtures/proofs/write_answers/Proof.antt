@@ -49,14 +49,14 @@ abbrev lent : tie.Start Inv-loop μ-loop → Answers
 lent s = answers (s .args .verdicts .now) (s .args .lower .now) (s .args .upper .now) (s .args .advice .now)
 
 room : (s : tie.Start Inv-loop μ-loop) → AnswersRoom (s .args .count) (lent s)
-room s = let h = s .pre .1 .1 in record { verdicts = h .0; lower = h .1 .0; upper = h .1 .1 .0; advice = h .1 .1 .1 }
+room s = let (_, (_, (verdicts, (lower, (upper, advice))))) = s .pre in record { verdicts = verdicts; lower = lower; upper = upper; advice = advice }
 
 -- what the types say of their lengths
 lower-fits : (s : tie.Start Inv-loop μ-loop) → length (s .args .lower .now) * 8 < 2 ^ 64
-lower-fits s = omega (arith, s .good .1 .1 .1 .1 .1 .1 .1 .1 .1 .1 .1 .1 .0)
+lower-fits s = omega (arith, s .good)
 
 upper-fits : (s : tie.Start Inv-loop μ-loop) → length (s .args .upper .now) * 8 < 2 ^ 64
-upper-fits s = omega (arith, s .good .1 .1 .1 .1 .1 .1 .1 .1 .1 .1 .1 .1 .1 .0)
+upper-fits s = omega (arith, s .good)
 
 fit : (c : tie.In-loop Inv-loop μ-loop) → c .before .loop .i * start c .args .n + start c .args .n ≤ length (start c .args .mixtures .now)
 fit c = let s = start c in part-fits (s .args .n) (s .args .count) (c .before .loop .i) (length (s .args .mixtures .now)) (s .pre .1 .0) (c .loop-test .taken)

@@ -29,15 +29,15 @@ returns-2 c =
     let a = start (of-header h) .args in
     let r = room (a .transitions) (a .observations) (a .rewards) in
     let size = length (a .file .now) in
-    let g = c .before .before .number .given in
+    let ((number, (place, _)), told) = c .before .before .number .given in
     answers-within _ _ _ _ r (a .file .now) (le-leb _ maxBytes (of-header h .if1 .left))
-    (answers-unheaded _ _ _ _ size (λ c ws. roomed r (size + 1) c ws) (h .header-at .ensures) (g .0 .0) (g .0 .1 .0) (g .1) (c .refusal2 .ensures))
+    (answers-unheaded _ _ _ _ size (λ c ws. roomed r (size + 1) c ws) (h .header-at .ensures) number place told (c .refusal2 .ensures))
 
 roomed-at-requires : tie.Need-roomed-at-requires
 roomed-at-requires c κs =
-    let h = after-n c .before .before in let g = after-n c .n .given in let n = g .0 .1 .1 in
-    let w = headed-within (start (h .before) .args .file .now) (g .0 .0) (g .0 .1 .0) (n .0) (n .1 .0) (n .1 .1 .0) (h .header-at .ensures .within)
-    (g .1) in
+    let h = after-n c .before .before in
+    let ((states, (actions, (observations, (discount, (next, _))))), told) = after-n c .n .given in
+    let w = headed-within (start (h .before) .args .file .now) states actions observations discount next (h .header-at .ensures .within) told in
     (w .1, (w .0, start (h .before) .pre))
 
 returns-3 : tie.Need-returns-3
@@ -47,10 +47,9 @@ returns-3 c =
     let a = start (of-header h) .args in
     let r = room (a .transitions) (a .observations) (a .rewards) in
     let size = length (a .file .now) in
-    let g = t .before .before .before .before .before .before .n .given in
-    let n = g .0 .1 .1 in
+    let ((states, (actions, (observations, (discount, (next, _))))), told) = t .before .before .before .before .before .before .n .given in
     answers-within _ _ _ _ r (a .file .now) (le-leb _ maxBytes (of-header h .if1 .left))
-    (answers-headed _ _ _ _ size (λ c ws. roomed r (size + 1) c ws) (h .header-at .ensures) (g .0 .0) (g .0 .1 .0) (n .0) (n .1 .0) (n .1 .1 .0) (g .1)
+    (answers-headed _ _ _ _ size (λ c ws. roomed r (size + 1) c ws) (h .header-at .ensures) states actions observations discount next told
     (t .roomed-at .ensures))
 
 pub read-spec : {M : Type 1} → statement M

@@ -72,13 +72,13 @@ module _ {w : List ℕ} {from most stop v at : ℕ} (r : Reading w from most sto
 loop-holds : tie.Need-loop-holds Inv-loop μ-loop
 loop-holds c =
     let a = c .before .before .args in
-    let b = c .bounded .ensures in
+    let (low, (within, (most, cut))) = c .bounded .ensures in
     let e : a .from - a .from ≡ 0 = omega arith in
     record {
-      bound = (b .1 .0, (b .1 .1 .0, c .before .before .pre .1));
-      cut = b .1 .1 .1;
+      bound = (within, (most, c .before .before .pre .1));
+      cut = cut;
       up = omega arith;
-      low = b .0;
+      low = low;
       count = refl;
       worth = refl;
       few = rw (e, pow-zero) (omega arith);

@@ -17,11 +17,9 @@ most a b = omega arith
 -- the power after all that are listed
 returns-13 : tie.Need-returns-13
 returns-13 c =
-    let r = c .match .rest in
-    let l = r .0 .0 .0 .0 .0 .0 in
-    let six = beyond {n = 0} (omega arith) (l .0 .0 .0 .0 .0 .1) (l .0 .0 .0 .0 .1) (l .0 .0 .0 .1) (l .0 .0 .1) (l .0 .1) (l .1) in
-    power
-    (most (c .before .pre) (beyond {n = 6} six (r .0 .0 .0 .0 .0 .1) (r .0 .0 .0 .0 .1) (r .0 .0 .0 .1) (r .0 .0 .1) (r .0 .1) (r .1)))
+    let ((((((((((((_, n₀), n₁), n₂), n₃), n₄), n₅), n₆), n₇), n₈), n₉), n₁₀), n₁₁) = c .match .rest in
+    let six = beyond {n = 0} (omega arith) n₀ n₁ n₂ n₃ n₄ n₅ in
+    power (most (c .before .pre) (beyond {n = 6} six n₆ n₇ n₈ n₉ n₁₀ n₁₁))
 
 pub scale-spec : {M : Type 1} → statement M
 scale-spec =

@@ -140,11 +140,9 @@ returns-2 c =
 
 pub offer-spec : {M : Type 1} → statement M
 offer-spec =
-    tie.close (tie.spec (λ c κs. search needs) (λ c. search needs) (λ c. search needs) (λ c. refl) (λ c. refl) (λ c. refl)
-    (λ c. refl) (λ c. refl) (λ c. refl) (λ c. refl) (λ c. refl) (λ c. refl) (λ c. refl)
-    returns standing-in-requires add-t52 put-standing-requires lay-level-requires step-requires
-    (λ c. of-state (of-level c) .put-standing .kept .0) (λ c. of-level c .lay-level .kept .1 .1 .0) (λ c. of-level c .lay-level .kept .1 .1 .1 .0)
-    (λ c. of-level c .lay-level .kept .1 .1 .1 .1 .0) (λ c. of-level c .lay-level .kept .1 .1 .1 .1 .1 .0)
-    (λ c. of-level c .lay-level .kept .1 .1 .1 .1 .1 .1 .0) (λ c. of-level c .lay-level .kept .1 .1 .1 .1 .1 .1 .1 .0)
-    (λ c. of-level c .lay-level .kept .1 .1 .1 .1 .1 .1 .1 .1 .0)
-    (λ c. c .before .before .step .kept .1 .1 .1 .1 .0) (λ c. c .before .before .step .kept .1 .1 .1 .1 .1 .0) returns-2)
+    tie.close (tie.spec (λ c κs. search needs) (λ c. search needs) (λ c. search needs) (λ c. refl) (λ c. refl) (λ c. refl) (λ c. refl) (λ c. refl) (λ c. refl)
+    (λ c. refl) (λ c. refl) (λ c. refl) (λ c. refl) returns standing-in-requires add-t52 put-standing-requires lay-level-requires step-requires
+    (λ c. search (of-state (of-level c) .put-standing .kept)) (λ c. search (of-level c .lay-level .kept)) (λ c. search (of-level c .lay-level .kept))
+    (λ c. search (of-level c .lay-level .kept)) (λ c. search (of-level c .lay-level .kept)) (λ c. search (of-level c .lay-level .kept))
+    (λ c. search (of-level c .lay-level .kept)) (λ c. search (of-level c .lay-level .kept)) (λ c. search (c .before .before .step .kept))
+    (λ c. search (c .before .before .step .kept)) returns-2)

@@ -26,13 +26,13 @@ returns c =
     let h = of-masks b in
     let s = start h in
     let a = s .args in
-    let p = s .pre in
+    let ((_, (_, observations)), (actions, (_, (masks, _)))) = s .pre in
     let all = maskOf (a .n) (λ s. true) in (
-      laid-turn (λ v. 0) 0 (a .actions .now) 0 (sym (laid-none (λ v. 0) (a .actions .now))) refl (p .1 .0),
+      laid-turn (λ v. 0) 0 (a .actions .now) 0 (sym (laid-none (λ v. 0) (a .actions .now))) refl actions,
       (
-        h .paste-u16 .ensures ∙ same-laid 0 maxObservations (a .k) (a .choices .now) (p .0 .1 .1),
+        h .paste-u16 .ensures ∙ same-laid 0 maxObservations (a .k) (a .choices .now) observations,
         (
-          laid-turn (λ v. all) 0 (a .masks .now) 0 (sym (laid-none (λ v. all) (a .masks .now))) (b .all .ensures) (p .1 .1 .1 .0),
+          laid-turn (λ v. all) 0 (a .masks .now) 0 (sym (laid-none (λ v. all) (a .masks .now))) (b .all .ensures) masks,
           (e .clear-i64 .ensures, r .clear-i642 .ensures),
         ),
       ),

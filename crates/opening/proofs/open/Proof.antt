@@ -115,18 +115,18 @@ returns-2 c =
     let f = p .before in
     let j = of-verdict f in
     let s = start j in
-    let e = l .lay-level-0 .ensures in (
+    let (actions, (choices, (masks, (entries, corners)))) = l .lay-level-0 .ensures in (
       sym (opens f),
-      opened-fine (tables s) (certifier s) (said j) (f .before .before .enum-told .given .1) (written p) (e .0)
-          (e .1 .0) (e .1 .1 .0) (e .1 .1 .1 .0) (e .1 .1 .1 .1) (k .clear-i64 .ensures) (c .before .clear-i642 .ensures),
+      opened-fine (tables s) (certifier s) (said j) (f .before .before .enum-told .given .1) (written p) actions choices masks entries corners
+          (k .clear-i64 .ensures) (c .before .clear-i642 .ensures),
     )
 
 pub open-spec : {M : Type 1} → statement M
 open-spec =
-    tie.close (tie.spec (λ c κs. search needs) (λ c. search needs) (λ c. search needs) returns (λ c κs. search needs) put-standing-requires
-    lay-level-0-requires (λ c. omega (arith, few (of-state (of-laid c) .before))) clear-i64-requires
+    tie.close (tie.spec (λ c κs. search needs) (λ c. search needs) (λ c. search needs) returns (λ c κs. search needs) put-standing-requires lay-level-0-requires
+    (λ c. omega (arith, few (of-state (of-laid c) .before))) clear-i64-requires
     (λ c. omega (arith, few (of-state (of-level (after-informed c .before)) .before))) clear-i64-requires-2
-    (λ c. of-state (of-level (of-informed c)) .put-standing .kept .0) (λ c. of-level (of-informed c) .lay-level-0 .kept .1 .1 .0)
-    (λ c. of-level (of-informed c) .lay-level-0 .kept .1 .1 .1 .0) (λ c. of-level (of-informed c) .lay-level-0 .kept .1 .1 .1 .1 .0)
-    (λ c. of-level (of-informed c) .lay-level-0 .kept .1 .1 .1 .1 .1 .0) (λ c. of-level (of-informed c) .lay-level-0 .kept .1 .1 .1 .1 .1 .1 .0)
-    (λ c. of-informed c .clear-i64 .kept .0) (λ c. c .before .clear-i642 .kept .0) returns-2)
+    (λ c. of-state (of-level (of-informed c)) .put-standing .kept .0) (λ c. search (of-level (of-informed c) .lay-level-0 .kept))
+    (λ c. search (of-level (of-informed c) .lay-level-0 .kept)) (λ c. search (of-level (of-informed c) .lay-level-0 .kept))
+    (λ c. search (of-level (of-informed c) .lay-level-0 .kept)) (λ c. search (of-level (of-informed c) .lay-level-0 .kept))
+    (λ c. search (of-informed c .clear-i64 .kept)) (λ c. search (c .before .clear-i642 .kept)) returns-2)

@@ -37,16 +37,16 @@ covers : (c : tie.Then1 Inv-loop μ-loop) → let l = turn (c .before) in
     (s : ℕ) → s < a .n → 0 < weightIn (a .q .now) s → coveredIn (a .masks .now) (l .loop .v) s ≡ true
 covers c s b w =
     let l = turn (c .before) in
-    let a = start l in
-    includes-covers (getD (a .args .masks .now) (l .loop .v) 0) (a .args .states) s (sym (c .before .has .ensures) ∙ c .if1 .taken) (a .pre .1 .1 .1 s b w)
+    let a = start l in let (_, (_, (_, support))) = a .pre in
+    includes-covers (getD (a .args .masks .now) (l .loop .v) 0) (a .args .states) s (sym (c .before .has .ensures) ∙ c .if1 .taken) (support s b w)
 
 product-requires : tie.Need-product-requires Inv-loop μ-loop
 product-requires c κs =
     let l = turn (c .before .before) in
-    let a = start l in
+    let a = start l in let ((few, _), (reached, (fits, _))) = a .pre in
     let h = here-masked (a .args .q .now) (a .args .entries .now) (a .args .n) (a .args .vectors) (l .loop .v) (omega arith) (c .start .ensures)
-    (a .args .masks .now) (a .pre .1 .1 .0) (covers (c .before)) in
-    ((a .pre .0 .0, h .inside), (a .pre .1 .0, h .within))
+    (a .args .masks .now) fits (covers (c .before)) in
+    ((few, h .inside), (reached, h .within))
 
 -- what the vector is worth
 seen : (c : tie.After-product Inv-loop μ-loop) → let l = turn (c .before .before .before) in

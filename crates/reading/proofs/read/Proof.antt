@@ -51,7 +51,9 @@ after-paste-u16-arg c = c .before .before .before .before .before .before .befor
 
 -- in the arrays that it was read into
 abbrev drafted : tie.After-read → ModelFile
-drafted c = let l = c .read .last .1 .1 .1 .1 in fileIn (c .read .result) (l .0) (l .1 .0) (l .1 .1 .0) (l .1 .1 .1 .0)
+drafted c =
+    let (_, (_, (_, (_, (transition, (observation, (reward, (start, _)))))))) = c .read .last in
+    fileIn (c .read .result) transition observation reward start
 
 abbrev lent : tie.After-read → Room
 lent c = let a = start c .args in room (length (a .transition .now)) (length (a .observation .now)) (length (a .reward .now))
@@ -60,14 +62,14 @@ abbrev file : tie.After-read → ModelFile
 file c = let a = start c .args in fileFor (a .file .now) (a .transition .now) (a .observation .now) (a .reward .now)
 
 long : (c : tie.After-read) → Long (drafted c .tables)
-long c = let k = c .read .kept .1 .1 .1 .1 in record {
-  transition = k .0 ∙ length-replicate {A = ℕ} (maxActions * maxStates * maxStates) 0;
-  observation = k .1 .0 ∙ length-replicate {A = ℕ} (maxActions * maxStates * maxObservations) 0;
-  reward = k .1 .1 .0 ∙ length-replicate (maxActions * maxStates) (pos 0);
+long c = let (_, (_, (_, (_, (transition, (observation, (reward, _))))))) = c .read .kept in record {
+  transition = transition ∙ length-replicate {A = ℕ} (maxActions * maxStates * maxStates) 0;
+  observation = observation ∙ length-replicate {A = ℕ} (maxActions * maxStates * maxObservations) 0;
+  reward = reward ∙ length-replicate (maxActions * maxStates) (pos 0);
 }
 
 start-long : (c : tie.After-read) → length (drafted c .start) ≡ maxStates
-start-long c = c .read .kept .1 .1 .1 .1 .1 .1 .1 .0 ∙ length-replicate {A = ℕ} maxStates 0
+start-long c = let (_, (_, (_, (_, (_, (_, (_, (start, _)))))))) = c .read .kept in start ∙ length-replicate {A = ℕ} maxStates 0
 
 same : (c : tie.After-enum-told) → drafted (of-file c) ≡ file (of-file c)
 same c = of-file c .read .ensures .1 (c .enum-told .given .1)

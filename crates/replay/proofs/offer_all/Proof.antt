@@ -43,28 +43,18 @@ looped c =
 
 abbrev turned : tie.After-offer-block Inv-loop μ-loop → Lent
 turned c =
-    let l = c .offer-block .last .1 .1 .1 .1 in
-    lent (l .0)
-    (cells (l .1 .0) (l .1 .1 .0) (l .1 .1 .1 .0) (l .1 .1 .1 .1 .0) (l .1 .1 .1 .1 .1 .0) (l .1 .1 .1 .1 .1 .1 .0) (l .1 .1 .1 .1 .1 .1 .1 .0))
-    (rows (l .1 .1 .1 .1 .1 .1 .1 .1 .0) (l .1 .1 .1 .1 .1 .1 .1 .1 .1 .0))
+    let (_, (_, (_, (_, (state, (actions, (choices, (masks, (entries, (corners, (weights, (values, (informed, (qmdp, _)))))))))))))) = c .offer-block .last in
+    lent state (cells actions choices masks entries corners weights values) (rows informed qmdp)
 
 -- a turn leaves the lengths
 turn-long : (c : tie.After-offer-block Inv-loop μ-loop) → LentAsLong (looped (in-turn c .before)) (turned c)
 turn-long c =
-    let k = c .offer-block .kept .1 .1 .1 .1 in
+    let (_, (_, (_, (_, (state, (actions, (choices, (masks, (entries, (corners, (weights, (values, (informed, (qmdp, _)))))))))))))) = c .offer-block .kept in
     record {
-      state = k .0;
-      cells = record {
-        actions = k .1 .0;
-        choices = k .1 .1 .0;
-        masks = k .1 .1 .1 .0;
-        entries = k .1 .1 .1 .1 .0;
-        corners = k .1 .1 .1 .1 .1 .0;
-        weights = k .1 .1 .1 .1 .1 .1 .0;
-        values = k .1 .1 .1 .1 .1 .1 .1 .0;
-      };
-      informed = k .1 .1 .1 .1 .1 .1 .1 .1 .0;
-      qmdp = k .1 .1 .1 .1 .1 .1 .1 .1 .1 .0;
+      state = state;
+      cells = record { actions = actions; choices = choices; masks = masks; entries = entries; corners = corners; weights = weights; values = values };
+      informed = informed;
+      qmdp = qmdp;
     }
 
 loop-holds : tie.Need-loop-holds Inv-loop μ-loop

@@ -41,10 +41,8 @@ certifier s =
 
 abbrev left : tie.After-offer-all → Lent
 left c =
-    let l = c .offer-all .last .1 .1 .1 .1 in
-    lent (l .0)
-    (cells (l .1 .0) (l .1 .1 .0) (l .1 .1 .1 .0) (l .1 .1 .1 .1 .0) (l .1 .1 .1 .1 .1 .0) (l .1 .1 .1 .1 .1 .1 .0) (l .1 .1 .1 .1 .1 .1 .1 .0))
-    (rows (l .1 .1 .1 .1 .1 .1 .1 .1 .0) (l .1 .1 .1 .1 .1 .1 .1 .1 .1 .0))
+    let (_, (_, (_, (_, (state, (actions, (choices, (masks, (entries, (corners, (weights, (values, (informed, (qmdp, _)))))))))))))) = c .offer-all .last in
+    lent state (cells actions choices masks entries corners weights values) (rows informed qmdp)
 
 abbrev offers : tie.Start → Packed
 offers s =
@@ -78,12 +76,8 @@ returns-2 c =
 
 pub replay-spec : {M : Type 1} → statement M
 replay-spec =
-    tie.close (tie.spec
-    (λ c κs. search needs) (λ c. search needs) (λ c. search needs)
-    (λ c. refl) (λ c. refl) (λ c. refl) (λ c. refl) (λ c. refl) (λ c. refl) (λ c. refl) (λ c. refl) (λ c. refl) returns offer-all-requires
-    (λ c. of-offers c .offer-all .kept .1 .1 .1 .1 .0) (λ c. of-offers c .offer-all .kept .1 .1 .1 .1 .1 .0)
-    (λ c. of-offers c .offer-all .kept .1 .1 .1 .1 .1 .1 .0) (λ c. of-offers c .offer-all .kept .1 .1 .1 .1 .1 .1 .1 .0)
-    (λ c. of-offers c .offer-all .kept .1 .1 .1 .1 .1 .1 .1 .1 .0) (λ c. of-offers c .offer-all .kept .1 .1 .1 .1 .1 .1 .1 .1 .1 .0)
-    (λ c. of-offers c .offer-all .kept .1 .1 .1 .1 .1 .1 .1 .1 .1 .1 .0) (λ c. of-offers c .offer-all .kept .1 .1 .1 .1 .1 .1 .1 .1 .1 .1 .1 .0)
-    (λ c. of-offers c .offer-all .kept .1 .1 .1 .1 .1 .1 .1 .1 .1 .1 .1 .1 .0)
-    (λ c. of-offers c .offer-all .kept .1 .1 .1 .1 .1 .1 .1 .1 .1 .1 .1 .1 .1 .0) returns-2)
+    tie.close (tie.spec (λ c κs. search needs) (λ c. search needs) (λ c. search needs) (λ c. refl) (λ c. refl) (λ c. refl) (λ c. refl) (λ c. refl) (λ c. refl)
+    (λ c. refl) (λ c. refl) (λ c. refl) returns offer-all-requires (λ c. search (of-offers c .offer-all .kept)) (λ c. search (of-offers c .offer-all .kept))
+    (λ c. search (of-offers c .offer-all .kept)) (λ c. search (of-offers c .offer-all .kept)) (λ c. search (of-offers c .offer-all .kept))
+    (λ c. search (of-offers c .offer-all .kept)) (λ c. search (of-offers c .offer-all .kept)) (λ c. search (of-offers c .offer-all .kept))
+    (λ c. search (of-offers c .offer-all .kept)) (λ c. search (of-offers c .offer-all .kept)) returns-2)

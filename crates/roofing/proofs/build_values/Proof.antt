@@ -34,17 +34,17 @@ gains-requires : tie.Need-gains-requires Inv-loop μ-loop
 gains-requires c κs = let h = from-entry c .pre .0 in (h .valid .few-states, (corners-fit h, (points-fit h, values-fit h)))
 
 below : (k : tie.In-loop Inv-loop μ-loop) → k .before .loop .i < maxBuilt
-below k = omega (arith, k .loop-test .taken, start k .pre .1 .0 .0)
+below k = let (_, ((few, _), _)) = start k .pre in omega (arith, k .loop-test .taken, few)
 
 -- there is room for the turn's value
 room : (k : tie.In-loop Inv-loop μ-loop) → k .before .loop .i < length (start k .args .least .now)
-room k = omega (arith, k .loop-test .taken, start k .pre .1 .1 .1 .0)
+room k = let (_, (_, (_, (fits, _)))) = start k .pre in omega (arith, k .loop-test .taken, fits)
 
 point-weights-requires : tie.Need-point-weights-requires Inv-loop μ-loop
 point-weights-requires k κs =
-    let s = start k in (
-      (s .pre .0 .valid .few-states, omega (arith, below k)),
-      rows-stored (s .args .c .states) (k .before .loop .i) (s .args .count) (k .loop-test .taken) (s .pre .1 .0 .1),
+    let s = start k in let (roofed, ((_, stored), _)) = s .pre in (
+      (roofed .valid .few-states, omega (arith, below k)),
+      rows-stored (s .args .c .states) (k .before .loop .i) (s .args .count) (k .loop-test .taken) stored,
     )
 
 gains-long : tie.Need-slice-aggregate-backups-at Inv-loop μ-loop
@@ -61,12 +61,12 @@ weights-long c =
 backups-at-requires : tie.Need-backups-at-requires Inv-loop μ-loop
 backups-at-requires c κs =
     let l = c .before .before .before .before in let k = c .before .before .before in
-    let s = start k in (
-      roof-holds (s .pre .0) (l .before .gains .ensures),
+    let s = start k in let (roofed, (_, (points, (_, lists)))) = s .pre in (
+      roof-holds roofed (l .before .gains .ensures),
       (
-        point-light (s .args .c .states) (s .args .given .now) (l .loop .i) (c .before .before .point-weights .ensures) (s .pre .0 .valid .few-states)
-            (s .pre .1 .1 .0 (l .loop .i) (k .loop-test .taken)),
-        s .pre .1 .1 .1 .1,
+        point-light (s .args .c .states) (s .args .given .now) (l .loop .i) (c .before .before .point-weights .ensures) (roofed .valid .few-states)
+            (points (l .loop .i) (k .loop-test .taken)),
+        lists,
       ),
     )
 
@@ -102,8 +102,8 @@ slice-set c =
 
 same-length : tie.Need-same-length Inv-loop μ-loop
 same-length c =
-    laid-long _ _ _ (c .before .loop .inv .1)
-    (omega (arith, c .before .loop .inv .0, from-entry (c .before .before .before) .pre .1 .1 .1 .0))
+    let (_, (_, (_, (fits, _)))) = from-entry (c .before .before .before) .pre in
+    laid-long _ _ _ (c .before .loop .inv .1) (omega (arith, c .before .loop .inv .0, fits))
 
 returns : tie.Need-returns Inv-loop μ-loop
 returns c =

@@ -65,12 +65,12 @@ weights-long c =
 backups-at-requires : tie.Need-backups-at-requires Inv-loop μ-loop
 backups-at-requires c κs =
     let l = c .before .before .before .before in let k = c .before .before .before in
-    let a = start k in (
-      roof-holds (a .pre .0) (l .before .gains .ensures),
+    let a = start k in let (roofed, (_, (_, (points, lists)))) = a .pre in (
+      roof-holds roofed (l .before .gains .ensures),
       (
-        point-light (a .args .c .states) (a .args .offered .now) (l .loop .i) (c .before .before .point-weights .ensures) (a .pre .0 .valid .few-states)
-            (a .pre .1 .1 .1 .0 (l .loop .i) (k .loop-test .taken)),
-        a .pre .1 .1 .1 .1,
+        point-light (a .args .c .states) (a .args .offered .now) (l .loop .i) (c .before .before .point-weights .ensures) (roofed .valid .few-states)
+            (points (l .loop .i) (k .loop-test .taken)),
+        lists,
       ),
     )
 
@@ -80,15 +80,15 @@ long c =
     sym (backups-long (start k .pre .0) (k .before .before .gains .ensures) _ (c .before .backups-at .ensures))
 
 stored : tie.Need-shared-slice-copy-out-covers Inv-loop μ-loop
-stored c = let k = after-point-weights c .before in omega (arith, k .loop-test .taken, start k .pre .1 .1 .0 .long)
+stored c = let k = after-point-weights c .before in let (_, (_, (values, _))) = start k .pre in omega (arith, k .loop-test .taken, values .long)
 
 covers-requires : tie.Need-covers-requires Inv-loop μ-loop
 covers-requires c κs =
     let g = after-point-weights (c .before) .before .before .before in let k = after-point-weights (c .before) .before in
-    let a = start k in (
-      omega (arith, a .pre .0 .valid .few-actions, backups-long (a .pre .0) (g .gains .ensures) _ (c .before .before .backups-at .ensures)),
+    let a = start k in let (roofed, (_, (values, _))) = a .pre in (
+      omega (arith, roofed .valid .few-actions, backups-long roofed (g .gains .ensures) _ (c .before .before .backups-at .ensures)),
       rw (back (getD (a .args .at .now) (k .before .loop .i) (pos 0)) (c .covers-arg .given))
-          (a .pre .1 .1 .0 .value (k .before .loop .i) (k .loop-test .taken)),
+          (values .value (k .before .loop .i) (k .loop-test .taken)),
     )
 
 -- the answer, by the point's own weights and value

@@ -26,19 +26,17 @@ loop-holds c = (search needs, sym (sum-none _))
 
 successors-requires : tie.Need-successors-requires Inv-loop μ-loop
 successors-requires c κs =
-    let p = start (c .before) .pre in (
-      (p .0 .0, (p .0 .1 .0, (p .0 .1 .1 .0, omega (arith, c .loop-test .taken)))),
-      (moved-below (p .0 .0) (p .1 .0) (p .1 .1 .0) (p .1 .1 .1), p .1 .1 .0),
-    )
+    let ((states, (observations, (action, _))), (moved, (observed, rows))) = start (c .before) .pre in
+    ((states, (observations, (action, omega (arith, c .loop-test .taken)))), (moved-below states moved observed rows, observed))
 
 weights-long : tie.Need-slice-aggregate-largest-product Inv-loop μ-loop
 weights-long c = sym (rw (c .before .successors .ensures) (padded-length 0 maxStates _ _ (start (c .before .before .before) .pre .0 .0)))
 
 largest-product-requires : tie.Need-largest-product-requires Inv-loop μ-loop
 largest-product-requires c κs =
-    let p = start (c .before .before .before) .pre in (
-      (p .0 .0, p .0 .1 .1 .1),
-      (reached-below (p .0 .0) (p .1 .0) (p .1 .1 .0) (p .1 .1 .1) _ (c .before .before .loop-test .taken) (c .before .successors .ensures), p .1 .1 .1),
+    let ((states, (_, (_, some-action))), (moved, (observed, rows))) = start (c .before .before .before) .pre in (
+      (states, some-action),
+      (reached-below states moved observed rows _ (c .before .before .loop-test .taken) (c .before .successors .ensures), rows),
     )
 
 -- the best row's product with what is seen
@@ -51,9 +49,8 @@ met c = answer (c .largest-product .ok) (c .largest-product .ensures ∙ rw (c .
 
 plus-requires : tie.Need-plus-requires Inv-loop μ-loop
 plus-requires c κs =
-    let p = start (in-loop c .before) .pre in
-    sums-fit (p .0 .0) (p .1 .0) (p .1 .1 .0) (p .1 .1 .1) (p .0 .1 .1 .1) (p .0 .1 .0) _ (in-loop c .loop-test .taken)
-    (in-loop c .before .loop .inv .1) (met c)
+    let i = in-loop c in let ((states, (observations, (_, some-action))), (moved, (observed, rows))) = start (i .before) .pre in
+    sums-fit states moved observed rows some-action observations _ (i .loop-test .taken) (i .before .loop .inv .1) (met c)
 
 loop-again : tie.Need-loop-again Inv-loop μ-loop
 loop-again c =

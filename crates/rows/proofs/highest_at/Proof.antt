@@ -15,16 +15,15 @@ abbrev μ-loop : tie.MeasureT-loop
 
 reward-at-requires : tie.Need-reward-at-requires Inv-loop μ-loop
 reward-at-requires c κs =
-    let p = c .pre in
-    ((p .0 .0, omega arith), (p .0 .1 .0, rows-stored _ 0 _ (p .0 .1 .1 .0) (p .1 .stored)))
+    let ((states, (state, (some-action, _))), fits) = c .pre in ((states, omega arith), (state, rows-stored _ 0 _ some-action (fits .stored)))
 
 loop-holds : tie.Need-loop-holds Inv-loop μ-loop
 loop-holds c = ((omega arith, omega arith), answer (c .reward-at .ok) (c .reward-at .ensures) ∙ highest-first _)
 
 reward-at-requires-2 : tie.Need-reward-at-requires-2 Inv-loop μ-loop
 reward-at-requires-2 c κs =
-    let p = c .before .before .before .pre in
-    ((p .0 .0, omega (arith, p .0 .1 .1 .1)), (p .0 .1 .0, rows-stored _ _ _ (c .loop-test .taken) (p .1 .stored)))
+    let ((states, (state, (_, actions))), fits) = c .before .before .before .pre in
+    ((states, omega (arith, actions)), (state, rows-stored _ _ _ (c .loop-test .taken) (fits .stored)))
 
 loop-again : tie.Need-loop-again Inv-loop μ-loop
 loop-again c =

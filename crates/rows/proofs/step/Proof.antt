@@ -29,16 +29,16 @@ step-informed-requires c κs = let s = from-next c in (s .pre .0 .0, (s .pre .1,
 
 paste-i64-requires : tie.Need-paste-i64-requires
 paste-i64-requires c κs =
-    let f = c .before .before .before in let s = start f in
-    (omega (arith, s .pre .0 .0 .rows-fit .stored), omega (arith, few s, f .step-informed .kept .1 .1 .1 .1 .1 .0))
+    let f = c .before .before .before in let s = start f in let (_, (_, (_, (_, (_, (next, _)))))) = f .step-informed .kept in
+    (omega (arith, s .pre .0 .0 .rows-fit .stored), omega (arith, few s, next))
 
 step-qmdp-requires : tie.Need-step-qmdp-requires
 step-qmdp-requires c κs = let s = start (of-informed (c .before .before .before)) in (s .pre .0 .1, few s)
 
 paste-i64-requires-2 : tie.Need-paste-i64-requires-2
 paste-i64-requires-2 c κs =
-    let q = c .before .before .before in let s = start (of-informed (of-laid q)) in
-    (omega (arith, s .pre .0 .1 .rows-fit .stored), omega (arith, few s, q .step-qmdp .kept .1 .1 .1 .1 .0))
+    let q = c .before .before .before in let s = start (of-informed (of-laid q)) in let (_, (_, (_, (_, (next, _))))) = q .step-qmdp .kept in
+    (omega (arith, s .pre .0 .1 .rows-fit .stored), omega (arith, few s, next))
 
 returns : tie.Need-returns
 returns c =

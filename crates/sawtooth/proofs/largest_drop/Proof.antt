@@ -22,26 +22,20 @@ after-start c = c .before .before .before
 
 reaches-requires : tie.Need-reaches-requires Inv-loop μ-loop
 reaches-requires c κs =
-    let l = c .before .before .before .before in let a = start l in
+    let l = c .before .before .before .before in let a = start l in let (states, (reached, (points, gains))) = a .pre in
     let i = l .loop .i in
-    let p = a .pre .1 .1 .0 in (
-      (
-        a .pre .0,
-        (
-          point-inside i (a .args .n) p (omega arith) (c .before .before .start .ensures),
-          (a .pre .1 .1 .1 .below i (omega arith), c .least-above .ensures .1),
-        ),
-      ),
-      (a .pre .1 .0, point-within i (a .args .n) p (omega arith) (c .before .before .start .ensures)),
+    let at = c .before .before .start .ensures in (
+      (states, (point-inside i (a .args .n) points (omega arith) at, (gains .below i (omega arith), c .least-above .ensures .1))),
+      (reached, point-within i (a .args .n) points (omega arith) at),
     )
 
 drop-of-requires : tie.Need-drop-of-requires Inv-loop μ-loop
 drop-of-requires c κs =
-    let a = start (after-start (c .before) .before .before) in
+    let a = start (after-start (c .before) .before .before) in let (states, (reached, (points, gains))) = a .pre in
     let i = after-start (c .before) .before .before .loop .i in
-    let p = a .pre .1 .1 .0 in (
-      (a .pre .0, (point-inside i (a .args .n) p (omega arith) (after-start (c .before) .start .ensures), a .pre .1 .1 .1 .below i (omega arith))),
-      (a .pre .1 .0, point-within i (a .args .n) p (omega arith) (after-start (c .before) .start .ensures)),
+    let at = after-start (c .before) .start .ensures in (
+      (states, (point-inside i (a .args .n) points (omega arith) at, gains .below i (omega arith))),
+      (reached, point-within i (a .args .n) points (omega arith) at),
     )
 
 -- a point that does not reach is not above the best

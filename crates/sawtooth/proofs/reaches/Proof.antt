@@ -20,12 +20,12 @@ abbrev start : tie.At-loop Inv-loop μ-loop → tie.Start Inv-loop μ-loop
 start c = c .before .before .before
 
 reach-requires : tie.Need-reach-requires Inv-loop μ-loop
-reach-requires c κs = let a = start (at-loop (c .before)) in (a .pre .1 .0 .below (at-loop (c .before) .loop .s) (omega arith), a .pre .0 .1 .1 .0)
+reach-requires c κs = let l = at-loop (c .before) in let ((_, (_, (gain, _))), (reached, _)) = start l .pre in (reached .below (l .loop .s) (omega arith), gain)
 
 wanted-requires : tie.Need-wanted-requires Inv-loop μ-loop
 wanted-requires c κs =
-    let a = start (at-loop (c .before .before)) in
-    (a .pre .0 .1 .1 .1, rw (c .before .before .weight .ensures) (a .pre .1 .1 (at-loop (c .before .before) .loop .s) (omega arith)))
+    let l = at-loop (c .before .before) in let ((_, (_, (_, least))), (_, totals)) = start l .pre in
+    (least, rw (c .before .before .weight .ensures) (totals (l .loop .s) (omega arith)))
 
 returns : tie.Need-returns Inv-loop μ-loop
 returns c =

@@ -13,12 +13,12 @@ start c = c .before .before .before .before .before
 foreseen-requires : tie.Need-foreseen-requires
 foreseen-requires c κs =
     let from = c .before .before .before .before in let a = from .args in
-    let p = from .pre in
-    let v = p .0 .valid in (
-      (v .few-states, (v .few-observations, omega (arith, v .few-actions, p .1 .0 .0))),
+    let (upon, ((action, long), standing)) = from .pre in
+    let v = upon .valid in (
+      (v .few-states, (v .few-observations, omega (arith, v .few-actions, action))),
       (
-        observations-fit (a .c) (a .transition .now) (a .observation .now) (a .reward .now) v (p .0 .stored) (a .a .0) (p .1 .0 .0),
-        chosen-fit (p .0) (a .chosen .now) (p .1 .0 .1) (p .1 .1),
+        observations-fit (a .c) (a .transition .now) (a .observation .now) (a .reward .now) v (upon .stored) (a .a .0) action,
+        chosen-fit upon (a .chosen .now) long standing,
       ),
     )
 
@@ -29,14 +29,14 @@ foreseen-long c =
 rounded-requires : tie.Need-rounded-requires
 rounded-requires c κs =
     let a = start (c .before) .args in
-    let p = start (c .before) .pre in
-    let v = p .0 .valid in (
-      (v .few-states, (omega (arith, v .few-actions, p .1 .0 .0), v .discount-limit)),
+    let (upon, ((action, long), standing)) = start (c .before) .pre in
+    let v = upon .valid in (
+      (v .few-states, (omega (arith, v .few-actions, action), v .discount-limit)),
       (
-        transitions-fit (a .c) (a .transition .now) (a .observation .now) (a .reward .now) v (p .0 .stored) (a .a .0) (p .1 .0 .0),
+        transitions-fit (a .c) (a .transition .now) (a .observation .now) (a .reward .now) v (upon .stored) (a .a .0) action,
         (
-          rewards-fit (a .c) (a .transition .now) (a .observation .now) (a .reward .now) v (p .0 .stored) (a .a .0) (p .1 .0 .0),
-          foreseen-within (p .0) (a .chosen .now) (p .1 .0 .1) (p .1 .1) (a .a .0) (p .1 .0 .0) (c .before .foreseen .ensures),
+          rewards-fit (a .c) (a .transition .now) (a .observation .now) (a .reward .now) v (upon .stored) (a .a .0) action,
+          foreseen-within upon (a .chosen .now) long standing (a .a .0) action (c .before .foreseen .ensures),
         ),
       ),
     )

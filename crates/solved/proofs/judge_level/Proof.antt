@@ -31,14 +31,14 @@ solving : (c : tie.After-enum-told) → let a = start (c .before .before) .args 
 solving c =
     let s = c .before .before in
     let a = start s .args in
-    let p = start s .pre in
+    let ((upon, (below, few)), (files, _)) = start s .pre in
     let exist = numbers-in 10 (a .count) (a .c .actions) (a .c .observations) (a .standing) (actionAt (a .c .states) (a .alpha .now))
     (choicesAt (a .c .observations) (a .t) (a .graph .now)) (sym (s .numbers-hold .ensures) ∙ c .enum-told .given .1) in
     record {
-      upon = p .0 .0;
-      below = p .0 .1 .0;
-      few = p .0 .1 .1;
-      files = p .1 .0;
+      upon = upon;
+      below = below;
+      few = few;
+      files = files;
       acts = λ v l. exist v l .0;
       chooses = λ v l. exist v l .1;
     }
@@ -66,8 +66,8 @@ returns-3 c =
 
 weights-hold-requires : tie.Need-weights-hold-requires
 weights-hold-requires c κs =
-    let p = start (of-masks (of-entries (c .before .before)) .before .before) .pre in
-    ((p .0 .0 .valid .few-states, omega (arith, p .1 .1 .0)), p .1 .1 .1)
+    let ((upon, _), (_, (few, stored))) = start (of-masks (of-entries (c .before .before)) .before .before) .pre in
+    ((upon .valid .few-states, omega (arith, few)), stored)
 
 returns-4 : tie.Need-returns-4
 unfolding solved

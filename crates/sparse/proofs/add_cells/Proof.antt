@@ -40,22 +40,22 @@ state-in : (c : tie.After-state-of Inv-loop μ-loop) → c .state-of .result < s
 state-in c = omega (arith, c .state-of .ensures, start (turn c) .pre .1 .0 .state-in (turn c .loop .i) (c .before .before .loop-test .taken))
 
 sums-long : (c : tie.At-loop Inv-loop μ-loop) → length (c .loop .sums) ≡ length (start c .args .sums .now)
-sums-long c = let long = start c .pre .1 .1 .0 in laid-long _ _ _ (c .loop .inv .1 long) long
+sums-long c = let (_, (_, (long, _))) = start c .pre in laid-long _ _ _ (c .loop .inv .1 long) long
 
 sum-stored : (c : tie.After-state-of Inv-loop μ-loop) → c .state-of .result < length (turn c .loop .sums)
-sum-stored c = omega (arith, state-in c, sums-long (turn c), start (turn c) .pre .1 .1 .0)
+sum-stored c = let (_, (_, (long, _))) = start (turn c) .pre in omega (arith, state-in c, sums-long (turn c), long)
 
 add-scaled-requires : tie.Need-add-scaled-requires Inv-loop μ-loop
 add-scaled-requires c κs =
     let s = c .before .before in
     let a = start (turn s) in
-    let long = a .pre .1 .1 .0 in
+    let (_, (column, (long, small))) = a .pre in
     let i = turn s .loop .i in
     let taken = s .before .before .loop-test .taken in (
-      omega (arith, c .chance-of .ensures, a .pre .1 .0 .chance-limit i taken),
+      omega (arith, c .chance-of .ensures, column .chance-limit i taken),
       rw (back _ (c .before .add-scaled-arg .given), c .chance-of .ensures, s .state-of .ensures, added a)
           (added-fits (a .args .list .now) (a .args .first) (a .args .n) (a .args .x) (a .args .sums .now) long i (a .args .count)
-          (rw (added a) at (turn s .loop .inv .1 long)) taken (a .pre .1 .0 .state-in i taken) (a .pre .1 .1 .1)),
+          (rw (added a) at (turn s .loop .inv .1 long)) taken (column .state-in i taken) small),
     )
 
 loop-again : tie.Need-loop-again Inv-loop μ-loop
@@ -73,9 +73,9 @@ loop-again c =
 returns : tie.Need-returns Inv-loop μ-loop
 returns c =
     let l = c .before in
-    let a = start l in
+    let a = start l in let (_, (_, (long, _))) = a .pre in
     let e : l .loop .i ≡ a .args .count = omega (arith, c .loop-test .left, l .loop .inv .0) in
-    rw (e, added a) at (l .loop .inv .1 (a .pre .1 .1 .0))
+    rw (e, added a) at (l .loop .inv .1 long)
 
 pub add-cells-spec : {M : Type 1} → statement M
 add-cells-spec =

@@ -18,12 +18,11 @@ said c s = let a = at-start c .args in said-turned (a .n) (a .list .now) (a .a .
 
 add-cells-requires : tie.Need-add-cells-requires
 add-cells-requires c κs =
-    let start = at-start (c .before) in let a = start .args in let pre = start .pre in (
-      pre .0 .0,
+    let start = at-start (c .before) in let a = start .args in let ((states, _), (column, (sums, small))) = start .pre in (
+      states,
       (
-        cells-fit (a .n) (a .list .now) (a .a .0) (a .to .0) (c .before .before .first-of .ensures) (c .before .count-of .ensures)
-            (pre .1 .0),
-        (pre .1 .1 .0, λ s l. rw (said (c .before) s, toZ-ofZ (start .fits .x)) (pre .1 .1 .1 s l)),
+        cells-fit (a .n) (a .list .now) (a .a .0) (a .to .0) (c .before .before .first-of .ensures) (c .before .count-of .ensures) column,
+        (sums, λ s l. rw (said (c .before) s, toZ-ofZ (start .fits .x)) (small s l)),
       ),
     )
 

@@ -29,8 +29,8 @@ later c =
 
 backup-from-requires : tie.Need-backup-from-requires Inv-loop μ-loop
 backup-from-requires c κs =
-    let pre = start (c .before .before) .pre in let taken = c .before .loop-test .taken in
-    ((pre .0 .0, (pre .0 .1 .0, (taken, pre .0 .1 .1))), (pre .1 .1 .0, rw (later c) (onward-within (pre .1 .0) (pre .1 .1 .1) (pre .0 .0) taken)))
+    let ((states, (action, discount)), (columns, (rewards, foreseen))) = start (c .before .before) .pre in let taken = c .before .loop-test .taken in
+    ((states, (action, (taken, discount))), (rewards, rw (later c) (onward-within columns foreseen states taken)))
 
 loop-again : tie.Need-loop-again Inv-loop μ-loop
 unfolding backupSaid

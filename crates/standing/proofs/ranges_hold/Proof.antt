@@ -16,12 +16,11 @@ abbrev of-corners : tie.After-rows-within → tie.After-entries-within
 of-corners c = c .before .before .before
 
 small : (c : tie.After-range-of) → c .range-of .result ≤ maxEntry
-small c = rw (c .range-of .ensures) (range-limit (start c .args .t) (start c .pre .0 .1 .0))
+small c = let ((_, (levels, _)), _) = start c .pre in rw (c .range-of .ensures) (range-limit (start c .args .t) levels)
 
 entries-within-requires : tie.Need-entries-within-requires
 entries-within-requires c κs =
-    let s = start c in
-    ((s .pre .0 .1 .1 .0, (s .pre .0 .0, omega (arith, small c))), (s .pre .1 .0, s .pre .1 .1 .0))
+    let ((states, (_, (vectors, _))), (masks, (entries, _))) = start c .pre in ((vectors, (states, omega (arith, small c))), (masks, entries))
 
 returns : tie.Need-returns
 returns c =
@@ -34,8 +33,8 @@ returns c =
 rows-within-requires : tie.Need-rows-within-requires
 rows-within-requires c κs =
     let r = of-entries (c .before .before) in
-    let s = start r in
-    ((omega (arith, s .pre .0 .0), (omega arith, omega (arith, small r))), omega (arith, s .pre .1 .1 .1 .0))
+    let ((states, _), (_, (_, (corners, _)))) = start r .pre in
+    ((omega (arith, states), (omega arith, omega (arith, small r))), omega (arith, corners))
 
 returns-2 : tie.Need-returns-2
 returns-2 c =
@@ -49,8 +48,8 @@ returns-2 c =
 values-within-requires : tie.Need-values-within-requires
 values-within-requires c κs =
     let r = of-entries (of-corners (c .before .before)) in
-    let s = start r in
-    ((s .pre .0 .0, (s .pre .0 .1 .1 .1, small r)), s .pre .1 .1 .1 .1)
+    let ((states, (_, (_, points))), (_, (_, (_, (weights, values))))) = start r .pre in
+    ((states, (points, small r)), (weights, values))
 
 returns-3 : tie.Need-returns-3
 returns-3 c =

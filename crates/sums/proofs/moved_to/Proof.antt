@@ -15,12 +15,12 @@ start c = c .before .before .before
 
 add-moved-requires : tie.Need-add-moved-requires Inv-loop μ-loop
 add-moved-requires c κs =
-    let l = c .before .before .before in let a = start l in let s = l .loop .s in (
-      rw (l .loop .inv .1) (moved-part (a .pre .1 .1) (a .pre .1 .0) (a .pre .0 .1 .1) (a .pre .0 .0) s (omega arith)),
+    let l = c .before .before .before in let a = start l in let s = l .loop .s in
+    let ((states, (_, state)), (weights, transitions)) = a .pre in (
+      rw (l .loop .inv .1) (moved-part transitions weights state states s (omega arith)),
       (
-        a .pre .1 .0 .below s
-            (omega arith),
-        rw (c .before .transition-at .ensures) (a .pre .1 .1 .transition s (omega arith) (a .args .to .0) (a .pre .0 .1 .1)),
+        weights .below s (omega arith),
+        rw (c .before .transition-at .ensures) (transitions .transition s (omega arith) (a .args .to .0) state),
       ),
     )
 

@@ -18,11 +18,8 @@ start c = c .before .before .before
 
 share-requires : tie.Need-share-requires Inv-loop μ-loop
 share-requires c κs =
-    let a = start (at-loop c) in let to = at-loop c .loop .to in (
-      a .pre .1 .0 .below to (omega arith),
-      rw (c .observation-at .ensures)
-          (a .pre .1 .1 .observation to (omega arith) (a .args .o .0) (a .pre .0 .1 .1 .1)),
-    )
+    let a = start (at-loop c) in let to = at-loop c .loop .to in let ((_, (_, (_, observation))), (moved, observed)) = a .pre in
+    (moved .below to (omega arith), rw (c .observation-at .ensures) (observed .observation to (omega arith) (a .args .o .0) observation))
 
 loop-again : tie.Need-loop-again Inv-loop μ-loop
 loop-again c =

@@ -11,8 +11,8 @@ later c = answer (c .onward .ok) (c .onward .ensures)
 
 backup-from-requires : tie.Need-backup-from-requires
 backup-from-requires c κs =
-    let pre = c .before .before .pre in
-    (pre .0, (pre .1 .1 .0, rw (later c) (onward-limit (pre .1 .0) (pre .1 .1 .1) (pre .0 .1 .1 .0) (pre .0 .0))))
+    let ((states, (action, (state, discount))), (transitions, (rewards, foreseen))) = c .before .before .pre in
+    ((states, (action, (state, discount))), (rewards, rw (later c) (onward-limit transitions foreseen state states)))
 
 returns : tie.Need-returns
 unfolding backupIn

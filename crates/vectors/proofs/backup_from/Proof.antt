@@ -9,8 +9,8 @@ reward c = answer (c .reward-at .ok) (c .reward-at .ensures)
 
 scaled-requires : tie.Need-scaled-requires
 scaled-requires c κs =
-    let a = c .before in
-    (lit< tt, rw (reward c) (omega (arith, a .pre .1 .0 .reward (a .args .s .0) (a .pre .0 .1 .1 .0))))
+    let ((_, (_, (state, _))), (rewards, _)) = c .before .pre in
+    (lit< tt, rw (reward c) (omega (arith, rewards .reward (c .before .args .s .0) state)))
 
 now : (c : tie.After-scaled)
     → let a = c .before .before .args in toZ w64 (ofZ w64 (c .scaled .result)) ≡ K · rewardIn (a .n) (a .reward .now) (a .s .0) (a .a .0)
@@ -24,8 +24,8 @@ later c = toZ-ofZ (c .fits .later)
 add-scaled-requires : tie.Need-add-scaled-requires
 add-scaled-requires c κs =
     let start = c .before .before in
-    let pre = start .pre in
-    (omega arith, rw (now c, later start) (backup-fits (start .args .later) (pre .1 .0) (pre .0 .1 .1 .0) (pre .0 .1 .1 .1) (pre .1 .1)))
+    let ((_, (_, (state, discount))), (rewards, small)) = start .pre in
+    (omega arith, rw (now c, later start) (backup-fits (start .args .later) rewards state discount small))
 
 returns : tie.Need-returns
 returns c = answer (c .add-scaled .ok) (c .add-scaled .ensures ∙ rw (now (c .before), later (c .before .before .before)))

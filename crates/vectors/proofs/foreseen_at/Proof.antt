@@ -24,18 +24,18 @@ start c = c .before .before .before .before
 terms : (c : tie.Start Inv-loop μ-loop)
     → Terms (c .args .k) one maxEntry (observationIn (c .args .n) (c .args .k) (c .args .cells .now) (c .args .a .0) (c .args .to .0))
     (λ o. chosenIn (c .args .n) (c .args .k) (c .args .masks .now) (c .args .entries .now) (c .args .choices .now) (c .args .v .0) o (c .args .to .0))
-terms c = foreseen-terms (c .pre .1 .0) (c .pre .1 .1) (c .pre .0 .1 .1 .1)
+terms c = let ((_, (_, (_, state))), (observed, chosen)) = c .pre in foreseen-terms observed chosen state
 
 choice-at-requires : tie.Need-choice-at-requires Inv-loop μ-loop
-choice-at-requires c κs = let pre = start (turn c) .pre in ((pre .0 .1 .0, (pre .1 .1 .row, omega arith)), pre .1 .1 .stored)
+choice-at-requires c κs = let ((_, (observations, _)), (_, chosen)) = start (turn c) .pre in ((observations, (chosen .row, omega arith)), chosen .stored)
 
 entry-at-requires : tie.Need-entry-at-requires Inv-loop μ-loop
 entry-at-requires c κs =
-    let a = start (turn (c .before)) in
-    let fit = a .pre .1 .1 .entries-fit in
-    let below : c .choice-at .result .0 < a .pre .1 .1 .vectors = rw (c .choice-at .ensures) (a .pre .1 .1 .vector (turn (c .before) .loop .o) (omega arith)) in
-    let rows = rows-stored (a .args .n) _ (a .pre .1 .1 .vectors) below (fit .stored) in
-    ((a .pre .0 .0, omega (arith, below, fit .few)), (a .pre .0 .1 .1 .1, (omega (arith, below, fit .masks-long), rows)))
+    let a = start (turn (c .before)) in let ((states, (_, (_, state))), (_, chosen)) = a .pre in
+    let fit = chosen .entries-fit in
+    let below : c .choice-at .result .0 < chosen .vectors = rw (c .choice-at .ensures) (chosen .vector (turn (c .before) .loop .o) (omega arith)) in
+    let rows = rows-stored (a .args .n) _ (chosen .vectors) below (fit .stored) in
+    ((states, omega (arith, below, fit .few)), (state, (omega (arith, below, fit .masks-long), rows)))
 
 value : (c : tie.After-entry-at Inv-loop μ-loop)
     → let l = turn (c .before .before) in

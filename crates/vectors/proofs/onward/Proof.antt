@@ -14,7 +14,7 @@ abbrev μ-loop : tie.MeasureT-loop
 terms : (c : tie.Start Inv-loop μ-loop)
     → Terms (c .args .n) one foreseenLimit (transitionIn (c .args .n) (c .args .cells .now) (c .args .s .0) (c .args .a .0))
     (λ i. getD (c .args .f .now) i (pos 0))
-terms c = onward-terms (c .pre .1 .0) (c .pre .1 .1) (c .pre .0 .1 .1)
+terms c = let ((_, (_, state)), (transitions, foreseen)) = c .pre in onward-terms transitions foreseen state
 
 add-scaled-requires : tie.Need-add-scaled-requires Inv-loop μ-loop
 add-scaled-requires c κs =

@@ -77,13 +77,14 @@ returns-9 c =
 
 returns-11 : tie.Need-returns-11
 returns-11 c =
-    let b = c .before .before .before .args .b in let r = c .before .before .match .rest in
-    rest b (omega (arith, r .0 .0 .0 .1, r .0 .0 .1, r .0 .1, r .1)) (below b (omega arith))
+    let b = c .before .before .before .args .b in let ((((_, not-hash), not-point), not-minus), not-star) = c .before .before .match .rest in
+    rest b (omega arith) (below b (omega arith))
 
 returns-12 : tie.Need-returns-12
 returns-12 c =
     let b = c .before .before .before .before .args .b in
-    let l : 58 < b = omega (arith, c .before .before .before .match .rest .0 .0 .0 .0) in
+    let (((((_, not-colon), _), _), _), _) = c .before .before .before .match .rest in
+    let l : 58 < b = omega arith in
     rest b (omega arith) (above b (omega arith))
 
 pub class-of-spec : {M : Type 1} → statement M
