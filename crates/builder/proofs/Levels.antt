@@ -106,7 +106,7 @@ vector-made {c} {T} {O} {R} {masks} {entries} {vectors} count weight v p h e f =
     }
 
 -- there is room for a row more
-pub record Room (n k v : ℕ) (actions choices masks : List ℕ) (entries : List ℤ) : Type 0 where
+pub record RowsRoom (n k v : ℕ) (actions choices masks : List ℕ) (entries : List ℤ) : Type 0 where
   pub actions-fit : v < length actions
   pub choices-fit : v * k + k ≤ length choices
   pub masks-fit : v < length masks
@@ -139,7 +139,7 @@ module _ (n k : ℕ) (W : Level) {actions choices masks : List ℕ} {entries : L
     }
 
     module _ (b : v < count) where
-      pub rows-room : Room n k v actions' choices' masks' entries'
+      pub rows-room : RowsRoom n k v actions' choices' masks' entries'
       rows-room =
           let l = filled-long (omega arith) in record {
             actions-fit = omega (arith, l .actions-long, fit .actions-fit);

@@ -12,7 +12,7 @@ ghost use Rattle.tables.specs.Storage.{tablesIn};
 ghost use Rattle.masks.specs.Masks.{covered};
 ghost use Rattle.plans.specs.Prices.{fallen, risen};
 ghost use Rattle.levels.specs.Storage.{cells, rows, lent};
-ghost use Rattle.runs.specs.Prices.{pricedOf};
+ghost use Rattle.runs.specs.Prices.{pricesVerdict, pricedOf};
 ghost use Rattle.pricing.specs.Steps.{maxMove, changeAt, Vectors, PricedPoints, loweredIn, raisedIn, valueIn};
 use tables::Counts;
 use tables::State;

@@ -1,2 +1,2 @@
 -- Laws of what is read.
-pub mod Room
+pub mod Verdicts

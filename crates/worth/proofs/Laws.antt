@@ -9,7 +9,7 @@ use Rattle.tables.proofs.Accepted.{tables-valid, tables-stored, count-true}
 use Rattle.tables.proofs.Refusals.{before-fine, unless-fine}
 use Rattle.levels.proofs.Laws.{numbers-in}
 use Rattle.worths.specs.Limits.{maxNodes}
-use Rattle.worths.specs.Graph.{Accepted}
+use Rattle.worths.specs.Graph.{WorthAccepted}
 use Rattle.worths.specs.Storage.{LentGraph, graphOf, graphStored}
 use Rattle.worths.specs.Steps.{GraphStored, GraphHeld}
 use Rattle.worth.specs.Judged.{worthVerdict}
@@ -20,7 +20,7 @@ graph-stored k g e = let h = and-true _ _ e in record { actions-long = leb-true 
 
 -- Each stage of a fine verdict is fine, so each of its tests passed. Qed.
 module _ (m : Tables) (g : LentGraph) (v s d : ℕ) (e : worthVerdict m g v s d ≡ Fine) where
-  pub accepted : Accepted (modelOf m) (graphOf (m .observations) g) v s d
+  pub accepted : WorthAccepted (modelOf m) (graphOf (m .observations) g) v s d
   unfolding worthVerdict
   accepted =
       let tested = before-fine _ _ e in

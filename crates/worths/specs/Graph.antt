@@ -23,7 +23,7 @@ pub record Sound (M : Model) (G : PlanGraph) : Type 0 where
   pub next-in : (v : ℕ) → v < G .nodes → (o : ℕ) → o < M .observations → G .next v o < G .nodes
 
 -- and what is asked of them: a node, a state and steps left
-pub record Accepted (M : Model) (G : PlanGraph) (v s d : ℕ) : Type 0 where
+pub record WorthAccepted (M : Model) (G : PlanGraph) (v s d : ℕ) : Type 0 where
   pub sound : Sound M G
   pub node : v < G .nodes
   pub state : s < M .states

@@ -8,7 +8,7 @@ use Rattle.plans.specs.Level.{Level}
 use Rattle.plans.specs.Build.{built}
 use Rattle.candidates.specs.Steps.{uponIn}
 use Rattle.builder.specs.Steps.{Filled}
-use Rattle.builder.proofs.Levels.{seed-light, Made, vector-made, filled-none, VectorsAsLong, filled-long, Room, rows-room, filled-more}
+use Rattle.builder.proofs.Levels.{seed-light, Made, vector-made, filled-none, VectorsAsLong, filled-long, RowsRoom, rows-room, filled-more}
 use Rattle.builder.proofs.build_vectors.Statement.{statement}
 use Rattle.builder.proofs.build_vectors.Tie as tie
 
@@ -98,7 +98,7 @@ made c =
 room : (c : tie.After-best-candidate Inv-loop μ-loop)
     → let l = of-best c .before in
     let m = start l .args .c in
-    Room (m .states) (m .observations) (l .loop .v) (l .loop .actions) (l .loop .choices) (l .loop .masks) (l .loop .entries)
+    RowsRoom (m .states) (m .observations) (l .loop .v) (l .loop .actions) (l .loop .choices) (l .loop .masks) (l .loop .entries)
 room c =
     let i = of-best c in let (_, (_, (_, (fits, _)))) = start (i .before) .pre in
     rows-room _ _ _ fits (i .before .loop .inv .1) (i .loop-test .taken)

@@ -12,7 +12,7 @@ use Rattle.modelfile.specs.ModelFile.{Room, room}
 use Rattle.bodies.specs.Steps.{fileIn}
 use Rattle.modelfile.proofs.Opens.{opens, read-valid}
 use Rattle.reading.specs.Reading.{fileFor}
-use Rattle.reading.proofs.Room.{refused-file, short-start, long-start}
+use Rattle.reading.proofs.Verdicts.{refused-file, short-start, long-start}
 use Rattle.reading.proofs.read.Statement.{statement}
 use Rattle.reading.proofs.read.Tie as tie
 

@@ -2,7 +2,7 @@ use Rattle.solved.proofs.Prelude.{arith, _-_, _≤_, _≡_, sym}
 use Rattle.integers.proofs.Kit.{_<_}
 use Rattle.tables.specs.Limits.{maxVectors}
 use Rattle.builder.specs.Steps.{Filled}
-use Rattle.builder.proofs.Levels.{Made, filled-none, VectorsAsLong, filled-long, Room, rows-room, filled-more}
+use Rattle.builder.proofs.Levels.{Made, filled-none, VectorsAsLong, filled-long, RowsRoom, rows-room, filled-more}
 use Rattle.stated.specs.Steps.{ReadTo}
 use Rattle.solved.specs.Steps.{vectorsOver}
 use Rattle.solved.proofs.Vectors.{bestOf, row-made}
@@ -62,7 +62,7 @@ made c = row-made (c .row-at .result) (start c .pre .0) (c .before .loop-test .t
 
 -- there is room for its rows
 room : (c : tie.After-row-at Inv-loop μ-loop) → let l = c .before .before .loop in let m = start c .args .c in
-    Room (m .states) (m .observations) (l .v) (l .newactions) (l .newchoices) (l .newmasks) (l .newentries)
+    RowsRoom (m .states) (m .observations) (l .v) (l .newactions) (l .newchoices) (l .newmasks) (l .newentries)
 room c = rows-room _ _ _ (start c .pre .1) (c .before .before .loop .inv .1 .1) (c .before .loop-test .taken)
 
 number-requires : tie.Need-number-requires Inv-loop μ-loop

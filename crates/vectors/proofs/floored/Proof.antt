@@ -1,4 +1,5 @@
-use Rattle.vectors.proofs.Prelude.{_-_, _≤_, _≡_, _∙_, sym, ap, arith, needs, lit<, getD, pos, padded, padded-none, padded-turn, answer, back, maxStates, K}
+use Rattle.vectors.proofs.Prelude.{_-_, _≤_, _≡_, _∙_, sym, ap, arith, needs, lit<, getD, pos, padded}
+use Rattle.vectors.proofs.Prelude.{padded-none, padded-turn, answer, back, maxStates, K}
 use Rattle.integers.proofs.Kit.{ℤ}
 use Rattle.integers.specs.Whole.{floorDiv}
 use Rattle.vectors.proofs.floored.Statement.{statement}

@@ -4,7 +4,7 @@ use Rattle.tables.specs.Tables.{Tables}
 use Rattle.tables.specs.declared.Verdict.the-variants.{Fine}
 use Rattle.tables.specs.Storage.{tablesIn}
 use Rattle.tables.proofs.Fitting.{rows-stored}
-use Rattle.worths.specs.Graph.{Accepted}
+use Rattle.worths.specs.Graph.{WorthAccepted}
 use Rattle.worths.specs.Storage.{LentGraph, lentGraph, graphOf}
 use Rattle.worths.specs.Steps.{GraphHeld}
 use Rattle.worths.proofs.Laws.{few-states, room, worths-long, worth-at}
@@ -28,7 +28,7 @@ fine-here c = sym (c .before .before .judge-worth .ensures) ∙ c .enum-told .gi
 
 taken : (c : tie.After-enum-told)
     → let s = start c in
-    Accepted (modelOf (tables s)) (graphOf (s .args .c .observations) (graph s)) (s .args .v .0) (s .args .s .0) (s .args .d)
+    WorthAccepted (modelOf (tables s)) (graphOf (s .args .c .observations) (graph s)) (s .args .v .0) (s .args .s .0) (s .args .d)
 taken c = accepted _ _ _ _ _ (fine-here c)
 
 lent-here : (c : tie.After-enum-told)
