@@ -1,4 +1,6 @@
 -- What tables and a level lend: parts that are stored, and within the limits if the whole is. Assumes nothing.
+--
+-- In order: a part of a level is within the limits, if the whole is; a level in slices that are long enough.
 use Rattle.integers.proofs.Kit.{true, false, Bool, cond, [], ℕ, _≤_, _<_, arith, pos, natAbs}
 use Rattle.tables.specs.Tables.{Tables}
 use Rattle.tables.specs.Limits.{maxLevels}

@@ -1,4 +1,6 @@
 -- What follows the counts is refused at its first word that is, or goes on to the next. Assumes nothing.
+--
+-- In order: what is handed back of a word; a word that is refused, or read; the totals, where all words are read.
 use Rattle.integers.proofs.Kit.{_≡_, _∙_, refl, ap, sym, subst, List, ℕ, arith, ℤ}
 use denote.Enum.Declared.{tagOf}
 use Rattle.tables.specs.declared.Counts.{Counts}

@@ -1,4 +1,7 @@
 -- What the tests of building leave known; and what is written is what it is said to leave. Assumes nothing.
+--
+-- In order: room for the points' weights; what 7, 8, 9 and 12 leave known; some vector covers all states; what a test leaves; what is built, refused or
+-- not.
 use Rattle.integers.proofs.Kit.{_≡_, _∙_, sym, true, false, Bool, ℕ, _≤_, _<_, _*_, leb-true, ltb-true, leb, getD}
 use Rattle.integers.proofs.Searches.{and-true, some-cong}
 use Rattle.tables.specs.Tables.{Tables}

@@ -1,4 +1,7 @@
 -- Laws of the search for the best candidate: what an action's vector is handed, how large it is, and the best of the actions so far. Assumes nothing.
+--
+-- In order: what the search is handed; an action's vector and its product; what its steps ask for; the best of the first actions, one action more, and all
+-- of them.
 use Rattle.integers.proofs.Kit.{_≡_, _∙_, refl, sym, true, false, List, ℕ, _≤_, _<_, _+_, arith, length, getD, ℤ, pos, natAbs, ltZ}
 use Rattle.integers.specs.Whole.{Below}
 use Rattle.integers.specs.Search.{firstLargest}

@@ -1,4 +1,6 @@
 -- What is written of a file is read back as the same model. Assumes nothing.
+--
+-- In order: what is written is read back; the claim; what the call answers and leaves, with it.
 use Rattle.integers.proofs.Kit.{_≡_, _∙_, ap, true, List, ℕ, _*_, leb-true, leb, length, ℤ}
 use Rattle.integers.specs.Whole.{_·_}
 use Rattle.tables.specs.declared.Counts.{Counts}

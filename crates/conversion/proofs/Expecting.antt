@@ -1,4 +1,6 @@
 -- A file that is not refused by 2 to 6, with expected rewards: they keep the limits. Assumes nothing.
+--
+-- In order: a model with other rewards is as valid; where each expected reward lies, and its limit; the same in slices.
 use Rattle.integers.proofs.Kit.{_≡_, subst⁻¹, List, ℕ, _≤_, _<_, _*_, getD, replicate, length-replicate, mul-le-mul, arith, ℤ, pos, natAbs}
 use Rattle.integers.proofs.Lists.{laidRows-at, laidRows-length}
 use Rattle.integers.proofs.Sums.{total-part}

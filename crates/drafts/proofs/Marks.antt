@@ -1,4 +1,7 @@
 -- Cells that are marked one after the other, and what an index stands for. Assumes nothing.
+--
+-- In order: cells marked, and marked one after the other; what an index stands for; what is stated is what is marked, for T and O, for rewards and for
+-- rewards in full.
 use Rattle.integers.proofs.Kit.{_≡_, _∙_, refl, ap, sym, true, false, Bool, cond, _||_, List, [], _∷_, ℕ, _≤_, _<_, _+_, suc, zero, arith, add-one}
 use Rattle.integers.proofs.Kit.{add-zero, zero-add, ne-eqb, eq-eqb, eqb, length, getD, set, ℤ}
 use borrow.Author.Tests.{eqb-false}

@@ -1,4 +1,6 @@
 -- The machine's quotient drops towards 0; corrected by the remainder's sign it is the quotient rounded down or up. Assumes nothing.
+--
+-- In order: rounded down, by the sign of the remainder; rounded up; how large they are; of the machine's words.
 use Rattle.integers.proofs.Kit.{_≡_, _∙_, refl, ap, sym, true, false, ℕ, _≤_, _<_, _+_, _*_, suc, zero, _^_, _/_, _%_, arith, ℤ, pos, _+ℤ_}
 use Rattle.integers.proofs.Kit.{negsuc, _-ℤ_, negℤ, ltZ, mag, w64, toZ, ofZ, SFits, toZ-ofZ, toZ-pos}
 use native.Mathlib.Nat as NatL

@@ -1,4 +1,6 @@
 -- How large whole numbers are: bounds on either side that rule out overflow. Assumes nothing.
+--
+-- In order: sums, differences, multiples and weighed sums; between - r and r, as tests and as inequalities; with a factor in front.
 use Rattle.integers.proofs.Kit.{_≡_, refl, ap, sym, true, false, ℕ, _≤_, _<_, _+_, _*_, suc, zero, arith, le-leb, lt-leb, leb, ℤ, pos, natAbs}
 use Rattle.integers.proofs.Kit.{_+ℤ_, negsuc, _-ℤ_, negℤ, _≤ℤ_, ltZ, leZ}
 use native.Mathlib.Nat as NatL

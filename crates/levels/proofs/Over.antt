@@ -1,5 +1,7 @@
 -- Slices with a level or rows laid over them: these are read from them again, the slices are as long as they were, and levels that agree are laid alike.
 -- Assumes nothing.
+--
+-- In order: what the tests of lengths say; slices as long as others; entries elsewhere; a level over slices, read again; slices that are the same; rows.
 use Rattle.integers.proofs.Kit.{_≡_, _∙_, refl, ap, sym, true, false, Bool, cond, List, ℕ, _≤_, _<_, _*_, le-leb, leb-true, length, ℤ, pos}
 use Rattle.integers.proofs.Lists.{laid-at, laid-length, laid-cong, laidRows-at, laidRows-length, laidRows-cong}
 use Rattle.integers.proofs.Searches.{and-true, and-is}

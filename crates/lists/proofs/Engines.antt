@@ -1,4 +1,6 @@
 -- Table and list give the same. Assumes nothing.
+--
+-- In order: a list that is made is taken; sums over a list, and offers tested over it; the claim.
 use Rattle.integers.proofs.Kit.{_≡_, true, List, ℕ, _≤_, _<_, arith, le-leb, eqb, eq-eqb, leb, leb-true, length, getD, or-true}
 use Rattle.integers.specs.Cells.{laid}
 use Rattle.integers.proofs.Lists.{laid-at, laid-length}

@@ -1,4 +1,6 @@
 -- Files that read before read alike. Assumes nothing.
+--
+-- In order: start numbers and statements; what follows the counts, with room or without; headers; the whole file, by wider forms; files that read before.
 use Rattle.integers.proofs.Kit.{_≡_, refl, ap, true, false, Bool, cond, List, ℕ, _+_, leb, length, replicate}
 use Rattle.tables.specs.declared.Counts.{Counts}
 use Rattle.tables.specs.declared.Verdict.the-variants.{Fine}

@@ -1,4 +1,6 @@
 -- A file is refused at its headers, or goes on to what follows them. Assumes nothing.
+--
+-- In order: headers that are refused, or read; a file that is too long, or not; slices without room, or with it.
 use Rattle.integers.proofs.Kit.{_≡_, _∙_, ap, sym, subst, true, false, Bool, cond, List, ℕ, _≤_, _+_, leb, length, ℤ}
 use Rattle.tables.specs.declared.Counts.{Counts}
 use Rattle.tables.specs.declared.Verdict.the-variants.{Refused}

@@ -1,4 +1,6 @@
 -- What is written is what an offer is said to leave. Assumes nothing.
+--
+-- In order: slices that are complete for a level; what is left of a refused offer; of one that is accepted.
 use Rattle.integers.proofs.Kit.{_≡_, _∙_, refl, sym, List, _∷_, ℕ, _≤_, _+_, drop, ℤ}
 use Rattle.integers.specs.Cells.{laidRows}
 use Rattle.integers.proofs.Lists.{laidRows-flat}

@@ -1,6 +1,8 @@
 -- The floor: each vector of an accepted level has a plan that fits the model, opens with the vector's action, and earns at least the vector's entries on
 -- the states that it covers.
 -- Assumes nothing.
+--
+-- In order: factors; a backup is earned by the plan made of plans that earn; a plan for each observation; level 0 and each next one; at a mixture.
 use Rattle.integers.proofs.Kit.{_≡_, refl, true, Bool, ℕ, _<_, _*_, suc, zero, _^_, arith, decLt, ℤ, _≤ℤ_}
 use native.Mathlib.Nat.{pow-suc}
 use Rattle.integers.specs.Whole.{_·_}

@@ -1,4 +1,6 @@
 -- What is built over levels that agree agrees. Assumes nothing.
+--
+-- In order: choices, entries and the best action agree; so do corners and values; so does the level.
 use Rattle.integers.proofs.Kit.{_≡_, _∙_, refl, ap, ℕ, _<_, ℤ}
 use Rattle.integers.specs.Whole.{floorDiv, ceilDiv}
 use Rattle.integers.specs.Search.{firstLargestOf}

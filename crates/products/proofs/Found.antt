@@ -1,4 +1,6 @@
 -- The first largest of those that p holds of, as a loop finds it. Assumes nothing.
+--
+-- In order: what the search has so far; nothing yet; the first one met; one more, larger or not; the end.
 use Rattle.integers.proofs.Kit.{ℕ, _+_, _<_, suc, zero, _≡_, _∙_, refl, sym, ap, arith, Bool, true, false, ℤ, ltZ, or-true}
 use mathlib.Core.Bool.{not}
 use Rattle.integers.proofs.Parts.{is-T}

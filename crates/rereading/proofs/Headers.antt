@@ -1,4 +1,6 @@
 -- Headers and start numbers of a written file, read again. Assumes nothing.
+--
+-- In order: headers; start numbers.
 use Rattle.integers.proofs.Kit.{_≡_, _∙_, refl, ap, List, _∷_, ℕ, _≤_, _<_, arith, getD, replicate, length-replicate}
 use Rattle.tables.specs.declared.Counts.{Counts}
 use Rattle.tables.specs.Limits.{maxStates, maxActions, maxObservations, one, startTotal}

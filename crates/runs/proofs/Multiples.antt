@@ -1,4 +1,6 @@
 -- Multiples and sums of mixtures, proved over the definitions that the contracts name. Assumes nothing.
+--
+-- In order: what a mixture that is not refused has passed; a multiple of it within the limits is not refused either; the claim.
 use Rattle.integers.proofs.Kit.{_≡_, _∙_, refl, sym, true, List, ℕ, _<_, lt-ltb, ltb-true, ℤ}
 use Rattle.integers.proofs.Searches.{some-cong}
 use Rattle.tables.specs.Tables.{Tables}

@@ -2,6 +2,8 @@
 -- more vector or node than the file has bytes, never runs out, and 19 is always a word's. Assumes nothing.
 --
 -- A file has no more words than bytes, and each vector or node takes one or more. Qed.
+--
+-- In order: a word of a file; one vector and one node, each of a word or more; all of them; the whole file.
 use Rattle.integers.proofs.Kit.{_≡_, sym, subst, List, ℕ, _+_, suc, zero, arith, add-one, length}
 use Rattle.words.specs.Words.{Words, word, end, between, wordsOf, wordsIn}
 use Rattle.numerals.specs.Numeral.{countForm, decimalForm, nodeForm}

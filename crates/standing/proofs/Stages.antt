@@ -1,4 +1,6 @@
 -- The tests in their order, as the code goes through them. Assumes nothing.
+--
+-- In order: several tests; what 9 says of the counts; 11 by stages: entries, corners, values; what is not read.
 use Rattle.integers.proofs.Kit.{_≡_, _∙_, refl, true, false, Bool, _&&_, List, [], ℕ, _≤_, _+_, _*_, arith, leb-true, leb, getD, ℤ, pos}
 use Rattle.integers.proofs.Searches.{and-true}
 use Rattle.tables.specs.declared.Verdict.{Verdict}

@@ -1,4 +1,6 @@
 -- Statements whose numbers fit narrower forms are read alike by wider ones. Assumes nothing.
+--
+-- In order: what follows a part that is read alike; rows and tables; rewards, by state and in full; one statement, and all of them.
 use Rattle.integers.proofs.Kit.{_≡_, refl, subst⁻¹, true, false, Bool, List, ℕ, _+_, suc, zero, ℤ}
 use Rattle.words.specs.Words.{Words, word, end}
 use Rattle.tables.specs.Limits.{one, maxReward, startTotal}

@@ -1,4 +1,6 @@
 -- Tables that are not refused are valid and long enough, and the other way round. Assumes nothing.
+--
+-- In order: counts, cells and rows; a model that is not refused is valid, and the other way round; the same of tables in slices.
 use Rattle.integers.proofs.Kit.{_≡_, true, ℕ, _≤_, _<_, arith, le-leb, leb-true, eq-eqb, eqb-true, leb}
 use Rattle.integers.specs.Whole.{totalTo}
 use Rattle.integers.proofs.Searches.{and-true, and-is, every-at, at-every}

@@ -1,4 +1,6 @@
 -- Tables whose counts are within the limits do not reach past their arrays. Assumes nothing.
+--
+-- In order: places that are stored; tables in full arrays; slices long enough for their counts.
 use Rattle.integers.proofs.Kit.{_≡_, ap, true, _&&_, List, ℕ, _≤_, _<_, _+_, _*_, arith, mul-le-mul, mul-le-mul-right, le-leb, leb-true, leb, length, getD}
 use Rattle.integers.proofs.Lists.{cell-below}
 use Rattle.integers.proofs.Searches.{and-true, and-is}

@@ -1,4 +1,6 @@
 -- Laws of refusals: the first that is found, as a loop finds it, and what it says that none is. Assumes nothing.
+--
+-- In order: what is fine, and what is not; a verdict by stages; the first of several.
 use Rattle.integers.proofs.Kit.{_≡_, refl, sym, true, false, Bool, ℕ, _<_, _+_, suc, zero, arith, add-one, decLt}
 use Rattle.integers.proofs.Parts.{is-T}
 use Rattle.integers.proofs.Searches.{below-suc}
