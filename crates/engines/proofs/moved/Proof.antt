@@ -11,8 +11,8 @@ abbrev start : tie.Else1 → tie.Start
 start c = c .before .before .before .before
 
 -- the list that is there says T
-says : (c : tie.Else1) → let a = c .before .before .before .before .args in Says (a .n) (a .transition .now) (a .list .now) (a .a .0)
-says c = c .before .before .before .before .pre .1 .1 .listed (omega (arith, c .if1 .left))
+says : (c : tie.Else1) → let a = start c .args in Says (a .n) (a .transition .now) (a .list .now) (a .a .0)
+says c = start c .pre .1 .1 .listed (omega (arith, c .if1 .left))
 
 moved-requires-2 : tie.Need-moved-requires-2
 moved-requires-2 c κs = let pre = start c .pre in (pre .0, (pre .1 .0, says c .columns))
