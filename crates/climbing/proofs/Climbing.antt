@@ -111,7 +111,7 @@ module _ {t : ℕ} {m : Tables} {z : Lent} {y : Cells} (k : Climbed t m z y) whe
 
     -- the built level is one event more
     abbrev next : Event
-    next = offer (answerFor m 1 y')
+    next = offer [] (answerFor m 1 y')
 
     abbrev begun : Certifier
     begun = certifier (k .on) (opened (k .on) (k .first))

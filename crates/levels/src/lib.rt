@@ -4,8 +4,9 @@ pub mod shape; // 9 and 10, and lengths of slices
 
 ghost use mathlib.Core.Path.{_≡_};
 ghost use mathlib.Core.List.{_∷_};
-ghost use Prim.Native.Nat.{_≤_};
+ghost use Prim.Native.Nat.{_+_, _≤_, _<_};
 ghost use lib.ListN.{length, drop};
+ghost use Rattle.tables.specs.Limits.{maxLevels};
 ghost use Rattle.levels.specs.Storage.{stateSize, standingAt, freshStanding};
 
 pub struct Level {}
@@ -64,4 +65,20 @@ pub fn put_standing(state: &mut [usize], s: Standing)
     state[0] = s.number;
     state[1] = s.vectors;
     state[2] = s.points;
+}
+
+// One level higher, with so many vectors and points.
+pub fn raise_standing(state: &mut [usize], vectors: usize, points: usize)
+    requires { ⌜ (stateSize ≤ length (now state)) × (standingAt (now state) .number < maxLevels) ⌝ }
+    ensures { λ _. ⌜ now (state .exit) ≡ (standingAt (now (state .entry)) .number + 1) ∷ vectors ∷ points ∷ drop stateSize (now (state .entry)) ⌝ }
+{
+    let number = state[0] + 1;
+    put_standing(
+        state,
+        Standing {
+            number: number,
+            vectors: vectors,
+            points: points,
+        },
+    );
 }

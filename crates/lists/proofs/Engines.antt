@@ -16,7 +16,7 @@ use Rattle.columns.specs.Columns.{listOf, isList, turnedBack, listVerdict, list
 use Rattle.columns.specs.Steps.{Says}
 use Rattle.lists.specs.Engines.{Engines, ListsHold}
 use Rattle.lists.proofs.Fitting.{list-listed}
-use Rattle.lists.proofs.Offers.{successor-same, backup-same, offer-same}
+use Rattle.lists.proofs.Offers.{successor-same, backup-same, backupAt-same, offer-same}
 
 -- ---- a list that is made is taken: its words are those of the list
 module _ (m : Tables) (slice : List ℕ) where
@@ -55,6 +55,7 @@ module _ (m : Tables) (fine : tablesVerdict m ≡ Fine) (list : List ℕ) (some 
     turned = turned;
     successors = successor-same m list turned;
     backups = backup-same m list turned;
+    values = backupAt-same m list turned;
     verdicts = offer-same m list turned;
   }
 

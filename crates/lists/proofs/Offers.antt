@@ -37,7 +37,7 @@ module _ (m : Tables) (list : List ℕ) (same : (a : ℕ) → a < m .actions →
       ap (λ (z : ℤ). K · modelOf m .reward s a +ℤ m .discount · z)
       (sum-cong (m .states) _ _ (λ s' h. ap (λ (t : ℕ). sumTo (m .observations) (λ o. (t * modelOf m .observation a s' o) · next o s')) (same a e s l s' h)))
 
-  backupAt-same : (L : Level) (p : ℕ → ℕ) (a : ℕ) → a < m .actions → backupAt (modelBy m list) L p a ≡ backupAt (modelOf m) L p a
+  pub backupAt-same : (L : Level) (p : ℕ → ℕ) (a : ℕ) → a < m .actions → backupAt (modelBy m list) L p a ≡ backupAt (modelOf m) L p a
   unfolding backupAt expectedReward
   backupAt-same L p a e =
       ap (λ (z : ℤ). K · sumTo (m .states) (λ s. p s · modelOf m .reward s a) +ℤ m .discount · z)

@@ -15,6 +15,7 @@ use Rattle.tables.specs.Model.{Model, successor, backup}
 use Rattle.tables.specs.Storage.{modelOf}
 use Rattle.tables.specs.Judged.{tablesVerdict}
 use Rattle.columns.specs.Columns.{turnedBack, listVerdict, listedOf, listHolds}
+use Rattle.plans.specs.Level.{Level, backupAt}
 use Rattle.levels.specs.Storage.{LentLevel, Lent}
 use Rattle.levels.specs.Judged.{offerOver, offerUpTo}
 
@@ -29,8 +30,8 @@ modelBy m list = record {
   reward = modelOf m .reward;
 }
 
--- a slice that is handed in with tables and holds: turned back it is their T; successor weights and backups by it are the model's; and every level that
--- is offered is accepted, or refused by the same number at the same place
+-- a slice that is handed in with tables and holds: turned back it is their T; successor weights, backups of vectors, and those of corners and points by it
+-- are the model's; and every level that is offered is accepted, or refused by the same number at the same place
 pub record Engines (m : Tables) (list : List ℕ) : Type 0 where
   pub turned : (a : ℕ) → a < m .actions → (s : ℕ) → s < m .states → (s' : ℕ) → s' < m .states
       → turnedBack (m .states) list s a s' ≡ modelOf m .transition s a s'
@@ -38,6 +39,7 @@ pub record Engines (m : Tables) (list : List ℕ) : Type 0 where
       → successor (modelBy m list) p a o s' ≡ successor (modelOf m) p a o s'
   pub backups : (next : ℕ → ℕ → ℤ) (a : ℕ) → a < m .actions → (s : ℕ) → s < m .states
       → backup (modelBy m list) a next s ≡ backup (modelOf m) a next s
+  pub values : (L : Level) (p : ℕ → ℕ) (a : ℕ) → a < m .actions → backupAt (modelBy m list) L p a ≡ backupAt (modelOf m) L p a
   pub verdicts : (most : ℕ) (x : Lent) (l : LentLevel) → offerOver (modelBy m list) most m x l ≡ offerUpTo most m x l
 
 -- the whole claim: of a list that is made, and of any that is taken

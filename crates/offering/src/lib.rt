@@ -6,7 +6,6 @@ ghost use Rattle.columns.specs.Columns.{handedList};
 ghost use Rattle.levels.specs.Storage.{cells, rows, lent, lentFor};
 ghost use Rattle.levels.specs.Judged.{offerVerdict};
 ghost use Rattle.runs.specs.State.{offered};
-use levels::Standing;
 use tables::Counts;
 use tables::Verdict;
 
@@ -82,15 +81,7 @@ pub fn offer<'a, 'b>(
     let Verdict::Fine = verdict else {
         return verdict;
     };
-    let s = levels::standing_in(&state[..]);
-    levels::put_standing(
-        state,
-        Standing {
-            number: s.number + 1,
-            vectors: vectors,
-            points: points,
-        },
-    );
+    levels::raise_standing(state, vectors, points);
     laying::lay_level(
         c.states,
         c.observations,

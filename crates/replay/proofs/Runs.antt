@@ -54,16 +54,16 @@ offered-more : (m : Tables) (x : Lent) (ls : List LentLevel) (l : LentLevel) →
 unfolding run offers
 offered-more m x ls l =
     ap (λ (es : List Event). run (certifier m x) es .lent) (offers-append ls (l ∷ []))
-    ∙ ap (λ (y : Certifier). y .lent) (run-append (certifier m x) (offers ls) (offer l ∷ [])
-    ∙ ap (λ (y : Certifier). handed y (offer l)) (offers-keep m x ls))
+    ∙ ap (λ (y : Certifier). y .lent) (run-append (certifier m x) (offers ls) (offer [] l ∷ [])
+    ∙ ap (λ (y : Certifier). handed y (offer [] l)) (offers-keep m x ls))
 
 accepted-more : (m : Tables) (x : Lent) (ls : List LentLevel) (l : LentLevel)
     → acceptedOf m x (ls ++ (l ∷ [])) ≡ acceptedOf m x ls + tally (offerVerdict m (offeredAll m x ls) l)
 unfolding acceptances offers
 accepted-more m x ls l =
     ap (λ (es : List Event). acceptances (certifier m x) es) (offers-append ls (l ∷ []))
-    ∙ acceptances-append (certifier m x) (offers ls) (offer l ∷ [])
-    ∙ ap (λ (n : ℕ). acceptedOf m x ls + n) (NatL.add-zero _ ∙ ap (λ (y : Certifier). counted y (offer l)) (offers-keep m x ls))
+    ∙ acceptances-append (certifier m x) (offers ls) (offer [] l ∷ [])
+    ∙ ap (λ (n : ℕ). acceptedOf m x ls + n) (NatL.add-zero _ ∙ ap (λ (y : Certifier). counted y (offer [] l)) (offers-keep m x ls))
 
 pub counted-few : (v : Verdict) → tally v ≤ 1
 counted-few Fine = omega arith

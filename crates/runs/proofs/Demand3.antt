@@ -43,7 +43,7 @@ claimed-append t y c (e ∷ es) fs =
 pub offers-append : (ls ks : List LentLevel) → offers (ls ++ ks) ≡ offers ls ++ offers ks
 unfolding offers
 offers-append [] ks = refl
-offers-append (l ∷ ls) ks = ap (λ (es : List Event). offer l ∷ es) (offers-append ls ks)
+offers-append (l ∷ ls) ks = ap (λ (es : List Event). offer [] l ∷ es) (offers-append ls ks)
 
 -- the tables stay in force
 pub offers-keep : (m : Tables) (x : Lent) (ls : List LentLevel) → run (certifier m x) (offers ls) ≡ certifier m (run (certifier m x) (offers ls) .lent)

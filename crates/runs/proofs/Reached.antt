@@ -31,7 +31,8 @@ use Rattle.levels.specs.Judged.{holds}
 use Rattle.levels.proofs.Laws.{passed, fine-before}
 use Rattle.levels.proofs.Over.{read-elsewhere, covers-elsewhere, Complete, AsLong, long-long, complete-true, complete-is, complete-long, over-agree, over-long}
 use Rattle.levels.proofs.Over.{over-same, informed-over, qmdp-over, informed-long, qmdp-long}
-use Rattle.tables.specs.Verdicts.{left}
+use Rattle.tables.specs.Verdicts.{_before_, left}
+use Rattle.columns.specs.Columns.{handedList}
 use Rattle.runs.specs.State.{at, openVerdict, opened, verdictOn, raised, offered, mixtureHolds, standingVerdict, totalsVerdict}
 use Rattle.runs.specs.State.{answerFor, buildVerdict, builtFrom}
 use Rattle.runs.specs.Prices.{pricesVerdict, moved, pricedOf}
@@ -206,8 +207,13 @@ module _ {m : Tables} {x₀ : Cells} {t : ℕ} {c : Claim} {x : Lent} (r : Reach
   pub reached-step : (e : Event) → let y = handed (certifier m x) e in
       Reached (y .tables) x₀ (t + counted (certifier m x) e) (claimedBy t (certifier m x) e c) (y .lent)
   unfolding offered pricedOf
-  reached-step (offer l) = by (verdictOn m x l) (accepted maxVectors m x l)
+  reached-step (offer list l) = of-list (handedList m list) (verdictOn m x l) (offered m x l) (by (verdictOn m x l) (accepted maxVectors m x l))
     where
+      of-list : (u v : Verdict) (z : Lent) → Reached m x₀ (t + tally v) (left v (stepped (modelOf m) (levelOf m l) c) c) z
+          → Reached m x₀ (t + tally (u before v)) (left (u before v) (stepped (modelOf m) (levelOf m l) c) c) (left u z x)
+      of-list Fine v z k = k
+      of-list (Refused number place) v z k = rw (add-zero t) r
+
       by : (v : Verdict) → (v ≡ Fine → Accepted maxVectors m x l)
           → Reached m x₀ (t + tally v) (left v (stepped (modelOf m) (levelOf m l) c) c) (left v (raised m x (levelOf m l)) x)
       by Fine a = rw (add-one t) (reached-next l (a refl))

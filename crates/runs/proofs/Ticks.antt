@@ -12,7 +12,7 @@ use Rattle.tables.specs.Limits.{maxVectors, K}
 use Rattle.tables.specs.Model.{Model, Valid, backedUp}
 use Rattle.tables.specs.Storage.{modelOf}
 use Rattle.tables.proofs.Accepted.{tables-valid}
-use Rattle.plans.specs.Plan.{earns}
+use Rattle.plans.specs.Plan.{Fits, earns}
 use Rattle.plans.specs.Level.{Level, level0, follows, Agree}
 use Rattle.plans.specs.Build.{entryFor, built}
 use Rattle.plans.specs.Named.{named}
@@ -50,6 +50,7 @@ backed-up M L W points weight some-actions some-vectors g v l = record {
 -- ---- the levels so far, the last of them the one that is claimed
 record Stacked (m : Tables) (x₀ : Cells) (below : List Level) (c : Claim) (x : Lent) : Type 0 where
   reached : Reached m x₀ (length below) c x
+  plan : (v : ℕ) → v < c .level .vectors → Fits (modelOf m) (named below v)
   low : (v : ℕ) → v < c .level .vectors → (s : ℕ) → s < m .states → (K ^ length below) · c .level .entry v s ≤ℤ earns (modelOf m) (named below v) s
   high : (v : ℕ) → v < c .level .vectors → (s : ℕ) → s < m .states
       → earns (modelOf m) (named below v) s ≤ℤ (K ^ length below) · (c .level .entry v s +ℤ pos (length below))
@@ -57,9 +58,10 @@ record Stacked (m : Tables) (x₀ : Cells) (below : List Level) (c : Claim) (x :
       → earns (modelOf m) (named below v) s <ℤ (K ^ length below) · (c .level .entry v s +ℤ pos (length below))
 
 stacked-open : (m : Tables) (x : Lent) → ModelAccepted m x → Stacked m (x .cells) [] claim0 (opened m x)
-unfolding named earns level0
+unfolding named earns Fits level0
 stacked-open m x o = record {
   reached = reached-open m x o;
+  plan = λ v l. tt;
   low = λ v l s b. ≤-of (·-zero _);
   high = λ v l s b. ≤-of (sym (·-zero (K ^ 0)));
   strict = λ h v l s b. absurd (omega (arith, h));
@@ -70,8 +72,10 @@ module _ (m : Tables) (valid-tables : Valid (modelOf m)) (x₀ : Cells) where
     -- a level that was built, and accepted
     stacked-next : (l : LentLevel) → verdictOn m x l ≡ Fine → Agree (modelOf m) (builtFrom m (c .level) (p .count) (p .cells)) (levelOf m l)
         → Stacked m x₀ (levelOf m l ∷ below) (stepped (modelOf m) (levelOf m l) c) (raised m x (levelOf m l))
+    unfolding named Fits
     stacked-next l fine agree = record {
       reached = reached-next (k .reached) l (accepted maxVectors m x l fine);
+      plan = λ v b. (backed v b .action-exists, λ o d. k .plan _ (backed v b .choice-exists o d));
       low = low;
       high = λ v b s d. <-≤ (high v b s d);
       strict = λ h. high;
@@ -136,7 +140,7 @@ module _ (m : Tables) (valid-tables : Valid (modelOf m)) (x₀ : Cells) where
           let y = certifier m (offered m x l) in
           let ls = madeFrom m (offered m x l) ps in
           Stacked m x₀ (levelsOf m (stacked (verdictOn m x l) (levelOf m l) below) (offered m x l) ls)
-          (claimed t y (claimedBy (length below) (certifier m x) (offer l) c) (offers ls)) (run y (offers ls) .lent)
+          (claimed t y (claimedBy (length below) (certifier m x) (offer [] l) c) (offers ls)) (run y (offers ls) .lent)
 
       by : (v : Verdict) → (v ≡ Fine → After below c x (l ∷ madeFrom m (offered m x l) ps)) → After below c x (madeFrom m x ps)
           → After below c x (unlessRefused v l (madeFrom m (offered m x l) ps) (madeFrom m x ps))
@@ -148,7 +152,7 @@ module _ (m : Tables) (valid-tables : Valid (modelOf m)) (x₀ : Cells) where
 -- no level is offered. An accepted level was built: its entries are the backups of those that its vectors chose, rounded down, so they lie less than one
 -- tick further below what their plans earn (`high-next`), and not above it (`low-next`). Qed.
 pub ticks : (m : Tables) (x : Lent) → ModelAccepted m x → (ps : List Points) → Ticks m x ps
-ticks m x o ps = record { number = number; entry = λ h v l s b. (all .low v l s b, all .strict (rw number h) v l s b) }
+ticks m x o ps = record { number = number; plan = all .plan; entry = λ h v l s b. (all .low v l s b, all .strict (rw number h) v l s b) }
   where
     es : List Event
     es = offers (made m x ps)

@@ -1,5 +1,6 @@
 -- Demand 3: one claim about a whole list of events, of any content, to the certifier that opening left in lent slices on accepted tables. An event is a
--- level that is offered, or new tables with other prices. Each is handed the tables in force, and the slices as the one before it left them.
+-- level that is offered, with or without a list of transitions, or new tables with other prices. Each is handed the tables in force, and the slices as the
+-- one before it left them.
 --
 --   after m x es     the certifier that the list left, opened as x on tables m
 --   steps m x es     t, the number of offers that were accepted
@@ -16,9 +17,10 @@ use Rattle.tables.specs.declared.Verdict.{Verdict}
 use Rattle.tables.specs.declared.Verdict.the-variants.{Fine, Refused}
 use Rattle.tables.specs.Model.{Model}
 use Rattle.tables.specs.Storage.{weightIn, modelOf}
-use Rattle.tables.specs.Verdicts.{left}
+use Rattle.tables.specs.Verdicts.{_before_, left}
 use Rattle.integers.specs.Whole.{_·_}
 use Rattle.tables.specs.Limits.{maxLevels, K}
+use Rattle.columns.specs.Columns.{handedList}
 use Rattle.plans.specs.Limits.{maxBuilt}
 use Rattle.plans.specs.Plan.{Plan, Fits, earnsAt}
 use Rattle.plans.specs.Level.{Level, Agree, level0, IsPoint, ceiling}
@@ -38,13 +40,13 @@ ModelAccepted m x = openVerdict m x ≡ Fine
 -- ---- a list of events
 
 pub data Event : Type 0 where
-  offer : LentLevel → Event
+  offer : List ℕ → LentLevel → Event  -- with a slice for a list of transitions: of no words, none is meant
   prices : Tables → Event
 
--- levels that are offered one after the other
+-- levels that are offered one after the other, without a list of transitions
 unfoldable pub offers : List LentLevel → List Event
 offers [] = []
-offers (l ∷ ls) = offer l ∷ offers ls
+offers (l ∷ ls) = offer [] l ∷ offers ls
 
 -- the tables in force, and what is lent
 pub record Certifier : Type 0 where
@@ -56,7 +58,7 @@ certifier m x = record { tables = m; lent = x }
 
 -- what an event leaves: new prices that are not refused are in force from then on
 abbrev pub handed : Certifier → Event → Certifier
-handed y (offer l) = certifier (y .tables) (offered (y .tables) (y .lent) l)
+handed y (offer list l) = certifier (y .tables) (left (handedList (y .tables) list) (offered (y .tables) (y .lent) l) (y .lent))
 handed y (prices m) = certifier (left (pricesVerdict (y .tables) (y .lent) m) m (y .tables)) (pricedOf (y .tables) (y .lent) m)
 
 unfoldable pub run : Certifier → List Event → Certifier
@@ -69,7 +71,7 @@ tally Fine = 1
 tally (Refused number place) = 0
 
 abbrev pub counted : Certifier → Event → ℕ
-counted y (offer l) = tally (verdictOn (y .tables) (y .lent) l)
+counted y (offer list l) = tally (handedList (y .tables) list before verdictOn (y .tables) (y .lent) l)
 counted y (prices m) = 0
 
 unfoldable pub acceptances : Certifier → List Event → ℕ
@@ -99,7 +101,8 @@ shifted M M' t c =
 
 -- what an event at level t leaves claimed
 abbrev pub claimedBy : ℕ → Certifier → Event → Claim → Claim
-claimedBy t y (offer l) c = left (verdictOn (y .tables) (y .lent) l) (stepped (modelOf (y .tables)) (levelOf (y .tables) l) c) c
+claimedBy t y (offer list l) c =
+    left (handedList (y .tables) list before verdictOn (y .tables) (y .lent) l) (stepped (modelOf (y .tables)) (levelOf (y .tables) l) c) c
 claimedBy t y (prices m) c = left (pricesVerdict (y .tables) (y .lent) m) (shifted (modelOf (y .tables)) (modelOf m) t c) c
 
 unfoldable pub claimed : ℕ → Certifier → Claim → List Event → Claim

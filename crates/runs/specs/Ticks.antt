@@ -3,7 +3,7 @@
 --
 --   made m x ps      the levels that are offered
 --   levels m x ls    the accepted ones of a list of offers, the last one first
---   Ticks m x ps     each entry is at most what the plan earns that its vector names, and less than t ticks below it
+--   Ticks m x ps     each vector names a plan of the model; each entry is at most what that earns, and less than t ticks below it
 use Prim.Native.Nat.{ℕ, _^_, _<_}
 use mathlib.Core.Path.{_≡_}
 use mathlib.Core.List.{List, [], _∷_}
@@ -16,7 +16,7 @@ use Rattle.tables.specs.declared.Verdict.{Verdict}
 use Rattle.tables.specs.declared.Verdict.the-variants.{Fine, Refused}
 use Rattle.tables.specs.Limits.{K}
 use Rattle.tables.specs.Storage.{modelOf}
-use Rattle.plans.specs.Plan.{earns}
+use Rattle.plans.specs.Plan.{Fits, earns}
 use Rattle.plans.specs.Level.{Level}
 use Rattle.plans.specs.Named.{named}
 use Rattle.levels.specs.Storage.{Cells, LentLevel, Lent, levelOf}
@@ -71,4 +71,5 @@ EntryHolds m x ls v s =
 -- the whole claim
 pub record Ticks (m : Tables) (x : Lent) (ps : List Points) : Type 0 where
   pub number : length (levels m x (made m x ps)) ≡ steps m x (offers (made m x ps))
+  pub plan : (v : ℕ) → v < last m x (made m x ps) .vectors → Fits (modelOf m) (named (levels m x (made m x ps)) v)
   pub entry : 0 < steps m x (offers (made m x ps)) → (v : ℕ) → v < last m x (made m x ps) .vectors → (s : ℕ) → s < m .states → EntryHolds m x (made m x ps) v s

@@ -1,22 +1,20 @@
-// The level that a solver's alpha file and policy graph file say, over the level that stands: the entries of its vectors, 10, 21, 11 and 12 of them, and
-// the vectors written over lent slices.
+// The vectors that a solver's alpha file and policy graph file say, over the level that stands: their entries, 11 of these, and the vectors written over lent
+// slices.
 ghost use mathlib.Core.Path.{_≡_};
-ghost use Prim.Native.Nat.{ℕ, _+_, _*_, _≤_, _<_};
+ghost use Prim.Native.Nat.{ℕ, _+_, _≤_, _<_};
 ghost use lib.ListN.{length, getD};
 ghost use lib.IntN.{pos};
 ghost use Rattle.integers.specs.Whole.{lesser};
 ghost use Rattle.integers.specs.Cells.{padded};
-ghost use Rattle.tables.specs.Limits.{maxStates, maxObservations, maxVectors, maxLevels};
+ghost use Rattle.tables.specs.Limits.{maxStates, maxObservations};
 ghost use Rattle.tables.specs.Model.{backedUp};
 ghost use Rattle.tables.specs.Storage.{modelIn};
-ghost use Rattle.tables.specs.Verdicts.{_before_};
-ghost use Rattle.plans.specs.Limits.{maxBuilt, range};
+ghost use Rattle.plans.specs.Limits.{range};
 ghost use Rattle.plans.specs.Level.{follows};
-ghost use Rattle.levels.specs.Storage.{pointIn};
-ghost use Rattle.levels.specs.Judged.{rowsWithin, weightsVerdict, numbersIn};
+ghost use Rattle.levels.specs.Judged.{rowsWithin};
 ghost use Rattle.candidates.specs.Steps.{uponIn, Upon};
 ghost use Rattle.builder.specs.Steps.{RowsFit, Filled};
-ghost use Rattle.stated.specs.Steps.{ReadTo, Files, masksOver};
+ghost use Rattle.stated.specs.Steps.{ReadTo};
 ghost use Rattle.solved.specs.Steps.{vectorsOver, Solving, Gives};
 use alphas::Ticks;
 use levels::shape;
@@ -135,10 +133,10 @@ fn row_at<'a, 'c>(
     }
 }
 
-// ---- 10, 21, 11 and 12
+// ---- 11
 
 // 11: the first vector with an entry outside its range.
-fn entries_hold<'a, 'c>(
+pub fn entries_hold<'a, 'c>(
     transition: &'a [u16],
     observation: &'a [u16],
     reward: &'a [i64],
@@ -184,59 +182,6 @@ fn entries_hold<'a, 'c>(
         q = x.graph;
     }
     Verdict::Fine
-}
-
-// 10, 21, 11 and 12 of the level, but for corners and values, which 11 cannot meet.
-pub fn judge_level<'a, 'c>(
-    transition: &'a [u16],
-    observation: &'a [u16],
-    reward: &'a [i64],
-    masks: &[u64],
-    entries: &[i64],
-    c: Counts,
-    standing: usize,
-    t: usize,
-    alpha: &'c [u8],
-    graph: &'c [u8],
-    count: usize,
-    given: &[u32],
-    points: usize,
-) -> Verdict
-    requires { ⌜ (Upon c (now transition) (now observation) (now reward) (now masks) (now entries) standing) × ((t < maxLevels) × (count ≤ maxVectors)) ⌝ }
-    requires { ⌜ Files (c .states) (c .observations) (now alpha) (now graph) count ⌝ }
-    requires { ⌜ (points ≤ maxBuilt) × (points * c .states ≤ length (now given)) ⌝ }
-    ensures { λ r. ⌜ (let W = vectorsOver c (now (transition .entry)) (now (observation .entry)) (now (reward .entry)) (now (masks .entry))
-        (now (entries .entry)) standing t (now (alpha .entry)) (now (graph .entry)) in
-        r ≡ (numbersIn 10 count (c .actions) (c .observations) standing (W .action) (W .choice)
-        before masksOver c (now (transition .entry)) (now (observation .entry)) (now (masks .entry)) count (W .action) (W .choice)
-        before rowsWithin 11 count (c .states) (range (t + 1)) (W .entry)
-        before weightsVerdict (c .states) points (pointIn (c .states) (now (given .entry))))) ⌝ }
-{
-    let numbers = stated::numbers_hold(alpha, graph, c, standing, t, count);
-    let Verdict::Fine = numbers else {
-        return numbers;
-    };
-    let reached = stated::masks_hold(transition, observation, masks, c, t, alpha, graph, count);
-    let Verdict::Fine = reached else {
-        return reached;
-    };
-    let ranges = entries_hold(
-        transition,
-        observation,
-        reward,
-        masks,
-        entries,
-        c,
-        standing,
-        t,
-        alpha,
-        graph,
-        count,
-    );
-    let Verdict::Fine = ranges else {
-        return ranges;
-    };
-    weights::weights_hold(given, c.states, points)
 }
 
 // ---- the level

@@ -16,6 +16,7 @@ use alphas::Ticks;
 use tables::Action;
 use tables::Chosen;
 use tables::Counts;
+use tables::Observation;
 use tables::Tables;
 use tables::Vector;
 use tables::Verdict;
@@ -32,7 +33,7 @@ pub struct Said {
 
 // ---- one vector
 
-// The vector that a next node stands for, over level t.
+// The number of the vector that a next node stands for, over level t, as it is stored.
 fn chosen_over(t: usize, next: u16) -> u16
     ensures { λ r. ⌜ r ≡ chosenOver t next ⌝ }
 {
@@ -97,14 +98,15 @@ fn vector_exists(
     standing: usize,
     v: usize,
 ) -> Verdict
-    requires { ⌜ k ≤ length (now chosen) ⌝ }
+    requires { ⌜ (k ≤ maxObservations) × (k ≤ length (now chosen)) ⌝ }
     ensures { λ r. ⌜ r ≡ (unless (ltb (a .0) m) 10 v before firstOf k (λ o. unless (ltb (getD (now (chosen .entry)) o 0) standing) 10 v)) ⌝ }
 {
     if m <= a.0 {
         return Verdict::Refused(10, v);
     }
     for o in 0..k {
-        if standing as u64 <= read::wide(chosen[o]) {
+        let next = read::choice_at(chosen, k, Vector(0), Observation(o));
+        if standing <= next.0 {
             return Verdict::Refused(10, v);
         }
     }

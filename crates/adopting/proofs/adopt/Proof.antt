@@ -1,7 +1,7 @@
-use Rattle.adopting.proofs.Prelude.{needs, ℕ, _≡_, sym, ap, _∙_, List, Fine}
-use Rattle.integers.proofs.Kit.{refl, arith}
+use Rattle.integers.proofs.Kit.{needs, arith, ℕ, List, _≡_, _∙_, refl, sym, ap}
 use mathlib.Core.List.{[]}
 use Rattle.tables.specs.Tables.{Tables}
+use Rattle.tables.specs.declared.Verdict.the-variants.{Fine}
 use Rattle.tables.specs.Storage.{tablesIn}
 use Rattle.levels.specs.Storage.{Cells, Lent, cells, rows, lent, standingAt}
 use Rattle.solver.specs.declared.Judged.{Judged}

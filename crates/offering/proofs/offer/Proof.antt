@@ -1,4 +1,4 @@
-use Rattle.integers.proofs.Kit.{_≡_, _∙_, refl, ap, sym, List, _∷_, ℕ, _+_, arith, needs, drop, ℤ}
+use Rattle.integers.proofs.Kit.{_≡_, _∙_, refl, sym, List, needs, ℤ}
 use Rattle.tables.specs.Limits.{maxVectors}
 use Rattle.tables.specs.Tables.{Tables}
 use Rattle.tables.specs.declared.Verdict.{Verdict}
@@ -7,8 +7,7 @@ use Rattle.tables.specs.Verdicts.{_before_}
 use Rattle.tables.proofs.Refusals.{before-fine}
 use Rattle.columns.specs.Columns.{handedList}
 use Rattle.tables.specs.Storage.{tablesIn}
-use Rattle.levels.specs.declared.Standing.{Standing}
-use Rattle.levels.specs.Storage.{LentLevel, Lent, stateSize, cells, rows, lent, lentFor, standingAt}
+use Rattle.levels.specs.Storage.{LentLevel, Lent, cells, rows, lent, lentFor, standingAt}
 use Rattle.levels.specs.Judged.{offerVerdict}
 use Rattle.runs.proofs.Judged.{RowsIn, Accepted, accepted}
 use Rattle.rows.specs.Steps.{Ready}
@@ -23,16 +22,13 @@ start c =
     let d = c .before .before .before .before .before .before .before .before .before .before .before .before in
     d .before .before .before .before .before .before .before .before .before .before .before
 
-abbrev of-verdict : tie.After-standing-in-arg → tie.After-judge-offer
+abbrev of-verdict : tie.After-raise-standing-arg → tie.After-judge-offer
 of-verdict c = c .before .before .before
 
-abbrev of-standing : tie.After-put-standing → tie.After-standing-in
-of-standing c = c .before .before .before
-
-abbrev to-lay : tie.After-lay-level-arg7 → tie.After-put-standing
+abbrev to-lay : tie.After-lay-level-arg7 → tie.After-raise-standing
 to-lay c = c .before .before .before .before .before .before .before .before .before
 
-abbrev of-state : tie.After-lay-level → tie.After-put-standing
+abbrev of-state : tie.After-lay-level → tie.After-raise-standing
 of-state c = to-lay (c .before)
 
 abbrev to-step : tie.After-step-arg2 → tie.After-lay-level
@@ -64,14 +60,14 @@ onList c = handedList (tables c) (c .args .list .now)
 said : (c : tie.After-judge-offer) → let s = start c in c .judge-offer .result ≡ (onList s before offerVerdict (tables s) (certifier s) (offered s))
 said c = c .judge-offer .ensures
 
-both : (c : tie.After-standing-in-arg) → let s = start (of-verdict c) in
+both : (c : tie.After-raise-standing-arg) → let s = start (of-verdict c) in
     (onList s ≡ Fine) × (offerVerdict (tables s) (certifier s) (offered s) ≡ Fine)
 both c = before-fine _ _ (sym (said (of-verdict c)) ∙ c .before .enum-told .given .1)
 
-fine : (c : tie.After-standing-in-arg) → let s = start (of-verdict c) in offerVerdict (tables s) (certifier s) (offered s) ≡ Fine
+fine : (c : tie.After-raise-standing-arg) → let s = start (of-verdict c) in offerVerdict (tables s) (certifier s) (offered s) ≡ Fine
 fine c = both c .1
 
-passed : (c : tie.After-standing-in-arg) → let s = start (of-verdict c) in Accepted maxVectors (tables s) (certifier s) (offered s)
+passed : (c : tie.After-raise-standing-arg) → let s = start (of-verdict c) in Accepted maxVectors (tables s) (certifier s) (offered s)
 passed c = let s = start (of-verdict c) in accepted maxVectors (tables s) (certifier s) (offered s) (fine c)
 
 returns : tie.Need-returns
@@ -80,28 +76,12 @@ returns c =
     let s = start j in
     (said j, handed-refused (tables s) (certifier s) (offered s) (onList s) (sym (said j) ∙ c .enum-told2 .given .1))
 
-standing-in-requires : tie.Need-standing-in-requires
-standing-in-requires c κs = passed c .standing .state-long
-
-number-is : (c : tie.After-standing-in) → c .standing-in .result .number ≡ standingAt (start (of-verdict (c .before)) .args .state .now) .number
-number-is c = ap (λ (s : Standing). s .number) (c .standing-in .ensures)
-
-written : (c : tie.After-put-standing) → let s = start (of-verdict (of-standing c .before)) in
-    c .put-standing .last .0 ≡ (standingAt (s .args .state .now) .number + 1) ∷ s .args .vectors ∷ s .args .points ∷ drop stateSize (s .args .state .now)
-written c =
-    let s = start (of-verdict (of-standing c .before)) in
-    c .put-standing .ensures
-    ∙ ap (λ (n : ℕ). (n + 1) ∷ s .args .vectors ∷ s .args .points ∷ drop stateSize (s .args .state .now)) (number-is (of-standing c))
-
-add-t52 : tie.Need-add-t52
-add-t52 c = let n = c .before .before in omega (arith, number-is n, passed (n .before) .room)
-
-put-standing-requires : tie.Need-put-standing-requires
-put-standing-requires c κs = passed (c .before .before .before) .standing .state-long
+raise-standing-requires : tie.Need-raise-standing-requires
+raise-standing-requires c κs = let p = passed c in (p .standing .state-long, p .room)
 
 lay-level-requires : tie.Need-lay-level-requires
 lay-level-requires c κs =
-    let n = of-standing (to-lay c) .before in
+    let n = to-lay c .before in
     let a = start (of-verdict n) in
     let p = passed n in
     let v = p .standing .valid-tables in
@@ -114,7 +94,7 @@ lay-level-requires c κs =
 step-requires : tie.Need-step-requires
 step-requires c κs =
     let l = to-step c in
-    let n = of-standing (of-state l) .before in
+    let n = of-state l .before in
     let a = start (of-verdict n) .args in
     let p = passed n .standing in
     let made : (cells : List ℤ) → RowsIn (a .c .actions) (a .c .states) (standingAt (a .state .now) .number) cells
@@ -129,20 +109,19 @@ returns-2 : tie.Need-returns-2
 returns-2 c =
     let l = of-level c in
     let p = of-state l in
-    let n = of-standing p in
-    let g = n .before in
+    let g = p .before in
     let j = of-verdict g in
     let s = start j in (
       sym (g .before .enum-told .given .1) ∙ said j,
-      offered-fine (tables s) (certifier s) (offered s) (onList s) (both g .0) (fine g) (written p) (l .lay-level .ensures)
+      offered-fine (tables s) (certifier s) (offered s) (onList s) (both g .0) (fine g) (p .raise-standing .ensures) (l .lay-level .ensures)
           (c .before .before .step .ensures .0) (c .before .before .step .ensures .1),
     )
 
 pub offer-spec : {M : Type 1} → statement M
 offer-spec =
     tie.close (tie.spec (λ c κs. search needs) (λ c. search needs) (λ c. search needs) (λ c. refl) (λ c. refl) (λ c. refl) (λ c. refl) (λ c. refl) (λ c. refl)
-    (λ c. refl) (λ c. refl) (λ c. refl) (λ c. refl) returns standing-in-requires add-t52 put-standing-requires lay-level-requires step-requires
-    (λ c. search (of-state (of-level c) .put-standing .kept)) (λ c. search (of-level c .lay-level .kept)) (λ c. search (of-level c .lay-level .kept))
+    (λ c. refl) (λ c. refl) (λ c. refl) (λ c. refl) returns raise-standing-requires lay-level-requires step-requires
+    (λ c. search (of-state (of-level c) .raise-standing .kept)) (λ c. search (of-level c .lay-level .kept)) (λ c. search (of-level c .lay-level .kept))
     (λ c. search (of-level c .lay-level .kept)) (λ c. search (of-level c .lay-level .kept)) (λ c. search (of-level c .lay-level .kept))
     (λ c. search (of-level c .lay-level .kept)) (λ c. search (of-level c .lay-level .kept)) (λ c. search (c .before .before .step .kept))
     (λ c. search (c .before .before .step .kept)) returns-2)

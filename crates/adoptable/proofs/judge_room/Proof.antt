@@ -1,11 +1,11 @@
-use Rattle.adopting.proofs.Prelude.{needs, _≡_, sym, _∙_, breaks, passes, unless, Fine}
+use Rattle.adoptable.proofs.Prelude.{needs, _≡_, sym, _∙_, breaks, passes, unless, Fine}
 use Rattle.integers.proofs.Kit.{true, false, Bool, _&&_, _≤_, arith, le-leb, leb-true, lt-leb, le-ltb, lt-ltb, not-false, not-true, leb}
 use Rattle.integers.proofs.Searches.{and-true}
 use Rattle.tables.specs.declared.Verdict.the-variants.{Refused}
 use Rattle.tables.specs.Limits.{maxVectors}
 use Rattle.tables.specs.Judged.{countWithin}
-use Rattle.adopting.proofs.judge_room.Statement.{statement}
-use Rattle.adopting.proofs.judge_room.Tie as tie
+use Rattle.adoptable.proofs.judge_room.Statement.{statement}
+use Rattle.adoptable.proofs.judge_room.Tie as tie
 
 -- places of the code, each from a later one
 abbrev start : tie.Else2 → tie.Start

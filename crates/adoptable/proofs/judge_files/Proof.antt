@@ -1,5 +1,5 @@
-use Rattle.integers.proofs.Kit.{refl, true, Bool, _&&_, [], _*_, le-leb, lt-leb, not-false, not-true, leb, ltb, length}
-use Rattle.adopting.proofs.Prelude.{needs, ℕ, _≡_, sym, ap, _∙_, List, Fine, unless, breaks, passes}
+use Rattle.adoptable.proofs.Prelude.{needs, _≡_, sym, _∙_, Fine, unless, breaks, passes}
+use Rattle.integers.proofs.Kit.{ℕ, List, ap, refl, true, Bool, _&&_, [], _*_, le-leb, lt-leb, not-false, not-true, leb, ltb, length}
 use Rattle.tables.specs.Tables.{Tables}
 use Rattle.tables.specs.declared.Verdict.{Verdict}
 use Rattle.tables.specs.Limits.{maxVectors, maxLevels}
@@ -16,8 +16,8 @@ use Rattle.solver.specs.declared.Judged.{Judged}
 use Rattle.solver.specs.Files.{maxFile, vectorsIn, filesVerdict, withCount}
 use Rattle.solver.proofs.Files.{counted-verdict, count-of}
 use Rattle.adoption.proofs.Adopting.{counted-back}
-use Rattle.adopting.proofs.judge_files.Statement.{statement}
-use Rattle.adopting.proofs.judge_files.Tie as tie
+use Rattle.adoptable.proofs.judge_files.Statement.{statement}
+use Rattle.adoptable.proofs.judge_files.Tie as tie
 
 -- from each test that was passed to the one before it
 abbrev start : tie.Else2 → tie.Start

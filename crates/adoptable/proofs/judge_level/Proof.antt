@@ -1,15 +1,17 @@
-use Rattle.solved.proofs.Prelude.{needs, arith, _≡_, sym, _∙_, Verdict}
+use Rattle.adoptable.proofs.Prelude.{needs, _≡_, sym, _∙_}
+use Rattle.integers.proofs.Kit.{arith}
+use Rattle.tables.specs.declared.Verdict.{Verdict}
 use Rattle.tables.specs.Verdicts.{_before_}
 use Rattle.tables.proofs.Refusals.{stops, goes}
 use Rattle.levels.specs.Judged.{numbersIn}
 use Rattle.levels.proofs.Laws.{numbers-in}
 use Rattle.solver.specs.Files.{actionAt}
 use Rattle.stated.specs.Steps.{choicesAt}
 use Rattle.solved.specs.Solved.{solved}
 use Rattle.solved.specs.Steps.{Solving}
 use Rattle.solved.proofs.Vectors.{solving-chooses}
-use Rattle.solved.proofs.judge_level.Statement.{statement}
-use Rattle.solved.proofs.judge_level.Tie as tie
+use Rattle.adoptable.proofs.judge_level.Statement.{statement}
+use Rattle.adoptable.proofs.judge_level.Tie as tie
 
 -- where the call began, from the place after 10 was tested
 abbrev start : tie.After-numbers-hold → tie.Start
