@@ -4,8 +4,8 @@
  * A POMDP with 1 to 64 states, 1 to 8 actions and 1 to 8 observations is held in whole numbers. A certifier opens on it, is
  * offered levels of alpha vectors (a floor) and of corner and point values (a sawtooth ceiling) by anyone, and accepts a
  * level exactly where every backup inequality holds. Beside the level it keeps a ceiling of its own, the fast informed bound,
- * which it steps at each acceptance. From then on its totals at a mixture of the states bracket what the best of all plans
- * earns that have as many steps as levels were accepted. A vector may cover part of the states: it then counts at the mixtures
+ * which it steps at each acceptance. From then on its totals at a mixture of the states bracket what the best plan earns, of
+ * all plans with as many steps as levels were accepted. A vector may cover part of the states: it then counts at the mixtures
  * of those alone, and where no vector counts there are no totals.
  *
  *     cc -std=c99 -Iinclude program.c target/staticlib/libbiidhaqun.a -o program
@@ -15,12 +15,11 @@
  * lent the same memory and one of them writes it.
  *
  * What is proved: whatever it is lent, a call ends without fault, answers, and leaves in every slice what the definitions say
- * (specs/ of crates/columns, runs, mixtures, intervals, worths, worth, headers, modelfile, reading, expected, written,
- * conversion, solver, solved, adoption, replay and answers). Where a certifier was opened by biidhaqun_open, its slices were
- * written by biidhaqun_offer, biidhaqun_replay and biidhaqun_reprice alone, whatever they were lent, and each call was lent
- * the tables in force (those of the opening, or the last new ones that were not refused), its totals bracket every plan of
- * these tables wherever they are given. A level that is built upon it, or adopted, is accepted if the certifier's slices have
- * room for it. What biidhaqun_convert writes is read by biidhaqun_read, with the same T, O, discount and start numbers and
+ * (specs/ of the crates; "What to believe" in docs/ARCHITECTURE.md has them in reading order). Where a certifier was opened by
+ * biidhaqun_open, its slices were written by biidhaqun_offer, biidhaqun_replay and biidhaqun_reprice alone, whatever they were
+ * lent, and each call was lent the tables in force (those of the opening, or the last new ones that were not refused), its
+ * totals bracket every plan of these tables wherever they are given. A level that is built upon it, or adopted, is accepted if
+ * the certifier's slices have room for it. What biidhaqun_convert writes is read by biidhaqun_read, with the same T, O, discount and start numbers and
  * exactly the expected rewards. The inline functions at the end, and what this file says, are not proved.
  *
  * SLICES. What a call is lent are slices: a pointer, and a length in elements. They are packed by the model's counts (n
@@ -54,7 +53,8 @@
  *   start        numbers      n           hundredths; they total 100
  *
  * A tick is a hundredth of a unit of reward. Totals are in ticks times the mixture's total weight: over 100 times that
- * weight they are units of reward.
+ * weight they are units of reward. No number of an answer overflows, whatever is lent. Of a certifier as above, totals lie
+ * within 6.4 x 10^14 of 0 (64 states x 1,000,000 x 10,000,000 ticks) and gaps within twice that; worths lie within 400,000.
  *
  * MASKS. A vector is a floor on the states that it covers. It counts at a mixture where all weight lies on these, and lower
  * total and action are those of the vectors that count. Its inequality and its range are tested on covered states alone, and a
@@ -94,8 +94,8 @@
  *
  * REFUSALS. A call is served, or it is refused by a number with a place: then nothing that was lent has changed, and every
  * other field of the answer is 0. One number is tested throughout before the next, in the order given for each call; the
- * place is the first that offends. A slice that is too short for its counts is refused where the number stands that is given
- * here; a slice to be written is asked for room before anything is written.
+ * place is the first that offends. A slice that is too short for its counts is refused by the number given here, when that
+ * number's turn comes; a slice to be written is asked for room before anything is written.
  *
  *    number                           place
  *    1  BIIDHAQUN_FILE_LENGTH         0; a model file, or either of a solver's files
@@ -105,13 +105,13 @@
  *    4  BIIDHAQUN_START_TOTAL         the file's length
  *    5  BIIDHAQUN_TRANSITION_TOTAL    in a file its length; on tables action x n + state left
  *    6  BIIDHAQUN_OBSERVATION_TOTAL   in a file its length; on tables action x n + state reached
- *    7  BIIDHAQUN_CERTIFIER           0; a slice is too short for the tables, for the level that stands, or for the rows; a
- *                                     list that is not the table's. The slice of the choices that stand may be too short: no
+ *    7  BIIDHAQUN_CERTIFIER           0; a slice is too short for the tables, for the three numbers of the state, for the level
+ *                                     that stands, or for the rows; a list that is not the table's. The slice of the choices that stand may be too short: no
  *                                     call reads them
  *    8  BIIDHAQUN_LEVELS              0
  *    9  BIIDHAQUN_LEVEL_SIZE          0; a slice is too short for the level offered, to be built or adopted, for a list of
- *                                     offers, for the points, for level 0 and its rows in biidhaqun_open, for answers, or for
- *                                     the list in biidhaqun_list
+ *                                     offers, for the points, for state, level 0 and rows in biidhaqun_open, for answers, or
+ *                                     for the list in biidhaqun_list
  *   10  BIIDHAQUN_NUMBERS             the vector
  *   11  BIIDHAQUN_RANGE               the first vector, at a covered state; else the first corner; else the first point, those
  *                                     that get 12 aside
@@ -293,13 +293,14 @@ static inline int biidhaqun_informed_speaks(struct biidhaqun_bounds at)
 
 /*
  * What is certified of every mixture inside ranges of weights, in ticks times its total weight: the best plan there earns at
- * least the lower total, and at most the upper.
+ * least the lower total, and at most the upper. Mixtures inside differ in their total weight: over 100 times that of the one
+ * at hand, the two are its bounds in units of reward.
  */
 struct biidhaqun_between {
     uint64_t number;
     size_t place;
     int64_t lower; /* the largest, over vectors that count at the highs, of the least product with a mixture inside */
-    int64_t upper; /* the most product of the corners with a mixture inside */
+    int64_t upper; /* the largest product of the corners with a mixture inside */
 };
 
 /* How the adoption of a solver's files ended, and how many vectors the level has that was made of them. */
@@ -489,7 +490,7 @@ struct biidhaqun_refusal biidhaqun_each(
  * of high x entry for those below; the upper total is the sum of high x corner for corners of 0 or more and of low x corner
  * for those below. So at every mixture inside some plan earns the lower total, and none more than the upper; neither points
  * nor informed rows lower it. Of one mixture, low and high the same, the upper total is therefore that of the corners alone.
- * Tests: 7, 16, 24, 17, 22; a low or a high that is missing counts as 0 for 24, and gets 17.
+ * Tests: 7, 16, 24, 17, 22; a low or a high that is missing counts as 0 for 24; what passes 24 so gets 17.
  */
 struct biidhaqun_between biidhaqun_within(
     size_t states, size_t actions, size_t observations, uint64_t discount,

@@ -3,13 +3,16 @@
 //! A [`Model`] is a POMDP in whole numbers. A [`Certifier`] opens on it, is offered [`Level`]s of alpha vectors (a floor)
 //! and of corner and point values (a sawtooth ceiling) by anyone, and accepts a level exactly where every backup inequality
 //! holds. Beside the level it steps a ceiling of its own, the fast informed bound, at each acceptance. From then on its
-//! [`Totals`] at a [`Mixture`] bracket what the best of all plans earns that have as many steps as levels were accepted; the
+//! [`Totals`] at a [`Mixture`] bracket what the best plan earns, of all plans with as many steps as levels were accepted; the
 //! upper one is the lower of both ceilings. A vector may cover part of the states: it then counts at mixtures of these alone.
 //!
 //! The calls are those of a static library in which each is proved to meet its contract, never to fault, and to end,
 //! whatever it is handed; a [`Refusal`] says which rule was broken and where. What each type promises, and what of it is
 //! proved, stands with the type. The library keeps nothing between calls and allocates nothing; its calls may be made from
-//! any thread.
+//! any thread that has the stack for it: 256 kilobytes for all of them, 32 for all but reading, converting and worths.
+//!
+//! Depend on the crate by its path. `scripts/archive` builds the static library first; the variable `BIIDHAQUN_LIB` names another
+//! folder that has `libbiidhaqun.a`.
 //!
 //! Where most of a model's transitions are 0, a certifier can work from a [`List`] of the others, with the same answers. Rewards
 //! may change while it stands at a level ([`Certifier::reprice`]): its bounds are moved so that they hold for the new ones.
