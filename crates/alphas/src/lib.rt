@@ -12,7 +12,7 @@ use numerals::Form;
 use tables::Tables;
 use tables::Verdict;
 
-// A vector and the offset after it; with a refusal every other part is 0.
+// A vector and the offset after it.
 pub struct AlphaAt {
     pub verdict: Verdict,
     pub end: usize,
