@@ -15,12 +15,13 @@
  * lent the same memory and one of them writes it.
  *
  * What is proved: whatever it is lent, a call ends without fault, answers, and leaves in every slice what the definitions say
- * (specs/ of the crates; "What to believe" in docs/ARCHITECTURE.md has them in reading order). Where a certifier was opened by
- * biidhaqun_open, its slices were written by biidhaqun_offer, biidhaqun_replay and biidhaqun_reprice alone, whatever they were
- * lent, and each call was lent the tables in force (those of the opening, or the last new ones that were not refused), its
- * totals bracket every plan of these tables wherever they are given. A level that is built upon it, or adopted, is accepted if
- * the certifier's slices have room for it. What biidhaqun_convert writes is read by biidhaqun_read, with the same T, O, discount and start numbers and
- * exactly the expected rewards. The inline functions at the end, and what this file says, are not proved.
+ * (specs/ of the crates; "What to believe" in docs/ARCHITECTURE.md has them in reading order). Where a certifier was opened
+ * by biidhaqun_open, its slices were written by biidhaqun_offer, biidhaqun_replay and biidhaqun_reprice alone, whatever they
+ * were lent, and each call was lent the tables in force (those of the opening, or the last new ones that were not refused),
+ * its totals bracket every plan of these tables wherever they are given. A level that is built upon it, or adopted, is
+ * accepted if the certifier's slices have room for it. What biidhaqun_convert writes is read by biidhaqun_read, with the same
+ * T, O, discount and start numbers and exactly the expected rewards. The inline functions at the end, and what this file
+ * says, are not proved.
  *
  * SLICES. What a call is lent are slices: a pointer, and a length in elements. They are packed by the model's counts (n
  * states, m actions, k observations), the last index fastest, and may be longer: what lies behind is neither read nor
@@ -105,9 +106,9 @@
  *    4  BIIDHAQUN_START_TOTAL         the file's length
  *    5  BIIDHAQUN_TRANSITION_TOTAL    in a file its length; on tables action x n + state left
  *    6  BIIDHAQUN_OBSERVATION_TOTAL   in a file its length; on tables action x n + state reached
- *    7  BIIDHAQUN_CERTIFIER           0; a slice is too short for the tables, for the three numbers of the state, for the level
- *                                     that stands, or for the rows; a list that is not the table's. The slice of the choices that stand may be too short: no
- *                                     call reads them
+ *    7  BIIDHAQUN_CERTIFIER           0; a slice is too short for the tables, for the three numbers of the state, for the
+ *                                     level that stands, or for the rows; a list that is not the table's. The slice of the
+ *                                     choices that stand may be too short: no call reads them
  *    8  BIIDHAQUN_LEVELS              0
  *    9  BIIDHAQUN_LEVEL_SIZE          0; a slice is too short for the level offered, to be built or adopted, for a list of
  *                                     offers, for the points, for state, level 0 and rows in biidhaqun_open, for answers, or
