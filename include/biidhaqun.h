@@ -16,12 +16,13 @@
  *
  * What is proved: whatever it is lent, a call ends without fault, answers, and leaves in every slice what the definitions say
  * (specs/ of crates/columns, runs, mixtures, intervals, worths, worth, headers, modelfile, reading, expected, written,
- * conversion, solver, solved, adoption, replay and answers). Where a certifier was opened by biidhaqun_open, its slices were
- * written by biidhaqun_offer, biidhaqun_replay and biidhaqun_reprice alone, whatever they were lent, and each call was lent
- * the tables in force (those of the opening, or the last new ones that were not refused), its totals bracket every plan of
- * these tables wherever they are given. A level that is built upon it, or adopted, is accepted if the certifier's slices have
- * room for it. What biidhaqun_convert writes is read by biidhaqun_read, with the same T, O, discount and start numbers and
- * exactly the expected rewards. The inline functions at the end, and what this file says, are not proved.
+ * conversion, solver, solved, adoption, replay, answers and exports_*). Where a certifier was opened by biidhaqun_open, its
+ * slices were written by biidhaqun_offer, biidhaqun_replay and biidhaqun_reprice alone, whatever they were lent, and each
+ * call was lent the tables in force (those of the opening, or the last new ones that were not refused), its totals bracket
+ * every plan of these tables wherever they are given. A level that is built upon it, or adopted, is accepted if the
+ * certifier's slices have room for it. What biidhaqun_convert writes is read by biidhaqun_read, with the same T, O, discount
+ * and start numbers and exactly the expected rewards. The inline functions at the end, and what this file says, are not
+ * proved.
  *
  * SLICES. What a call is lent are slices: a pointer, and a length in elements. They are packed by the model's counts (n
  * states, m actions, k observations), the last index fastest, and may be longer: what lies behind is neither read nor
