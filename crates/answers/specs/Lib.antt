@@ -1,2 +1,2 @@
--- What the exported calls answer.
+-- What the exported calls share.
 pub mod Calls

@@ -1,22 +1,30 @@
-// The interface for C and Rust: a model file, and a solver's files, read into slices that programs lend; a file of another form converted.
+// The interface for C and Rust: a model file read into slices that programs lend, and a file of another form converted to one.
 ghost use mathlib.Core.Path.{_≡_};
-ghost use mathlib.Core.List.{List};
-ghost use Prim.Native.Nat.{ℕ};
 ghost use lib.ListN.{length};
-ghost use Rattle.levels.specs.Storage.{cells, rows, lent};
-ghost use Rattle.reading.specs.Reading.{fileFor, readVerdict, readOf, laidTransitions, laidObservations, laidRewards, laidStart};
 ghost use Rattle.tables.specs.Verdicts.{left};
 ghost use Rattle.tables.specs.declared.Verdict.the-variants.{Fine};
-ghost use Rattle.solver.specs.Files.{vectorsIn};
-ghost use Rattle.adoption.specs.Adopt.{adoptVerdict, adopted, adoptAnswer};
-ghost use Rattle.adoption.specs.Claim.{AdoptHolds};
+ghost use Rattle.reading.specs.Reading.{fileFor, readVerdict, readOf, laidTransitions, laidObservations, laidRewards, laidStart};
 ghost use Rattle.conversion.specs.Convert.{convertVerdict, converted, convertAnswer, convertedOver};
 ghost use Rattle.conversion.specs.Claim.{ConvertHolds};
-ghost use Rattle.answers.specs.Calls.{tablesBy, readingBy, adoptionBy, conversionBy};
-use answers::Adoption;
-use answers::Conversion;
-use answers::Reading;
-use tables::Counts;
+ghost use Rattle.exports_files.specs.Calls.{readingBy, conversionBy};
+
+// What a model file has, with its refusal: every count 0 where it is refused.
+#[repr(C)]
+pub struct Reading {
+    pub number: u64,
+    pub place: usize,
+    pub states: usize,
+    pub actions: usize,
+    pub observations: usize,
+    pub discount: u64,
+}
+
+#[repr(C)]
+pub struct Conversion {
+    pub number: u64,
+    pub place: usize,
+    pub length: usize,
+}
 
 // Reads a model file into tables and start numbers, in hundredths.
 #[no_mangle]
@@ -67,102 +75,5 @@ pub extern "C" fn biidhaqun_convert(file: &[u8], out: &mut [u8]) -> Conversion
         number: refusal.number,
         place: refusal.place,
         length: made.length,
-    }
-}
-
-// Makes the next level of a certifier of a solver's alpha file and policy graph, and of a count of points, whose weights are the level's own.
-#[no_mangle]
-pub extern "C" fn biidhaqun_adopt<'a, 'b, 'c>(
-    n: usize,
-    m: usize,
-    k: usize,
-    g: u64,
-    transition: &'a [u16],
-    observation: &'a [u16],
-    reward: &'a [i64],
-    state: &'b [usize],
-    actions: &'b [u8],
-    masks: &'b [u64],
-    entries: &'b [i64],
-    corners: &'b [i64],
-    weights: &'b [u32],
-    values: &'b [i64],
-    informed: &'b [i64],
-    qmdp: &'b [i64],
-    alpha: &'c [u8],
-    graph: &'c [u8],
-    given: &[u32],
-    count: usize,
-    newactions: &mut [u8],
-    newchoices: &mut [u16],
-    newmasks: &mut [u64],
-    newentries: &mut [i64],
-    newcorners: &mut [i64],
-    newvalues: &mut [i64],
-) -> Adoption
-    ensures { λ r. ⌜ ((choices : List ℕ) →
-        let tables = tablesBy n m k g (now (transition .entry)) (now (observation .entry)) (now (reward .entry)) in
-        let standing = lent (now (state .entry)) (cells (now (actions .entry)) choices (now (masks .entry)) (now (entries .entry)) (now (corners .entry))
-        (now (weights .entry)) (now (values .entry))) (rows (now (informed .entry)) (now (qmdp .entry))) in
-        let y = cells (now (newactions .entry)) (now (newchoices .entry)) (now (newmasks .entry)) (now (newentries .entry)) (now (newcorners .entry))
-        (now (given .entry)) (now (newvalues .entry)) in
-        r ≡ adoptionBy (adoptAnswer (adoptVerdict tables standing (now (alpha .entry)) (now (graph .entry)) count y) (vectorsIn n (now (alpha .entry))))) ⌝ }
-    ensures { λ _. ⌜ ((choices : List ℕ) →
-        let tables = tablesBy n m k g (now (transition .entry)) (now (observation .entry)) (now (reward .entry)) in
-        let standing = lent (now (state .entry)) (cells (now (actions .entry)) choices (now (masks .entry)) (now (entries .entry)) (now (corners .entry))
-        (now (weights .entry)) (now (values .entry))) (rows (now (informed .entry)) (now (qmdp .entry))) in
-        let y = cells (now (newactions .entry)) (now (newchoices .entry)) (now (newmasks .entry)) (now (newentries .entry)) (now (newcorners .entry))
-        (now (given .entry)) (now (newvalues .entry)) in
-        let laid = cells (now (newactions .exit)) (now (newchoices .exit)) (now (newmasks .exit)) (now (newentries .exit)) (now (newcorners .exit))
-        (now (given .entry)) (now (newvalues .exit)) in
-        laid ≡ adopted tables standing (now (alpha .entry)) (now (graph .entry)) count y) ⌝ }
-    ensures { λ _. ⌜ ((choices : List ℕ) →
-        let tables = tablesBy n m k g (now (transition .entry)) (now (observation .entry)) (now (reward .entry)) in
-        let standing = lent (now (state .entry)) (cells (now (actions .entry)) choices (now (masks .entry)) (now (entries .entry)) (now (corners .entry))
-        (now (weights .entry)) (now (values .entry))) (rows (now (informed .entry)) (now (qmdp .entry))) in
-        let y = cells (now (newactions .entry)) (now (newchoices .entry)) (now (newmasks .entry)) (now (newentries .entry)) (now (newcorners .entry))
-        (now (given .entry)) (now (newvalues .entry)) in
-        let laid = cells (now (newactions .exit)) (now (newchoices .exit)) (now (newmasks .exit)) (now (newentries .exit)) (now (newcorners .exit))
-        (now (given .entry)) (now (newvalues .exit)) in
-        adoptVerdict tables standing (now (alpha .entry)) (now (graph .entry)) count y ≡ Fine
-        → AdoptHolds tables standing (now (alpha .entry)) (now (graph .entry)) count y laid) ⌝ }
-{
-    let c = Counts {
-        states: n,
-        actions: m,
-        observations: k,
-        discount: g,
-    };
-    let made = adopting::adopt(
-        transition,
-        observation,
-        reward,
-        c,
-        state,
-        actions,
-        masks,
-        entries,
-        corners,
-        weights,
-        values,
-        informed,
-        qmdp,
-        alpha,
-        graph,
-        given,
-        count,
-        newactions,
-        newchoices,
-        newmasks,
-        newentries,
-        newcorners,
-        newvalues,
-    );
-    let verdict = made.verdict;
-    let refusal = answers::refusal_of(verdict);
-    Adoption {
-        number: refusal.number,
-        place: refusal.place,
-        vectors: made.vectors,
     }
 }

@@ -2,23 +2,48 @@
 ghost use mathlib.Core.Path.{_≡_};
 ghost use mathlib.Core.List.{List};
 ghost use Prim.Native.Nat.{ℕ, _<_};
-ghost use Rattle.levels.specs.Storage.{Lent, cells, rows, lent};
 ghost use Rattle.tables.specs.Tables.{Tables};
+ghost use Rattle.levels.specs.Storage.{Lent, cells, rows, lent};
 ghost use Rattle.runs.specs.State.{totalsOf};
-ghost use Rattle.mixtures.specs.Each.{answers, eachVerdict, eachOf};
 ghost use Rattle.runs.specs.Demand3.{ModelAccepted, Event, certifier, after, steps, claim, MixtureHolds};
+ghost use Rattle.mixtures.specs.Each.{answers, eachVerdict, eachOf};
 ghost use Rattle.intervals.specs.Intervals.{withinOf};
 ghost use Rattle.intervals.specs.Claim.{RangesHold};
 ghost use Rattle.worths.specs.Storage.{lentGraph};
 ghost use Rattle.worth.specs.Judged.{worthAnswer};
-ghost use Rattle.answers.specs.Calls.{tablesBy, refusalOf, totalsBy, totalsWithinBy, worthBy, Brackets, Encloses};
+ghost use Rattle.answers.specs.Calls.{tablesBy, refusalOf};
+ghost use Rattle.exports_totals.specs.Calls.{totalsBy, Brackets, totalsWithinBy, Encloses, worthBy};
 use answers::Refusal;
-use answers::Totals;
-use answers::TotalsWithin;
-use answers::Worth;
 use tables::Counts;
 use tables::State;
 use worths::Node;
+
+#[repr(C)]
+pub struct Totals {
+    pub number: u64,
+    pub place: usize,
+    pub lower: i64,
+    pub upper: i64,
+    pub gap: i64,
+    pub action: usize,
+    pub sawtooth: i64,
+    pub informed: i64,
+}
+
+#[repr(C)]
+pub struct TotalsWithin {
+    pub number: u64,
+    pub place: usize,
+    pub lower: i64,
+    pub upper: i64,
+}
+
+#[repr(C)]
+pub struct Worth {
+    pub number: u64,
+    pub place: usize,
+    pub ticks: i64,
+}
 
 // The totals of a certifier at a mixture. The choices of what stands are not read.
 #[no_mangle]

@@ -1,5 +1,5 @@
 use Rattle.integers.proofs.Kit.{ap, needs}
-use Rattle.answers.specs.Calls.{conversionBy}
+use Rattle.exports_files.specs.Calls.{conversionBy}
 use Rattle.exports_files.proofs.biidhaqun_convert.Statement.{statement}
 use Rattle.exports_files.proofs.biidhaqun_convert.Tie as tie
 
@@ -11,4 +11,5 @@ returns : tie.Need-returns
 returns c = let a = called c .convert .ensures in (rw (c .refusal-of .ensures) (ap conversionBy (a .0)), a .1)
 
 pub biidhaqun-convert-spec : {M : Type 1} → statement M
-biidhaqun-convert-spec = tie.close (tie.spec (λ c κs. search needs) (λ c κs. search needs) (λ c. search (called c .convert .kept)) returns)
+biidhaqun-convert-spec =
+    tie.close (tie.spec (λ c κs. search needs) (λ c κs. search needs) (λ c. c .before .before .out .given) returns)

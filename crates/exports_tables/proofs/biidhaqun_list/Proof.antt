@@ -13,4 +13,5 @@ returns c =
     (c .refusal-of .ensures ∙ ap refusalOf (o .0), o .1)
 
 pub biidhaqun-list-spec : {M : Type 1} → statement M
-biidhaqun-list-spec = tie.close (tie.spec (λ c κs. search needs) (λ c κs. search needs) (λ c. search (called c .make .kept)) returns)
+biidhaqun-list-spec =
+    tie.close (tie.spec (λ c κs. search needs) (λ c κs. search needs) (λ c. c .before .before .list .given) returns)

@@ -3,9 +3,13 @@ use Rattle.answers.specs.Calls.{refusalOf}
 use Rattle.exports_totals.proofs.biidhaqun_each.Statement.{statement}
 use Rattle.exports_totals.proofs.biidhaqun_each.Tie as tie
 
+-- where the lower totals come back from the call, as long as before
+abbrev lowered : tie.After-refusal-of → tie.After-lower
+lowered c = c .before .before .before .before
+
 -- where the call answered
 abbrev called : tie.After-refusal-of → tie.After-each
-called c = c .before .before .before .before .before .before .before
+called c = lowered c .before .before .before
 
 returns : tie.Need-returns
 returns c =
@@ -14,5 +18,5 @@ returns c =
 
 pub biidhaqun-each-spec : {M : Type 1} → statement M
 biidhaqun-each-spec =
-    tie.close (tie.spec (λ c κs. search needs) (λ c κs. search needs) (λ c. search (called c .each .kept)) (λ c. search (called c .each .kept))
-    (λ c. search (called c .each .kept)) (λ c. search (called c .each .kept)) returns)
+    tie.close (tie.spec (λ c κs. search needs) (λ c κs. search needs) (λ c. lowered c .before .before .verdicts .given) (λ c. lowered c .lower .given)
+    (λ c. c .before .before .before .upper .given) (λ c. c .before .before .advice .given) returns)

@@ -1,6 +1,6 @@
 use Rattle.integers.proofs.Kit.{refl, ap, needs}
 use Rattle.integers.proofs.Words.{back}
-use Rattle.answers.specs.Calls.{totalsBy}
+use Rattle.exports_totals.specs.Calls.{totalsBy}
 use Rattle.exports_totals.proofs.biidhaqun_totals.Statement.{statement}
 use Rattle.exports_totals.proofs.biidhaqun_totals.Tie as tie
 

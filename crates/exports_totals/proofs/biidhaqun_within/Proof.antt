@@ -1,6 +1,6 @@
 use Rattle.integers.proofs.Kit.{refl, ap, _<_, _^_, needs, mag}
 use Rattle.integers.proofs.Words.{back}
-use Rattle.answers.specs.Calls.{totalsWithinBy}
+use Rattle.exports_totals.specs.Calls.{totalsWithinBy}
 use Rattle.exports_totals.proofs.biidhaqun_within.Statement.{statement}
 use Rattle.exports_totals.proofs.biidhaqun_within.Tie as tie
 

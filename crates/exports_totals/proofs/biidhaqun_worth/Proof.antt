@@ -1,6 +1,6 @@
 use Rattle.integers.proofs.Kit.{ap, _<_, _^_, needs, mag}
 use Rattle.integers.proofs.Words.{back}
-use Rattle.answers.specs.Calls.{worthBy}
+use Rattle.exports_totals.specs.Calls.{worthBy}
 use Rattle.exports_totals.proofs.biidhaqun_worth.Statement.{statement}
 use Rattle.exports_totals.proofs.biidhaqun_worth.Tie as tie
 

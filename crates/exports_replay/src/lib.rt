@@ -1,15 +1,22 @@
 // The interface for C and Rust: a list of offers in one call.
 ghost use mathlib.Core.Path.{_≡_};
 ghost use mathlib.Core.List.{List};
-ghost use Rattle.levels.specs.Storage.{Lent, cells, rows, lent};
 ghost use Rattle.tables.specs.Tables.{Tables};
-ghost use Rattle.runs.specs.Demand3.{ModelAccepted, Event, certifier, after};
 ghost use Rattle.tables.specs.declared.Verdict.the-variants.{Fine};
+ghost use Rattle.levels.specs.Storage.{Lent, cells, rows, lent};
+ghost use Rattle.runs.specs.Demand3.{ModelAccepted, Event, certifier, after};
 ghost use Rattle.blocks.specs.Blocks.{packed};
 ghost use Rattle.replay.specs.Replay.{offersIn, replayVerdict, replayAnswer, replayed, ReplayHolds};
-ghost use Rattle.answers.specs.Calls.{tablesBy, replayBy};
-use answers::Replay;
+ghost use Rattle.answers.specs.Calls.{tablesBy};
+ghost use Rattle.exports_replay.specs.Calls.{replayBy};
 use tables::Counts;
+
+#[repr(C)]
+pub struct Replay {
+    pub number: u64,
+    pub place: usize,
+    pub accepted: usize,
+}
 
 // Offers each level of a list to a certifier, one after the other. Block i of each slice has room for v vectors and p points; the offer that lies there has
 // counts of its own.

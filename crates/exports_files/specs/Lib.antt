@@ -1,0 +1,2 @@
+-- What the calls on files answer.
+pub mod Calls

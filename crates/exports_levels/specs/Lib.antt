@@ -1,0 +1,2 @@
+-- Demand 3 of a built level.
+pub mod Calls

@@ -1,0 +1,2 @@
+-- What the call over a list of offers answers.
+pub mod Calls

@@ -1,0 +1,2 @@
+-- What the call on a solver's files answers.
+pub mod Calls

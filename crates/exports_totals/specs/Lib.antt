@@ -1,0 +1,2 @@
+-- What the calls for totals and worths answer.
+pub mod Calls
