@@ -1,2 +1,2 @@
--- What is known of a certifier that climbs.
+-- A certifier that climbs, as slices.
 pub mod Climb

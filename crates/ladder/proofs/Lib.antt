@@ -1,2 +1,2 @@
 -- What the program's functions lean on.
-pub mod Own
+pub mod File

@@ -1,22 +1,19 @@
-use Rattle.integers.proofs.Kit.{_∙_, refl, ℕ, _*_, needs, length-replicate, pos}
+use Rattle.integers.proofs.Kit.{_∙_, refl, sym, ℕ, _*_, needs, length-replicate, pos}
 use Rattle.tables.specs.Limits.{maxStates, maxActions, maxObservations}
 use Rattle.tables.proofs.Fitting.{Long}
 use Rattle.bodies.specs.Body.{ModelFile}
 use Rattle.modelfile.specs.ModelFile.{room}
 use Rattle.bodies.specs.Steps.{fileIn}
-use Rattle.ladder.proofs.Own.{read-given}
+use Rattle.ladder.proofs.File.{read-given}
 use Rattle.ladder.proofs.answer.Statement.{statement}
 use Rattle.ladder.proofs.answer.Tie as tie
 
 -- places of the code, each from a later one
-abbrev after-read : tie.After-mixture → tie.After-read
-after-read c = c .before .before .before .before .before .before .before .before .before .before
+abbrev start : tie.After-read → tie.Start
+start c = c .before .before .before .before .before .before
 
-abbrev start : tie.After-mixture → tie.Start
-start c = c .before .before .before .before .before .before .before .before .before .before .before .before .before .before .before .before
-
-abbrev after-transition3 : tie.After-mixture → tie.After-transition3
-after-transition3 c = c .before .before .before
+abbrev after-read : tie.After-transition3 → tie.After-read
+after-read c = c .before .before .before .before .before .before .before
 
 -- what was read, in the program's arrays
 abbrev drafted : tie.After-read → ModelFile
@@ -33,12 +30,15 @@ long c = let (_, (_, (_, (_, (transition, (observation, (reward, _))))))) = c .r
 
 levels-of-requires : tie.Need-levels-of-requires
 levels-of-requires c κs =
-    let r = after-read c in let fine = after-transition3 c .before .enum-told .given .1 in
+    let l = c .before .before in
+    let r = after-read l in
+    let fine = l .before .enum-told .given .1 in
     read-given (drafted r) (room (maxActions * maxStates * maxStates) (maxActions * maxStates * maxObservations) (maxActions * maxStates))
-    (c .mixture .result) (start c .args .file .now) (r .read .ensures .1 fine) fine (long r) (c .mixture .ensures)
+    (start r .args .file .now) (r .read .ensures .1 fine) fine (long r)
 
 pub answer-spec : {M : Type 1} → statement M
 answer-spec =
-    tie.close (tie.spec (λ c. search needs) (λ c. search needs) (λ c. search needs) (λ c. search needs) (λ c. search needs) (λ c. search needs)
-    (λ c κs. (refl, (refl, (refl, refl)))) (λ c. search needs) (λ c. search needs) (λ c. search needs) (λ c. search needs) (λ c κs. search needs)
-    levels-of-requires (λ c. search needs) (λ c κs. search needs) (λ c. search needs) (λ c. search needs))
+    tie.close (tie.spec (λ c. refl) (λ c. refl) (λ c. refl) (λ c. refl) (λ c κs. (refl, (refl, (refl, refl)))) (λ c. search needs)
+    (λ c. sym (long (after-read c) .transition)) (λ c. sym (long (after-read (c .before)) .observation))
+    (λ c. sym (long (after-read (c .before .before)) .reward)) levels-of-requires (λ c. search needs) (λ c κs. search needs) (λ c. search needs)
+    (λ c. search needs))

@@ -1,2 +1,0 @@
--- What the program says of its start numbers.
-pub mod Start
