@@ -1,62 +1,21 @@
--- What is written is what an offer is said to leave. Assumes nothing.
---
--- In order: slices that are complete for a level; what is left of a refused offer; of one that is accepted.
-use Rattle.integers.proofs.Kit.{_≡_, _∙_, refl, sym, List, _∷_, ℕ, _≤_, _+_, drop, ℤ}
-use Rattle.integers.specs.Cells.{laidRows}
-use Rattle.integers.proofs.Lists.{laidRows-flat}
+-- What an offer is said to leave. Assumes nothing.
+use Rattle.integers.proofs.Kit.{_≡_, _∙_, refl, ap}
 use Rattle.tables.specs.Tables.{Tables}
 use Rattle.tables.specs.declared.Verdict.{Verdict}
 use Rattle.tables.specs.declared.Verdict.the-variants.{Fine, Refused}
-use Rattle.tables.specs.Limits.{maxVectors}
-use Rattle.tables.specs.Model.{Valid}
-use Rattle.tables.specs.Storage.{modelOf}
 use Rattle.tables.specs.Verdicts.{_before_, left}
-use Rattle.plans.specs.Limits.{maxPoints}
-use Rattle.plans.specs.Rows.{informedNext, qmdpNext}
-use Rattle.levels.specs.Storage.{Cells, LentLevel, rows, Lent, stateSize, lent, lentFor, levelOf, over, numberIn, informedIn, qmdpIn}
+use Rattle.levels.specs.Storage.{LentLevel, Lent, levelOf}
 use Rattle.levels.specs.Judged.{offerVerdict}
-use Rattle.levels.proofs.Over.{Complete, cells-same, lent-same}
-use Rattle.runs.specs.State.{offered}
-use Rattle.laying.specs.Steps.{Lays, laidBy}
+use Rattle.runs.specs.State.{raised, offered}
 
--- slices that are complete for a level within the limits
-pub lays : (m : Tables) (y : Cells) {vectors points : ℕ} → Valid (modelOf m) → vectors ≤ maxVectors → points ≤ maxPoints
-    → Complete m (lentFor vectors points y)
-    → Lays (m .states) (m .observations) vectors points (y .actions) (y .choices) (y .masks) (y .entries) (y .corners) (y .weights) (y .values)
-lays m y v few-vectors few-points c = record {
-  some-states = v .some-states;
-  few-states = v .few-states;
-  few-observations = v .few-observations;
-  few-vectors = few-vectors;
-  few-points = few-points;
-  actions-long = c .read .actions;
-  choices-long = c .choices;
-  masks-long = c .read .masks;
-  entries-long = c .read .entries;
-  corners-long = c .read .corners;
-  weights-long = c .read .weights;
-  values-long = c .read .values;
-}
+-- a refusal, of the list that is handed in or of the offer, leaves all as it was
+handed-offered : (m : Tables) (x : Lent) (l : LentLevel) (h : Verdict)
+    → left (h before offerVerdict m x l) (raised m x (levelOf m l)) x ≡ left h (offered m x l) x
+unfolding offered
+handed-offered m x l Fine = refl
+handed-offered m x l (Refused number place) = refl
 
-module _ (m : Tables) (x : Lent) (l : LentLevel) where
-  -- a refusal, of the list that is handed in or of the offer, leaves all as it was
-  pub handed-refused : (h : Verdict) {k i : ℕ} → (h before offerVerdict m x l) ≡ Refused k i → x ≡ left h (offered m x l) x
-  unfolding offered
-  handed-refused Fine e = rw e refl
-  handed-refused (Refused number place) e = refl
-
-  -- choices and weights, laid as they lie, are their rows
-  laid-over : laidBy (m .states) (m .observations) (l .vectors) (l .points) (l .cells) (x .cells) ≡ over m (levelOf m l) (x .cells)
-  unfolding over
-  laid-over =
-      cells-same refl (sym (laidRows-flat (l .vectors) (m .observations) (l .cells .choices) (x .cells .choices) 0)) refl refl refl
-      (sym (laidRows-flat (l .points) (m .states) (l .cells .weights) (x .cells .weights) 0)) refl
-
-  pub offered-fine : (h : Verdict) → h ≡ Fine → offerVerdict m x l ≡ Fine → {state : List ℕ} {y : Cells} {f q : List ℤ}
-      → state ≡ (numberIn x + 1) ∷ l .vectors ∷ l .points ∷ drop stateSize (x .state)
-      → y ≡ laidBy (m .states) (m .observations) (l .vectors) (l .points) (l .cells) (x .cells)
-      → f ≡ laidRows (m .actions) (m .states) (informedNext (modelOf m) (informedIn m x)) (x .rows .informed)
-      → q ≡ laidRows (m .actions) (m .states) (qmdpNext (modelOf m) (qmdpIn m x)) (x .rows .qmdp)
-      → lent state y (rows f q) ≡ left h (offered m x l) x
-  unfolding offered
-  offered-fine h e fine s c f q = rw (e, fine) (lent-same s (c ∙ laid-over) f q)
+-- what is left by a verdict v
+pub settled-offered : (m : Tables) (x : Lent) (l : LentLevel) (h : Verdict) {v : Verdict} {z : Lent} → v ≡ (h before offerVerdict m x l)
+    → z ≡ left v (raised m x (levelOf m l)) x → z ≡ left h (offered m x l) x
+settled-offered m x l h e k = k ∙ ap (λ (w : Verdict). left w (raised m x (levelOf m l)) x) e ∙ handed-offered m x l h

@@ -78,13 +78,13 @@ pub fn offer<'a, 'b>(
         newweights,
         newvalues,
     );
-    let Verdict::Fine = verdict else {
-        return verdict;
-    };
-    levels::raise_standing(state, vectors, points);
-    laying::lay_level(
-        c.states,
-        c.observations,
+    accepting::settle(
+        verdict,
+        transition,
+        observation,
+        reward,
+        c,
+        state,
         actions,
         choices,
         masks,
@@ -92,6 +92,8 @@ pub fn offer<'a, 'b>(
         corners,
         weights,
         values,
+        informed,
+        qmdp,
         vectors,
         points,
         newactions,
@@ -101,7 +103,5 @@ pub fn offer<'a, 'b>(
         newcorners,
         newweights,
         newvalues,
-    );
-    rows::step(transition, observation, reward, c, informed, qmdp);
-    Verdict::Fine
+    )
 }

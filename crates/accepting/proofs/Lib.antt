@@ -1,0 +1,2 @@
+-- Laws of what an acceptance leaves.
+pub mod Raised
