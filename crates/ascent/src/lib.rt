@@ -74,7 +74,7 @@ pub fn levels_of<'a>(
         let w = climbing::made(transition, observation, reward, c, h, point);
         h = raising::raised(transition, observation, reward, c, h, w);
         let r = asked(transition, observation, reward, c, h, point);
-        if !lines::print_totals(t + 1, r) {
+        if !streams::print_totals(t + 1, r) {
             return false;
         }
     }

@@ -1,7 +1,6 @@
 // ladder: reads a model file from standard input, makes its start numbers into one point, builds and offers levels 1 to 3, and prints for each:
 // level, lower, upper, gap at that point, action. A refused file prints its number and place. Input that cannot be read prints no line.
 use climbing::ROWS;
-use libc::STDERR_FILENO;
 use libc::STDIN_FILENO;
 use modelfile::ModelFile;
 use tables::Tables;
@@ -30,29 +29,20 @@ fn answer(file: &[u8]) -> bool {
     let verdict = read.verdict;
     match verdict {
         Verdict::Fine => ascent::levels_of(&transition, &observation, &reward, read.counts, start),
-        Verdict::Refused(number, place) => lines::print_refusal(number, place),
+        Verdict::Refused(number, place) => streams::print_refusal(number, place),
     }
-}
-
-// Whether nothing is left to read: a read that fails is not the end of a file.
-fn at_end() -> bool {
-    let mut more = [0u8; 1];
-    libc::read(STDIN_FILENO, &mut more) == 0
 }
 
 fn main() {
     let mut file = [0u8; ModelFile::BYTES + 1];
     let n = io::read_full(STDIN_FILENO, &mut file);
     if n <= ModelFile::BYTES {
-        if !at_end() {
-            io::write_all(STDERR_FILENO, b"ladder: standard input cannot be read\n");
+        if !streams::at_end() {
+            streams::tell_unread();
             return;
         }
     }
     if !answer(&file[..n]) {
-        io::write_all(
-            STDERR_FILENO,
-            b"ladder: standard output cannot be written\n",
-        );
+        streams::tell_unwritten();
     }
 }

@@ -1,8 +1,27 @@
-// The lines that the program `ladder` prints, on standard output; each says whether it could be written.
+// What the program `ladder` writes, line by line, and where its input ends. A line says whether it could be written.
 ghost use mathlib.Core.Path.{_≡_};
 ghost use Rattle.tables.specs.declared.Verdict.the-variants.{Fine};
+use libc::STDERR_FILENO;
+use libc::STDIN_FILENO;
 use libc::STDOUT_FILENO;
 use runs::Bounds;
+
+// Whether nothing is left to read: a read that fails is not the end of a file.
+pub fn at_end() -> bool {
+    let mut more = [0u8; 1];
+    libc::read(STDIN_FILENO, &mut more) == 0
+}
+
+pub fn tell_unread() {
+    io::write_all(STDERR_FILENO, b"ladder: standard input cannot be read\n");
+}
+
+pub fn tell_unwritten() {
+    io::write_all(
+        STDERR_FILENO,
+        b"ladder: standard output cannot be written\n",
+    );
+}
 
 fn print_unsigned(x: u64, end: &[u8]) -> bool {
     if !io::print_decimal(STDOUT_FILENO, x) {
