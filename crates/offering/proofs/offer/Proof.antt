@@ -20,8 +20,18 @@ start c =
 abbrev of-verdict : tie.After-settle-arg10 → tie.After-judge-offer
 of-verdict c = c .before .before .before .before .before .before .before .before .before .before
 
+-- where slices come back, as long as before: the weights, the masks, the actions
+abbrev weighed : tie.After-qmdp → tie.After-weights
+weighed c = c .before .before .before .before
+
+abbrev masked : tie.After-qmdp → tie.After-masks
+masked c = weighed c .before .before .before .before
+
+abbrev acted : tie.After-qmdp → tie.After-actions
+acted c = masked c .before .before .before .before
+
 abbrev of-settle : tie.After-qmdp → tie.After-settle
-of-settle c = c .before .before .before .before .before .before .before .before .before .before .before .before .before .before .before
+of-settle c = acted c .before .before .before
 
 -- what is lent
 abbrev tables : tie.Start → Tables
@@ -62,7 +72,7 @@ returns c =
 
 pub offer-spec : {M : Type 1} → statement M
 offer-spec =
-    tie.close (tie.spec (λ c κs. search needs) settle-requires (λ c. search (of-settle c .settle .kept)) (λ c. search (of-settle c .settle .kept))
-    (λ c. search (of-settle c .settle .kept)) (λ c. search (of-settle c .settle .kept)) (λ c. search (of-settle c .settle .kept))
-    (λ c. search (of-settle c .settle .kept)) (λ c. search (of-settle c .settle .kept)) (λ c. search (of-settle c .settle .kept))
-    (λ c. search (of-settle c .settle .kept)) (λ c. search (of-settle c .settle .kept)) returns)
+    tie.close (tie.spec (λ c κs. search needs) settle-requires (λ c. acted c .before .before .state .given) (λ c. acted c .actions .given)
+    (λ c. masked c .before .before .choices .given) (λ c. masked c .masks .given) (λ c. weighed c .before .before .entries .given)
+    (λ c. weighed c .before .corners .given) (λ c. weighed c .weights .given) (λ c. c .before .before .values .given) (λ c. c .before .informed .given)
+    (λ c. c .qmdp .given) returns)
