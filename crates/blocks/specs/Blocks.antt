@@ -1,17 +1,21 @@
 -- Offers that lie packed in slices: block i of each slice has room for so many vectors and points, and the offer that lies there has counts of its own.
 --
---   offerIn      what lies in a block
---   packedFits   9 of such slices: long enough for so many blocks
+--   offerIn         what lies in a block
+--   packedFits      9 of such slices: long enough for so many blocks
+--   replayVerdict   what a list of them is refused for
 use Prim.Native.Nat.{ℕ, _*_}
 use mathlib.Core.Bool.{Bool, _&&_}
 use mathlib.Core.List.{List}
 use lib.Dec.{leb}
 use lib.ListN.{length, getD}
 use Rattle.tables.specs.Tables.{Tables}
+use Rattle.tables.specs.declared.Verdict.{Verdict}
 use Rattle.tables.specs.Limits.{maxVectors}
 use Rattle.tables.specs.Storage.{rowIn}
+use Rattle.tables.specs.Verdicts.{_before_, unless}
 use Rattle.plans.specs.Limits.{maxPoints}
-use Rattle.levels.specs.Storage.{Cells, cells, LentLevel, lentFor}
+use Rattle.levels.specs.Storage.{Cells, cells, LentLevel, Lent, lentFor}
+use Rattle.levels.specs.Judged.{holds}
 
 -- the slices of the offers, with room for v vectors and p points in each block, and the counts of each offer
 pub record Packed : Type 0 where
@@ -53,3 +57,7 @@ packedFits m b count =
     let x : Cells = b .cells in
     blocksFit (m .states) (m .observations) count (b .v) (b .p) (length (b .vectors)) (length (b .points)) (length (x .actions)) (length (x .choices))
     (length (x .masks)) (length (x .entries)) (length (x .corners)) (length (x .weights)) (length (x .values))
+
+-- 7 of the certifier, and 9 where a slice is too short for the list
+unfoldable pub replayVerdict : Tables → Lent → Packed → ℕ → Verdict
+replayVerdict m x b count = unless (holds m x) 7 0 before unless (packedFits m b count) 9 0

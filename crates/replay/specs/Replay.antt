@@ -1,36 +1,20 @@
 -- A list of offers that lies packed in slices, run through the calls one after the other.
 --
---   offersIn                  the list
---   offeredAll, acceptedOf    what a list of offers leaves of a certifier, and how many of them were accepted
---   replayVerdict             7, and 9 where a slice is too short for the list
---   replayed                  what is left of a certifier: as the list leaves it
+--   replayAnswer   how many of the offers were accepted
+--   replayed       what is left of a certifier: as the list leaves it
+--   ReplayHolds    that demand 3 holds of the whole list
 use mathlib.Core.Path.{_≡_}
-use Prim.Native.Nat.{ℕ, zero, suc, _+_}
-use mathlib.Core.List.{List, [], _∷_, _++_}
+use Prim.Native.Nat.{ℕ, _+_}
+use mathlib.Core.List.{List, _++_}
 use Rattle.tables.specs.Tables.{Tables}
 use Rattle.tables.specs.declared.Verdict.{Verdict}
 use Rattle.tables.specs.declared.Verdict.the-variants.{Fine, Refused}
-use Rattle.tables.specs.Verdicts.{_before_, unless, left}
+use Rattle.tables.specs.Verdicts.{left}
 use Rattle.levels.specs.Storage.{LentLevel, Lent}
-use Rattle.levels.specs.Judged.{holds}
-use Rattle.runs.specs.Demand3.{Event, offers, certifier, run, acceptances, after, steps, Demand3}
-use Rattle.blocks.specs.Blocks.{Packed, offerIn, packedFits}
+use Rattle.runs.specs.Demand3.{Event, offers, certifier, after, steps, Demand3}
+use Rattle.blocks.specs.Blocks.{Packed, replayVerdict}
+use Rattle.series.specs.Series.{offersIn, offeredAll, acceptedOf}
 use Rattle.replay.specs.declared.Replayed.{Replayed}
-
--- what lies in the first blocks, in their order
-unfoldable pub offersIn : Tables → Packed → ℕ → List LentLevel
-offersIn m b zero = []
-offersIn m b (suc count) = offersIn m b count ++ (offerIn m b count ∷ [])
-
--- each offer is handed what the one before it left
-abbrev pub offeredAll : Tables → Lent → List LentLevel → Lent
-offeredAll m x ls = run (certifier m x) (offers ls) .lent
-
-abbrev pub acceptedOf : Tables → Lent → List LentLevel → ℕ
-acceptedOf m x ls = acceptances (certifier m x) (offers ls)
-
-unfoldable pub replayVerdict : Tables → Lent → Packed → ℕ → Verdict
-replayVerdict m x b count = unless (holds m x) 7 0 before unless (packedFits m b count) 9 0
 
 -- how many were accepted; 0 with a refusal
 abbrev pub replayedBy : Verdict → ℕ → Replayed

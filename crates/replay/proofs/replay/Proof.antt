@@ -3,8 +3,7 @@ use Rattle.tables.specs.Tables.{Tables}
 use Rattle.tables.specs.declared.Verdict.the-variants.{Fine}
 use Rattle.tables.specs.Storage.{tablesIn}
 use Rattle.levels.specs.Storage.{Lent, cells, rows, lent}
-use Rattle.blocks.specs.Blocks.{Packed, packed}
-use Rattle.replay.specs.Replay.{replayVerdict}
+use Rattle.blocks.specs.Blocks.{Packed, packed, replayVerdict}
 use Rattle.replay.proofs.Runs.{list-packs, refused, given}
 use Rattle.replay.proofs.replay.Statement.{statement}
 use Rattle.replay.proofs.replay.Tie as tie
@@ -25,8 +24,18 @@ of-verdict c = c .before .before
 abbrev of-list : tie.After-offer-all → tie.After-enum-told
 of-list c = c .before .before .before .before .before .before .before .before .before .before .before
 
+-- where slices come back, as long as before: the weights, the masks, the actions
+abbrev weighed : tie.After-qmdp → tie.After-weights
+weighed c = c .before .before .before .before
+
+abbrev masked : tie.After-qmdp → tie.After-masks
+masked c = weighed c .before .before .before .before
+
+abbrev acted : tie.After-qmdp → tie.After-actions
+acted c = masked c .before .before .before .before
+
 abbrev of-offers : tie.After-qmdp → tie.After-offer-all
-of-offers c = c .before .before .before .before .before .before .before .before .before .before .before .before .before .before .before
+of-offers c = acted c .before .before .before
 
 -- what is lent, and what the offers leave of it
 abbrev tables : tie.Start → Tables
@@ -77,7 +86,7 @@ returns-2 c =
 pub replay-spec : {M : Type 1} → statement M
 replay-spec =
     tie.close (tie.spec (λ c κs. search needs) (λ c. search needs) (λ c. search needs) (λ c. refl) (λ c. refl) (λ c. refl) (λ c. refl) (λ c. refl) (λ c. refl)
-    (λ c. refl) (λ c. refl) (λ c. refl) returns offer-all-requires (λ c. search (of-offers c .offer-all .kept)) (λ c. search (of-offers c .offer-all .kept))
-    (λ c. search (of-offers c .offer-all .kept)) (λ c. search (of-offers c .offer-all .kept)) (λ c. search (of-offers c .offer-all .kept))
-    (λ c. search (of-offers c .offer-all .kept)) (λ c. search (of-offers c .offer-all .kept)) (λ c. search (of-offers c .offer-all .kept))
-    (λ c. search (of-offers c .offer-all .kept)) (λ c. search (of-offers c .offer-all .kept)) returns-2)
+    (λ c. refl) (λ c. refl) (λ c. refl) returns offer-all-requires (λ c. acted c .before .before .state .given) (λ c. acted c .actions .given)
+    (λ c. masked c .before .before .choices .given) (λ c. masked c .masks .given) (λ c. weighed c .before .before .entries .given)
+    (λ c. weighed c .before .corners .given) (λ c. weighed c .weights .given) (λ c. c .before .before .values .given) (λ c. c .before .informed .given)
+    (λ c. c .qmdp .given) returns-2)

@@ -6,9 +6,9 @@ use Rattle.tables.proofs.Refusals.{breaks, passes}
 use Rattle.levels.specs.Storage.{Lent, cells, rows, lent}
 use Rattle.levels.specs.Judged.{holds}
 use Rattle.runs.proofs.Judged.{standing-true}
-use Rattle.replay.specs.Replay.{replayVerdict}
-use Rattle.replay.proofs.judge_list.Statement.{statement}
-use Rattle.replay.proofs.judge_list.Tie as tie
+use Rattle.blocks.specs.Blocks.{replayVerdict}
+use Rattle.blocks.proofs.judge_list.Statement.{statement}
+use Rattle.blocks.proofs.judge_list.Tie as tie
 
 abbrev start : tie.After-standing-holds → tie.Start
 start c = c .before .before .before .before .before .before .before .before .before .before .before .before .before

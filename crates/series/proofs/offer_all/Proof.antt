@@ -3,9 +3,9 @@ use Rattle.tables.specs.Storage.{tablesIn}
 use Rattle.levels.specs.Storage.{Lent, cells, rows, lent}
 use Rattle.blocks.specs.Blocks.{packed}
 use Rattle.blocks.proofs.Blocks.{packs-less}
-use Rattle.replay.proofs.Runs.{LentAsLong, same-lengths, longer, Running, counted-few, running-none, running-more}
-use Rattle.replay.proofs.offer_all.Statement.{statement}
-use Rattle.replay.proofs.offer_all.Tie as tie
+use Rattle.series.proofs.Series.{LentAsLong, same-lengths, longer, Running, counted-few, running-none, running-more}
+use Rattle.series.proofs.offer_all.Statement.{statement}
+use Rattle.series.proofs.offer_all.Tie as tie
 
 abbrev Inv-loop : tie.InvT-loop
 Inv-loop transition observation reward c state₀ actions₀ choices₀ masks₀ entries₀ corners₀ weights₀ values₀ informed₀ qmdp₀ count v p vectors points newactions
