@@ -1,15 +1,12 @@
-// Offers that lie packed in slices, in blocks of one size: whether the slices have so many, and the offer of one of them.
+// Offers that lie packed in slices, in blocks of one size: whether the slices have so many, and what a list of them is refused for.
 ghost use mathlib.Core.Path.{_≡_};
 ghost use mathlib.Core.List.{List};
-ghost use Prim.Native.Nat.{ℕ, _+_, _*_, _≤_};
+ghost use Prim.Native.Nat.{ℕ, _*_, _≤_};
 ghost use lib.Dec.{leb};
 ghost use Rattle.tables.specs.Limits.{maxStates, maxObservations};
 ghost use Rattle.tables.specs.Storage.{tablesIn};
 ghost use Rattle.levels.specs.Storage.{cells, rows, lent};
-ghost use Rattle.levels.specs.Judged.{offerVerdict};
-ghost use Rattle.runs.specs.State.{offered};
-ghost use Rattle.blocks.specs.Blocks.{packed, offerIn, blocksFit, replayVerdict};
-ghost use Rattle.blocks.specs.Steps.{Packs};
+ghost use Rattle.blocks.specs.Blocks.{packed, blocksFit, replayVerdict};
 use levels::Level;
 use tables::Counts;
 use tables::Tables;
@@ -148,89 +145,4 @@ pub fn judge_list<'a, 'b, 'c>(
         return Verdict::Refused(9, 0);
     }
     Verdict::Fine
-}
-
-// Offers what lies in block i.
-pub fn offer_block<'a, 'b>(
-    transition: &'a [u16],
-    observation: &'a [u16],
-    reward: &'a [i64],
-    c: Counts,
-    state: &mut [usize],
-    actions: &mut [u8],
-    choices: &mut [u16],
-    masks: &mut [u64],
-    entries: &mut [i64],
-    corners: &mut [i64],
-    weights: &mut [u32],
-    values: &mut [i64],
-    informed: &mut [i64],
-    qmdp: &mut [i64],
-    i: usize,
-    v: usize,
-    p: usize,
-    vectors: &'b [usize],
-    points: &'b [usize],
-    newactions: &'b [u8],
-    newchoices: &'b [u16],
-    newmasks: &'b [u64],
-    newentries: &'b [i64],
-    newcorners: &'b [i64],
-    newweights: &'b [u32],
-    newvalues: &'b [i64],
-) -> Verdict
-    requires { ⌜ Packs (c .states) (c .observations) (i + 1) (packed v p (now vectors) (now points) (cells (now newactions) (now newchoices) (now newmasks)
-        (now newentries) (now newcorners) (now newweights) (now newvalues))) ⌝ }
-    ensures { λ r. ⌜ (let m = tablesIn c (now (transition .entry)) (now (observation .entry)) (now (reward .entry)) in
-        let x = lent (now (state .entry)) (cells (now (actions .entry)) (now (choices .entry)) (now (masks .entry)) (now (entries .entry))
-        (now (corners .entry)) (now (weights .entry)) (now (values .entry))) (rows (now (informed .entry)) (now (qmdp .entry))) in
-        let b = packed v p (now (vectors .entry)) (now (points .entry)) (cells (now (newactions .entry)) (now (newchoices .entry)) (now (newmasks .entry))
-        (now (newentries .entry)) (now (newcorners .entry)) (now (newweights .entry)) (now (newvalues .entry))) in
-        r ≡ offerVerdict m x (offerIn m b i)) ⌝ }
-    ensures { λ _. ⌜ (let m = tablesIn c (now (transition .entry)) (now (observation .entry)) (now (reward .entry)) in
-        let x = lent (now (state .entry)) (cells (now (actions .entry)) (now (choices .entry)) (now (masks .entry)) (now (entries .entry))
-        (now (corners .entry)) (now (weights .entry)) (now (values .entry))) (rows (now (informed .entry)) (now (qmdp .entry))) in
-        let b = packed v p (now (vectors .entry)) (now (points .entry)) (cells (now (newactions .entry)) (now (newchoices .entry)) (now (newmasks .entry))
-        (now (newentries .entry)) (now (newcorners .entry)) (now (newweights .entry)) (now (newvalues .entry))) in
-        lent (now (state .exit)) (cells (now (actions .exit)) (now (choices .exit)) (now (masks .exit)) (now (entries .exit)) (now (corners .exit))
-        (now (weights .exit)) (now (values .exit))) (rows (now (informed .exit)) (now (qmdp .exit)))
-        ≡ offered m x (offerIn m b i)) ⌝ }
-{
-    let n = c.states;
-    let choice = v * c.observations;
-    let entry = v * n;
-    let weight = p * n;
-    let a = i * v;
-    let o = i * choice;
-    let e = i * entry;
-    let s = i * n;
-    let w = i * weight;
-    let u = i * p;
-    let none = [0u32; 0]; // no list of transitions
-    offering::offer(
-        transition,
-        &none,
-        observation,
-        reward,
-        c,
-        state,
-        actions,
-        choices,
-        masks,
-        entries,
-        corners,
-        weights,
-        values,
-        informed,
-        qmdp,
-        vectors[i],
-        points[i],
-        &newactions[a..a + v],
-        &newchoices[o..o + choice],
-        &newmasks[a..a + v],
-        &newentries[e..e + entry],
-        &newcorners[s..s + n],
-        &newweights[w..w + weight],
-        &newvalues[u..u + p],
-    )
 }

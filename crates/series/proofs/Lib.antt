@@ -1,2 +1,2 @@
--- Laws of offers made one after the other.
+-- Laws of offers one after the other.
 pub mod Series

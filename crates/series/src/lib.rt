@@ -65,10 +65,20 @@ pub fn offer_all<'a, 'b>(
         (now (weights .exit)) (now (values .exit))) (rows (now (informed .exit)) (now (qmdp .exit)))
         ≡ offeredAll m x (offersIn m b count)) ⌝ }
 {
+    let n = c.states;
+    let none = [0u32; 0]; // no list of transitions
     let mut accepted: usize = 0;
     for i in 0..count {
-        let verdict = blocks::offer_block(
+        let action = cells::row_u8(newactions, v, i);
+        let choice = cells::row_u16(newchoices, v * c.observations, i);
+        let mask = cells::row_u64(newmasks, v, i);
+        let entry = cells::row_i64(newentries, v * n, i);
+        let corner = cells::row_i64(newcorners, n, i);
+        let weight = cells::row_u32(newweights, p * n, i);
+        let value = cells::row_i64(newvalues, p, i);
+        let verdict = offering::offer(
             transition,
+            &none,
             observation,
             reward,
             c,
@@ -82,18 +92,15 @@ pub fn offer_all<'a, 'b>(
             values,
             informed,
             qmdp,
-            i,
-            v,
-            p,
-            vectors,
-            points,
-            newactions,
-            newchoices,
-            newmasks,
-            newentries,
-            newcorners,
-            newweights,
-            newvalues,
+            vectors[i],
+            points[i],
+            action,
+            choice,
+            mask,
+            entry,
+            corner,
+            weight,
+            value,
         );
         accepted = accepted + counted_of(verdict);
     }
