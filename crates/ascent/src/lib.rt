@@ -4,6 +4,7 @@ ghost use Rattle.tables.specs.Model.{Valid};
 ghost use Rattle.tables.specs.Steps.{Stored};
 ghost use Rattle.tables.specs.Storage.{weightIn, modelIn, tablesIn};
 ghost use Rattle.plans.specs.Level.{IsPoint};
+ghost use Rattle.levels.specs.Storage.{standingAt};
 ghost use Rattle.runs.specs.State.{totalsOf};
 ghost use Rattle.climbing.specs.Climb.{lentOf};
 use climbing::Climber;
@@ -56,6 +57,14 @@ fn asked<'a>(
     )
 }
 
+// How many levels it has accepted.
+fn height(h: Climber) -> usize
+    ensures { λ r. ⌜ r ≡ standingAt (h .state) .number ⌝ }
+{
+    let standing = levels::standing_in(&h.state);
+    standing.number
+}
+
 // The lines of the levels; false where one could not be written.
 pub fn levels_of<'a>(
     transition: &'a [u16],
@@ -74,7 +83,7 @@ pub fn levels_of<'a>(
         let w = climbing::made(transition, observation, reward, c, h, point);
         h = raising::raised(transition, observation, reward, c, h, w);
         let r = asked(transition, observation, reward, c, h, point);
-        if !streams::print_totals(t + 1, r) {
+        if !streams::print_totals(height(h), r) {
             return false;
         }
     }

@@ -1,13 +1,14 @@
 -- Laws of a list of offers that lies packed in slices. Assumes nothing.
 --
---   refused, list-packs, given   each way out, with demand 3
-use Rattle.integers.proofs.Kit.{_≡_, _∙_, ap, sym, List, ℕ, _+_}
+--   list-packs   what is offered has its blocks
+--   given        what the call answers and leaves, with demand 3
+use Rattle.integers.proofs.Kit.{_≡_, _∙_, ap, sym, List, ℕ, _<_, _+_, arith}
 use mathlib.Core.List.{_++_}
 use Rattle.tables.specs.Tables.{Tables}
 use Rattle.tables.specs.declared.Verdict.{Verdict}
 use Rattle.tables.specs.declared.Verdict.the-variants.{Fine, Refused}
 use Rattle.tables.specs.Limits.{maxVectors}
-use Rattle.tables.specs.Verdicts.{unless}
+use Rattle.tables.specs.Verdicts.{unless, left}
 use Rattle.tables.proofs.Refusals.{never, before-fine, unless-fine}
 use Rattle.levels.specs.Storage.{Lent}
 use Rattle.levels.specs.Judged.{holds}
@@ -30,23 +31,25 @@ Said m x b count r y =
     → ReplayHolds m₀ x₀ es (offersIn m b count) m y (r .accepted)))
 
 module _ (m : Tables) (x : Lent) (b : Packed) (count : ℕ) where
-  pub refused : {k i : ℕ} {v : Verdict} → v ≡ replayVerdict m x b count → v ≡ Refused k i → Said m x b count record { verdict = v; accepted = 0 } x
-  unfolding replayAnswer replayed
-  refused e f = (ap (λ (w : Verdict). record { verdict = w; accepted = 0 }) f ∙ rw (sym e ∙ f), (rw (sym e ∙ f), λ m₀ x₀ es o q h. never (sym f ∙ h)))
-
   -- what is offered has its blocks
-  pub list-packs : Fine ≡ replayVerdict m x b count → Packs (m .states) (m .observations) count b
+  pub list-packs : (v : Verdict) {made : ℕ} → v ≡ replayVerdict m x b count → made ≡ left v count 0 → 0 < made → Packs (m .states) (m .observations) made b
   unfolding replayVerdict
-  list-packs e =
+  list-packs Fine e l some =
       let f = before-fine (unless (holds m x) 7 0) (unless (packedFits m b count) 9 0) (sym e) in
       let v = standing-true maxVectors m x (unless-fine (holds m x) 7 0 (f .0)) .valid-tables in
-      packs m b count (v .few-states) (v .few-observations) (unless-fine (packedFits m b count) 9 0 (f .1))
+      rw l (packs m b count (v .few-states) (v .few-observations) (unless-fine (packedFits m b count) 9 0 (f .1)))
+  list-packs (Refused k i) e l some = absurd (omega (arith, l, some))
+
+  refused : {k i accepted : ℕ} {y : Lent} → Refused k i ≡ replayVerdict m x b count → accepted ≡ 0 → y ≡ x
+      → Said m x b count record { verdict = Refused k i; accepted = accepted } y
+  unfolding replayAnswer replayed
+  refused e f g = (rw (sym e, f), (g ∙ rw (sym e), λ m₀ x₀ es o q h. never h))
 
   -- A list that is offered to what another list left is offered after it, and demand 3 holds of every list: so of both together. Qed.
-  pub given : Fine ≡ replayVerdict m x b count → {a : ℕ} {y : Lent} → a ≡ acceptedOf m x (offersIn m b count) → y ≡ offeredAll m x (offersIn m b count)
-      → Said m x b count record { verdict = Fine; accepted = a } y
+  offered : {accepted : ℕ} {y : Lent} → Fine ≡ replayVerdict m x b count → accepted ≡ acceptedOf m x (offersIn m b count)
+      → y ≡ offeredAll m x (offersIn m b count) → Said m x b count record { verdict = Fine; accepted = accepted } y
   unfolding replayAnswer replayed
-  given e {a} {y} f g =
+  offered e f g =
       let ks = offersIn m b count in (
         rw (sym e, f),
         (
@@ -60,3 +63,9 @@ module _ (m : Tables) (x : Lent) (b : Packed) (count : ℕ) where
           },
         ),
       )
+
+  pub given : (v : Verdict) {made accepted : ℕ} {y : Lent} → v ≡ replayVerdict m x b count → made ≡ left v count 0
+      → accepted ≡ acceptedOf m x (offersIn m b made) → y ≡ offeredAll m x (offersIn m b made) → Said m x b count record { verdict = v; accepted = accepted } y
+  unfolding offersIn run acceptances offers
+  given Fine e l f g = offered e (f ∙ rw l) (g ∙ rw l)
+  given (Refused k i) e l f g = refused e (f ∙ rw l) (g ∙ rw l)

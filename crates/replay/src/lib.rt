@@ -99,12 +99,7 @@ pub fn replay<'a, 'b>(
         newweights,
         newvalues,
     );
-    let Verdict::Fine = verdict else {
-        return Replayed {
-            verdict: verdict,
-            accepted: 0,
-        };
-    };
+    let made = blocks::passed(verdict, count); // a list that is refused makes no offer
     let accepted = series::offer_all(
         transition,
         observation,
@@ -120,7 +115,7 @@ pub fn replay<'a, 'b>(
         values,
         informed,
         qmdp,
-        count,
+        made,
         v,
         p,
         vectors,
@@ -134,7 +129,7 @@ pub fn replay<'a, 'b>(
         newvalues,
     );
     Replayed {
-        verdict: Verdict::Fine,
+        verdict: verdict,
         accepted: accepted,
     }
 }

@@ -6,6 +6,7 @@ use Rattle.tables.specs.Tables.{Tables}
 use Rattle.tables.specs.declared.Verdict.{Verdict}
 use Rattle.tables.specs.declared.Verdict.the-variants.{Fine, Refused}
 use Rattle.tables.specs.Storage.{rowIn}
+use Rattle.tables.specs.Verdicts.{left}
 use Rattle.levels.specs.Storage.{Cells, LentLevel, Lent, lentFor}
 use Rattle.levels.specs.Judged.{offerVerdict}
 use Rattle.levels.proofs.Over.{AsLong, as-long, long-long, cells-same}
@@ -55,7 +56,12 @@ accepted-more m x ls l =
     ∙ acceptances-append (certifier m x) (offers ls) (offer [] l ∷ [])
     ∙ ap (λ (n : ℕ). acceptedOf m x ls + n) (NatL.add-zero _ ∙ ap (λ (y : Certifier). counted y (offer [] l)) (offers-keep m x ls))
 
-pub counted-few : (v : Verdict) → tally v ≤ 1
+-- one that is accepted counts
+tally-left : (v : Verdict) → left v 1 0 ≡ tally v
+tally-left Fine = refl
+tally-left (Refused number place) = refl
+
+pub counted-few : (v : Verdict) → left v 1 0 ≤ 1
 counted-few Fine = omega arith
 counted-few (Refused number place) = omega arith
 
@@ -64,12 +70,12 @@ unfolding run acceptances offers offersIn
 running-none m b x = record { left-is = refl; accepted-is = refl; few = omega arith }
 
 pub running-more : {m : Tables} {b : Packed} {x y z : Lent} {i a k : ℕ} {v : Verdict} {l : LentLevel} → Running m b x i y a → l ≡ offerIn m b i
-    → v ≡ offerVerdict m y l → z ≡ offered m y l → k ≡ tally v → Running m b x (i + 1) z (a + k)
+    → v ≡ offerVerdict m y l → z ≡ offered m y l → k ≡ left v 1 0 → Running m b x (i + 1) z (a + k)
 unfolding offersIn
 running-more {m} {b} {x} {y} {z} {i} {a} {k} {v} {l} r h e f g =
     let ls = offersIn m b i in
     let more : ls ++ (l ∷ []) ≡ offersIn m b (suc i) = ap (λ (l : LentLevel). ls ++ (l ∷ [])) h in
-    let said : k ≡ tally (offerVerdict m (offeredAll m x ls) l) = g ∙ (ap tally e ∙ ap (λ (y : Lent). tally (offerVerdict m y l)) (r .left-is)) in
+    let said : k ≡ tally (offerVerdict m (offeredAll m x ls) l) = g ∙ (tally-left v ∙ (ap tally e ∙ ap (λ (y : Lent). tally (offerVerdict m y l)) (r .left-is))) in
     rw (add-one i) record {
       left-is = f ∙ (ap (λ (y : Lent). offered m y l) (r .left-is) ∙ (sym (offered-more m x ls l) ∙ ap (offeredAll m x) more));
       accepted-is =

@@ -1,23 +1,12 @@
 // Offers that lie packed in slices, made one after the other.
 ghost use mathlib.Core.Path.{_≡_};
+ghost use Prim.Native.Nat.{_<_};
 ghost use Rattle.tables.specs.Storage.{tablesIn};
 ghost use Rattle.levels.specs.Storage.{cells, rows, lent};
-ghost use Rattle.runs.specs.Demand3.{tally};
 ghost use Rattle.blocks.specs.Blocks.{packed};
 ghost use Rattle.blocks.specs.Steps.{Packs};
 ghost use Rattle.series.specs.Series.{offersIn, offeredAll, acceptedOf};
 use tables::Counts;
-use tables::Verdict;
-
-// 1 of an acceptance, 0 of a refusal.
-fn counted_of(v: Verdict) -> usize
-    ensures { λ r. ⌜ r ≡ tally v ⌝ }
-{
-    match v {
-        Verdict::Fine => 1,
-        Verdict::Refused(_, _) => 0,
-    }
-}
 
 // Offers what lies in each block, in their order: how many were accepted.
 pub fn offer_all<'a, 'b>(
@@ -48,8 +37,8 @@ pub fn offer_all<'a, 'b>(
     newweights: &'b [u32],
     newvalues: &'b [i64],
 ) -> usize
-    requires { ⌜ Packs (c .states) (c .observations) count (packed v p (now vectors) (now points) (cells (now newactions) (now newchoices) (now newmasks)
-        (now newentries) (now newcorners) (now newweights) (now newvalues))) ⌝ }
+    requires { ⌜ (0 < count → Packs (c .states) (c .observations) count (packed v p (now vectors) (now points) (cells (now newactions) (now newchoices)
+        (now newmasks) (now newentries) (now newcorners) (now newweights) (now newvalues)))) ⌝ }
     ensures { λ r. ⌜ (let m = tablesIn c (now (transition .entry)) (now (observation .entry)) (now (reward .entry)) in
         let x = lent (now (state .entry)) (cells (now (actions .entry)) (now (choices .entry)) (now (masks .entry)) (now (entries .entry))
         (now (corners .entry)) (now (weights .entry)) (now (values .entry))) (rows (now (informed .entry)) (now (qmdp .entry))) in
@@ -102,7 +91,7 @@ pub fn offer_all<'a, 'b>(
             weight,
             value,
         );
-        accepted = accepted + counted_of(verdict);
+        accepted = accepted + blocks::passed(verdict, 1);
     }
     accepted
 }

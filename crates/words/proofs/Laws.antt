@@ -18,7 +18,7 @@ use Rattle.words.specs.declared.Class.the-variants.{Space, Colon, Hash, 
 use Rattle.words.specs.Class.{classOf}
 use Rattle.words.specs.Words.{Role, parts, alone, opens, belongs, roleOf, Words, word, end, wordRun, whereBelongs, Mode, between, inside, comment, step}
 use Rattle.words.specs.Words.{wordsOf, wordsIn}
-use Rattle.words.specs.Steps.{isSpace, isEnd, Run}
+use Rattle.words.specs.Steps.{isEnd, Run}
 
 -- ---- the class of a byte, by its tests
 test : (P : Class → Type 0) (t : Bool) (x y : Class) → (t ≡ true → P x) → P y → P (cond t x y)
@@ -57,17 +57,6 @@ no-end parts e = absurd (true≢false e)
 no-end alone e = absurd (true≢false e)
 no-end opens e = absurd (true≢false e)
 no-end belongs e = refl
-
-pub space-parts : (r : Role) → isSpace r ≡ true → r ≡ parts
-space-parts parts e = refl
-space-parts alone e = absurd (true≢false (sym e))
-space-parts opens e = absurd (true≢false (sym e))
-space-parts belongs e = absurd (true≢false (sym e))
-
-pub belongs-else : (b : ℕ) → isSpace (roleOf (classOf b)) ≡ false → (b ≡ 58 → ⊥) → (b ≡ 35 → ⊥) → roleOf (classOf b) ≡ belongs
-belongs-else b no-space no-colon no-hash =
-    by-role (λ r. isSpace r ≡ false → r ≡ belongs) b (λ _ e. absurd (true≢false e)) (λ e _. absurd (no-colon e)) (λ e _. absurd (no-hash e)) (λ _. refl)
-    no-space
 
 ends-run : (r : Role) (w : List ℕ) → isEnd r ≡ true → whereBelongs r w ≡ []
 ends-run parts w e = refl

@@ -8,14 +8,7 @@ use Rattle.words.specs.declared.Word.{Word}
 use Rattle.words.specs.declared.Word.the-variants.{At, End}
 use Rattle.words.specs.Words.{Role, parts, alone, opens, belongs, wordRun, wordsIn, between, inside, told}
 
--- a byte parts words
-abbrev pub isSpace : Role → Bool
-isSpace parts = true
-isSpace alone = false
-isSpace opens = false
-isSpace belongs = false
-
--- it belongs to no word that began before it
+-- a byte belongs to no word that began before it
 abbrev pub isEnd : Role → Bool
 isEnd parts = true
 isEnd alone = true

@@ -4,7 +4,7 @@ ghost use Prim.Native.Nat.{_≤_};
 ghost use lib.ListN.{length};
 ghost use Rattle.words.specs.Class.{classOf};
 ghost use Rattle.words.specs.Words.{roleOf, wordsIn, between, comment};
-ghost use Rattle.words.specs.Steps.{isSpace, isEnd, Run, Next};
+ghost use Rattle.words.specs.Steps.{isEnd, Run, Next};
 
 pub enum Class {
     Space,
@@ -35,28 +35,18 @@ pub fn class_of(b: u8) -> Class
     }
 }
 
-// Whether a byte parts words. Nearly all of the others lie above the spaces, so that is tested first.
-fn is_space(b: u8) -> bool
-    ensures { λ r. ⌜ r ≡ isSpace (roleOf (classOf b)) ⌝ }
-{
-    if b' ' < b {
-        return false;
-    }
-    let k = class_of(b);
-    match k {
-        Class::Space => true,
-        _ => false,
-    }
-}
-
-// Whether a byte belongs to no word that began before it.
+// Whether a byte belongs to no word that began before it. Of the bytes above the hash, of which most words are made, that is the colon alone.
 fn is_end(b: u8) -> bool
     ensures { λ r. ⌜ r ≡ isEnd (roleOf (classOf b)) ⌝ }
 {
     if b'#' < b {
         return b == b':';
     }
-    (b == b'#') | is_space(b)
+    let k = class_of(b);
+    match k {
+        Class::Space | Class::Colon | Class::Hash => true,
+        _ => false,
+    }
 }
 
 // Where the next word starts and stops, or that none is left.
@@ -101,15 +91,20 @@ pub fn word_at(s: &[u8], from: usize) -> Word
 {
     let mut at = from;
     while at < s.len() {
-        let b = s[at];
-        if is_space(b) {
-            at += 1;
-        } else if b == b'#' {
-            at = line_end(s, at + 1);
-        } else if b == b':' {
-            return Word::At(at, at + 1);
-        } else {
-            return Word::At(at, word_end(s, at + 1));
+        let k = class_of(s[at]);
+        match k {
+            Class::Space => {
+                at += 1;
+            }
+            Class::Hash => {
+                at = line_end(s, at + 1);
+            }
+            Class::Colon => {
+                return Word::At(at, at + 1);
+            }
+            _ => {
+                return Word::At(at, word_end(s, at + 1));
+            }
         }
     }
     Word::End

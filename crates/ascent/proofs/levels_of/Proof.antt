@@ -29,6 +29,9 @@ start c = c .before .before .before
 abbrev in-loop : tie.After-raised Inv-loop μ-loop → tie.In-loop Inv-loop μ-loop
 in-loop c = c .before .before
 
+abbrev printed : tie.After-print-totals Inv-loop μ-loop → tie.After-raised Inv-loop μ-loop
+printed c = c .before .before .before
+
 -- the tables open, and each level has room
 abbrev tables : tie.Start Inv-loop μ-loop → Tables
 tables s = tablesIn (s .args .c) (s .args .transition .now) (s .args .observation .now) (s .args .reward .now)
@@ -68,17 +71,17 @@ climbed c =
 
 print-totals-requires : tie.Need-print-totals-requires Inv-loop μ-loop
 print-totals-requires c κs =
-    let l = in-loop (c .before) in
-    ap (λ (b : Bounds). b .verdict) (c .asked .ensures) ∙ totals-given (climbed (c .before)) (l .before .loop .inv .points) (omega arith)
+    let a = c .before in
+    let l = in-loop (a .before) in
+    ap (λ (b : Bounds). b .verdict) (a .asked .ensures) ∙ totals-given (climbed (a .before)) (l .before .loop .inv .points) (omega arith)
 
 loop-again : tie.Need-loop-again Inv-loop μ-loop
 loop-again c =
-    let r = c .before .before .before in let l = in-loop r in
+    let r = printed (c .before) in let l = in-loop r in
     record { few = omega (arith, l .loop-test .taken); climbed = climbed r; points = l .before .loop .inv .points }
 
 pub levels-of-spec : {M : Type 1} → statement M
 levels-of-spec =
     tie.close (tie.spec Inv-loop μ-loop (λ c κs. search needs) (λ c κs. opens (start c)) loop-holds made-requires raised-requires (λ c κs. search needs)
-    (λ c. omega (arith, in-loop (c .before) .loop-test .taken)) print-totals-requires (λ c. search needs)
-    (λ c. omega (arith, in-loop (c .before .before .before) .loop-test .taken)) (λ c. omega (arith, in-loop (c .before .before .before) .loop-test .taken))
-    loop-again (λ c. search needs))
+    (λ c κs. search needs) print-totals-requires (λ c. search needs) (λ c. omega (arith, in-loop (printed (c .before)) .loop-test .taken))
+    (λ c. omega (arith, in-loop (printed (c .before)) .loop-test .taken)) loop-again (λ c. search needs))

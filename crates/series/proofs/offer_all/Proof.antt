@@ -96,7 +96,9 @@ turn-long c =
 -- the turn's block is there, and it is one of a count that fits
 in-block : (c : tie.In-loop Inv-loop μ-loop) → let s = start (c .before) in
     Packs (s .args .c .states) (s .args .c .observations) (c .before .loop .i + 1) (offers s)
-in-block c = packs-less (c .loop-test .taken) (start (c .before) .pre)
+in-block c =
+    let l = c .loop-test .taken in
+    packs-less l (start (c .before) .pre (omega (arith, l)))
 
 few-left : (c : tie.In-loop Inv-loop μ-loop) → (c .before .loop .i < start (c .before) .args .count) × (start (c .before) .args .count < 2 ^ 64)
 few-left c = (c .loop-test .taken, omega (arith, start (c .before) .fits .count))
@@ -149,7 +151,7 @@ add-accepted : tie.Need-add-accepted Inv-loop μ-loop
 add-accepted c =
     let o = of-turn (c .before) in
     let t = of-rows (of-offer o) in
-    omega (arith, t .before .loop .inv .1 .1 .few, few-left t, c .counted-of .ensures, counted-few (o .offer .result))
+    omega (arith, t .before .loop .inv .1 .1 .few, few-left t, c .passed .ensures, counted-few (o .offer .result))
 
 loop-again : tie.Need-loop-again Inv-loop μ-loop
 loop-again c =
@@ -160,7 +162,7 @@ loop-again c =
       (
         longer (i .0) (turn-long o),
         running-more {z = turned o} {l = level (of-offer o)} (i .1) (level-is (of-offer o)) (said o) (stands o)
-            (c .counted-of .ensures),
+            (c .passed .ensures),
       ),
     )
 

@@ -1,12 +1,13 @@
 use Rattle.words.proofs.Prelude.{ℕ, _≤_, _<_, _-_, _≡_, refl, sym, _∙_, arith, needs, length, roleOf, between, wordsIn, at-end}
 use mathlib.Core.Path.{ap}
-use mathlib.Core.List.{List}
-use lib.ListN.{getD}
+use mathlib.Core.List.{List, [], _∷_}
 use Rattle.words.specs.declared.Word.{Word}
 use Rattle.words.specs.declared.Word.the-variants.{At, End}
-use Rattle.words.specs.Class.{classOf}
+use Rattle.words.specs.declared.Class.{Class}
+use Rattle.words.specs.Words.{belongs}
 use Rattle.words.specs.Steps.{WordInside, Worded, Next}
-use Rattle.words.proofs.Laws.{roleIn, space-parts, belongs-else, step-by, colon-word, plain-word}
+use Rattle.words.proofs.Keys.{by-keys}
+use Rattle.words.proofs.Laws.{roleIn, step-by, colon-word, plain-word}
 use Rattle.words.proofs.word_at.Statement.{statement}
 use Rattle.words.proofs.word_at.Tie as tie
 
@@ -22,9 +23,9 @@ Inv-loop s from at₀ at = Skipped s from at
 abbrev μ-loop : tie.MeasureT-loop
 μ-loop s from at₀ at = length s - at
 
--- places of the code, each from a later one
-abbrev at-loop : tie.Else1 Inv-loop μ-loop → tie.At-loop Inv-loop μ-loop
-at-loop c = c .before .before .before .before
+-- the place of the loop, from the class of its byte
+abbrev at-loop : tie.After-class-of Inv-loop μ-loop → tie.At-loop Inv-loop μ-loop
+at-loop c = c .before .before .before
 
 -- a byte or more further, with the same words
 further : {s : List ℕ} {from at to : ℕ} → Skipped s from at → at ≤ to → to ≤ length s → wordsIn between s at ≡ wordsIn between s to → Skipped s from to
@@ -42,32 +43,40 @@ found {s} {from} {at} {w = x} k h w = record {
   past = λ l. absurd (omega (arith, k .up));
 }
 
-returns : tie.Need-returns Inv-loop μ-loop
-returns c =
-    let s = at-loop (c .before .before) .before .before .args .s .now in
-    let l = at-loop (c .before .before) .loop in let e = ap (λ (b : ℕ). roleOf (classOf b)) (c .if3 .taken) in
-    found (l .inv) (omega arith) (record { is = colon-word s (l .at) (omega arith) e; lies = (omega arith, (omega arith, omega arith)) })
+-- what the byte does, by its class
+role : (c : tie.After-class-of Inv-loop μ-loop) {k : Class} → c .class-of .result ≡ k → let l = at-loop c in
+    roleIn (l .before .before .args .s .now) (l .loop .at) ≡ roleOf k
+role c e = ap roleOf (sym (c .class-of .ensures) ∙ e)
 
 loop-again : tie.Need-loop-again Inv-loop μ-loop
 loop-again c =
-    let lo = c .before .before .before .before in let s = lo .before .before .args .s .now in let l = lo .loop in
-    let e = space-parts (roleIn s (l .at)) (sym (c .before .is-space .ensures) ∙ c .if1 .taken) in
-    further (l .inv) (omega arith) (omega arith) (step-by s (l .at) (omega arith) between e)
+    let k = c .before .before in
+    let l = at-loop k .loop in
+    further (l .inv) (omega arith) (omega arith) (step-by _ (l .at) (omega arith) between (role k (c .enum-told .given .1)))
 
 loop-again-2 : tie.Need-loop-again-2 Inv-loop μ-loop
 loop-again-2 c =
-    let s = at-loop (c .before .before) .before .before .args .s .now in
-    let l = at-loop (c .before .before) .loop in
-    let e = ap (λ (b : ℕ). roleOf (classOf b)) (c .before .if2 .taken) in let line = c .line-end .ensures in
-    further (l .inv) (omega arith) (line .1 .0) (step-by s (l .at) (omega arith) between e ∙ line .1 .1)
+    let k = c .before .before .before in
+    let l = at-loop k .loop in
+    let line = c .line-end .ensures in
+    further (l .inv) (omega arith) (line .1 .0) (step-by _ (l .at) (omega arith) between (role k (c .before .enum-told2 .given .1)) ∙ line .1 .1)
+
+returns : tie.Need-returns Inv-loop μ-loop
+returns c =
+    let k = c .before .before in
+    let l = at-loop k .loop in
+    found (l .inv) (omega arith) (record {
+      is = colon-word _ (l .at) (omega arith) (role k (c .enum-told3 .given .1));
+      lies = (omega arith, (omega arith, omega arith));
+    })
 
 returns-2 : tie.Need-returns-2 Inv-loop μ-loop
 returns-2 c =
-    let p = c .before .before .before in let s = at-loop p .before .before .args .s .now in
-    let l = at-loop p .loop in let w = c .word-end .ensures in
-    let no-space = sym (p .before .is-space .ensures) ∙ p .if1 .left in
-    let e = belongs-else (getD s (l .at) 0) no-space (c .before .if3 .left) (c .before .before .if2 .left) in
-    found (l .inv) (omega arith) (record { is = plain-word s (l .at) (omega arith) e w; lies = (omega arith, (omega (arith, w .up), w .low)) })
+    let k = c .before .before in
+    let l = at-loop k .loop in
+    let w = c .word-end .ensures in
+    let e = by-keys (λ (k : Class). roleOf k ≡ belongs) (3 ∷ 4 ∷ 5 ∷ 6 ∷ 7 ∷ []) (k .class-of .ensures) (search needs) (c .before .match .keys4) in
+    found (l .inv) (omega arith) (record { is = plain-word _ (l .at) (omega arith) e w; lies = (omega arith, (omega (arith, w .up), w .low)) })
 
 returns-3 : tie.Need-returns-3 Inv-loop μ-loop
 returns-3 c =
@@ -81,5 +90,5 @@ returns-3 c =
 pub word-at-spec : {M : Type 1} → statement M
 word-at-spec =
     tie.close (tie.spec Inv-loop μ-loop (λ c. record { up = omega arith; low = λ h. h; same = λ h. refl }) (λ c. omega arith) (λ c κs. search needs)
-    (λ c. omega arith) (λ c. omega arith) loop-again (λ c. omega arith) (λ c κs. omega arith)
-    (λ c. omega arith) loop-again-2 (λ c. omega arith) returns (λ c. omega arith) (λ c κs. omega arith) returns-2 returns-3)
+    (λ c. search needs) (λ c. omega arith) (λ c. omega arith) loop-again (λ c. search needs) (λ c. omega arith) (λ c κs. omega arith) (λ c. omega arith)
+    loop-again-2 (λ c. search needs) (λ c. omega arith) returns (λ c. omega arith) (λ c κs. omega arith) returns-2 returns-3)

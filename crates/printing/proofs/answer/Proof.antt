@@ -4,9 +4,9 @@ use Rattle.tables.proofs.Fitting.{Long}
 use Rattle.bodies.specs.Body.{ModelFile}
 use Rattle.modelfile.specs.ModelFile.{room}
 use Rattle.bodies.specs.Steps.{fileIn}
-use Rattle.ladder.proofs.File.{read-given}
-use Rattle.ladder.proofs.answer.Statement.{statement}
-use Rattle.ladder.proofs.answer.Tie as tie
+use Rattle.printing.proofs.File.{read-given}
+use Rattle.printing.proofs.answer.Statement.{statement}
+use Rattle.printing.proofs.answer.Tie as tie
 
 -- places of the code, each from a later one
 abbrev start : tie.After-read → tie.Start

@@ -1,2 +1,0 @@
--- What the program's functions lean on.
-pub mod File

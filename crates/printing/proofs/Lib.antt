@@ -1,0 +1,2 @@
+-- What the function's proof leans on.
+pub mod File
