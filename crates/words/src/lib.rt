@@ -91,11 +91,12 @@ pub fn word_at(s: &[u8], from: usize) -> Word
 {
     let mut at = from;
     while at < s.len() {
-        let k = class_of(s[at]);
+        let b = s[at];
+        if !is_end(b) {
+            return Word::At(at, word_end(s, at + 1));
+        }
+        let k = class_of(b);
         match k {
-            Class::Space => {
-                at += 1;
-            }
             Class::Hash => {
                 at = line_end(s, at + 1);
             }
@@ -103,7 +104,7 @@ pub fn word_at(s: &[u8], from: usize) -> Word
                 return Word::At(at, at + 1);
             }
             _ => {
-                return Word::At(at, word_end(s, at + 1));
+                at += 1;
             }
         }
     }
