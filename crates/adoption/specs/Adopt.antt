@@ -10,7 +10,6 @@ use lib.Dec.{leb, ltb}
 use lib.ListN.{length}
 use Rattle.tables.specs.Tables.{Tables}
 use Rattle.tables.specs.declared.Verdict.{Verdict}
-use Rattle.tables.specs.declared.Verdict.the-variants.{Fine, Refused}
 use Rattle.tables.specs.Limits.{maxVectors, maxLevels}
 use Rattle.tables.specs.Model.{Model}
 use Rattle.tables.specs.Storage.{modelOf}
@@ -62,5 +61,4 @@ adopted m x alphaFile graphFile count y =
 
 -- what the call answers: the number of vectors is 0 with a refusal
 abbrev pub adoptAnswer : Verdict → ℕ → Adopted
-adoptAnswer Fine vectors = record { verdict = Fine; vectors = vectors }
-adoptAnswer (Refused number place) vectors = record { verdict = Refused number place; vectors = 0 }
+adoptAnswer v vectors = record { verdict = v; vectors = left v vectors 0 }

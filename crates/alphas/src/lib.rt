@@ -9,6 +9,7 @@ ghost use Rattle.alphas.specs.Alphas.{decimal, nextNode, noNode, several
 ghost use Rattle.alphas.specs.Steps.{GivesList, handedVerdict, Gave, alphaOf, nodeOf};
 use grammar::Read;
 use numerals::Form;
+use tables::ByState;
 use tables::Tables;
 use tables::Verdict;
 
@@ -17,10 +18,8 @@ pub struct AlphaAt {
     pub verdict: Verdict,
     pub end: usize,
     pub action: u64,
-    pub ticks: Ticks,
+    pub ticks: ByState,
 }
-
-pub type Ticks = [i64; Tables::STATES];
 
 // A node likewise.
 pub struct NodeAt {
@@ -51,7 +50,7 @@ impl NodeAt {
 // The cells that were read, and where reading goes on or what is refused.
 struct TicksAt {
     read: Read,
-    ticks: Ticks,
+    ticks: ByState,
 }
 
 struct NextAt {

@@ -3,6 +3,7 @@ use Prim.Native.Nat.{ℕ}
 use mathlib.Core.List.{List}
 use lib.IntN.{ℤ}
 use Rattle.tables.specs.Tables.{Tables}
+use Rattle.tables.specs.Storage.{tablesIn}
 use Rattle.tables.specs.declared.Verdict.{Verdict}
 use Rattle.tables.specs.declared.Verdict.the-variants.{Fine, Refused}
 use Rattle.answers.specs.declared.Refusal.{Refusal}
@@ -13,15 +14,7 @@ layoutVersion = 6
 
 -- tables that are handed in: states, actions, observations, discount, T, O, R
 abbrev pub tablesBy : ℕ → ℕ → ℕ → ℕ → List ℕ → List ℕ → List ℤ → Tables
-tablesBy n m k g transition observation reward = record {
-  states = n;
-  actions = m;
-  observations = k;
-  discount = g;
-  transition = transition;
-  observation = observation;
-  reward = reward;
-}
+tablesBy n m k g = tablesIn record { states = n; actions = m; observations = k; discount = g }
 
 -- a verdict as number and place, both 0 where nothing is refused
 abbrev pub refusalOf : Verdict → Refusal

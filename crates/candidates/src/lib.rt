@@ -16,9 +16,9 @@ ghost use Rattle.plans.specs.Level.{product};
 ghost use Rattle.backups.specs.Steps.{Light};
 ghost use Rattle.candidates.specs.Steps.{wholeIn, candidateIn, bestOf, uponIn, Upon};
 use tables::Action;
+use tables::ByState;
 use tables::Chosen;
 use tables::Counts;
-use tables::Foreseen;
 use tables::Observation;
 use tables::Tables;
 use tables::Vector;
@@ -27,7 +27,7 @@ use tables::read;
 // One action's vector at some weights.
 pub struct Candidate {
     pub chosen: Chosen,
-    pub entries: Foreseen,
+    pub entries: ByState,
 }
 
 // The first action whose vector has the largest product, with its vector.

@@ -6,7 +6,6 @@ use lib.Dec.{leb}
 use lib.ListN.{length, replicate}
 use lib.IntN.{ℤ, pos}
 use Rattle.tables.specs.declared.Verdict.{Verdict}
-use Rattle.tables.specs.declared.Verdict.the-variants.{Fine, Refused}
 use Rattle.tables.specs.Limits.{maxConverted, maxActions}
 use Rattle.tables.specs.Storage.{countsOf}
 use Rattle.tables.specs.Verdicts.{_before_, unless, left}
@@ -57,8 +56,7 @@ converted file = expectedText (said file)
 
 -- what the call answers: the bytes written are none with a refusal
 abbrev pub convertAnswer : Verdict → ℕ → Converted
-convertAnswer Fine size = record { verdict = Fine; length = size }
-convertAnswer (Refused number place) size = record { verdict = Refused number place; length = 0 }
+convertAnswer v size = record { verdict = v; length = left v size 0 }
 
 -- the output as the call leaves it: what lies past the bytes written stays
 abbrev pub convertedOver : List ℕ → List ℕ → List ℕ

@@ -8,7 +8,7 @@ ghost use Rattle.tables.specs.Limits.{maxStates, maxActions, one, maxWeight};
 ghost use Rattle.sums.specs.Steps.{movedIn, backupIn, RewardsFit, foreseenLimit};
 ghost use Rattle.engines.specs.Steps.{EngineFits};
 use tables::Action;
-use tables::Foreseen;
+use tables::ByState;
 use tables::Weights;
 
 // The sum over s of p(s) × T(s,a,s'), at each state s' reached.
@@ -33,7 +33,7 @@ pub fn backups<'a>(
     n: usize,
     g: u64,
     a: Action,
-) -> Foreseen
+) -> ByState
     requires { ⌜ (n ≤ maxStates) × ((a .0 < maxActions) × (g ≤ one)) ⌝ }
     requires { ⌜ EngineFits n (now transition) (now list) (a .0) ⌝ }
     requires { ⌜ RewardsFit n (now reward) (a .0) ⌝ }

@@ -54,15 +54,10 @@ pub extern "C" fn biidhaqun_offer<'a, 'b>(
         (now (corners .entry)) (now (weights .entry)) (now (values .entry))) (rows (now (informed .entry)) (now (qmdp .entry))) in
         let l = lentFor vectors points (cells (now (newactions .entry)) (now (newchoices .entry)) (now (newmasks .entry)) (now (newentries .entry))
         (now (newcorners .entry)) (now (newweights .entry)) (now (newvalues .entry))) in
-        r ≡ refusalOf (handedList tables (now (list .entry)) before offerVerdict tables x l)) ⌝ }
-    ensures { λ _. ⌜ (let tables = tablesBy n m k g (now (transition .entry)) (now (observation .entry)) (now (reward .entry)) in
-        let x = lent (now (state .entry)) (cells (now (actions .entry)) (now (choices .entry)) (now (masks .entry)) (now (entries .entry))
-        (now (corners .entry)) (now (weights .entry)) (now (values .entry))) (rows (now (informed .entry)) (now (qmdp .entry))) in
-        let l = lentFor vectors points (cells (now (newactions .entry)) (now (newchoices .entry)) (now (newmasks .entry)) (now (newentries .entry))
-        (now (newcorners .entry)) (now (newweights .entry)) (now (newvalues .entry))) in
-        lent (now (state .exit)) (cells (now (actions .exit)) (now (choices .exit)) (now (masks .exit)) (now (entries .exit)) (now (corners .exit))
-        (now (weights .exit)) (now (values .exit))) (rows (now (informed .exit)) (now (qmdp .exit)))
-        ≡ left (handedList tables (now (list .entry))) (offered tables x l) x) ⌝ }
+        let y = lent (now (state .exit)) (cells (now (actions .exit)) (now (choices .exit)) (now (masks .exit)) (now (entries .exit)) (now (corners .exit))
+        (now (weights .exit)) (now (values .exit))) (rows (now (informed .exit)) (now (qmdp .exit))) in
+        (r ≡ refusalOf (handedList tables (now (list .entry)) before offerVerdict tables x l))
+        × (y ≡ left (handedList tables (now (list .entry))) (offered tables x l) x)) ⌝ }
 {
     let c = Counts {
         states: n,

@@ -36,15 +36,12 @@ pub extern "C" fn biidhaqun_read(
     start: &mut [u16],
 ) -> Reading
     ensures { λ r. ⌜ (let x = fileFor (now (file .entry)) (now (transition .entry)) (now (observation .entry)) (now (reward .entry)) in
-        r ≡ readingBy (readOf (readVerdict x (now (start .entry))) x)) ⌝ }
-    ensures { λ _. ⌜ (let x = fileFor (now (file .entry)) (now (transition .entry)) (now (observation .entry)) (now (reward .entry)) in
-        now (transition .exit) ≡ left (readVerdict x (now (start .entry))) (laidTransitions x (now (transition .entry))) (now (transition .entry))) ⌝ }
-    ensures { λ _. ⌜ (let x = fileFor (now (file .entry)) (now (transition .entry)) (now (observation .entry)) (now (reward .entry)) in
-        now (observation .exit) ≡ left (readVerdict x (now (start .entry))) (laidObservations x (now (observation .entry))) (now (observation .entry))) ⌝ }
-    ensures { λ _. ⌜ (let x = fileFor (now (file .entry)) (now (transition .entry)) (now (observation .entry)) (now (reward .entry)) in
-        now (reward .exit) ≡ left (readVerdict x (now (start .entry))) (laidRewards x (now (reward .entry))) (now (reward .entry))) ⌝ }
-    ensures { λ _. ⌜ (let x = fileFor (now (file .entry)) (now (transition .entry)) (now (observation .entry)) (now (reward .entry)) in
-        now (start .exit) ≡ left (readVerdict x (now (start .entry))) (laidStart x (now (start .entry))) (now (start .entry))) ⌝ }
+        let v = readVerdict x (now (start .entry)) in
+        (r ≡ readingBy (readOf v x))
+        × ((now (transition .exit) ≡ left v (laidTransitions x (now (transition .entry))) (now (transition .entry)))
+        × ((now (observation .exit) ≡ left v (laidObservations x (now (observation .entry))) (now (observation .entry)))
+        × ((now (reward .exit) ≡ left v (laidRewards x (now (reward .entry))) (now (reward .entry)))
+        × (now (start .exit) ≡ left v (laidStart x (now (start .entry))) (now (start .entry))))))) ⌝ }
 {
     let read = reading::read(file, transition, observation, reward, start);
     let verdict = read.verdict;

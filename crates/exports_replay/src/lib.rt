@@ -58,25 +58,14 @@ pub extern "C" fn biidhaqun_replay<'a, 'b>(
         (now (corners .entry)) (now (weights .entry)) (now (values .entry))) (rows (now (informed .entry)) (now (qmdp .entry))) in
         let b = packed v p (now (vectors .entry)) (now (points .entry)) (cells (now (newactions .entry)) (now (newchoices .entry)) (now (newmasks .entry))
         (now (newentries .entry)) (now (newcorners .entry)) (now (newweights .entry)) (now (newvalues .entry))) in
-        r ≡ replayBy (replayAnswer tables x b count)) ⌝ }
-    ensures { λ _. ⌜ (let tables = tablesBy n m k g (now (transition .entry)) (now (observation .entry)) (now (reward .entry)) in
-        let x = lent (now (state .entry)) (cells (now (actions .entry)) (now (choices .entry)) (now (masks .entry)) (now (entries .entry))
-        (now (corners .entry)) (now (weights .entry)) (now (values .entry))) (rows (now (informed .entry)) (now (qmdp .entry))) in
-        let b = packed v p (now (vectors .entry)) (now (points .entry)) (cells (now (newactions .entry)) (now (newchoices .entry)) (now (newmasks .entry))
-        (now (newentries .entry)) (now (newcorners .entry)) (now (newweights .entry)) (now (newvalues .entry))) in
-        lent (now (state .exit)) (cells (now (actions .exit)) (now (choices .exit)) (now (masks .exit)) (now (entries .exit)) (now (corners .exit))
-        (now (weights .exit)) (now (values .exit))) (rows (now (informed .exit)) (now (qmdp .exit)))
-        ≡ replayed tables x b count) ⌝ }
-    ensures { λ r. ⌜ (let tables = tablesBy n m k g (now (transition .entry)) (now (observation .entry)) (now (reward .entry)) in
-        let x = lent (now (state .entry)) (cells (now (actions .entry)) (now (choices .entry)) (now (masks .entry)) (now (entries .entry))
-        (now (corners .entry)) (now (weights .entry)) (now (values .entry))) (rows (now (informed .entry)) (now (qmdp .entry))) in
-        let b = packed v p (now (vectors .entry)) (now (points .entry)) (cells (now (newactions .entry)) (now (newchoices .entry)) (now (newmasks .entry))
-        (now (newentries .entry)) (now (newcorners .entry)) (now (newweights .entry)) (now (newvalues .entry))) in
-        (m₀ : Tables) (x₀ : Lent) (es : List Event) → ModelAccepted m₀ x₀ → certifier tables x ≡ after m₀ x₀ es → replayVerdict tables x b count ≡ Fine
-        → ReplayHolds m₀ x₀ es (offersIn tables b count) tables
-        (lent (now (state .exit)) (cells (now (actions .exit)) (now (choices .exit)) (now (masks .exit)) (now (entries .exit)) (now (corners .exit))
-        (now (weights .exit)) (now (values .exit))) (rows (now (informed .exit)) (now (qmdp .exit))))
-        (r .accepted)) ⌝ }
+        let y = lent (now (state .exit)) (cells (now (actions .exit)) (now (choices .exit)) (now (masks .exit)) (now (entries .exit)) (now (corners .exit))
+        (now (weights .exit)) (now (values .exit))) (rows (now (informed .exit)) (now (qmdp .exit))) in
+        (r ≡ replayBy (replayAnswer tables x b count))
+        × ((y ≡ replayed tables x b count)
+        × ((m₀ : Tables) (x₀ : Lent) (es : List Event) → ModelAccepted m₀ x₀ → certifier tables x ≡ after m₀ x₀ es → replayVerdict tables x b count ≡ Fine →
+        ReplayHolds m₀ x₀ es (offersIn tables b count) tables (lent (now (state .exit)) (cells (now (actions .exit)) (now (choices .exit)) (now (masks .exit))
+        (now (entries .exit)) (now (corners .exit)) (now (weights .exit)) (now (values .exit))) (rows (now (informed .exit)) (now (qmdp .exit)))) (r
+        .accepted)))) ⌝ }
 {
     let c = Counts {
         states: n,

@@ -34,13 +34,10 @@ pub extern "C" fn biidhaqun_open<'a>(
     ensures { λ r. ⌜ (let tables = tablesBy n m k g (now (transition .entry)) (now (observation .entry)) (now (reward .entry)) in
         let x = lent (now (state .entry)) (cells (now (actions .entry)) (now (choices .entry)) (now (masks .entry)) (now (entries .entry))
         (now (corners .entry)) (now (weights .entry)) (now (values .entry))) (rows (now (informed .entry)) (now (qmdp .entry))) in
-        r ≡ refusalOf (openVerdict tables x)) ⌝ }
-    ensures { λ _. ⌜ (let tables = tablesBy n m k g (now (transition .entry)) (now (observation .entry)) (now (reward .entry)) in
-        let x = lent (now (state .entry)) (cells (now (actions .entry)) (now (choices .entry)) (now (masks .entry)) (now (entries .entry))
-        (now (corners .entry)) (now (weights .entry)) (now (values .entry))) (rows (now (informed .entry)) (now (qmdp .entry))) in
-        lent (now (state .exit)) (cells (now (actions .exit)) (now (choices .exit)) (now (masks .exit)) (now (entries .exit)) (now (corners .exit))
-        (now (weights .entry)) (now (values .entry))) (rows (now (informed .exit)) (now (qmdp .exit)))
-        ≡ opened tables x) ⌝ }
+        let y = lent (now (state .exit)) (cells (now (actions .exit)) (now (choices .exit)) (now (masks .exit)) (now (entries .exit)) (now (corners .exit))
+        (now (weights .entry)) (now (values .entry))) (rows (now (informed .exit)) (now (qmdp .exit))) in
+        (r ≡ refusalOf (openVerdict tables x))
+        × (y ≡ opened tables x)) ⌝ }
 {
     let c = Counts {
         states: n,

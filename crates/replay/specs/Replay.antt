@@ -8,7 +8,6 @@ use Prim.Native.Nat.{ℕ, _+_}
 use mathlib.Core.List.{List, _++_}
 use Rattle.tables.specs.Tables.{Tables}
 use Rattle.tables.specs.declared.Verdict.{Verdict}
-use Rattle.tables.specs.declared.Verdict.the-variants.{Fine, Refused}
 use Rattle.tables.specs.Verdicts.{left}
 use Rattle.levels.specs.Storage.{LentLevel, Lent}
 use Rattle.runs.specs.Demand3.{Event, offers, certifier, after, steps, Demand3}
@@ -18,8 +17,7 @@ use Rattle.replay.specs.declared.Replayed.{Replayed}
 
 -- how many were accepted; 0 with a refusal
 abbrev pub replayedBy : Verdict → ℕ → Replayed
-replayedBy Fine accepted = record { verdict = Fine; accepted = accepted }
-replayedBy (Refused number place) accepted = record { verdict = Refused number place; accepted = 0 }
+replayedBy v accepted = record { verdict = v; accepted = left v accepted 0 }
 
 unfoldable pub replayAnswer : Tables → Lent → Packed → ℕ → Replayed
 replayAnswer m x b count = replayedBy (replayVerdict m x b count) (acceptedOf m x (offersIn m b count))

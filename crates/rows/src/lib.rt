@@ -13,8 +13,8 @@ ghost use Rattle.sums.specs.Steps.{TransitionsFit, ObservationsFit};
 ghost use Rattle.plans.specs.Rows.{highest, informedNext, qmdpNext};
 ghost use Rattle.rows.specs.Steps.{bestRowIn, topIn, Ready, Seen};
 use tables::Action;
+use tables::ByState;
 use tables::Counts;
-use tables::Foreseen;
 use tables::Observation;
 use tables::State;
 use tables::Tables;
@@ -129,7 +129,7 @@ fn highest_at(rows: &[i64], n: usize, m: usize, s: State) -> i64
 }
 
 // 1,000 times it, at each state.
-fn tops(rows: &[i64], n: usize, m: usize) -> Foreseen
+fn tops(rows: &[i64], n: usize, m: usize) -> ByState
     requires { ⌜ (n ≤ maxStates) × ((0 < m) × (m ≤ maxActions)) ⌝ }
     requires { ⌜ EntriesFit n m (now rows) ⌝ }
     ensures { λ r. ⌜ r ≡ padded (pos 0) maxStates n (topIn n m (now (rows .entry))) ⌝ }

@@ -47,6 +47,7 @@ opened m x = left (openVerdict m x) (at m 0 level0 rows0 rows0 x) x
 
 -- ---- offering
 
+-- the verdict by which an offer counts, and leaves its level
 abbrev pub verdictOn : Tables → Lent → LentLevel → Verdict
 verdictOn m x l = offerVerdict m x l
 

@@ -16,12 +16,11 @@ ghost use Rattle.candidates.specs.Steps.{uponIn, Upon};
 ghost use Rattle.builder.specs.Steps.{RowsFit, Filled};
 ghost use Rattle.stated.specs.Steps.{ReadTo};
 ghost use Rattle.solved.specs.Steps.{vectorsOver, Solving, Gives};
-use alphas::Ticks;
 use levels::shape;
 use tables::Action;
+use tables::ByState;
 use tables::Chosen;
 use tables::Counts;
-use tables::Foreseen;
 use tables::Tables;
 use tables::Vector;
 use tables::Verdict;
@@ -33,13 +32,13 @@ pub struct Row {
     pub graph: usize,
     pub action: Action,
     pub chosen: Chosen,
-    pub entries: Foreseen,
+    pub entries: ByState,
 }
 
 // ---- one vector
 
 // The smaller of two entries at each state.
-fn lesser_each(ticks: Ticks, backed: Foreseen, n: usize) -> Foreseen
+fn lesser_each(ticks: ByState, backed: ByState, n: usize) -> ByState
     requires { ⌜ n ≤ maxStates ⌝ }
     ensures { λ r. ⌜ r ≡ padded (pos 0) maxStates n (λ s. lesser (getD ticks s (pos 0)) (getD backed s (pos 0))) ⌝ }
 {
@@ -59,10 +58,10 @@ fn entries_of<'a>(
     entries: &[i64],
     c: Counts,
     standing: usize,
-    ticks: Ticks,
+    ticks: ByState,
     chosen: &[u16],
     a: Action,
-) -> Foreseen
+) -> ByState
     requires { ⌜ Upon c (now transition) (now observation) (now reward) (now masks) (now entries) standing ⌝ }
     requires { ⌜ (a .0 < c .actions) × (length (now chosen) ≡ maxObservations) ⌝ }
     requires { ⌜ ((o : ℕ) → o < c .observations → getD (now chosen) o 0 < standing) ⌝ }

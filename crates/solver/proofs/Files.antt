@@ -1,6 +1,6 @@
 -- The two files: refused in order, and read once more, vector by vector. Assumes nothing.
 --
---   counted-verdict, count-of   what a verdict with a count has
+--   count-of                    the count of a verdict that is fine
 --   both-start, both-on         where both files stand at the first vector, and at the next
 --   files-read                  files that are not refused stand at their first vector, and have the same actions
 --   first-refuses, second-refuses, unlike-counts, unlike-actions, all-alike   how they are judged
@@ -26,10 +26,6 @@ use Rattle.solver.specs.Steps.{BothAt}
 use Rattle.solver.proofs.All.{stands-read, Onward, standing-on}
 
 -- ---- how one file is judged: a verdict with a count
-
-pub counted-verdict : (v : Verdict) (vectors : ℕ) → withCount v vectors .verdict ≡ v
-counted-verdict Fine vectors = refl
-counted-verdict (Refused number place) vectors = refl
 
 pub count-of : {j : Judged} {v : Verdict} {vectors : ℕ} → j ≡ withCount v vectors → v ≡ Fine → j .vectors ≡ vectors
 count-of {vectors = vectors} e fine = ap (λ (j : Judged). j .vectors) e ∙ ap (λ (v : Verdict). withCount v vectors .vectors) fine
@@ -117,7 +113,7 @@ module _ (n k : ℕ) (alphaFile graphFile : List ℕ) where
 
   module _ {x : Judged} (ex : x ≡ withCount (wordsVerdict (alphas n alphaFile)) (vectorsIn n alphaFile)) where
     first-is : x .verdict ≡ wordsVerdict (alphas n alphaFile)
-    first-is = ap (λ (j : Judged). j .verdict) ex ∙ counted-verdict (wordsVerdict (alphas n alphaFile)) (vectorsIn n alphaFile)
+    first-is = ap (λ (j : Judged). j .verdict) ex
 
     pub first-refuses : tagOf verdict-type.the-type (x .verdict) ≡ 1 → record { verdict = x .verdict; vectors = 0 } ≡ filesJudged n k alphaFile graphFile
     unfolding filesVerdict
@@ -127,7 +123,7 @@ module _ (n k : ℕ) (alphaFile graphFile : List ℕ) where
 
     module _ (fx : x .verdict ≡ Fine) {y : Judged} (ey : y ≡ withCount (wordsVerdict (nodes k graphFile)) (length (readList (nodes k graphFile)))) where
       second-is : y .verdict ≡ wordsVerdict (nodes k graphFile)
-      second-is = ap (λ (j : Judged). j .verdict) ey ∙ counted-verdict (wordsVerdict (nodes k graphFile)) (length (readList (nodes k graphFile)))
+      second-is = ap (λ (j : Judged). j .verdict) ey
 
       after-first : (same : Bool) → withCount (y .verdict before unless same 20 0) (vectorsIn n alphaFile)
           ≡ judgedBy (wordsVerdict (alphas n alphaFile)) (wordsVerdict (nodes k graphFile)) same

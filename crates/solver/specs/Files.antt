@@ -8,8 +8,7 @@ use lib.ListN.{length, getD}
 use lib.IntN.{ℤ, pos}
 use Rattle.integers.specs.Search.{every}
 use Rattle.tables.specs.declared.Verdict.{Verdict}
-use Rattle.tables.specs.declared.Verdict.the-variants.{Fine, Refused}
-use Rattle.tables.specs.Verdicts.{_before_, unless}
+use Rattle.tables.specs.Verdicts.{_before_, unless, left}
 use Rattle.words.specs.Words.{Words, wordsIn, between}
 use Rattle.grammar.specs.Grammar.{Answer, got, refused, _then_, unlessEnd}
 use Rattle.alphas.specs.Alphas.{Alpha, PolicyNode, alpha, node, wordsVerdict}
@@ -74,8 +73,7 @@ filesVerdict n k alphaFile graphFile =
 
 -- the number of vectors; 0 with a refusal
 abbrev pub withCount : Verdict → ℕ → Judged
-withCount Fine vectors = record { verdict = Fine; vectors = vectors }
-withCount (Refused number place) vectors = record { verdict = Refused number place; vectors = 0 }
+withCount v vectors = record { verdict = v; vectors = left v vectors 0 }
 
 abbrev pub filesJudged : ℕ → ℕ → List ℕ → List ℕ → Judged
 filesJudged n k alphaFile graphFile = withCount (filesVerdict n k alphaFile graphFile) (vectorsIn n alphaFile)

@@ -17,7 +17,7 @@ ghost use Rattle.sums.specs.Steps.{RewardsFit, foreseenLimit};
 ghost use Rattle.sparse.specs.Steps.{movedSaid, onwardSaid, backupSaid};
 use columns::List;
 use tables::Action;
-use tables::Foreseen;
+use tables::ByState;
 use tables::State;
 use tables::Tables;
 use tables::Weights;
@@ -135,7 +135,7 @@ fn add_column(list: &[u32], n: usize, a: Action, to: State, x: i64, sums: &mut [
 }
 
 // The sum over s' of T(s,a,s') × what is foreseen at s', at each state s.
-fn onward(list: &[u32], n: usize, f: &[i64], a: Action) -> Foreseen
+fn onward(list: &[u32], n: usize, f: &[i64], a: Action) -> ByState
     requires { ⌜ (n ≤ maxStates) × (a .0 < maxActions) ⌝ }
     requires { ⌜ ColumnsFit n (now list) (a .0) ⌝ }
     requires { ⌜ Within foreseenLimit n (now f) ⌝ }
@@ -149,7 +149,7 @@ fn onward(list: &[u32], n: usize, f: &[i64], a: Action) -> Foreseen
 }
 
 // The vector backup at each state.
-pub fn backups(list: &[u32], reward: &[i64], f: &[i64], n: usize, g: u64, a: Action) -> Foreseen
+pub fn backups(list: &[u32], reward: &[i64], f: &[i64], n: usize, g: u64, a: Action) -> ByState
     requires { ⌜ (n ≤ maxStates) × ((a .0 < maxActions) × (g ≤ one)) ⌝ }
     requires { ⌜ ColumnsFit n (now list) (a .0) ⌝ }
     requires { ⌜ RewardsFit n (now reward) (a .0) ⌝ }

@@ -12,8 +12,8 @@ ghost use Rattle.stated.specs.Stated.{chosenOver};
 ghost use Rattle.stated.specs.Steps.{choicesAt, ReadTo, Files, SaysVector, Choosing, masksOver};
 use alphas::NextNodes;
 use alphas::NodeAt;
-use alphas::Ticks;
 use tables::Action;
+use tables::ByState;
 use tables::Chosen;
 use tables::Counts;
 use tables::Observation;
@@ -27,7 +27,7 @@ pub struct Said {
     pub alpha: usize,
     pub graph: usize,
     pub action: Action,
-    pub ticks: Ticks,
+    pub ticks: ByState,
     pub chosen: Chosen,
 }
 

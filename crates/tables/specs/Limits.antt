@@ -17,7 +17,7 @@ maxObservations = 8
 abbrev pub maxVectors : ℕ
 maxVectors = 1_000
 
--- the most rows that lie packed in one slice: the vectors of a level; tables, points and graphs have fewer
+-- the most rows of a slice in which cells are looked up by row: the vectors of a level; T, O, R, points and graphs have fewer
 abbrev pub maxRows : ℕ
 maxRows = maxVectors
 

@@ -16,7 +16,7 @@ pub struct Vector(pub usize);
 // Numbers by state that are worked out on the way.
 pub type Weights = [u64; Tables::STATES]; // of a mixture, a point or the states reached
 
-pub type Foreseen = [i64; Tables::STATES];
+pub type ByState = [i64; Tables::STATES]; // entries, backups, what is foreseen
 
 // What a vector chooses for each observation: a table of choices of one row.
 pub type Chosen = [u16; Tables::OBSERVATIONS];

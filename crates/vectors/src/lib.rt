@@ -10,7 +10,7 @@ ghost use Rattle.tables.specs.Storage.{rewardIn};
 ghost use Rattle.sums.specs.Steps.{foreseenIn, onwardIn, backupIn, foreseenLimit, onwardLimit};
 ghost use Rattle.sums.specs.Steps.{TransitionsFit, ObservationsFit, RewardsFit, ChosenFit};
 use tables::Action;
-use tables::Foreseen;
+use tables::ByState;
 use tables::Observation;
 use tables::State;
 use tables::Tables;
@@ -59,7 +59,7 @@ pub fn foreseen(
     choices: &[u16],
     v: Vector,
     a: Action,
-) -> Foreseen
+) -> ByState
     requires { ⌜ (n ≤ maxStates) × ((k ≤ maxObservations) × (a .0 < maxActions)) ⌝ }
     requires { ⌜ ObservationsFit n k (now cells) (a .0) ⌝ }
     requires { ⌜ ChosenFit n k (now masks) (now entries) (now choices) (v .0) ⌝ }
@@ -127,7 +127,7 @@ pub fn backups<'a>(
     n: usize,
     g: u64,
     a: Action,
-) -> Foreseen
+) -> ByState
     requires { ⌜ (n ≤ maxStates) × ((a .0 < maxActions) × (g ≤ one)) ⌝ }
     requires { ⌜ TransitionsFit n (now transition) (a .0) ⌝ }
     requires { ⌜ RewardsFit n (now reward) (a .0) ⌝ }
@@ -142,7 +142,7 @@ pub fn backups<'a>(
 }
 
 // Backups over K, each rounded towards minus infinity.
-pub fn floored(b: &[i64], n: usize) -> Foreseen
+pub fn floored(b: &[i64], n: usize) -> ByState
     requires { ⌜ (n ≤ maxStates) × (n ≤ length (now b)) ⌝ }
     ensures { λ r. ⌜ r ≡ padded (pos 0) maxStates n (λ s. floorDiv (getD (now (b .entry)) s (pos 0)) K) ⌝ }
 {
@@ -161,7 +161,7 @@ pub fn rounded<'a>(
     n: usize,
     g: u64,
     a: Action,
-) -> Foreseen
+) -> ByState
     requires { ⌜ (n ≤ maxStates) × ((a .0 < maxActions) × (g ≤ one)) ⌝ }
     requires { ⌜ TransitionsFit n (now transition) (a .0) ⌝ }
     requires { ⌜ RewardsFit n (now reward) (a .0) ⌝ }

@@ -13,8 +13,8 @@ ghost use Rattle.worths.specs.Storage.{graphIn};
 ghost use Rattle.worths.specs.Steps.{GraphHeld, backedUpOf, worthsBy};
 use levels::shape;
 use tables::Action;
+use tables::ByState;
 use tables::Counts;
-use tables::Foreseen;
 use tables::Tables;
 use tables::Vector;
 use tables::read;
@@ -52,7 +52,7 @@ fn worths_of<'a, 'b>(
     c: Counts,
     nodes: usize,
     v: Node,
-) -> Foreseen
+) -> ByState
     requires { ⌜ GraphHeld c nodes (now transition) (now observation) (now reward) (now actions) (now next) ⌝ }
     requires { ⌜ (EntriesFit (c .states) nodes (now before)) × (v .0 < nodes) ⌝ }
     ensures { λ r. ⌜ r

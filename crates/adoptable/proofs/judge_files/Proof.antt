@@ -14,7 +14,7 @@ use Rattle.levels.specs.Judged.{holds}
 use Rattle.runs.proofs.Judged.{Held, standing-true}
 use Rattle.solver.specs.declared.Judged.{Judged}
 use Rattle.solver.specs.Files.{maxFile, vectorsIn, filesVerdict, withCount}
-use Rattle.solver.proofs.Files.{counted-verdict, count-of}
+use Rattle.solver.proofs.Files.{count-of}
 use Rattle.adoption.proofs.Adopting.{counted-back}
 use Rattle.adoptable.proofs.judge_files.Statement.{statement}
 use Rattle.adoptable.proofs.judge_files.Tie as tie
@@ -52,7 +52,7 @@ known c = standing-true maxVectors (tables (start (of-certifier c))) (certifier 
 -- 19 and 20
 files-said : (c : tie.After-judge-files) → let a = start (of-certifier (c .before)) .args in
     c .judge-files .result .verdict ≡ filesVerdict (a .c .states) (a .c .observations) (a .alpha .now) (a .graph .now)
-files-said c = ap (λ (j : Judged). j .verdict) (c .judge-files .ensures) ∙ counted-verdict _ _
+files-said c = ap (λ (j : Judged). j .verdict) (c .judge-files .ensures)
 
 vectors-are : (c : tie.After-enum-told) → let f = of-files c in let a = start (of-certifier (f .before)) .args in
     f .judge-files .result .vectors ≡ vectorsIn (a .c .states) (a .alpha .now)

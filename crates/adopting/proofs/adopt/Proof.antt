@@ -6,7 +6,7 @@ use Rattle.tables.specs.Storage.{tablesIn}
 use Rattle.levels.specs.Storage.{Cells, Lent, cells, rows, lent, standingAt}
 use Rattle.solver.specs.declared.Judged.{Judged}
 use Rattle.solver.specs.Files.{vectorsIn}
-use Rattle.solver.proofs.Files.{counted-verdict, count-of}
+use Rattle.solver.proofs.Files.{count-of}
 use Rattle.adoption.specs.Adopt.{adoptVerdict}
 use Rattle.adoption.proofs.Adopting.{answered-back, answered-fine, startVerdict, endVerdict, Started, started, adopt-first, adopt-then, level-asks, level-said}
 use Rattle.adoption.proofs.Adopting.{roof-asks, vectors-ask, points-are, level-laid, adopted-refused, adopted-fine, adopt-demand}
@@ -53,7 +53,7 @@ answer c =
 -- ---- 1 to 9
 first-said : (c : tie.After-judge-files) (choices : List ℕ) → let s = start c in let a = s .args in
     c .judge-files .result .verdict ≡ startVerdict (tables s) (certifier s choices) (a .alpha .now) (a .graph .now) (a .count) (answer s)
-first-said c choices = ap (λ (j : Judged). j .verdict) (c .judge-files .ensures choices) ∙ counted-verdict _ _
+first-said c choices = ap (λ (j : Judged). j .verdict) (c .judge-files .ensures choices)
 
 first-fine : (c : tie.After-enum-told) (choices : List ℕ) → let s = start (of-files c) in let a = s .args in
     startVerdict (tables s) (certifier s choices) (a .alpha .now) (a .graph .now) (a .count) (answer s) ≡ Fine
