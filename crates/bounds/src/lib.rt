@@ -134,15 +134,13 @@ pub fn totals<'a, 'b>(
     qmdp: &'b [i64],
     mixture: &[u32],
 ) -> Bounds
-    ensures { λ r. ⌜ ((choices : List ℕ) → r ≡ totalsOf (tablesIn c (now (transition .entry)) (now (observation .entry)) (now (reward .entry)))
-        (lent (now (state .entry)) (cells (now (actions .entry)) choices (now (masks .entry)) (now (entries .entry)) (now (corners .entry))
-        (now (weights .entry)) (now (values .entry))) (rows (now (informed .entry)) (now (qmdp .entry)))) (now (mixture .entry))) ⌝ }
-    ensures { λ r. ⌜ (let m = tablesIn c (now (transition .entry)) (now (observation .entry)) (now (reward .entry)) in
-        (choices : List ℕ) (m₀ : Tables) (x : Lent) (es : List Event) → ModelAccepted m₀ x
-        → certifier m (lent (now (state .entry)) (cells (now (actions .entry)) choices (now (masks .entry)) (now (entries .entry)) (now (corners .entry))
-        (now (weights .entry)) (now (values .entry))) (rows (now (informed .entry)) (now (qmdp .entry)))) ≡ after m₀ x es → 0 < steps m₀ x es
-        → MixtureHolds m (claim m₀ x es) (now (mixture .entry))
-        → TotalsHold m (steps m₀ x es) (claim m₀ x es) (now (mixture .entry)) r) ⌝ }
+    ensures { λ r. ⌜ ((choices : List ℕ) →
+        let m = tablesIn c (now (transition .entry)) (now (observation .entry)) (now (reward .entry)) in
+        let standing = lent (now (state .entry)) (cells (now (actions .entry)) choices (now (masks .entry)) (now (entries .entry)) (now (corners .entry))
+        (now (weights .entry)) (now (values .entry))) (rows (now (informed .entry)) (now (qmdp .entry))) in
+        (r ≡ totalsOf m standing (now (mixture .entry)))
+        × ((m₀ : Tables) (x : Lent) (es : List Event) → ModelAccepted m₀ x → certifier m standing ≡ after m₀ x es → 0 < steps m₀ x es
+        → MixtureHolds m (claim m₀ x es) (now (mixture .entry)) → TotalsHold m (steps m₀ x es) (claim m₀ x es) (now (mixture .entry)) r)) ⌝ }
 {
     let standing = asking::judge_standing(
         transition,

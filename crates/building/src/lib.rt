@@ -137,27 +137,13 @@ pub fn build<'a, 'b>(
         (now (weights .entry)) (now (values .entry))) (rows (now (informed .entry)) (now (qmdp .entry))) in
         let y = cells (now (newactions .entry)) (now (newchoices .entry)) (now (newmasks .entry)) (now (newentries .entry)) (now (newcorners .entry))
         (now (given .entry)) (now (newvalues .entry)) in
-        r ≡ (handedList m (now (list .entry)) before buildVerdict m standing count y)) ⌝ }
-    ensures { λ _. ⌜ ((choices : List ℕ) →
-        let m = tablesIn c (now (transition .entry)) (now (observation .entry)) (now (reward .entry)) in
-        let standing = lent (now (state .entry)) (cells (now (actions .entry)) choices (now (masks .entry)) (now (entries .entry)) (now (corners .entry))
-        (now (weights .entry)) (now (values .entry))) (rows (now (informed .entry)) (now (qmdp .entry))) in
-        let y = cells (now (newactions .entry)) (now (newchoices .entry)) (now (newmasks .entry)) (now (newentries .entry)) (now (newcorners .entry))
-        (now (given .entry)) (now (newvalues .entry)) in
         let made = cells (now (newactions .exit)) (now (newchoices .exit)) (now (newmasks .exit)) (now (newentries .exit)) (now (newcorners .exit))
         (now (given .entry)) (now (newvalues .exit)) in
-        made ≡ left (handedList m (now (list .entry))) (builtOf m standing count y) y) ⌝ }
-    ensures { λ r. ⌜ ((choices : List ℕ) (m₀ : Tables) (x : Lent) (es : List Event) →
-        let m = tablesIn c (now (transition .entry)) (now (observation .entry)) (now (reward .entry)) in
-        let standing = lent (now (state .entry)) (cells (now (actions .entry)) choices (now (masks .entry)) (now (entries .entry)) (now (corners .entry))
-        (now (weights .entry)) (now (values .entry))) (rows (now (informed .entry)) (now (qmdp .entry))) in
-        let y = cells (now (newactions .entry)) (now (newchoices .entry)) (now (newmasks .entry)) (now (newentries .entry)) (now (newcorners .entry))
-        (now (given .entry)) (now (newvalues .entry)) in
-        let made = cells (now (newactions .exit)) (now (newchoices .exit)) (now (newmasks .exit)) (now (newentries .exit)) (now (newcorners .exit))
-        (now (given .entry)) (now (newvalues .exit)) in
-        ModelAccepted m₀ x → certifier m standing ≡ after m₀ x es → steps m₀ x es < maxLevels
-        → someCoversAll (modelOf m) (claim m₀ x es .level) ≡ true
-        → PointsHold m x count y → listHolds m (now (list .entry)) ≡ true → BuildHolds m standing (claim m₀ x es) count y r made) ⌝ }
+        (r ≡ (handedList m (now (list .entry)) before buildVerdict m standing count y))
+        × ((made ≡ left (handedList m (now (list .entry))) (builtOf m standing count y) y)
+        × ((m₀ : Tables) (x : Lent) (es : List Event) → ModelAccepted m₀ x → certifier m standing ≡ after m₀ x es → steps m₀ x es < maxLevels
+        → someCoversAll (modelOf m) (claim m₀ x es .level) ≡ true → PointsHold m x count y → listHolds m (now (list .entry)) ≡ true
+        → BuildHolds m standing (claim m₀ x es) count y r made))) ⌝ }
 {
     if !lists::holds(transition, list, observation, reward, c) {
         return Verdict::Refused(7, 0);

@@ -52,27 +52,13 @@ pub extern "C" fn biidhaqun_build<'a, 'b>(
         (now (weights .entry)) (now (values .entry))) (rows (now (informed .entry)) (now (qmdp .entry))) in
         let y = cells (now (newactions .entry)) (now (newchoices .entry)) (now (newmasks .entry)) (now (newentries .entry)) (now (newcorners .entry))
         (now (given .entry)) (now (newvalues .entry)) in
-        r ≡ refusalOf (handedList tables (now (list .entry)) before buildVerdict tables standing count y)) ⌝ }
-    ensures { λ _. ⌜ ((choices : List ℕ) →
-        let tables = tablesBy n m k g (now (transition .entry)) (now (observation .entry)) (now (reward .entry)) in
-        let standing = lent (now (state .entry)) (cells (now (actions .entry)) choices (now (masks .entry)) (now (entries .entry)) (now (corners .entry))
-        (now (weights .entry)) (now (values .entry))) (rows (now (informed .entry)) (now (qmdp .entry))) in
-        let y = cells (now (newactions .entry)) (now (newchoices .entry)) (now (newmasks .entry)) (now (newentries .entry)) (now (newcorners .entry))
-        (now (given .entry)) (now (newvalues .entry)) in
         let made = cells (now (newactions .exit)) (now (newchoices .exit)) (now (newmasks .exit)) (now (newentries .exit)) (now (newcorners .exit))
         (now (given .entry)) (now (newvalues .exit)) in
-        made ≡ left (handedList tables (now (list .entry))) (builtOf tables standing count y) y) ⌝ }
-    ensures { λ r. ⌜ ((choices : List ℕ) (m₀ : Tables) (x : Lent) (es : List Event) →
-        let tables = tablesBy n m k g (now (transition .entry)) (now (observation .entry)) (now (reward .entry)) in
-        let standing = lent (now (state .entry)) (cells (now (actions .entry)) choices (now (masks .entry)) (now (entries .entry)) (now (corners .entry))
-        (now (weights .entry)) (now (values .entry))) (rows (now (informed .entry)) (now (qmdp .entry))) in
-        let y = cells (now (newactions .entry)) (now (newchoices .entry)) (now (newmasks .entry)) (now (newentries .entry)) (now (newcorners .entry))
-        (now (given .entry)) (now (newvalues .entry)) in
-        let made = cells (now (newactions .exit)) (now (newchoices .exit)) (now (newmasks .exit)) (now (newentries .exit)) (now (newcorners .exit))
-        (now (given .entry)) (now (newvalues .exit)) in
-        ModelAccepted m₀ x → certifier tables standing ≡ after m₀ x es → steps m₀ x es < maxLevels
-        → someCoversAll (modelOf tables) (claim m₀ x es .level) ≡ true → PointsHold tables x count y
-        → listHolds tables (now (list .entry)) ≡ true → Builds tables standing (claim m₀ x es) count y r made) ⌝ }
+        (r ≡ refusalOf (handedList tables (now (list .entry)) before buildVerdict tables standing count y))
+        × ((made ≡ left (handedList tables (now (list .entry))) (builtOf tables standing count y) y)
+        × ((m₀ : Tables) (x : Lent) (es : List Event) → ModelAccepted m₀ x → certifier tables standing ≡ after m₀ x es → steps m₀ x es < maxLevels
+        → someCoversAll (modelOf tables) (claim m₀ x es .level) ≡ true → PointsHold tables x count y → listHolds tables (now (list .entry)) ≡ true
+        → Builds tables standing (claim m₀ x es) count y r made))) ⌝ }
 {
     let c = Counts {
         states: n,

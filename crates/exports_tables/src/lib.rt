@@ -123,15 +123,10 @@ pub extern "C" fn biidhaqun_reprice<'a, 'n, 'b>(
         let next = tablesBy newn newm newk newg (now (newtransition .entry)) (now (newobservation .entry)) (now (newreward .entry)) in
         let standing = lent (now (state .entry)) (cells (now (actions .entry)) choices (now (masks .entry)) (now (entries .entry)) (now (corners .entry))
         (now (weights .entry)) (now (values .entry))) (rows (now (informed .entry)) (now (qmdp .entry))) in
-        r ≡ refusalOf (pricesVerdict tables standing next)) ⌝ }
-    ensures { λ _. ⌜ ((choices : List ℕ) →
-        let tables = tablesBy n m k g (now (transition .entry)) (now (observation .entry)) (now (reward .entry)) in
-        let next = tablesBy newn newm newk newg (now (newtransition .entry)) (now (newobservation .entry)) (now (newreward .entry)) in
-        let standing = lent (now (state .entry)) (cells (now (actions .entry)) choices (now (masks .entry)) (now (entries .entry)) (now (corners .entry))
-        (now (weights .entry)) (now (values .entry))) (rows (now (informed .entry)) (now (qmdp .entry))) in
-        lent (now (state .entry)) (cells (now (actions .entry)) choices (now (masks .entry)) (now (entries .exit)) (now (corners .exit))
-        (now (weights .entry)) (now (values .exit))) (rows (now (informed .exit)) (now (qmdp .exit)))
-        ≡ pricedOf tables standing next) ⌝ }
+        let priced = lent (now (state .entry)) (cells (now (actions .entry)) choices (now (masks .entry)) (now (entries .exit)) (now (corners .exit))
+        (now (weights .entry)) (now (values .exit))) (rows (now (informed .exit)) (now (qmdp .exit))) in
+        (r ≡ refusalOf (pricesVerdict tables standing next))
+        × (priced ≡ pricedOf tables standing next)) ⌝ }
 {
     let c = Counts {
         states: n,

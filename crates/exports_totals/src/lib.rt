@@ -70,13 +70,9 @@ pub extern "C" fn biidhaqun_totals<'a, 'b>(
         let tables = tablesBy n m k g (now (transition .entry)) (now (observation .entry)) (now (reward .entry)) in
         let standing = lent (now (state .entry)) (cells (now (actions .entry)) choices (now (masks .entry)) (now (entries .entry)) (now (corners .entry))
         (now (weights .entry)) (now (values .entry))) (rows (now (informed .entry)) (now (qmdp .entry))) in
-        r ≡ totalsBy (totalsOf tables standing (now (mixture .entry)))) ⌝ }
-    ensures { λ r. ⌜ ((choices : List ℕ) (m₀ : Tables) (x : Lent) (es : List Event) →
-        let tables = tablesBy n m k g (now (transition .entry)) (now (observation .entry)) (now (reward .entry)) in
-        let standing = lent (now (state .entry)) (cells (now (actions .entry)) choices (now (masks .entry)) (now (entries .entry)) (now (corners .entry))
-        (now (weights .entry)) (now (values .entry))) (rows (now (informed .entry)) (now (qmdp .entry))) in
-        ModelAccepted m₀ x → certifier tables standing ≡ after m₀ x es → 0 < steps m₀ x es → MixtureHolds tables (claim m₀ x es) (now (mixture .entry)) →
-        Brackets tables (steps m₀ x es) (claim m₀ x es) (now (mixture .entry)) r) ⌝ }
+        (r ≡ totalsBy (totalsOf tables standing (now (mixture .entry))))
+        × ((m₀ : Tables) (x : Lent) (es : List Event) → ModelAccepted m₀ x → certifier tables standing ≡ after m₀ x es → 0 < steps m₀ x es
+        → MixtureHolds tables (claim m₀ x es) (now (mixture .entry)) → Brackets tables (steps m₀ x es) (claim m₀ x es) (now (mixture .entry)) r)) ⌝ }
 {
     let c = Counts {
         states: n,
@@ -145,15 +141,10 @@ pub extern "C" fn biidhaqun_each<'a, 'b>(
         let tables = tablesBy n m k g (now (transition .entry)) (now (observation .entry)) (now (reward .entry)) in
         let standing = lent (now (state .entry)) (cells (now (actions .entry)) choices (now (masks .entry)) (now (entries .entry)) (now (corners .entry))
         (now (weights .entry)) (now (values .entry))) (rows (now (informed .entry)) (now (qmdp .entry))) in
-        r ≡ refusalOf (eachVerdict tables standing (now (mixtures .entry)) count
-        (answers (now (verdicts .entry)) (now (lower .entry)) (now (upper .entry)) (now (advice .entry))))) ⌝ }
-    ensures { λ _. ⌜ ((choices : List ℕ) →
-        let tables = tablesBy n m k g (now (transition .entry)) (now (observation .entry)) (now (reward .entry)) in
-        let standing = lent (now (state .entry)) (cells (now (actions .entry)) choices (now (masks .entry)) (now (entries .entry)) (now (corners .entry))
-        (now (weights .entry)) (now (values .entry))) (rows (now (informed .entry)) (now (qmdp .entry))) in
-        answers (now (verdicts .exit)) (now (lower .exit)) (now (upper .exit)) (now (advice .exit))
-        ≡ eachOf tables standing (now (mixtures .entry)) count
-        (answers (now (verdicts .entry)) (now (lower .entry)) (now (upper .entry)) (now (advice .entry)))) ⌝ }
+        let y = answers (now (verdicts .entry)) (now (lower .entry)) (now (upper .entry)) (now (advice .entry)) in
+        let written = answers (now (verdicts .exit)) (now (lower .exit)) (now (upper .exit)) (now (advice .exit)) in
+        (r ≡ refusalOf (eachVerdict tables standing (now (mixtures .entry)) count y))
+        × (written ≡ eachOf tables standing (now (mixtures .entry)) count y)) ⌝ }
 {
     let c = Counts {
         states: n,
@@ -211,14 +202,10 @@ pub extern "C" fn biidhaqun_within<'a, 'b, 'c>(
         let tables = tablesBy n m k g (now (transition .entry)) (now (observation .entry)) (now (reward .entry)) in
         let standing = lent (now (state .entry)) (cells (now (actions .entry)) choices (now (masks .entry)) (now (entries .entry)) (now (corners .entry))
         (now (weights .entry)) (now (values .entry))) (rows (now (informed .entry)) (now (qmdp .entry))) in
-        r ≡ totalsWithinBy (withinOf tables standing (now (lows .entry)) (now (highs .entry)))) ⌝ }
-    ensures { λ r. ⌜ ((choices : List ℕ) (m₀ : Tables) (x : Lent) (es : List Event) →
-        let tables = tablesBy n m k g (now (transition .entry)) (now (observation .entry)) (now (reward .entry)) in
-        let standing = lent (now (state .entry)) (cells (now (actions .entry)) choices (now (masks .entry)) (now (entries .entry)) (now (corners .entry))
-        (now (weights .entry)) (now (values .entry))) (rows (now (informed .entry)) (now (qmdp .entry))) in
-        ModelAccepted m₀ x → certifier tables standing ≡ after m₀ x es → 0 < steps m₀ x es →
-        RangesHold tables (claim m₀ x es) (now (lows .entry)) (now (highs .entry)) →
-        Encloses tables (steps m₀ x es) (claim m₀ x es) (now (lows .entry)) (now (highs .entry)) r) ⌝ }
+        (r ≡ totalsWithinBy (withinOf tables standing (now (lows .entry)) (now (highs .entry))))
+        × ((m₀ : Tables) (x : Lent) (es : List Event) → ModelAccepted m₀ x → certifier tables standing ≡ after m₀ x es → 0 < steps m₀ x es
+        → RangesHold tables (claim m₀ x es) (now (lows .entry)) (now (highs .entry))
+        → Encloses tables (steps m₀ x es) (claim m₀ x es) (now (lows .entry)) (now (highs .entry)) r)) ⌝ }
 {
     let c = Counts {
         states: n,

@@ -199,15 +199,14 @@ pub fn totals_within<'a, 'b, 'c>(
     lows: &'c [u32],
     highs: &'c [u32],
 ) -> Enclosing
-    ensures { λ r. ⌜ ((choices : List ℕ) → r ≡ withinOf (tablesIn c (now (transition .entry)) (now (observation .entry)) (now (reward .entry)))
-        (lent (now (state .entry)) (cells (now (actions .entry)) choices (now (masks .entry)) (now (entries .entry)) (now (corners .entry))
-        (now (weights .entry)) (now (values .entry))) (rows (now (informed .entry)) (now (qmdp .entry)))) (now (lows .entry)) (now (highs .entry))) ⌝ }
-    ensures { λ r. ⌜ (let m = tablesIn c (now (transition .entry)) (now (observation .entry)) (now (reward .entry)) in
-        (choices : List ℕ) (m₀ : Tables) (x : Lent) (es : List Event) → ModelAccepted m₀ x
-        → certifier m (lent (now (state .entry)) (cells (now (actions .entry)) choices (now (masks .entry)) (now (entries .entry)) (now (corners .entry))
-        (now (weights .entry)) (now (values .entry))) (rows (now (informed .entry)) (now (qmdp .entry)))) ≡ after m₀ x es → 0 < steps m₀ x es
+    ensures { λ r. ⌜ ((choices : List ℕ) →
+        let m = tablesIn c (now (transition .entry)) (now (observation .entry)) (now (reward .entry)) in
+        let standing = lent (now (state .entry)) (cells (now (actions .entry)) choices (now (masks .entry)) (now (entries .entry)) (now (corners .entry))
+        (now (weights .entry)) (now (values .entry))) (rows (now (informed .entry)) (now (qmdp .entry))) in
+        (r ≡ withinOf m standing (now (lows .entry)) (now (highs .entry)))
+        × ((m₀ : Tables) (x : Lent) (es : List Event) → ModelAccepted m₀ x → certifier m standing ≡ after m₀ x es → 0 < steps m₀ x es
         → RangesHold m (claim m₀ x es) (now (lows .entry)) (now (highs .entry))
-        → WithinHolds m (steps m₀ x es) (claim m₀ x es) (now (lows .entry)) (now (highs .entry)) r) ⌝ }
+        → WithinHolds m (steps m₀ x es) (claim m₀ x es) (now (lows .entry)) (now (highs .entry)) r)) ⌝ }
 {
     let standing = asking::judge_standing(
         transition,

@@ -116,15 +116,14 @@ pub fn each<'a, 'b>(
     upper: &mut [i64],
     advice: &mut [u8],
 ) -> Verdict
-    ensures { λ r. ⌜ ((choices : List ℕ) → r ≡ eachVerdict (tablesIn c (now (transition .entry)) (now (observation .entry)) (now (reward .entry)))
-        (lent (now (state .entry)) (cells (now (actions .entry)) choices (now (masks .entry)) (now (entries .entry)) (now (corners .entry))
-        (now (weights .entry)) (now (values .entry))) (rows (now (informed .entry)) (now (qmdp .entry)))) (now (mixtures .entry)) count
-        (answers (now (verdicts .entry)) (now (lower .entry)) (now (upper .entry)) (now (advice .entry)))) ⌝ }
-    ensures { λ _. ⌜ ((choices : List ℕ) → answers (now (verdicts .exit)) (now (lower .exit)) (now (upper .exit)) (now (advice .exit))
-        ≡ eachOf (tablesIn c (now (transition .entry)) (now (observation .entry)) (now (reward .entry)))
-        (lent (now (state .entry)) (cells (now (actions .entry)) choices (now (masks .entry)) (now (entries .entry)) (now (corners .entry))
-        (now (weights .entry)) (now (values .entry))) (rows (now (informed .entry)) (now (qmdp .entry)))) (now (mixtures .entry)) count
-        (answers (now (verdicts .entry)) (now (lower .entry)) (now (upper .entry)) (now (advice .entry)))) ⌝ }
+    ensures { λ r. ⌜ ((choices : List ℕ) →
+        let m = tablesIn c (now (transition .entry)) (now (observation .entry)) (now (reward .entry)) in
+        let standing = lent (now (state .entry)) (cells (now (actions .entry)) choices (now (masks .entry)) (now (entries .entry)) (now (corners .entry))
+        (now (weights .entry)) (now (values .entry))) (rows (now (informed .entry)) (now (qmdp .entry))) in
+        let y = answers (now (verdicts .entry)) (now (lower .entry)) (now (upper .entry)) (now (advice .entry)) in
+        let written = answers (now (verdicts .exit)) (now (lower .exit)) (now (upper .exit)) (now (advice .exit)) in
+        (r ≡ eachVerdict m standing (now (mixtures .entry)) count y)
+        × (written ≡ eachOf m standing (now (mixtures .entry)) count y)) ⌝ }
 {
     let standing = asking::judge_standing(
         transition,

@@ -139,18 +139,15 @@ pub fn reprice<'a, 'n, 'b>(
     informed: &mut [i64],
     qmdp: &mut [i64],
 ) -> Verdict
-    ensures { λ r. ⌜ ((choices : List ℕ) → (let m = tablesIn c (now (transition .entry)) (now (observation .entry)) (now (reward .entry)) in
+    ensures { λ r. ⌜ ((choices : List ℕ) →
+        let m = tablesIn c (now (transition .entry)) (now (observation .entry)) (now (reward .entry)) in
         let m' = tablesIn new (now (newtransition .entry)) (now (newobservation .entry)) (now (newreward .entry)) in
-        let x = lent (now (state .entry)) (cells (now (actions .entry)) choices (now (masks .entry)) (now (entries .entry))
-        (now (corners .entry)) (now (weights .entry)) (now (values .entry))) (rows (now (informed .entry)) (now (qmdp .entry))) in
-        r ≡ pricesVerdict m x m')) ⌝ }
-    ensures { λ _. ⌜ ((choices : List ℕ) → (let m = tablesIn c (now (transition .entry)) (now (observation .entry)) (now (reward .entry)) in
-        let m' = tablesIn new (now (newtransition .entry)) (now (newobservation .entry)) (now (newreward .entry)) in
-        let x = lent (now (state .entry)) (cells (now (actions .entry)) choices (now (masks .entry)) (now (entries .entry))
-        (now (corners .entry)) (now (weights .entry)) (now (values .entry))) (rows (now (informed .entry)) (now (qmdp .entry))) in
-        lent (now (state .entry)) (cells (now (actions .entry)) choices (now (masks .entry)) (now (entries .exit)) (now (corners .exit))
-        (now (weights .entry)) (now (values .exit))) (rows (now (informed .exit)) (now (qmdp .exit)))
-        ≡ pricedOf m x m')) ⌝ }
+        let standing = lent (now (state .entry)) (cells (now (actions .entry)) choices (now (masks .entry)) (now (entries .entry)) (now (corners .entry))
+        (now (weights .entry)) (now (values .entry))) (rows (now (informed .entry)) (now (qmdp .entry))) in
+        let priced = lent (now (state .entry)) (cells (now (actions .entry)) choices (now (masks .entry)) (now (entries .exit)) (now (corners .exit))
+        (now (weights .entry)) (now (values .exit))) (rows (now (informed .exit)) (now (qmdp .exit))) in
+        (r ≡ pricesVerdict m standing m')
+        × (priced ≡ pricedOf m standing m')) ⌝ }
 {
     let verdict = prices::judge_prices(
         transition,

@@ -9,7 +9,7 @@ start c =
     d .before .before .before .before .before .before .before .before .before .before .before
 
 returns : tie.Need-returns
-returns c = c .totals .ensures .0 (start c .args .t5 .choices)
+returns c = c .totals .ensures (start c .args .t5 .choices) .0
 
 pub asked-spec : {M : Type 1} → statement M
 asked-spec = tie.close (tie.spec (λ c. search needs) (λ c κs. search needs) returns)

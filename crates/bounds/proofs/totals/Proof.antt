@@ -51,7 +51,7 @@ returns c =
     let j = c .before .before .before in let s = start j in
     let e : Said s (c .no-bounds .result) = λ choices. c .no-bounds .ensures ∙ refused (tables s) (certifier s choices) (s .args .mixture .now)
     (j .judge-standing .ensures choices) (c .before .enum-told2 .given .1) in
-    (e, λ choices. totals-demand (tables s) (certifier s choices) (s .args .mixture .now) _ (e choices))
+    λ choices. (e choices, totals-demand (tables s) (certifier s choices) (s .args .mixture .now) _ (e choices))
 
 standing-in-requires : tie.Need-standing-in-requires
 standing-in-requires c κs =
@@ -84,7 +84,7 @@ returns-2 c =
     let s = of-certifier (n .before) in
     let e : Said s (c .answer .result) = λ choices. rw (said n) at (c .answer .ensures)
     ∙ answered (tables s) (certifier s choices) (s .args .mixture .now) (held (n .before) choices) (gained g) in
-    (e, λ choices. totals-demand (tables s) (certifier s choices) (s .args .mixture .now) _ (e choices))
+    λ choices. (e choices, totals-demand (tables s) (certifier s choices) (s .args .mixture .now) _ (e choices))
 
 pub totals-spec : {M : Type 1} → statement M
 totals-spec =

@@ -96,11 +96,12 @@ laid c choices =
 returns : tie.Need-returns
 returns c =
     let s = begun (c .before) in
-    let unlisted = sym (c .before .holds .ensures) ∙ not-true _ (c .if1 .taken) in (
-      λ choices. breaks _ unlisted,
+    let unlisted = sym (c .before .holds .ensures) ∙ not-true _ (c .if1 .taken) in
+    λ choices. (
+      breaks _ unlisted,
       (
-        λ choices. left-breaks 7 0 (builtOf (tables s) (certifier s choices) (s .args .count) (answer s)) unlisted,
-        λ choices m₀ x es accepted is few some points holds. absurd (false≢true (sym unlisted ∙ holds)),
+        left-breaks 7 0 (builtOf (tables s) (certifier s choices) (s .args .count) (answer s)) unlisted,
+        λ m₀ x es accepted is few some points holds. absurd (false≢true (sym unlisted ∙ holds)),
       ),
     )
 
@@ -109,11 +110,12 @@ returns-2 c =
     let j = c .before .before in
     let s = start j in
     let same : (choices : List ℕ) → answer s ≡ builtOf (tables s) (certifier s choices) (s .args .count) (answer s) =
-    λ choices. built-refused (tables s) (certifier s choices) (s .args .count) (answer s) (said j choices) (c .enum-told2 .given .1) in (
-      λ choices. passes 7 0 (listed (j .before)) (said j choices),
+    λ choices. built-refused (tables s) (certifier s choices) (s .args .count) (answer s) (said j choices) (c .enum-told2 .given .1) in
+    λ choices. (
+      passes 7 0 (listed (j .before)) (said j choices),
       (
-        λ choices. left-passes 7 0 (answer s) (listed (j .before)) (same choices),
-        λ choices m₀ x es accepted is few some points holds. build-demand (tables s) (certifier s choices) (s .args .count) (answer s) _ (answer s)
+        left-passes 7 0 (answer s) (listed (j .before)) (same choices),
+        λ m₀ x es accepted is few some points holds. build-demand (tables s) (certifier s choices) (s .args .count) (answer s) _ (answer s)
             (said j choices) (same choices) m₀ x es accepted is few some points,
       ),
     )
@@ -144,11 +146,12 @@ returns-3 c =
     let j = of-verdict f in
     let s = start j in
     let made : (choices : List ℕ) → left s l ≡ builtOf (tables s) (certifier s choices) (s .args .count) (answer s) =
-    λ choices. built-fine (tables s) (certifier s choices) (s .args .count) (answer s) (said j choices) (f .enum-told .given .1) (laid l choices) in (
-      λ choices. passes 7 0 (listed (j .before)) (sym (fine f choices)),
+    λ choices. built-fine (tables s) (certifier s choices) (s .args .count) (answer s) (said j choices) (f .enum-told .given .1) (laid l choices) in
+    λ choices. (
+      passes 7 0 (listed (j .before)) (sym (fine f choices)),
       (
-        λ choices. left-passes 7 0 (answer s) (listed (j .before)) (made choices),
-        λ choices m₀ x es accepted is few some points holds. build-demand (tables s) (certifier s choices) (s .args .count) (answer s) Fine (left s l)
+        left-passes 7 0 (answer s) (listed (j .before)) (made choices),
+        λ m₀ x es accepted is few some points holds. build-demand (tables s) (certifier s choices) (s .args .count) (answer s) Fine (left s l)
             (sym (fine f choices)) (made choices) m₀ x es accepted is few some points,
       ),
     )

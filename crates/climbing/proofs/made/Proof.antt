@@ -14,12 +14,12 @@ of-build c = c .before .before .before .before .before .before
 served-requires : tie.Need-served-requires
 served-requires c κs =
     let b = of-build c in
-    b .build .ensures .0 (start b .args .t5 .choices) ∙ start b .pre
+    b .build .ensures (start b .args .t5 .choices) .0 ∙ start b .pre
 
 returns : tie.Need-returns
 returns c =
     let b = of-build (c .before) in
-    b .build .ensures .1 .0 (start b .args .t5 .choices)
+    b .build .ensures (start b .args .t5 .choices) .1 .0
 
 pub made-spec : {M : Type 1} → statement M
 made-spec =

@@ -18,12 +18,11 @@ returns : tie.Need-returns
 returns c =
     let b = called c .build .ensures in
     let v = called c .build .result in
-    let same = c .refusal-of .ensures in (
-      λ choices. same ∙ ap refusalOf (b .0 choices),
-      (
-        b .1 .0,
-        λ choices m₀ x es o e h k p l. record { verdict = v; answer = same; holds = b .1 .1 choices m₀ x es o e h k p l },
-      ),
+    let same = c .refusal-of .ensures in
+    λ choices.
+    let (answers, (leaves, builds)) = b choices in (
+      same ∙ ap refusalOf answers,
+      (leaves, λ m₀ x es o e h k p l. record { verdict = v; answer = same; holds = builds m₀ x es o e h k p l }),
     )
 
 pub biidhaqun-build-spec : {M : Type 1} → statement M

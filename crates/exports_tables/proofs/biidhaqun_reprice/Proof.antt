@@ -14,7 +14,7 @@ called c = valued c .before .before .before
 returns : tie.Need-returns
 returns c =
     let o = called c .reprice .ensures in
-    (λ choices. c .refusal-of .ensures ∙ ap refusalOf (o .0 choices), o .1)
+    λ choices. (c .refusal-of .ensures ∙ ap refusalOf (o choices .0), o choices .1)
 
 pub biidhaqun-reprice-spec : {M : Type 1} → statement M
 biidhaqun-reprice-spec =

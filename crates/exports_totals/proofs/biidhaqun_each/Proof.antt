@@ -14,7 +14,7 @@ called c = lowered c .before .before .before
 returns : tie.Need-returns
 returns c =
     let e = called c .each .ensures in
-    (λ choices. c .refusal-of .ensures ∙ ap refusalOf (e .0 choices), e .1)
+    λ choices. (c .refusal-of .ensures ∙ ap refusalOf (e choices .0), e choices .1)
 
 pub biidhaqun-each-spec : {M : Type 1} → statement M
 biidhaqun-each-spec =

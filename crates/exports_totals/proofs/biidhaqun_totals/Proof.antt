@@ -9,13 +9,14 @@ returns c =
     let t = c .before .before .before .totals in
     let r = t .result in
     let (_, (_, (_, ((_, lower), ((_, upper), ((_, gap), (_, ((_, sawtooth), ((_, informed), _))))))))) = t .ok in
-    let same = c .before .before .refusal-of .ensures in (
-      λ choices. rw (back (r .lower) lower, back (r .upper) upper, back (r .gap) gap, back (r .sawtooth) sawtooth, back (r .informed) informed, same)
-          (ap totalsBy (t .ensures .0 choices)),
-      λ choices m₀ x es o e h b. record {
+    let same = c .before .before .refusal-of .ensures in
+    λ choices. (
+      rw (back (r .lower) lower, back (r .upper) upper, back (r .gap) gap, back (r .sawtooth) sawtooth, back (r .informed) informed, same)
+          (ap totalsBy (t .ensures choices .0)),
+      λ m₀ x es o e h b. record {
         bounds = r;
         answer = rw (back (r .lower) lower, back (r .upper) upper, back (r .gap) gap, back (r .sawtooth) sawtooth, back (r .informed) informed, same) refl;
-        holds = t .ensures .1 choices m₀ x es o e h b;
+        holds = t .ensures choices .1 m₀ x es o e h b;
       },
     )
 

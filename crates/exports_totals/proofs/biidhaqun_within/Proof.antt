@@ -9,12 +9,13 @@ returns c =
     let t = c .before .before .totals-within in
     let l : mag (t .result .lower) < 2 ^ 63 = search (needs, t .ok) in
     let u : mag (t .result .upper) < 2 ^ 63 = search (needs, t .ok) in
-    let same = c .before .refusal-of .ensures in (
-      λ choices. rw (back _ l, back _ u, same) (ap totalsWithinBy (t .ensures .0 choices)),
-      λ choices m₀ x es o e h b. record {
+    let same = c .before .refusal-of .ensures in
+    λ choices. (
+      rw (back _ l, back _ u, same) (ap totalsWithinBy (t .ensures choices .0)),
+      λ m₀ x es o e h b. record {
         within = t .result;
         answer = rw (back _ l, back _ u, same) refl;
-        holds = t .ensures .1 choices m₀ x es o e h b;
+        holds = t .ensures choices .1 m₀ x es o e h b;
       },
     )
 

@@ -46,7 +46,7 @@ returns c =
     let highs = s .args .highs .now in
     let e : Said s (c .no-totals .result) = λ choices. c .no-totals .ensures ∙ refused (tables s) (certifier s choices) lows highs
     (j .judge-standing .ensures choices) (c .before .enum-told2 .given .1) in
-    (e, λ choices. within-demand (tables s) (certifier s choices) lows highs _ (e choices))
+    λ choices. (e choices, within-demand (tables s) (certifier s choices) lows highs _ (e choices))
 
 standing-in-requires : tie.Need-standing-in-requires
 standing-in-requires c κs =
@@ -66,7 +66,7 @@ returns-2 c =
     let highs = s .args .highs .now in
     let e : Said s (c .answer .result) = λ choices. rw (said n) at (c .answer .ensures)
     ∙ answered (tables s) (certifier s choices) lows highs (held (n .before) choices) in
-    (e, λ choices. within-demand (tables s) (certifier s choices) lows highs _ (e choices))
+    λ choices. (e choices, within-demand (tables s) (certifier s choices) lows highs _ (e choices))
 
 pub totals-within-spec : {M : Type 1} → statement M
 totals-within-spec =

@@ -88,7 +88,7 @@ returns c =
     let f = c .enum-told2 .given .1 in
     let e : Said s (j .judge-standing .result) = λ choices. refused-standing (tables s) (certifier s choices) (s .args .mixtures .now) (s .args .count)
     (lent-for s) (j .judge-standing .ensures choices) f in
-    (e, λ choices. left-alone (tables s) (certifier s choices) (s .args .mixtures .now) (s .args .count) (lent-for s) (sym (e choices) ∙ f))
+    λ choices. (e choices, left-alone (tables s) (certifier s choices) (s .args .mixtures .now) (s .args .count) (lent-for s) (sym (e choices) ∙ f))
 
 returns-2 : tie.Need-returns-2
 returns-2 c =
@@ -96,7 +96,7 @@ returns-2 c =
     let s = of-certifier k in
     let e : Said s (Refused 17 0) = λ choices. refused-17 (tables s) (certifier s choices) (s .args .mixtures .now) (s .args .count) (lent-for s)
     (k .before .before .judge-standing .ensures choices) (k .enum-told .given .1) (too-few _ _ (some-states k) (c .if1 .taken)) in
-    (e, λ choices. left-alone (tables s) (certifier s choices) (s .args .mixtures .now) (s .args .count) (lent-for s) (sym (e choices)))
+    λ choices. (e choices, left-alone (tables s) (certifier s choices) (s .args .mixtures .now) (s .args .count) (lent-for s) (sym (e choices)))
 
 returns-3 : tie.Need-returns-3
 returns-3 c =
@@ -106,7 +106,7 @@ returns-3 c =
     let e : Said s (Refused 9 0) = λ choices. refused-9 (tables s) (certifier s choices) (s .args .mixtures .now) (s .args .count) (lent-for s)
     (k .before .before .judge-standing .ensures choices) (k .enum-told .given .1) (packed w)
     (sym (c .before .room-for .ensures) ∙ not-true _ (c .if2 .taken)) in
-    (e, λ choices. left-alone (tables s) (certifier s choices) (s .args .mixtures .now) (s .args .count) (lent-for s) (sym (e choices)))
+    λ choices. (e choices, left-alone (tables s) (certifier s choices) (s .args .mixtures .now) (s .args .count) (lent-for s) (sym (e choices)))
 
 standing-in-requires : tie.Need-standing-in-requires
 standing-in-requires c κs =
@@ -163,9 +163,10 @@ returns-4 c =
     let k = of-mixtures w in
     let s = of-certifier k in
     let e : Said s Fine = λ choices. given (tables s) (certifier s choices) (s .args .mixtures .now) (s .args .count) (lent-for s)
-    (k .before .before .judge-standing .ensures choices) (k .enum-told .given .1) (packed w) (room (n .before)) in (
-      e,
-      λ choices. all-written (tables s) (certifier s choices) (s .args .mixtures .now) (s .args .count) (lent-for s) (e choices)
+    (k .before .before .judge-standing .ensures choices) (k .enum-told .given .1) (packed w) (room (n .before)) in
+    λ choices. (
+      e choices,
+      all-written (tables s) (certifier s choices) (s .args .mixtures .now) (s .args .count) (lent-for s) (e choices)
           (a .write-answers .ensures ∙ written-same (s .args .count) (answer-at g (n .standing-in .result))
           (λ i. totalsOf (tables s) (certifier s choices) (rowIn (s .args .c .states) (s .args .mixtures .now) i)) (lent-for s) (answer-is g choices)),
     )

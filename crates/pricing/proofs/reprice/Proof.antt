@@ -75,10 +75,10 @@ passed c = let s = start (of-verdict c) in priced (tables s) (certifier s []) (n
 returns : tie.Need-returns
 returns c =
     let j = c .before .before in
-    let s = start j in (
-      j .judge-prices .ensures,
-      λ choices. priced-refused (tables s) (certifier s choices) (new s) (j .judge-prices .ensures choices) (c .enum-told2 .given .1),
-    )
+    let s = start j in
+    λ choices.
+    let e = j .judge-prices .ensures choices in
+    (e, priced-refused (tables s) (certifier s choices) (new s) e (c .enum-told2 .given .1))
 
 standing-in-requires : tie.Need-standing-in-requires
 standing-in-requires c κs = passed c .standing .state-long
@@ -167,9 +167,10 @@ returns-2 c =
     let e = to-entries (k .before) in
     let g = of-entries e in
     let s = asked g in
-    let t = of-standing g .before in (
-      λ choices. sym (fine t choices),
-      λ choices. priced-fine (tables s) (certifier s choices) (new s) (fine t choices) (of-standing g .standing-in .ensures)
+    let t = of-standing g .before in
+    λ choices. (
+      sym (fine t choices),
+      priced-fine (tables s) (certifier s choices) (new s) (fine t choices) (of-standing g .standing-in .ensures)
           (g .before .before .range-of .ensures) (change-said g) (e .lower-entries .ensures) (k .raise-cells .ensures) (v .raise-values .ensures)
           (f .raise-cells2 .ensures) (q .raise-cells3 .ensures),
     )
