@@ -77,6 +77,8 @@ record Table : Type 0 where
   counts-partly : totalsOf dough stands (1 ∷ 1 ∷ []) .verdict ≡ Refused 22 0
   no-weight : totalsOf dough stands (0 ∷ 0 ∷ []) .verdict ≡ Refused 17 0
   too-heavy : totalsOf dough stands (1_000_001 ∷ 0 ∷ []) .verdict ≡ Refused 17 0
+  -- 16 comes before 17
+  level-0 : totalsOf dough fresh (0 ∷ 0 ∷ []) .verdict ≡ Refused 16 0
   -- nothing is built upon vectors that cover a part; 12 comes first
   none-covers-all : buildVerdict dough stands 1 half ≡ Refused 22 0
   no-point : buildVerdict dough stands 1 (slices 0 (replicate 2 0)) ≡ Refused 12 0
@@ -103,6 +105,7 @@ table = record {
   counts-partly = refl;
   no-weight = refl;
   too-heavy = refl;
+  level-0 = refl;
   none-covers-all = refl;
   no-point = refl;
   rests = refl;
