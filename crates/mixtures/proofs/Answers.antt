@@ -1,10 +1,10 @@
 -- Laws of the answers at many mixtures. Assumes nothing.
 --
 -- In order: the mixtures; the slices that are written; each way out.
-use Rattle.integers.proofs.Kit.{_≡_, _∙_, ap, sym, true, false, List, ℕ, _≤_, _<_, _+_, _*_, _-_, _/_, arith, le-leb, leb-true, lt-leb, leb, length}
-use Rattle.integers.proofs.Kit.{drop, set, take, ℤ, pos}
+use Rattle.integers.proofs.Kit.{_≡_, _∙_, ap, sym, true, false, List, ℕ, _≤_, _<_, _+_, _*_, _/_, arith, le-leb, leb-true, lt-leb, leb, length}
+use Rattle.integers.proofs.Kit.{set, ℤ, pos}
 use native.Mathlib.Nat as NatL
-use Rattle.integers.proofs.Lists.{laid-none, laid-turn, laid-length, laid-cong, row-below}
+use Rattle.integers.proofs.Lists.{laid-none, laid-turn, laid-length, laid-cong}
 use Rattle.integers.proofs.Searches.{and-true}
 use Rattle.tables.specs.Tables.{Tables}
 use Rattle.tables.specs.declared.Verdict.{Verdict}
@@ -24,11 +24,8 @@ module _ {n : ℕ} (count long : ℕ) (some : 0 < n) where
   pub too-few : long / n < count → leb (count * n) long ≡ false
   too-few h = lt-leb _ _ (NatL.div-lt-iff-lt-mul some .0 h)
 
-pub part-fits : (n count i long : ℕ) → count * n ≤ long → i < count → i * n + n ≤ long
-part-fits n count i long h l = omega (arith, row-below i count n l)
-
-pub part-is : (n i : ℕ) (packed : List ℕ) → take (i * n + n - i * n) (drop (i * n) packed) ≡ rowIn n packed i
-part-is n i packed = ap (λ (j : ℕ). take j (drop (i * n) packed)) (let q : i * n + n - i * n ≡ n = omega arith in q)
+pub row-fits : (n count i long : ℕ) → count * n ≤ long → i < count → (i + 1) * n ≤ long
+row-fits n count i long h l = omega (arith, NatL.mul-le-mul-right n (let k : i + 1 ≤ count = omega arith in k))
 
 -- ---- the slices that are written
 pub record AnswersRoom (count : ℕ) (y : Answers) : Type 0 where

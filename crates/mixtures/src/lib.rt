@@ -66,8 +66,7 @@ fn write_answers<'b>(
         (answers (now (verdicts .entry)) (now (lower .entry)) (now (upper .entry)) (now (advice .entry))) ⌝ }
 {
     for i in 0..count {
-        let at = i * n;
-        let end = at + n;
+        let mixture = cells::row_u32(mixtures, n, i);
         let b = bounds::answer(
             actions,
             masks,
@@ -80,7 +79,7 @@ fn write_answers<'b>(
             m,
             vectors,
             points,
-            &mixtures[at..end],
+            mixture,
         );
         let verdict = b.verdict;
         let floor = b.lower;

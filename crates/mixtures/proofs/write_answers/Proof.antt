@@ -4,7 +4,7 @@ use Rattle.runs.specs.declared.Bounds.{Bounds}
 use Rattle.bounds.specs.Steps.{answerIn}
 use Rattle.tables.specs.Storage.{rowIn}
 use Rattle.mixtures.specs.Each.{Answers, answers, refusalIn, answersLaid}
-use Rattle.mixtures.proofs.Answers.{part-fits, part-is, AnswersRoom, AnswersAsLong, written-none, written-more, written-long}
+use Rattle.mixtures.proofs.Answers.{row-fits, AnswersRoom, AnswersAsLong, written-none, written-more, written-long}
 use Rattle.bounds.proofs.Bounds.{acts-within, sizes-within}
 use Rattle.mixtures.proofs.write_answers.Statement.{statement}
 use Rattle.mixtures.proofs.write_answers.Tie as tie
@@ -58,8 +58,8 @@ lower-fits s = omega (arith, s .good)
 upper-fits : (s : tie.Start Inv-loop μ-loop) → length (s .args .upper .now) * 8 < 2 ^ 64
 upper-fits s = omega (arith, s .good)
 
-fit : (c : tie.In-loop Inv-loop μ-loop) → c .before .loop .i * start c .args .n + start c .args .n ≤ length (start c .args .mixtures .now)
-fit c = let s = start c in part-fits (s .args .n) (s .args .count) (c .before .loop .i) (length (s .args .mixtures .now)) (s .pre .1 .0) (c .loop-test .taken)
+fit : (c : tie.In-loop Inv-loop μ-loop) → (c .before .loop .i + 1) * start c .args .n ≤ length (start c .args .mixtures .now)
+fit c = let s = start c in row-fits (s .args .n) (s .args .count) (c .before .loop .i) (length (s .args .mixtures .now)) (s .pre .1 .0) (c .loop-test .taken)
 
 long : (c : tie.In-loop Inv-loop μ-loop) → let l = c .before .loop in
     AnswersAsLong (lent (start c)) (answers (l .verdicts) (l .lower) (l .upper) (l .advice))
@@ -69,7 +69,7 @@ answer-is : (c : tie.After-answer Inv-loop μ-loop) → c .answer .result ≡ An
 answer-is c =
     let a = start (of-answer c) .args in
     c .answer .ensures ∙ ap (λ (b : List ℕ). answerIn (a .n) (a .m) (a .vectors) (a .points) (a .actions .now) (a .masks .now) (a .entries .now)
-    (a .corners .now) (a .weights .now) (a .informed .now) (a .gains .now) b) (part-is (a .n) (of-answer c .before .loop .i) (a .mixtures .now))
+    (a .corners .now) (a .weights .now) (a .informed .now) (a .gains .now) b) (c .before .row-u32 .ensures)
 
 loop-holds : tie.Need-loop-holds Inv-loop μ-loop
 loop-holds c = (omega arith, written-none (Answer (from-entry c)) _ _ _ _)
@@ -125,8 +125,7 @@ returns c =
 
 pub write-answers-spec : {M : Type 1} → statement M
 write-answers-spec =
-    tie.close (tie.spec Inv-loop μ-loop loop-holds (λ c. omega (arith, fit c)) (λ c. omega (arith, fit c)) (λ c. omega (arith, fit c))
-    (λ c. omega (arith, fit c)) (λ c. omega (arith, fit c)) (λ c. omega (arith, fit c)) answer-requires (λ c κs. search needs) verdicts-write
+    tie.close (tie.spec Inv-loop μ-loop loop-holds (λ c κs. fit c) answer-requires (λ c κs. search needs) verdicts-write
     (λ c. let k = of-answer (of-refusal c) in omega (arith, lower-fits (start k), room (start k) .lower, k .loop-test .taken)) lower-write
     (λ c. let k = of-answer (of-refusal c) in omega (arith, upper-fits (start k), room (start k) .upper, k .loop-test .taken)) upper-write
     number-requires advice-write
