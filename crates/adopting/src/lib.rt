@@ -138,19 +138,7 @@ pub fn adopt<'a, 'b, 'c>(
         newentries,
     );
     let none = [0u32; 0]; // no list of transitions
-    roofing::build_corners(
-        transition,
-        &none,
-        observation,
-        reward,
-        corners,
-        weights,
-        values,
-        c,
-        s.points,
-        newcorners,
-    );
-    roofing::build_values(
+    roofing::build_roof(
         transition,
         &none,
         observation,
@@ -162,6 +150,7 @@ pub fn adopt<'a, 'b, 'c>(
         c,
         s.points,
         count,
+        newcorners,
         newvalues,
     );
     Adopted {

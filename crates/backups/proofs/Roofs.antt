@@ -1,7 +1,8 @@
 -- The backup at weights over storage: it is the backup of the level that is stored, and nothing overflows on the way. Assumes nothing.
 --
 -- In order: sums; weight 1 on one state; the weights of a point, filled up to the size of an array; ceilings at the successor weights, as a loop adds them
--- up; the parts of a backup over storage, of weights that total at most maxTotal; the corners and points of a level within its limits, in storage.
+-- up; the parts of a backup over storage, of weights that total at most maxTotal; what each action allows at some weights, under the ceiling of a level;
+-- the corners and points of a level within its limits, in storage.
 use Rattle.integers.proofs.Kit.{_≡_, _∙_, refl, ap, List, ℕ, _≤_, _<_, _+_, _*_, suc, zero, _^_, arith, length, getD, replicate, set, length-replicate, ℤ}
 use Rattle.integers.proofs.Kit.{pos, natAbs, _+ℤ_, negsuc}
 use native.Mathlib.Nat as NatL
@@ -21,13 +22,13 @@ use Rattle.sums.specs.Steps.{movedIn, seenIn, expectedIn, TransitionsFit, Rewar
 use Rattle.sums.proofs.Regroup.{moved-successor, expected-is, moved-limit}
 use Rattle.plans.specs.Limits.{maxPoints, maxTotal, maxReached, range}
 use Rattle.plans.specs.Level.{Level, ceiling, backupAt, corner-weight, IsPoint}
-use Rattle.plans.proofs.Agreement.{ceiling-weights}
+use Rattle.plans.proofs.Agreement.{ceiling-weights, backupAt-weights}
 use Rattle.plans.proofs.Ceiling.{corner-total}
 use Rattle.plans.proofs.Built.{successor-total, successor-limit, ceiling-range}
 use Rattle.levels.specs.Storage.{pointIn, roofIn}
 use Rattle.sawtooth.specs.Steps.{positive, gainIn, ceilingIn, CornersFit, PointsFit, ValuesFit, maxGain}
 use Rattle.sawtooth.proofs.Joined.{ceiling-is, gains-limit}
-use Rattle.backups.specs.Steps.{successorsIn, backupAtIn, maxAhead, Ahead, RoofFits, Roof, Light, Roofed}
+use Rattle.backups.specs.Steps.{successorsIn, backupAtIn, maxAhead, Ahead, RoofFits, Roof, CeilingOf, Allowed, Light, Roofed}
 
 -- ---- sums
 abs-second : (B : ℕ) (a b : ℤ) → natAbs a ≤ B → natAbs (a +ℤ b) ≤ B → natAbs b ≤ B + B
@@ -56,7 +57,7 @@ corner-weights-are (suc size) (suc s) l zero = refl
 corner-weights-are (suc size) (suc s) l (suc i) = corner-weights-are size s (omega arith) i
 
 -- of weights that are this in storage
-pub corner-long : (s : ℕ) {p : List ℕ} → p ≡ set (replicate maxStates 0) s 1 → length p ≡ maxStates
+corner-long : (s : ℕ) {p : List ℕ} → p ≡ set (replicate maxStates 0) s 1 → length p ≡ maxStates
 corner-long s e = rw e (length-set (replicate maxStates 0) s 1 ∙ length-replicate {A = ℕ} maxStates 0)
 
 module _ {s : ℕ} {p : List ℕ} (e : p ≡ set (replicate maxStates 0) s 1) where
@@ -74,7 +75,7 @@ module _ (n : ℕ) (weights : List ℕ) (i : ℕ) {p : List ℕ} (e : p ≡ padd
   pub point-at : (s : ℕ) → s < n → weightIn p s ≡ pointIn n weights i s
   point-at s l = rw e (padded-at 0 maxStates n (pointIn n weights i) s 0 l)
 
-  pub point-long : n ≤ maxStates → length p ≡ maxStates
+  point-long : n ≤ maxStates → length p ≡ maxStates
   point-long few = rw e (padded-length 0 maxStates n (pointIn n weights i) few)
 
   pub point-light : n ≤ maxStates → IsPoint n (pointIn n weights i) → Light n p
@@ -138,6 +139,28 @@ module _ (c : Counts) (T O : List ℕ) (R : List ℤ) (p : List ℕ) (a o : ℕ)
       → weightIn (successorsIn (c .states) (c .observations) T O p a o) s' ≡ successor (modelIn c T O R) (weightIn p) a o s'
   successors-are s' l = padded-at 0 maxStates (c .states) _ s' 0 l ∙ seen-is s' l
 
+-- ---- what each action allows at some weights, under the ceiling of a level
+module _ (c : Counts) (T O : List ℕ) (R : List ℤ) (p : List ℕ) (a : ℕ) {roof : List ℕ → ℤ} (L : Level) (is : CeilingOf (c .states) roof L) where
+  roof-at : (o : ℕ)
+      → roof (successorsIn (c .states) (c .observations) T O p a o) ≡ ceiling (c .states) L (successor (modelIn c T O R) (weightIn p) a o)
+  roof-at o = is _ ∙ ceiling-weights (c .states) L _ _ (successors-are c T O R p a o)
+
+  backup-at-is : backupAtIn c T O R roof p a ≡ backupAt (modelIn c T O R) L (weightIn p) a
+  unfolding backupAtIn backupAt
+  backup-at-is =
+      rw (expected-is c T O R p a)
+      (ap (λ (z : ℤ). K · expectedReward (modelIn c T O R) (weightIn p) a +ℤ c .discount · z) (sum-cong (c .observations) _ _ (λ o b. roof-at o)))
+
+-- of weights that p lists
+pub allowed : {c : Counts} {T O : List ℕ} {R : List ℤ} {roof : List ℕ → ℤ} (p : List ℕ) {p' : ℕ → ℕ} {backups : List ℤ}
+    → ((s : ℕ) → s < c .states → weightIn p s ≡ p' s) → backups ≡ padded (pos 0) maxActions (c .actions) (backupAtIn c T O R roof p)
+    → Allowed c T O R roof p' backups
+allowed {c} {T} {O} {R} p same listed = record {
+  backup = λ L is a la.
+      rw listed (padded-at (pos 0) maxActions (c .actions) _ a (pos 0) la)
+      ∙ backup-at-is c T O R p a L is ∙ backupAt-weights (modelIn c T O R) L (weightIn p) _ a same;
+}
+
 -- ---- the corners and points of a level within its limits, in storage
 module _ {c : Counts} {T O : List ℕ} {R corners : List ℤ} {points : ℕ} {weights : List ℕ} {values : List ℤ}
     (h : Roofed c T O R corners points weights values) where
@@ -171,6 +194,9 @@ module _ {c : Counts} {T O : List ℕ} {R corners : List ℤ} {points : ℕ} {we
     gained : (i : ℕ) → i < points → getD gains i 0 ≡ positive (gainIn (c .states) corners weights values i)
     gained i b = rw made (padded-at 0 maxPoints points _ i 0 b)
 
+    pub roof-is : CeilingOf (c .states) roof level
+    roof-is q = ceiling-is (c .states) corners points weights values gains q gained
+
     pub gains-below : Below maxGain points gains
     gains-below =
         filled-below maxPoints _ made (h .shaped .few-points) (gains-limit corners-fit points-fit values-fit (h .valid .few-states))
@@ -180,24 +206,14 @@ module _ {c : Counts} {T O : List ℕ} {R corners : List ℤ} {points : ℕ} {we
       abbrev ahead : ℕ → ℤ
       ahead o = roof (successorsIn (c .states) (c .observations) T O p a o)
 
-      -- is that of the level
-      roof-at : (o : ℕ) → ahead o ≡ ceiling (c .states) level (successor (modelIn c T O R) (weightIn p) a o)
-      roof-at o =
-          ceiling-is (c .states) corners points weights values gains _ gained
-          ∙ ceiling-weights (c .states) level _ _ (successors-are c T O R p a o)
-
-      pub backup-at-is : backupAtIn c T O R roof p a ≡ backupAt (modelIn c T O R) level (weightIn p) a
-      unfolding backupAtIn backupAt
-      backup-at-is =
-          rw (expected-is c T O R p a)
-          (ap (λ (z : ℤ). K · expectedReward (modelIn c T O R) (weightIn p) a +ℤ c .discount · z) (sum-cong (c .observations) _ _ (λ o b. roof-at o)))
-
       -- all that is reached with an observation
       abbrev reached : ℕ → ℕ
       reached o = totalTo (c .states) (successor (modelIn c T O R) (weightIn p) a o)
 
       roof-limit : (o : ℕ) → natAbs (ahead o) ≤ reached o * range maxLevels
-      roof-limit o = rw (roof-at o) (ceiling-range (modelIn c T O R) level maxLevels (h .shaped) (successor (modelIn c T O R) (weightIn p) a o))
+      roof-limit o =
+          rw (roof-at c T O R p a level roof-is o)
+          (ceiling-range (modelIn c T O R) level maxLevels (h .shaped) (successor (modelIn c T O R) (weightIn p) a o))
 
     -- Nothing overflows in a backup at weights that total at most maxTotal.
     -- The ceilings so far lie within what is reached so far times the range (`ceiling-range`), and all that is reached is one × one times the total of p
@@ -224,11 +240,3 @@ module _ {c : Counts} {T O : List ℕ} {R corners : List ℤ} {points : ℕ} {we
       gains-fit = gains-below;
       fits = roof-fits;
     }
-
-    -- what each action allows is the model's and the level's
-    module _ (p : List ℕ) {backups : List ℤ} (listed : backups ≡ padded (pos 0) maxActions (c .actions) (backupAtIn c T O R roof p)) where
-      pub backups-at : (a : ℕ) → a < c .actions → getD backups a (pos 0) ≡ backupAt (modelIn c T O R) level (weightIn p) a
-      backups-at a la = rw listed (padded-at (pos 0) maxActions (c .actions) _ a (pos 0) la) ∙ backup-at-is p a
-
-      pub backups-long : length backups ≡ maxActions
-      backups-long = rw listed (padded-length (pos 0) maxActions (c .actions) _ (h .valid .few-actions))

@@ -1,8 +1,9 @@
 -- The backup at weights p, over storage, for a roof that gives a ceiling at any weights; and what keeps it within the limits.
 use Prim.Native.Nat.{ℕ, _*_, _≤_, _<_}
+use mathlib.Core.Path.{_≡_}
 use mathlib.Core.List.{List}
-use lib.ListN.{length}
-use lib.IntN.{ℤ, natAbs, _+ℤ_}
+use lib.ListN.{length, getD}
+use lib.IntN.{ℤ, pos, natAbs, _+ℤ_}
 use Rattle.integers.specs.Whole.{_·_, sumTo, totalTo, Below}
 use Rattle.integers.specs.Cells.{padded}
 use Rattle.tables.specs.declared.Counts.{Counts}
@@ -12,7 +13,7 @@ use Rattle.tables.specs.Storage.{weightIn, modelIn}
 use Rattle.tables.specs.Steps.{Stored}
 use Rattle.sums.specs.Steps.{movedIn, seenIn, expectedIn}
 use Rattle.plans.specs.Limits.{maxTotal, maxReached}
-use Rattle.plans.specs.Level.{Shaped}
+use Rattle.plans.specs.Level.{Level, ceiling, backupAt, Shaped}
 use Rattle.levels.specs.Storage.{roofIn}
 use Rattle.sawtooth.specs.Steps.{ceilingIn, CornersFit, PointsFit, maxGain}
 
@@ -48,6 +49,15 @@ pub record Roof (c : Counts) (transition observation : List ℕ) (reward : List 
   pub gains-fit : Below maxGain points gains
   pub fits : (p : List ℕ) → totalTo (c .states) (weightIn p) ≤ maxTotal → (a : ℕ) → a < c .actions
       → RoofFits (c .states) (c .observations) transition observation (ceilingIn (c .states) corners weights gains points) p a
+
+-- the roof is the ceiling of level L
+abbrev pub CeilingOf : ℕ → (List ℕ → ℤ) → Level → Type 0
+CeilingOf n roof L = (q : List ℕ) → roof q ≡ ceiling n L (weightIn q)
+
+-- what each action allows at weights p: the backup over any level whose ceiling the roof is
+pub record Allowed (c : Counts) (transition observation : List ℕ) (reward : List ℤ) (roof : List ℕ → ℤ) (p : ℕ → ℕ) (backups : List ℤ) : Type 0 where
+  pub backup : (L : Level) → CeilingOf (c .states) roof L → (a : ℕ) → a < c .actions
+      → getD backups a (pos 0) ≡ backupAt (modelIn c transition observation reward) L p a
 
 -- weights of a corner or a point
 pub record Light (n : ℕ) (p : List ℕ) : Type 0 where

@@ -1,17 +1,20 @@
 // What each action allows at some weights, from a standing level.
 ghost use mathlib.Core.Path.{_≡_};
 ghost use Prim.Native.Nat.{_≤_, _<_};
-ghost use lib.ListN.{set, replicate};
+ghost use lib.ListN.{length, set, replicate};
 ghost use lib.IntN.{pos};
 ghost use Rattle.integers.specs.Whole.{sumTo, Below};
 ghost use Rattle.integers.specs.Cells.{padded};
 ghost use Rattle.tables.specs.Limits.{maxStates, maxActions, maxObservations, one};
+ghost use Rattle.tables.specs.Steps.{rowsTo};
 ghost use Rattle.sums.specs.Steps.{seenIn, ObservationsFit, RewardsFit, movedLimit};
 ghost use Rattle.columns.specs.Steps.{Lists};
 ghost use Rattle.engines.specs.Steps.{EngineFits};
-ghost use Rattle.plans.specs.Limits.{maxTotal};
+ghost use Rattle.plans.specs.Limits.{maxPoints, maxTotal};
+ghost use Rattle.plans.specs.Level.{corner-weight, IsPoint};
+ghost use Rattle.levels.specs.Storage.{pointIn};
 ghost use Rattle.sawtooth.specs.Steps.{ceilingIn, CornersFit, PointsFit, maxGain};
-ghost use Rattle.backups.specs.Steps.{backupAtIn, Ahead, RoofFits, Roof, Light};
+ghost use Rattle.backups.specs.Steps.{backupAtIn, Ahead, RoofFits, Roof, Allowed, Light};
 use tables::Action;
 use tables::Counts;
 use tables::Observation;
@@ -97,7 +100,7 @@ fn backup_at<'a, 'b>(
 }
 
 // The same for each action.
-pub fn backups_at<'a, 'b>(
+fn backups_at<'a, 'b>(
     transition: &'a [u16],
     list: &[u32],
     observation: &'a [u16],
@@ -144,4 +147,75 @@ pub fn corner_weights(s: State) -> Weights
     let mut p = [0u64; Tables::STATES];
     p[i] = 1;
     p
+}
+
+// What each action allows at a corner.
+pub fn at_corner<'a, 'b>(
+    transition: &'a [u16],
+    list: &[u32],
+    observation: &'a [u16],
+    reward: &'a [i64],
+    corners: &'b [i64],
+    weights: &'b [u32],
+    gains: &[u64],
+    c: Counts,
+    points: usize,
+    s: State,
+) -> Backups
+    requires { ⌜ Roof c (now transition) (now observation) (now reward) (now corners) (now weights) (now gains) points ⌝ }
+    requires { ⌜ s .0 < c .states ⌝ }
+    requires { ⌜ Lists c (now transition) (now list) ⌝ }
+    ensures { λ r. ⌜ Allowed c (now (transition .entry)) (now (observation .entry)) (now (reward .entry))
+        (ceilingIn (c .states) (now (corners .entry)) (now (weights .entry)) (now (gains .entry)) points) (corner-weight (s .0)) r ⌝ }
+{
+    let p = corner_weights(s);
+    backups_at(
+        transition,
+        list,
+        observation,
+        reward,
+        corners,
+        weights,
+        gains,
+        &p,
+        c,
+        points,
+    )
+}
+
+// What each action allows at point i of those given.
+pub fn at_point<'a, 'b>(
+    transition: &'a [u16],
+    list: &[u32],
+    observation: &'a [u16],
+    reward: &'a [i64],
+    corners: &'b [i64],
+    weights: &'b [u32],
+    gains: &[u64],
+    given: &[u32],
+    c: Counts,
+    points: usize,
+    i: usize,
+) -> Backups
+    requires { ⌜ Roof c (now transition) (now observation) (now reward) (now corners) (now weights) (now gains) points ⌝ }
+    requires { ⌜ (i < maxPoints) × (rowsTo (c .states) i ≤ length (now given)) ⌝ }
+    requires { ⌜ IsPoint (c .states) (pointIn (c .states) (now given) i) ⌝ }
+    requires { ⌜ Lists c (now transition) (now list) ⌝ }
+    ensures { λ r. ⌜ Allowed c (now (transition .entry)) (now (observation .entry)) (now (reward .entry))
+        (ceilingIn (c .states) (now (corners .entry)) (now (weights .entry)) (now (gains .entry)) points)
+        (pointIn (c .states) (now (given .entry)) i) r ⌝ }
+{
+    let p = weights::point_weights(given, c.states, i);
+    backups_at(
+        transition,
+        list,
+        observation,
+        reward,
+        corners,
+        weights,
+        gains,
+        &p,
+        c,
+        points,
+    )
 }

@@ -26,7 +26,7 @@ use tables::read;
 fn seed_weights(weights: &[u32], n: usize, v: Vector) -> Weights
     requires { ⌜ (n ≤ maxStates) × (v .0 < n + maxBuilt) ⌝ }
     requires { ⌜ (n ≤ v .0 → rowsTo n (v .0 - n) ≤ length (now weights)) ⌝ }
-    ensures { λ r. ⌜ ((s : ℕ) → s < n → weightIn r s ≡ seed n (pointIn n (now (weights .entry))) (v .0) s) × (length r ≡ maxStates) ⌝ }
+    ensures { λ r. ⌜ ((s : ℕ) → s < n → weightIn r s ≡ seed n (pointIn n (now (weights .entry))) (v .0) s) ⌝ }
 {
     let i = v.0;
     if i < n {
@@ -145,19 +145,7 @@ pub fn build_level<'a, 'b>(
         covers,
         made,
     );
-    roofing::build_corners(
-        transition,
-        list,
-        observation,
-        reward,
-        corners,
-        weights,
-        values,
-        c,
-        points,
-        least,
-    );
-    roofing::build_values(
+    roofing::build_roof(
         transition,
         list,
         observation,
@@ -169,6 +157,7 @@ pub fn build_level<'a, 'b>(
         c,
         points,
         count,
+        least,
         worths,
     );
 }

@@ -8,6 +8,7 @@ use Rattle.tables.specs.declared.Verdict.the-variants.{Fine, Refused}
 use Rattle.tables.specs.Limits.{maxVectors, maxLevels}
 use Rattle.tables.specs.Model.{Model}
 use Rattle.tables.specs.Storage.{countsOf, modelIn, modelOf}
+use Rattle.tables.specs.Verdicts.{_before_}
 use Rattle.tables.specs.Steps.{rowsTo}
 use Rattle.tables.proofs.Fitting.{rows-stored}
 use Rattle.tables.proofs.Refusals.{stops, goes}
@@ -66,27 +67,17 @@ module _ (m : Tables) (x : Lent) (l : LentLevel) where
       unfolding backupsVerdict
       refused-13 f = goes masks-read d (stops _ floor-read f)
 
-      -- the corners and points of the standing level
+      -- the corners and points of the standing level, and of the offered one
       abbrev standing : Level
       standing = roofIn (m .states) (x .cells .corners) (standingIn x .points) (x .cells .weights) (x .cells .values)
 
-      module _ (f : floor ≡ Fine) {roof : Verdict} (g : roof ≡ cornersVerdict M standing (roofIn (m .states) (l .cells .corners) 0 [] [])) where
-        roof-read : roof ≡ cornersVerdict M L W
-        unfolding cornersVerdict backupAt ceiling gain
-        roof-read = g
+      abbrev offered : Level
+      offered = roofIn (m .states) (l .cells .corners) (l .points) (l .cells .weights) (l .cells .values)
 
-        pub refused-14 : {k i : ℕ} → roof ≡ Refused k i → roof ≡ backupsVerdict M L W
-        unfolding backupsVerdict
-        refused-14 h = goes masks-read d (goes floor-read f (stops _ roof-read h))
-
-        module _ {points : Verdict} (p : points ≡ pointsVerdict M standing (roofIn (m .states) [] (l .points) (l .cells .weights) (l .cells .values))) where
-          points-read : points ≡ pointsVerdict M L W
-          unfolding pointsVerdict backupAt ceiling gain
-          points-read = p
-
-          pub left-15 : roof ≡ Fine → points ≡ backupsVerdict M L W
-          unfolding backupsVerdict
-          left-15 h = goes masks-read d (goes floor-read f (goes roof-read h points-read))
+      pub left-14 : floor ≡ Fine → {roof : Verdict} → roof ≡ (cornersVerdict M standing offered before pointsVerdict M standing offered)
+          → roof ≡ backupsVerdict M L W
+      unfolding backupsVerdict cornersVerdict pointsVerdict backupAt ceiling gain
+      left-14 f g = goes masks-read d (goes floor-read f g)
 
   -- ---- what is lent to the tests of 21 and 13 to 15
   module _ (f : Fitting maxVectors m x l) where

@@ -243,7 +243,7 @@ fn judge_backups<'a, 'b, 'c>(
     let Verdict::Fine = floor else {
         return floor;
     };
-    let roof = roofs::corners_hold(
+    roofs::roof_holds(
         transition,
         list,
         observation,
@@ -252,20 +252,6 @@ fn judge_backups<'a, 'b, 'c>(
         weights,
         values,
         newcorners,
-        c,
-        s.points,
-    );
-    let Verdict::Fine = roof else {
-        return roof;
-    };
-    roofs::points_hold(
-        transition,
-        list,
-        observation,
-        reward,
-        corners,
-        weights,
-        values,
         newweights,
         newvalues,
         c,

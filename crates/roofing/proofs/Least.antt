@@ -1,34 +1,26 @@
 -- Laws of the least values. Assumes nothing.
-use Rattle.integers.proofs.Kit.{_≡_, _∙_, ap, List, ℕ, _<_, _^_, getD, ℤ, pos, mag, w64, toZ, ofZ}
+use Rattle.integers.proofs.Kit.{_≡_, _∙_, ap, List, ℕ, _<_, _^_, ℤ, mag, w64, toZ, ofZ}
 use Rattle.integers.specs.Whole.{ceilDiv}
 use Rattle.integers.proofs.Words.{answer}
 use Rattle.integers.proofs.Searches.{largest-cong, largest-in}
+use Rattle.tables.specs.declared.Counts.{Counts}
 use Rattle.tables.specs.Limits.{K}
-use Rattle.tables.specs.Model.{Model}
-use Rattle.plans.specs.Level.{Level, backupAt}
+use Rattle.tables.specs.Storage.{modelIn}
+use Rattle.plans.specs.Level.{Level}
 use Rattle.plans.specs.Build.{leastFor, leastValue}
-use Rattle.plans.proofs.Agreement.{backupAt-weights}
+use Rattle.backups.specs.Steps.{CeilingOf, Allowed}
 use Rattle.roofing.specs.Steps.{leastFrom, leastRoof}
 
 -- ---- the least value, from what each action allows
-pub least-is : (M : Model) (L : Level) (p : ℕ → ℕ) (backups : List ℤ) → ((a : ℕ) → a < M .actions → getD backups a (pos 0) ≡ backupAt M L p a)
-    → 0 < M .actions → leastRoof (M .actions) backups ≡ leastValue M L p
-unfolding leastValue leastFor
-least-is M L p backups h some =
-    let same = largest-cong (M .actions) (leastFrom backups) (λ a. ceilDiv (backupAt M L p a) K) some (λ a l. ap (λ (z : ℤ). ceilDiv z K) (h a l)) in
-    ap (λ (z : ℤ). ceilDiv z K) (h _ (largest-in (M .actions) (leastFrom backups) some)) ∙ ap (λ (a : ℕ). ceilDiv (backupAt M L p a) K) same
+module _ {c : Counts} {T O : List ℕ} {R : List ℤ} {roof : List ℕ → ℤ} {p : ℕ → ℕ} {backups : List ℤ} (h : Allowed c T O R roof p backups)
+    (some : 0 < c .actions) (L : Level) (is : CeilingOf (c .states) roof L) where
+  least-is : leastRoof (c .actions) backups ≡ leastValue (modelIn c T O R) L p
+  unfolding leastValue leastFor
+  least-is =
+      let f = leastFrom backups in let n = c .actions in
+      let same = largest-cong n f (leastFor (modelIn c T O R) L p) some (λ a l. ap (λ (z : ℤ). ceilDiv z K) (h .backup L is a l)) in
+      ap (λ (z : ℤ). ceilDiv z K) (h .backup L is _ (largest-in n f some)) ∙ ap (leastFor (modelIn c T O R) L p) same
 
--- ---- weights are read below the number of states only
-module _ (M : Model) (L : Level) (p p' : ℕ → ℕ) (h : (s : ℕ) → s < M .states → p s ≡ p' s) (some : 0 < M .actions) where
-  for-weights : (a : ℕ) → leastFor M L p a ≡ leastFor M L p' a
-  unfolding leastFor
-  for-weights a = ap (λ (z : ℤ). ceilDiv z K) (backupAt-weights M L p p' a h)
-
-  value-weights : leastValue M L p ≡ leastValue M L p'
-  unfolding leastValue
-  value-weights =
-      for-weights _ ∙ ap (leastFor M L p') (largest-cong (M .actions) (leastFor M L p) (leastFor M L p') some (λ a l. for-weights a))
-
-  -- an answer at p, from its bits
-  pub value-at : {z : ℤ} → mag z < 2 ^ 63 → z ≡ leastValue M L p → toZ w64 (ofZ w64 z) ≡ leastValue M L p'
-  value-at ok e = answer ok (e ∙ value-weights)
+  -- an answer, from its bits
+  pub least-said : {z : ℤ} → mag z < 2 ^ 63 → z ≡ leastRoof (c .actions) backups → toZ w64 (ofZ w64 z) ≡ leastValue (modelIn c T O R) L p
+  least-said ok e = answer ok (e ∙ least-is)

@@ -9,13 +9,14 @@ ghost use Rattle.integers.specs.Whole.{_·_};
 ghost use Rattle.integers.specs.Search.{every};
 ghost use Rattle.tables.specs.Limits.{maxEntry, K};
 ghost use Rattle.tables.specs.Storage.{modelIn};
+ghost use Rattle.tables.specs.Verdicts.{_before_};
 ghost use Rattle.plans.specs.Limits.{maxTotal};
-ghost use Rattle.plans.specs.Level.{IsPoint};
+ghost use Rattle.plans.specs.Level.{Level, IsPoint};
 ghost use Rattle.levels.specs.Storage.{pointIn, roofIn};
 ghost use Rattle.levels.specs.Judged.{cornersVerdict, pointsVerdict};
-ghost use Rattle.sawtooth.specs.Steps.{CornersFit, PointsFit, ValuesFit};
+ghost use Rattle.sawtooth.specs.Steps.{ceilingIn, CornersFit, PointsFit, ValuesFit};
 ghost use Rattle.columns.specs.Steps.{Lists};
-ghost use Rattle.backups.specs.Steps.{Roofed};
+ghost use Rattle.backups.specs.Steps.{Roof, CeilingOf, Roofed};
 use tables::Counts;
 use tables::State;
 use tables::Tables;
@@ -37,40 +38,39 @@ fn covers(backups: &[i64], actions: usize, w: i64) -> bool
 }
 
 // 14: the first corner below its backup.
-pub fn corners_hold<'a, 'b>(
+fn corners_hold<'a, 'b>(
     transition: &'a [u16],
     list: &[u32],
     observation: &'a [u16],
     reward: &'a [i64],
     corners: &'b [i64],
     weights: &'b [u32],
-    values: &'b [i64],
+    gains: &[u64],
     offered: &[i64],
     c: Counts,
     points: usize,
 ) -> Verdict
-    requires { ⌜ Roofed c (now transition) (now observation) (now reward) (now corners) points (now weights) (now values) ⌝ }
+    requires { ⌜ Roof c (now transition) (now observation) (now reward) (now corners) (now weights) (now gains) points ⌝ }
     requires { ⌜ CornersFit (c .states) (now offered) ⌝ }
     requires { ⌜ Lists c (now transition) (now list) ⌝ }
-    ensures { λ r. ⌜ r ≡ cornersVerdict (modelIn c (now (transition .entry)) (now (observation .entry)) (now (reward .entry)))
-        (roofIn (c .states) (now (corners .entry)) points (now (weights .entry)) (now (values .entry))) (roofIn (c .states)
-        (now (offered .entry)) 0 [] []) ⌝ }
+    ensures { λ r. ⌜ ((L : Level) → CeilingOf (c .states)
+        (ceilingIn (c .states) (now (corners .entry)) (now (weights .entry)) (now (gains .entry)) points) L
+        → r ≡ cornersVerdict (modelIn c (now (transition .entry)) (now (observation .entry)) (now (reward .entry))) L
+        (roofIn (c .states) (now (offered .entry)) 0 [] [])) ⌝ }
 {
     let n = c.states;
-    let gains = ceilings::gains(corners, weights, values, points, n);
     for s in 0..n {
-        let p = backups::corner_weights(State(s));
-        let backups = backups::backups_at(
+        let backups = backups::at_corner(
             transition,
             list,
             observation,
             reward,
             corners,
             weights,
-            &gains,
-            &p,
+            gains,
             c,
             points,
+            State(s),
         );
         if !covers(&backups, c.actions, offered[s]) {
             return Verdict::Refused(14, s);
@@ -80,7 +80,53 @@ pub fn corners_hold<'a, 'b>(
 }
 
 // 15: the first point below its backup.
-pub fn points_hold<'a, 'b, 'c>(
+fn points_hold<'a, 'b, 'c>(
+    transition: &'a [u16],
+    list: &[u32],
+    observation: &'a [u16],
+    reward: &'a [i64],
+    corners: &'b [i64],
+    weights: &'b [u32],
+    gains: &[u64],
+    offered: &'c [u32],
+    at: &'c [i64],
+    c: Counts,
+    points: usize,
+    count: usize,
+) -> Verdict
+    requires { ⌜ Roof c (now transition) (now observation) (now reward) (now corners) (now weights) (now gains) points ⌝ }
+    requires { ⌜ PointsFit (c .states) count (now offered) ⌝ }
+    requires { ⌜ ValuesFit count (now at) ⌝ }
+    requires { ⌜ ((i : ℕ) → i < count → IsPoint (c .states) (pointIn (c .states) (now offered) i)) ⌝ }
+    requires { ⌜ Lists c (now transition) (now list) ⌝ }
+    ensures { λ r. ⌜ ((L : Level) → CeilingOf (c .states)
+        (ceilingIn (c .states) (now (corners .entry)) (now (weights .entry)) (now (gains .entry)) points) L
+        → r ≡ pointsVerdict (modelIn c (now (transition .entry)) (now (observation .entry)) (now (reward .entry))) L
+        (roofIn (c .states) [] count (now (offered .entry)) (now (at .entry)))) ⌝ }
+{
+    for i in 0..count {
+        let backups = backups::at_point(
+            transition,
+            list,
+            observation,
+            reward,
+            corners,
+            weights,
+            gains,
+            offered,
+            c,
+            points,
+            i,
+        );
+        if !covers(&backups, c.actions, at[i]) {
+            return Verdict::Refused(15, i);
+        }
+    }
+    Verdict::Fine
+}
+
+// 14, then 15: the gains of the standing level are worked out once for both.
+pub fn roof_holds<'a, 'b, 'c>(
     transition: &'a [u16],
     list: &[u32],
     observation: &'a [u16],
@@ -88,40 +134,49 @@ pub fn points_hold<'a, 'b, 'c>(
     corners: &'b [i64],
     weights: &'b [u32],
     values: &'b [i64],
-    offered: &'c [u32],
-    at: &'c [i64],
+    newcorners: &'c [i64],
+    newweights: &'c [u32],
+    newvalues: &'c [i64],
     c: Counts,
     points: usize,
     count: usize,
 ) -> Verdict
     requires { ⌜ Roofed c (now transition) (now observation) (now reward) (now corners) points (now weights) (now values) ⌝ }
-    requires { ⌜ PointsFit (c .states) count (now offered) ⌝ }
-    requires { ⌜ ValuesFit count (now at) ⌝ }
-    requires { ⌜ ((i : ℕ) → i < count → IsPoint (c .states) (pointIn (c .states) (now offered) i)) ⌝ }
+    requires { ⌜ Roofed c (now transition) (now observation) (now reward) (now newcorners) count (now newweights) (now newvalues) ⌝ }
     requires { ⌜ Lists c (now transition) (now list) ⌝ }
-    ensures { λ r. ⌜ r ≡ pointsVerdict (modelIn c (now (transition .entry)) (now (observation .entry)) (now (reward .entry)))
-        (roofIn (c .states) (now (corners .entry)) points (now (weights .entry)) (now (values .entry)))
-        (roofIn (c .states) [] count (now (offered .entry)) (now (at .entry))) ⌝ }
+    ensures { λ r. ⌜ (let M = modelIn c (now (transition .entry)) (now (observation .entry)) (now (reward .entry)) in
+        let L = roofIn (c .states) (now (corners .entry)) points (now (weights .entry)) (now (values .entry)) in
+        let W = roofIn (c .states) (now (newcorners .entry)) count (now (newweights .entry)) (now (newvalues .entry)) in
+        r ≡ (cornersVerdict M L W before pointsVerdict M L W)) ⌝ }
 {
-    let n = c.states;
-    let gains = ceilings::gains(corners, weights, values, points, n);
-    for i in 0..count {
-        let p = weights::point_weights(offered, n, i);
-        let backups = backups::backups_at(
-            transition,
-            list,
-            observation,
-            reward,
-            corners,
-            weights,
-            &gains,
-            &p,
-            c,
-            points,
-        );
-        if !covers(&backups, c.actions, at[i]) {
-            return Verdict::Refused(15, i);
-        }
-    }
-    Verdict::Fine
+    let gains = ceilings::gains(corners, weights, values, points, c.states);
+    let roof = corners_hold(
+        transition,
+        list,
+        observation,
+        reward,
+        corners,
+        weights,
+        &gains,
+        newcorners,
+        c,
+        points,
+    );
+    let Verdict::Fine = roof else {
+        return roof;
+    };
+    points_hold(
+        transition,
+        list,
+        observation,
+        reward,
+        corners,
+        weights,
+        &gains,
+        newweights,
+        newvalues,
+        c,
+        points,
+        count,
+    )
 }

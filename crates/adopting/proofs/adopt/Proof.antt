@@ -26,11 +26,8 @@ of-level c = c .before .before
 abbrev of-vectors : tie.After-write-vectors → tie.After-enum-told3
 of-vectors c = c .before .before .before .before .before
 
-abbrev of-corners : tie.After-build-corners-arg → tie.After-write-vectors
-of-corners c = c .before .before .before .before .before .before .before .before .before
-
-abbrev of-values : tie.After-build-values-arg → tie.After-build-corners
-of-values c = c .before .before .before
+abbrev of-roof : tie.After-build-roof-arg2 → tie.After-write-vectors
+of-roof c = c .before .before .before .before .before .before .before .before .before .before
 
 abbrev after-write-vectors-arg : tie.After-write-vectors-arg4 → tie.After-write-vectors-arg
 after-write-vectors-arg c = c .before .before .before
@@ -143,38 +140,29 @@ write-vectors-requires c κs =
     vectors-ask (tables s) (certifier s []) (a .alpha .now) (a .graph .now) (a .count) (answer s) (known e []) (stands n) (vectors-are e)
     (second-fine t [])
 
-build-corners-requires : tie.Need-build-corners-requires
-build-corners-requires c κs =
-    let n = of-level (of-vectors (of-corners c)) .before in
-    let e = n .before in
-    let s = start (of-files e) in
-    let a = s .args in (
-      roof-asks (tables s) (certifier s []) (a .alpha .now) (a .graph .now) (a .count) (answer s) (known e []) (stands n) (vectors-are e),
-      (known e [] .whole .read .corners, λ i l some. absurd (omega arith)),
-    )
-
-build-values-requires : tie.Need-build-values-requires
-build-values-requires c κs =
-    let t = of-vectors (of-corners (of-values c .before)) in
+build-roof-requires : tie.Need-build-roof-requires
+build-roof-requires c κs =
+    let t = of-vectors (of-roof c) in
     let n = of-level t .before in
     let e = n .before in
     let s = start (of-files e) in
     let a = s .args in
-    let k = known e [] in (
+    let k = known e [] in
+    let long = k .whole .read in (
       roof-asks (tables s) (certifier s []) (a .alpha .now) (a .graph .now) (a .count) (answer s) k (stands n) (vectors-are e),
       (
-        (k .few, k .whole .read .weights),
+        (k .few, long .weights),
         (
           points-are (tables s) (certifier s []) (a .alpha .now) (a .graph .now) (a .count) (answer s) k (stands n) (vectors-are e) (second-fine t []),
-          (k .whole .read .values, λ i l some. absurd (omega arith)),
+          ((long .corners, long .values), λ i l some. absurd (omega arith)),
         ),
       ),
     )
 
 returns-3 : tie.Need-returns-3
 returns-3 c =
-    let b = of-values (c .before .before) in
-    let w = of-corners (b .before) in
+    let b = c .before .before in
+    let w = of-roof (b .before) in
     let t = of-vectors w in
     let l = of-level t in
     let n = l .before in
@@ -186,16 +174,16 @@ returns-3 c =
       (
         λ choices. adopted-fine (tables s) (certifier s choices) (a .alpha .now) (a .graph .now) (a .count) (answer s) (said l choices) told
             (level-laid (tables s) (certifier s choices) (a .alpha .now) (a .graph .now) (a .count) (answer s) (known e choices) (stands n) (vectors-are e)
-            (second-fine t choices) (w .write-vectors .ensures) (b .build-corners .ensures) (c .before .build-values .ensures)),
+            (second-fine t choices) (w .write-vectors .ensures) (b .build-roof .ensures .0) (b .build-roof .ensures .1)),
         λ choices h. adopt-demand (tables s) (certifier s choices) (a .alpha .now) (a .graph .now) (a .count) (answer s) (said l choices)
             (adopted-fine (tables s) (certifier s choices) (a .alpha .now) (a .graph .now) (a .count) (answer s) (said l choices) told
             (level-laid (tables s) (certifier s choices) (a .alpha .now) (a .graph .now) (a .count) (answer s) (known e choices) (stands n) (vectors-are e)
-            (second-fine t choices) (w .write-vectors .ensures) (b .build-corners .ensures) (c .before .build-values .ensures))) told,
+            (second-fine t choices) (w .write-vectors .ensures) (b .build-roof .ensures .0) (b .build-roof .ensures .1))) told,
       ),
     )
 
 pub adopt-spec : {M : Type 1} → statement M
 adopt-spec =
     tie.close (tie.spec (λ c κs. search needs) (λ c. search needs) (λ c. search needs) returns standing-in-requires judge-level-requires
-    (λ c. search needs) (λ c. search needs) returns-2 write-vectors-requires (λ c. refl) build-corners-requires (λ c. refl) build-values-requires
-    (λ c. search needs) (λ c. search needs) (λ c. search needs) (λ c. search needs) (λ c. search needs) (λ c. search needs) returns-3)
+    (λ c. search needs) (λ c. search needs) returns-2 write-vectors-requires (λ c. refl) build-roof-requires (λ c. search needs) (λ c. search needs)
+    (λ c. search needs) (λ c. search needs) (λ c. search needs) (λ c. search needs) returns-3)

@@ -11,11 +11,8 @@ use Rattle.builder.proofs.build_level.Tie as tie
 abbrev begun : tie.After-build-vectors-arg4 → tie.Start
 begun c = c .before .before .before .before .before .before .before .before .before .before .before .before .before
 
-abbrev vectors-made : tie.After-build-corners-arg → tie.After-build-vectors
-vectors-made c = c .before .before .before .before .before .before .before .before
-
-abbrev corners-made : tie.After-build-values-arg → tie.After-build-corners
-corners-made c = c .before .before
+abbrev vectors-made : tie.After-build-roof-arg2 → tie.After-build-vectors
+vectors-made c = c .before .before .before .before .before .before .before .before .before
 
 -- the slices that are lent for the level, and the tables
 abbrev lent : tie.Start → Cells
@@ -41,26 +38,23 @@ build-vectors-requires c κs =
       ),
     )
 
-build-corners-requires : tie.Need-build-corners-requires
-build-corners-requires c κs = let s = begun (vectors-made c .before) in let (_, (roofed, (_, (_, lists)))) = s .pre in (roofed, (fit s .read .corners, lists))
-
-build-values-requires : tie.Need-build-values-requires
-build-values-requires c κs =
-    let s = begun (vectors-made (corners-made c .before) .before) in
+build-roof-requires : tie.Need-build-roof-requires
+build-roof-requires c κs =
+    let s = begun (vectors-made c .before) in
     let f = fit s .read in
     let (_, (roofed, ((few, points), (_, lists)))) = s .pre in
-    (roofed, ((few, f .weights), (points, (f .values, lists))))
+    (roofed, ((few, f .weights), (points, ((f .corners, f .values), lists))))
 
 returns : tie.Need-returns
 returns c =
-    let r = corners-made (c .before .before) in
+    let r = c .before .before in
     let v = vectors-made (r .before) in
     let s = begun (v .before) in
     let a = s .args in
     level-made (tables s) (a .vectors) (a .masks .now) (a .entries .now) (a .corners .now) (a .points) (a .weights .now) (a .values .now) (a .count)
-    (lent s) (fit s .read .weights) (v .build-vectors .ensures) (r .build-corners .ensures) (c .before .build-values .ensures)
+    (lent s) (fit s .read .weights) (v .build-vectors .ensures) (r .build-roof .ensures .0) (r .build-roof .ensures .1)
 
 pub build-level-spec : {M : Type 1} → statement M
 build-level-spec =
-    tie.close (tie.spec build-vectors-requires build-corners-requires build-values-requires (λ c. search needs) (λ c. search needs) (λ c. search needs)
-    (λ c. search needs) (λ c. search needs) (λ c. search needs) returns)
+    tie.close (tie.spec build-vectors-requires build-roof-requires (λ c. search needs) (λ c. search needs) (λ c. search needs) (λ c. search needs)
+    (λ c. search needs) (λ c. search needs) returns)

@@ -1,4 +1,4 @@
-use Rattle.builder.proofs.Prelude.{_-_, _≤_, _<_, _≡_, sym, arith, modelIn, pointIn}
+use Rattle.builder.proofs.Prelude.{_-_, _≤_, _<_, _≡_, sym, arith, needs, modelIn, pointIn}
 use Rattle.integers.proofs.Kit.{List, ℕ, _+_, ℤ}
 use Rattle.integers.proofs.Sums.{total-cong}
 use Rattle.tables.specs.declared.Counts.{Counts}
@@ -69,12 +69,12 @@ best-candidate-requires c κs =
     let i = c .before .before in
     let s = start (i .before) in let (upon, (_, (points, (_, lists)))) = s .pre in
     let a = s .args in
-    let made = c .before .seed-weights .ensures in (
+    let seeds = c .before .seed-weights in (
       upon,
       (
         record {
-          long = omega (arith, made .1, upon .valid .few-states);
-          light = rw (total-cong (a .c .states) _ _ (made .0))
+          long = omega (arith, seeds .ok, upon .valid .few-states);
+          light = rw (total-cong (a .c .states) _ _ (seeds .ensures))
               (seed-light (a .c .states) (a .points) (pointIn (a .c .states) (a .weights .now)) points (i .before .loop .v) (i .loop-test .taken));
         },
         lists,
@@ -91,7 +91,7 @@ made c =
     let l = of-best c .before in
     let s = start l in
     let seeds = c .before .before .seed-weights in
-    vector-made (s .args .points) (pointIn (s .args .c .states) (s .args .weights .now)) (l .loop .v) (seeds .result) (s .pre .0) (seeds .ensures .0)
+    vector-made (s .args .points) (pointIn (s .args .c .states) (s .args .weights .now)) (l .loop .v) (seeds .result) (s .pre .0) (seeds .ensures)
     (c .best-candidate .ensures)
 
 -- there is room for its rows
@@ -157,7 +157,7 @@ returns c =
 pub build-vectors-spec : {M : Type 1} → statement M
 build-vectors-spec =
     tie.close (tie.spec Inv-loop μ-loop add-count all-requires (λ c. (omega arith, filled-none _ _ _)) seed-weights-requires
-    (λ c. sym (c .before .seed-weights .ensures .1)) best-candidate-requires (λ c κs. made (of-row c) .action-in)
+    (λ c. search needs) best-candidate-requires (λ c κs. made (of-row c) .action-in)
     (λ c. room (of-row (c .before)) .actions-fit) (λ c. omega (arith, below (of-best (of-row (c .before)))))
     (λ c. room (of-row (c .before)) .masks-fit) start-requires (λ c. sym (made (of-choices (c .before .before)) .chosen-long)) paste-u16-requires
     start-requires-2 (λ c. sym (made (of-entries (c .before .before)) .entries-long)) paste-i64-requires

@@ -6,8 +6,7 @@ use Rattle.levels.specs.Storage.{LentLevel, Lent, cells, rows, lent, lentFor, s
 use Rattle.columns.specs.Steps.{Lists}
 use Rattle.lists.proofs.Fitting.{list-listed}
 use Rattle.runs.proofs.Judged.{Fitting, fitting}
-use Rattle.backups.proofs.Roofs.{corners-fit, points-fit, values-fit}
-use Rattle.judging.proofs.Offers.{refused-21, refused-13, refused-14, left-15, reaching, judging, standing-roof, offered-roof, offered-shaped}
+use Rattle.judging.proofs.Offers.{refused-21, refused-13, left-14, reaching, judging, standing-roof, offered-roof, offered-shaped}
 use Rattle.judging.proofs.judge_backups.Statement.{statement}
 use Rattle.judging.proofs.judge_backups.Tie as tie
 
@@ -20,9 +19,6 @@ start c = first (c .before .before)
 
 abbrev of-floor : tie.After-floors-hold → tie.After-masks-hold
 of-floor c = c .before .before .before
-
-abbrev of-roof : tie.After-corners-hold → tie.After-floors-hold
-of-roof c = c .before .before .before
 
 -- what is lent
 abbrev tables : tie.Start → Tables
@@ -73,44 +69,24 @@ returns-2 c =
     refused-13 (tables s) (certifier s) (offered s) (m .masks-hold .ensures) (f .before .enum-told .given .1) (f .floors-hold .ensures)
     (c .enum-told4 .given .1)
 
-corners-hold-requires : tie.Need-corners-hold-requires
-corners-hold-requires c κs =
+roof-holds-requires : tie.Need-roof-holds-requires
+roof-holds-requires c κs =
     let m = of-floor (c .before .before) in
     let s = start m in
     rw (stands (m .before)) (
       standing-roof (tables s) (certifier s) (offered s) (known s),
-      (corners-fit (offered-roof (tables s) (certifier s) (offered s) (known s)), lists s),
+      (offered-roof (tables s) (certifier s) (offered s) (known s), lists s),
     )
 
 returns-3 : tie.Need-returns-3
 returns-3 c =
-    let r = c .before .before in
-    let f = of-roof r in
+    let f = c .before .before .before in
     let m = of-floor f in
     let s = start m in
-    refused-14 (tables s) (certifier s) (offered s) (m .masks-hold .ensures) (f .before .enum-told .given .1) (f .floors-hold .ensures)
-    (r .before .enum-told3 .given .1) (rw (stands (m .before)) at (r .corners-hold .ensures)) (c .enum-told6 .given .1)
-
-points-hold-requires : tie.Need-points-hold-requires
-points-hold-requires c κs =
-    let m = of-floor (of-roof (c .before .before)) in
-    let s = start m in
-    let w = offered-roof (tables s) (certifier s) (offered s) (known s) in
-    rw (stands (m .before)) (
-      standing-roof (tables s) (certifier s) (offered s) (known s),
-      (points-fit w, (values-fit w, (offered-shaped (tables s) (certifier s) (offered s) (known s) .total, lists s))),
-    )
-
-returns-4 : tie.Need-returns-4
-returns-4 c =
-    let e = c .before .before .before .before in let r = c .before .before .before in let f = of-roof r in
-    let m = of-floor f in let s = start m in
-    left-15 (tables s) (certifier s) (offered s) (m .masks-hold .ensures) (f .before .enum-told .given .1) (f .floors-hold .ensures)
-    (e .enum-told3 .given .1) (rw (stands (m .before)) at (r .corners-hold .ensures)) (rw (stands (m .before)) at (c .points-hold .ensures))
-    (c .before .enum-told5 .given .1)
+    left-14 (tables s) (certifier s) (offered s) (m .masks-hold .ensures) (f .before .enum-told .given .1) (f .floors-hold .ensures)
+    (c .before .enum-told3 .given .1) (rw (stands (m .before)) at (c .roof-holds .ensures))
 
 pub judge-backups-spec : {M : Type 1} → statement M
 judge-backups-spec =
     tie.close (tie.spec (λ c κs. known (first c) .standing .state-long) masks-hold-requires (λ c. search needs) (λ c. search needs) returns
-    floors-hold-requires (λ c. search needs) (λ c. search needs) returns-2 corners-hold-requires (λ c. search needs) (λ c. search needs) returns-3
-    points-hold-requires returns-4)
+    floors-hold-requires (λ c. search needs) (λ c. search needs) returns-2 roof-holds-requires returns-3)
