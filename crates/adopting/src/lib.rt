@@ -45,25 +45,12 @@ pub fn adopt<'a, 'b, 'c>(
         (now (weights .entry)) (now (values .entry))) (rows (now (informed .entry)) (now (qmdp .entry))) in
         let y = cells (now (newactions .entry)) (now (newchoices .entry)) (now (newmasks .entry)) (now (newentries .entry)) (now (newcorners .entry))
         (now (given .entry)) (now (newvalues .entry)) in
-        r ≡ adoptAnswer (adoptVerdict m standing (now (alpha .entry)) (now (graph .entry)) count y) (vectorsIn (c .states) (now (alpha .entry)))) ⌝ }
-    ensures { λ _. ⌜ ((choices : List ℕ) →
-        let m = tablesIn c (now (transition .entry)) (now (observation .entry)) (now (reward .entry)) in
-        let standing = lent (now (state .entry)) (cells (now (actions .entry)) choices (now (masks .entry)) (now (entries .entry)) (now (corners .entry))
-        (now (weights .entry)) (now (values .entry))) (rows (now (informed .entry)) (now (qmdp .entry))) in
-        let y = cells (now (newactions .entry)) (now (newchoices .entry)) (now (newmasks .entry)) (now (newentries .entry)) (now (newcorners .entry))
-        (now (given .entry)) (now (newvalues .entry)) in
         let made = cells (now (newactions .exit)) (now (newchoices .exit)) (now (newmasks .exit)) (now (newentries .exit)) (now (newcorners .exit))
         (now (given .entry)) (now (newvalues .exit)) in
-        made ≡ adopted m standing (now (alpha .entry)) (now (graph .entry)) count y) ⌝ }
-    ensures { λ r. ⌜ ((choices : List ℕ) →
-        let m = tablesIn c (now (transition .entry)) (now (observation .entry)) (now (reward .entry)) in
-        let standing = lent (now (state .entry)) (cells (now (actions .entry)) choices (now (masks .entry)) (now (entries .entry)) (now (corners .entry))
-        (now (weights .entry)) (now (values .entry))) (rows (now (informed .entry)) (now (qmdp .entry))) in
-        let y = cells (now (newactions .entry)) (now (newchoices .entry)) (now (newmasks .entry)) (now (newentries .entry)) (now (newcorners .entry))
-        (now (given .entry)) (now (newvalues .entry)) in
-        let made = cells (now (newactions .exit)) (now (newchoices .exit)) (now (newmasks .exit)) (now (newentries .exit)) (now (newcorners .exit))
-        (now (given .entry)) (now (newvalues .exit)) in
-        r .verdict ≡ Fine → AdoptHolds m standing (now (alpha .entry)) (now (graph .entry)) count y made) ⌝ }
+        let v = adoptVerdict m standing (now (alpha .entry)) (now (graph .entry)) count y in
+        (r ≡ adoptAnswer v (vectorsIn (c .states) (now (alpha .entry))))
+        × ((made ≡ adopted m standing (now (alpha .entry)) (now (graph .entry)) count y)
+        × (r .verdict ≡ Fine → AdoptHolds m standing (now (alpha .entry)) (now (graph .entry)) count y made))) ⌝ }
 {
     let files = adoptable::judge_files(
         transition,

@@ -54,26 +54,12 @@ pub extern "C" fn biidhaqun_adopt<'a, 'b, 'c>(
         (now (weights .entry)) (now (values .entry))) (rows (now (informed .entry)) (now (qmdp .entry))) in
         let y = cells (now (newactions .entry)) (now (newchoices .entry)) (now (newmasks .entry)) (now (newentries .entry)) (now (newcorners .entry))
         (now (given .entry)) (now (newvalues .entry)) in
-        r ≡ adoptionBy (adoptAnswer (adoptVerdict tables standing (now (alpha .entry)) (now (graph .entry)) count y) (vectorsIn n (now (alpha .entry))))) ⌝ }
-    ensures { λ _. ⌜ ((choices : List ℕ) →
-        let tables = tablesBy n m k g (now (transition .entry)) (now (observation .entry)) (now (reward .entry)) in
-        let standing = lent (now (state .entry)) (cells (now (actions .entry)) choices (now (masks .entry)) (now (entries .entry)) (now (corners .entry))
-        (now (weights .entry)) (now (values .entry))) (rows (now (informed .entry)) (now (qmdp .entry))) in
-        let y = cells (now (newactions .entry)) (now (newchoices .entry)) (now (newmasks .entry)) (now (newentries .entry)) (now (newcorners .entry))
-        (now (given .entry)) (now (newvalues .entry)) in
-        let laid = cells (now (newactions .exit)) (now (newchoices .exit)) (now (newmasks .exit)) (now (newentries .exit)) (now (newcorners .exit))
+        let made = cells (now (newactions .exit)) (now (newchoices .exit)) (now (newmasks .exit)) (now (newentries .exit)) (now (newcorners .exit))
         (now (given .entry)) (now (newvalues .exit)) in
-        laid ≡ adopted tables standing (now (alpha .entry)) (now (graph .entry)) count y) ⌝ }
-    ensures { λ _. ⌜ ((choices : List ℕ) →
-        let tables = tablesBy n m k g (now (transition .entry)) (now (observation .entry)) (now (reward .entry)) in
-        let standing = lent (now (state .entry)) (cells (now (actions .entry)) choices (now (masks .entry)) (now (entries .entry)) (now (corners .entry))
-        (now (weights .entry)) (now (values .entry))) (rows (now (informed .entry)) (now (qmdp .entry))) in
-        let y = cells (now (newactions .entry)) (now (newchoices .entry)) (now (newmasks .entry)) (now (newentries .entry)) (now (newcorners .entry))
-        (now (given .entry)) (now (newvalues .entry)) in
-        let laid = cells (now (newactions .exit)) (now (newchoices .exit)) (now (newmasks .exit)) (now (newentries .exit)) (now (newcorners .exit))
-        (now (given .entry)) (now (newvalues .exit)) in
-        adoptVerdict tables standing (now (alpha .entry)) (now (graph .entry)) count y ≡ Fine
-        → AdoptHolds tables standing (now (alpha .entry)) (now (graph .entry)) count y laid) ⌝ }
+        let v = adoptVerdict tables standing (now (alpha .entry)) (now (graph .entry)) count y in
+        (r ≡ adoptionBy (adoptAnswer v (vectorsIn n (now (alpha .entry)))))
+        × ((made ≡ adopted tables standing (now (alpha .entry)) (now (graph .entry)) count y)
+        × (v ≡ Fine → AdoptHolds tables standing (now (alpha .entry)) (now (graph .entry)) count y made))) ⌝ }
 {
     let c = Counts {
         states: n,

@@ -75,7 +75,8 @@ unfolding offersIn
 running-more {m} {b} {x} {y} {z} {i} {a} {k} {v} {l} r h e f g =
     let ls = offersIn m b i in
     let more : ls ++ (l ∷ []) ≡ offersIn m b (suc i) = ap (λ (l : LentLevel). ls ++ (l ∷ [])) h in
-    let said : k ≡ tally (offerVerdict m (offeredAll m x ls) l) = g ∙ (tally-left v ∙ (ap tally e ∙ ap (λ (y : Lent). tally (offerVerdict m y l)) (r .left-is))) in
+    let said : k ≡ tally (offerVerdict m (offeredAll m x ls) l) =
+    g ∙ (tally-left v ∙ (ap tally e ∙ ap (λ (y : Lent). tally (offerVerdict m y l)) (r .left-is))) in
     rw (add-one i) record {
       left-is = f ∙ (ap (λ (y : Lent). offered m y l) (r .left-is) ∙ (sym (offered-more m x ls l) ∙ ap (offeredAll m x) more));
       accepted-is =

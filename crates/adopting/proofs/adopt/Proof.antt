@@ -98,16 +98,10 @@ returns c =
     let s = start f in
     let a = s .args in
     let told = c .enum-told2 .given .1 in
-    let v : (choices : List ℕ) → f .judge-files .result .verdict ≡ adoptVerdict (tables s) (certifier s choices) (a .alpha .now) (a .graph .now) (a .count)
-    (answer s) =
-    λ choices. adopt-first (tables s) (certifier s choices) (a .alpha .now) (a .graph .now) (a .count) (answer s) (first-said f choices) told in (
-      λ choices. answered-back _ (v choices) told,
-      (
-        λ choices. adopted-refused (tables s) (certifier s choices) (a .alpha .now) (a .graph .now) (a .count) (answer s) (v choices) told,
-        λ choices. adopt-demand (tables s) (certifier s choices) (a .alpha .now) (a .graph .now) (a .count) (answer s) (v choices)
-            (adopted-refused (tables s) (certifier s choices) (a .alpha .now) (a .graph .now) (a .count) (answer s) (v choices) told),
-      ),
-    )
+    λ choices.
+    let v = adopt-first (tables s) (certifier s choices) (a .alpha .now) (a .graph .now) (a .count) (answer s) (first-said f choices) told in
+    let same = adopted-refused (tables s) (certifier s choices) (a .alpha .now) (a .graph .now) (a .count) (answer s) v told in
+    (answered-back _ v told, (same, adopt-demand (tables s) (certifier s choices) (a .alpha .now) (a .graph .now) (a .count) (answer s) v same))
 
 standing-in-requires : tie.Need-standing-in-requires
 standing-in-requires c κs = known c [] .standing .state-long
@@ -124,14 +118,11 @@ returns-2 c =
     let l = c .before .before in
     let s = start (of-files (l .before .before)) in
     let a = s .args in
-    let told = c .enum-told4 .given .1 in (
-      λ choices. answered-back _ (said l choices) told,
-      (
-        λ choices. adopted-refused (tables s) (certifier s choices) (a .alpha .now) (a .graph .now) (a .count) (answer s) (said l choices) told,
-        λ choices. adopt-demand (tables s) (certifier s choices) (a .alpha .now) (a .graph .now) (a .count) (answer s) (said l choices)
-            (adopted-refused (tables s) (certifier s choices) (a .alpha .now) (a .graph .now) (a .count) (answer s) (said l choices) told),
-      ),
-    )
+    let told = c .enum-told4 .given .1 in
+    λ choices.
+    let v = said l choices in
+    let same = adopted-refused (tables s) (certifier s choices) (a .alpha .now) (a .graph .now) (a .count) (answer s) v told in
+    (answered-back _ v told, (same, adopt-demand (tables s) (certifier s choices) (a .alpha .now) (a .graph .now) (a .count) (answer s) v same))
 
 write-vectors-requires : tie.Need-write-vectors-requires
 write-vectors-requires c κs =
@@ -169,17 +160,14 @@ returns-3 c =
     let e = n .before in
     let s = start (of-files e) in
     let a = s .args in
-    let told = t .enum-told3 .given .1 in (
-      λ choices. answered-fine (sym (said l choices) ∙ told) (vectors-are e),
-      (
-        λ choices. adopted-fine (tables s) (certifier s choices) (a .alpha .now) (a .graph .now) (a .count) (answer s) (said l choices) told
-            (level-laid (tables s) (certifier s choices) (a .alpha .now) (a .graph .now) (a .count) (answer s) (known e choices) (stands n) (vectors-are e)
-            (second-fine t choices) (w .write-vectors .ensures) (b .build-roof .ensures .0) (b .build-roof .ensures .1)),
-        λ choices h. adopt-demand (tables s) (certifier s choices) (a .alpha .now) (a .graph .now) (a .count) (answer s) (said l choices)
-            (adopted-fine (tables s) (certifier s choices) (a .alpha .now) (a .graph .now) (a .count) (answer s) (said l choices) told
-            (level-laid (tables s) (certifier s choices) (a .alpha .now) (a .graph .now) (a .count) (answer s) (known e choices) (stands n) (vectors-are e)
-            (second-fine t choices) (w .write-vectors .ensures) (b .build-roof .ensures .0) (b .build-roof .ensures .1))) told,
-      ),
+    let told = t .enum-told3 .given .1 in
+    λ choices.
+    let v = said l choices in
+    let laid = level-laid (tables s) (certifier s choices) (a .alpha .now) (a .graph .now) (a .count) (answer s) (known e choices) (stands n)
+    (vectors-are e) (second-fine t choices) (w .write-vectors .ensures) (b .build-roof .ensures .0) (b .build-roof .ensures .1) in
+    let made = adopted-fine (tables s) (certifier s choices) (a .alpha .now) (a .graph .now) (a .count) (answer s) v told laid in (
+      answered-fine (sym v ∙ told) (vectors-are e),
+      (made, λ h. adopt-demand (tables s) (certifier s choices) (a .alpha .now) (a .graph .now) (a .count) (answer s) v made told),
     )
 
 pub adopt-spec : {M : Type 1} → statement M

@@ -17,10 +17,9 @@ called c = acted c .before
 
 returns : tie.Need-returns
 returns c =
-    let a = called c .adopt .ensures in (
-      λ choices. rw (c .refusal-of .ensures) (ap adoptionBy (a .0 choices)),
-      (a .1 .0, λ choices fine. a .1 .1 choices (rw fine at (ap (λ (r : Adopted). r .verdict) (a .0 choices)))),
-    )
+    λ choices.
+    let (answers, (leaves, holds)) = called c .adopt .ensures choices in
+    (rw (c .refusal-of .ensures) (ap adoptionBy answers), (leaves, λ fine. holds (rw fine at (ap (λ (r : Adopted). r .verdict) answers))))
 
 pub biidhaqun-adopt-spec : {M : Type 1} → statement M
 biidhaqun-adopt-spec =
