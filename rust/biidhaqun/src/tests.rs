@@ -74,7 +74,6 @@ fn weights_within_ranges() {
     assert_eq!(refusal(within(&[0, 1], &[1, 2])), (22, 0));
 }
 
-/// Each of the two ceilings is the lower one somewhere.
 #[test]
 fn offers_and_buildings_from_a_list() {
     let (model, start, by_table) = standing(1);
@@ -179,6 +178,7 @@ fn new_tables_in_slices() {
     assert_eq!(moved(&|_, certifier| certifier.choices.clear()), (0, 0));
 }
 
+/// Each of the two ceilings is the lower one somewhere.
 #[test]
 fn the_ceilings_apart() {
     let (_, _, two) = standing(2);

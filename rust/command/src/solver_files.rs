@@ -4,8 +4,7 @@
 //! reference over the comparison's damaged files (`tests/solver_files.rs`).
 
 use crate::told::{counted, Mark, Told};
-use crate::words::{Word, Words};
-use std::ops::Range;
+use crate::words::{end, Word, Words};
 
 const SOLVER_BYTES: usize = 4 << 20;
 const VECTORS: usize = 1_000;
@@ -309,12 +308,6 @@ fn in_range(step: &Step, alphas: &[Alpha]) -> Result<(), Trouble> {
         }
     }
     Ok(())
-}
-
-/// The last place of a file that is worth pointing at: behind its last word.
-fn end(file: &[u8]) -> Range<usize> {
-    let last = Words::of(file).last().map_or(0, |word| word.span().end);
-    last..last
 }
 
 #[cfg(test)]

@@ -48,6 +48,12 @@ impl<'a> Words<'a> {
     }
 }
 
+/// The last place of a file that is worth pointing at: behind its last word.
+pub fn end(file: &[u8]) -> Range<usize> {
+    let last = Words::of(file).last().map_or(0, |word| word.span().end);
+    last..last
+}
+
 fn parts(byte: u8) -> bool {
     matches!(byte, b' ' | b'\t' | b'\r' | b'\n')
 }
@@ -82,5 +88,10 @@ mod tests {
         assert_eq!(words(b" T:0\t#x\n\r1#"), [(1, &b"T"[..]), (2, b":"), (3, b"0"), (9, b"1")]);
         assert_eq!(words(b"# one\n# two\n\n:: x"), [(13, &b":"[..]), (14, b":"), (16, b"x")]);
         assert_eq!(words(b"#"), []);
+    }
+
+    #[test]
+    fn behind_the_last_word() {
+        assert_eq!((end(b"T: 0 # x\n"), end(b" \n#")), (4..4, 0..0));
     }
 }

@@ -6,7 +6,7 @@ use crate::model_file::Counts;
 use crate::names::{is_name, Named, Names};
 use crate::table::Table;
 use crate::told::{Mark, Told};
-use crate::words::{Word, Words};
+use crate::words::{end, Word, Words};
 use num_bigint::BigInt;
 use num_rational::BigRational;
 use num_traits::{One, Zero};
@@ -51,12 +51,6 @@ pub fn read(file: &[u8]) -> Read<Source> {
     let Counts { states, actions, observations } = source.counts;
     source.named = source.named.or(Named::of(file, states, actions, observations));
     Ok(source)
-}
-
-/// Behind the last word.
-fn end(file: &[u8]) -> Range<usize> {
-    let last = Words::of(file).last().map_or(0, |word| word.span().end);
-    last..last
 }
 
 /// A word that does not fit.
