@@ -21,9 +21,9 @@ pub struct Graph {
 }
 
 impl Graph {
-    /// A graph of which every part is 0.
+    /// A graph of which every part is 0, with a node's room past the limit.
     pub fn zero() -> Graph {
-        Graph { nodes: 0, actions: vec![0; NODES], next: vec![0; NODES * OBSERVATIONS] }
+        Graph { nodes: 0, actions: vec![0; NODES + 1], next: vec![0; (NODES + 1) * OBSERVATIONS] }
     }
 
     /// The nodes to go on from a node, by observation.

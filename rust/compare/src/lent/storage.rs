@@ -111,7 +111,8 @@ pub fn weights(storage: &[u64]) -> Vec<u32> {
 }
 
 pub fn graph(storage: &reference::Graph, k: usize) -> Graph {
-    let nodes = count(storage.nodes, NODES);
+    // One node past the limit is lent, so that nothing but the limit refuses it.
+    let nodes = count(storage.nodes, NODES + 1);
     Graph {
         nodes: size(storage.nodes),
         actions: narrowed(&storage.actions, nodes),
