@@ -62,7 +62,7 @@ impl Walk<'_> {
             let found = match step {
                 Step::Offer(level) => self.offer(rng, lent::level(level, self.n, self.k)),
                 Step::Totals(mixture) => {
-                    let mixture = lent::mixture(mixture, self.n + rng.index(STATES - self.n + 1));
+                    let mixture = lent::mixture(mixture, self.n + rng.index(STATES.saturating_sub(self.n) + 1));
                     let (tables, certifier) = (self.tables.clone(), self.certifier.clone());
                     Call::Totals { tables, certifier, mixture }.difference(self.one, self.other)
                 }

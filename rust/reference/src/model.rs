@@ -62,7 +62,16 @@ impl Tables {
 
     /// Whether the counts are within their limits. Nothing else is looked into unless they are.
     pub fn counts_fit(&self) -> bool {
-        let fits = |count: u64, limit: usize| count >= 1 && count <= limit as u64;
+        self.counts_within(0)
+    }
+
+    /// Whether the counts are within their limits or one past them: whoever tries the limits lends as much as these need.
+    pub fn counts_nearly_fit(&self) -> bool {
+        self.counts_within(1)
+    }
+
+    fn counts_within(&self, past: u64) -> bool {
+        let fits = |count: u64, limit: usize| count >= 1 && count <= limit as u64 + past;
         fits(self.states, STATES) && fits(self.actions, ACTIONS) && fits(self.observations, OBSERVATIONS)
     }
 

@@ -40,9 +40,18 @@ pub fn tables_of(rng: &mut Rng, shape: Shape, sparse: bool) -> Tables {
 pub fn spoil_tables(rng: &mut Rng, tables: &mut Tables) {
     let anything = junk(rng);
     match rng.below(8) {
-        0 => tables.states = rng.pick(&[0, 1, 63, 64, 65, u64::MAX, anything]),
-        1 => tables.actions = rng.pick(&[0, 1, 8, 9, u64::MAX, anything]),
-        2 => tables.observations = rng.pick(&[0, 1, 8, 9, u64::MAX, anything]),
+        0 => {
+            tables.states = rng.pick(&[0, 1, 63, 64, 65, 65, u64::MAX, anything]);
+            refit(rng, tables);
+        }
+        1 => {
+            tables.actions = rng.pick(&[0, 1, 8, 9, 9, u64::MAX, anything]);
+            refit(rng, tables);
+        }
+        2 => {
+            tables.observations = rng.pick(&[0, 1, 8, 9, 9, u64::MAX, anything]);
+            refit(rng, tables);
+        }
         3 => tables.discount = rng.pick(&[0, 1_000, 1_001, u64::MAX, anything]),
         kind => {
             let used = if tables.counts_fit() { tables.cells_used() } else { (1, 1, 1) };
@@ -67,6 +76,24 @@ pub fn spoil_tables(rng: &mut Rng, tables: &mut Tables) {
             }
         }
     }
+}
+
+/// Half the time, makes lists as long as counts want that are at most one past their limits: with rows that total 1,000, so that
+/// nothing but a limit refuses them.
+fn refit(rng: &mut Rng, tables: &mut Tables) {
+    if !tables.counts_nearly_fit() || rng.once_in(2) {
+        return;
+    }
+    let (t, o, r) = tables.cells_used();
+    for (cells, used, width) in
+        [(&mut tables.transitions, t, tables.states), (&mut tables.sights, o, tables.observations)]
+    {
+        *cells = vec![0; used];
+        for row in cells.chunks_exact_mut(width as usize) {
+            row[rng.index(width as usize)] = THOUSAND;
+        }
+    }
+    tables.rewards = (0..r).map(|_| rng.within(-REWARD, REWARD)).collect();
 }
 
 /// Takes a thousandth from a row of T or of O, which then does not total 1,000.
