@@ -127,7 +127,7 @@ pub fn totals(certifier: &reference::Certifier, mixture: Vec<u32>) -> Call {
     Call::Totals { tables: lent::tables(&certifier.tables), certifier: lent::certifier(certifier), mixture }
 }
 
-/// Totals at some mixtures, of which some are refused.
+/// Totals at some mixtures, of which some are refused; now and then as many are asked for as no slice holds.
 pub fn asking(rng: &mut Rng, shape: Shape, certifier: &reference::Certifier, count: usize) -> Call {
     let (mut mixtures, mut answers) = (Vec::new(), Answers::default());
     for _ in 0..count {
@@ -141,6 +141,8 @@ pub fn asking(rng: &mut Rng, shape: Shape, certifier: &reference::Certifier, cou
     answers.lower.sized(count, rng);
     answers.upper.sized(count, rng);
     answers.actions.sized(count, rng);
+    // Of two states or of four, the cells of 2^63 mixtures number 0 in 64 bits.
+    let count = if rng.once_in(12) { rng.pick(&[usize::MAX, usize::MAX / 2, 1 << 62, 1 << 63]) } else { count };
     let tables = lent::tables(&certifier.tables);
     Call::Each { tables, certifier: lent::certifier(certifier), mixtures, count, answers }
 }
