@@ -2,7 +2,7 @@
 
 use crate::exact::{dot, k, round_down, round_up, zero};
 use crate::level::{Lists, POINT_TOTAL};
-use crate::model::Model;
+use crate::model::{Model, THOUSAND};
 use crate::rows;
 use crate::rules::{Rules, Trap};
 use num_bigint::BigInt;
@@ -75,6 +75,7 @@ pub fn reaches_uncovered(
 ) -> bool {
     let reached = |s: usize, s2: usize, o: usize| match rules.trap {
         Some(Trap::ReachedWithoutSight) => *model.t(s, a, s2) > zero(),
+        Some(Trap::ReachedByThousandths) => model.t(s, a, s2) * model.o(a, s2, o) >= BigInt::from(THOUSAND),
         Some(Trap::ReachedSeenAtStateLeft) => model.t(s, a, s2) * model.o(a, s, o) > zero(),
         _ => model.t(s, a, s2) * model.o(a, s2, o) > zero(),
     };

@@ -228,6 +228,7 @@ traps! {
         EmptyMaskRefused: "a vector that covers no state gets 21",
         ReachedWithoutSight: "21 looks at T alone",
         ReachedSeenAtStateLeft: "21 takes O at the state left",
+        ReachedByThousandths: "21 passes over T × O below 1,000",
         MasksPastStates: "masks are stored past the states",
         UncoveredKept: "entries that are not covered are stored as they were offered",
         AllCount: "every vector counts at every mixture",

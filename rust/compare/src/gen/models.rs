@@ -1,6 +1,6 @@
 //! Tables that open, those that nearly do, and other prices for them.
 
-use super::cells::{few_shares, junk, shares, signed_junk, trail};
+use super::cells::{chances, few_shares, junk, signed_junk, trail};
 use super::shapes::{self, Shape, SOME_STATES};
 use crate::rng::Rng;
 use reference::{Tables, REWARD, THOUSAND};
@@ -20,9 +20,9 @@ pub fn tables_of(rng: &mut Rng, shape: Shape, sparse: bool) -> Tables {
         ..Tables::zeros(n as u64, m as u64, k as u64)
     };
     for row in 0..m * n {
-        let reached = if sparse { few_shares(rng, n, THOUSAND) } else { shares(rng, n, THOUSAND) };
+        let reached = if sparse { few_shares(rng, n, THOUSAND) } else { chances(rng, n) };
         tables.transitions[row * n..(row + 1) * n].copy_from_slice(&reached);
-        tables.sights[row * k..(row + 1) * k].copy_from_slice(&shares(rng, k, THOUSAND));
+        tables.sights[row * k..(row + 1) * k].copy_from_slice(&chances(rng, k));
     }
     let most = rng.pick(&[1, 20, 999, 10_000, REWARD]);
     // Now and then costs alone: then 0 is more than any plan earns.
