@@ -17,6 +17,7 @@
 //!   and past the largest, used with `--library`,
 //! - `many`: levels of up to 1,001 vectors, offered, read, built upon, listed and adopted, and files of up to a byte over 4 MiB; the
 //!   same for every seed, used with `--library`,
+//! - `wide`: single calls on models of 33 to 64 states, of which what is wrong lies late in a slice, used likewise,
 //! - `adopt`: random files of a solver, most of them damaged, upon certifiers of any content, used likewise,
 //! - `replay`: lists of offers in blocks, refused ones among them, upon certifiers of any content, used likewise,
 //! - `lists`: lists of transitions made and turned back, and offers and buildings that are handed a list of any content: with the

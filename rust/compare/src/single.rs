@@ -21,9 +21,7 @@ fn whole(rng: &mut Rng) -> Call {
             for _ in 0..rng.below(2) {
                 gen::spoil_tables(rng, &mut tables);
             }
-            let tables = lent::tables(&tables);
-            let certifier = opening_room(rng, &tables);
-            Call::Open { tables, certifier }
+            opening(rng, &tables)
         }
         2 => {
             let tables = gen::tables(rng, shape);
@@ -80,14 +78,15 @@ fn whole(rng: &mut Rng) -> Call {
     }
 }
 
-/// Slices for level 0 of tables, and its rows.
-fn opening_room(rng: &mut Rng, tables: &Tables) -> Certifier {
+/// Opens tables, with slices for level 0 and its rows.
+pub fn opening(rng: &mut Rng, tables: &reference::Tables) -> Call {
+    let tables = lent::tables(tables);
     let fit = tables.counts_fit();
     let (n, m, k) = if fit { (tables.states, tables.actions, tables.observations) } else { (1, 1, 1) };
     let mut certifier = sized(rng, Certifier::default(), &Level::zeros(n, k, 1, 0));
     certifier.informed.sized(m * n, rng);
     certifier.qmdp.sized(m * n, rng);
-    certifier
+    Call::Open { tables, certifier }
 }
 
 /// Slices of a certifier that are as long as a level's, at least.
@@ -275,11 +274,7 @@ fn served(rng: &mut Rng, kind: u64) -> Call {
         raised(&mut certifier, 2);
         let call = match kind {
             0 => reading_exactly(rng),
-            1 => {
-                let tables = lent::tables(&tables);
-                let certifier = opening_room(rng, &tables);
-                Call::Open { tables, certifier }
-            }
+            1 => opening(rng, &tables),
             2 => {
                 // As large as what stands, larger, or smaller.
                 let points = 1 + rng.index(3);

@@ -8,7 +8,7 @@ use crate::options::Options;
 use crate::rng::Rng;
 use crate::through::{self, Through};
 use crate::{
-    adopting, bracket, calls, converting, files, listing, many, pricing, replaying, show, single, solved, ticks,
+    adopting, bracket, calls, converting, files, listing, many, pricing, replaying, show, single, solved, ticks, wide,
 };
 use std::collections::BTreeMap;
 use std::time::{Duration, Instant};
@@ -28,6 +28,7 @@ const LISTS: u64 = 4_000;
 const PRICES: u64 = 4_000;
 const CONVERSIONS: u64 = 4_000;
 const SOLVED: u64 = 300;
+const WIDE: u64 = 600;
 
 /// Does what was asked for; whether all was well.
 pub fn run(options: &Options, library: &dyn Library) -> io::Result<bool> {
@@ -137,6 +138,7 @@ impl Suites<'_> {
             ("prices", PRICES),
             ("convert", CONVERSIONS),
             ("solved", SOLVED),
+            ("wide", WIDE),
         ];
         let all: u64 = shares.iter().map(|(_, share)| share).sum();
         let mut done = shares.map(|(suite, share)| (suite, share, 0));
@@ -189,6 +191,7 @@ impl Suites<'_> {
             }
             "adopt" => print!("{}", adopting::random(&mut rng).show()),
             "replay" => print!("{}", replaying::random(&mut rng)),
+            "wide" => print!("{}", wide::random(&mut rng)),
             "lists" => print!("{}", listing::random(&mut rng)),
             "prices" => print!("{}", priced(&mut rng, number)),
             "convert" => print!("{}", converting::random(&mut rng)),
@@ -242,6 +245,7 @@ impl Suites<'_> {
                 let call = replaying::random(&mut rng);
                 self.call(&name, &single::half_touched(&mut rng, call))
             }
+            "wide" => self.call(&name, &wide::random(&mut rng)),
             "lists" => {
                 let call = listing::random(&mut rng);
                 *self.tally.entry(call.number(self.linked)).or_insert(0) += 1;
@@ -341,7 +345,7 @@ mod tests {
         let one = [("fixed", 3), ("random", 5), ("calls", 7), ("ends", 1), ("plans", 2), ("slices", 11), ("ticks", 3)];
         let solver =
             [("adopted", 4), ("adopt", 9), ("solved", 2), ("replay", 6), ("many", 3), ("lists", 4), ("prices", 5)];
-        let solver = solver.into_iter().chain([("convert", 3), ("converted", 1)]);
+        let solver = solver.into_iter().chain([("convert", 3), ("converted", 1), ("wide", 6)]);
         let lengths = (0..13).map(|number| ("lengths", number));
         for (suite, number) in one.into_iter().chain(solver).chain(lengths) {
             options.only = Some((suite.to_string(), number));

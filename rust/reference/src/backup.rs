@@ -80,7 +80,8 @@ pub fn reaches_uncovered(
         _ => model.t(s, a, s2) * model.o(a, s2, o) > zero(),
     };
     let loses = |s: usize, s2: usize, o: usize| !standing.covered[choices[o]][s2] && reached(s, s2, o);
-    let from = |s: usize| (0..model.n).any(|s2| (0..model.k).any(|o| loses(s, s2, o)));
+    let looked = rules.some_states(model.n, Trap::LostOfHalf);
+    let from = |s: usize| (0..looked).any(|s2| (0..model.k).any(|o| loses(s, s2, o)));
     match rules.trap {
         Some(Trap::WithoutTwentyOne) => false,
         Some(Trap::EmptyMaskRefused) if !covered.contains(&true) => true,

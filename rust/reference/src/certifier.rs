@@ -46,7 +46,9 @@ impl Certifier {
     fn rows_fit(&self, model: &Model, rules: &Rules) -> bool {
         let t = self.level + u64::from(rules.has(Trap::RowsRangeOfNext));
         let end = BigInt::from(TICKS) * t;
-        let fit = |cells: &[i64]| ticks(&cells[..model.m * model.n]).iter().all(|cell| *cell >= -&end && *cell <= end);
+        let used = model.m * model.n;
+        let tested = if rules.has(Trap::RowCellsOfFirst) { used.min(64) } else { used };
+        let fit = |cells: &[i64]| ticks(&cells[..tested]).iter().all(|cell| *cell >= -&end && *cell <= end);
         (fit(&self.informed) || rules.has(Trap::SevenForgetsInformed))
             && (fit(&self.qmdp) || rules.has(Trap::SevenForgetsQmdp))
     }
@@ -169,7 +171,8 @@ fn judge(certifier: &Certifier, offered: &Level, rules: &Rules) -> Result<Level,
         (0..model.m).any(|a| k() * value < ceiling_backup(&model, &standing, p, a, rules))
     };
     if !rules.has(Trap::WithoutFourteen) {
-        let low = (0..model.n).find(|&s| below(&lists.corners[s], &corner(model.n, s)));
+        let tested = rules.some_states(model.n, Trap::FourteenOfHalf);
+        let low = (0..tested).find(|&s| below(&lists.corners[s], &corner(model.n, s)));
         refuse_at(14, low)?;
     }
     if !rules.has(Trap::WithoutFifteen) {
@@ -191,7 +194,7 @@ fn first_above(model: &Model, standing: &Lists, offered: &Level, lists: &Lists, 
         let action = lists.actions[v] as usize;
         let choices = chosen(&offered.choices, v, model.k);
         let tested = |s: &usize| lists.covered[v][*s] || rules.has(Trap::ThirteenReadsUncovered);
-        (0..model.n).filter(tested).any(|s| {
+        (0..rules.some_states(model.n, Trap::ThirteenOfHalf)).filter(tested).any(|s| {
             let backup = vector_backup(model, standing, s, action, &choices, rules);
             k() * &lists.vectors[v][s] > backup
         })

@@ -115,9 +115,9 @@ impl Level {
         let one = BigInt::from(1);
         let vector = (0..self.vectors as usize).find(|&v| {
             let read = |s: &usize| all || covers(self.masks[v], *s);
-            (0..n).filter(read).any(|s| outside(self.entries[v * n + s], &one))
+            (0..rules.some_states(n, Trap::RangesOfHalf)).filter(read).any(|s| outside(self.entries[v * n + s], &one))
         });
-        let corner = (0..n).find(|&s| outside(self.corners[s], &one));
+        let corner = (0..rules.some_states(n, Trap::CornersOfHalf)).find(|&s| outside(self.corners[s], &one));
         let point = (0..self.points as usize).find(|&j| {
             let total = total(&self.weights[j * n..(j + 1) * n], rules);
             if !total_fits(&total, rules) && !rules.has(Trap::ValuesOfRefusedTotals) {

@@ -188,7 +188,8 @@ impl Model {
             tests.reverse();
         }
         for (number, wrong) in tests {
-            if let Some((action, state)) = wrong {
+            let late = |&(action, state): &(usize, usize)| action * n + state >= 128 && rules.has(Trap::RowsOfFirst);
+            if let Some((action, state)) = wrong.filter(|row| !late(row)) {
                 return Err(Refusal::at_index(number, action * n + state));
             }
         }

@@ -79,6 +79,7 @@ fn same_plans(old: &Tables, new: &Tables, rules: &Rules) -> bool {
         return false;
     }
     let (t, o, _) = old.cells_used();
+    let t = if rules.has(Trap::SameByThousand) { t.min(1_000) } else { t };
     (old.discount == new.discount || rules.has(Trap::OtherDiscountPasses))
         && old.transitions[..t] == new.transitions[..t]
         && (old.sights[..o] == new.sights[..o] || rules.has(Trap::OtherSightsPass))

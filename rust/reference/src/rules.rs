@@ -3,7 +3,7 @@
 use std::fmt;
 
 /// Defines the traps with a sentence each: those of the reader, of the converter, of a solver's files, of the judging, of large
-/// levels, of lists of transitions, and of lists of events.
+/// levels, of many states, of lists of transitions, and of lists of events.
 macro_rules! traps {
     (
         reading { $($word:ident: $word_text:literal,)* }
@@ -11,6 +11,7 @@ macro_rules! traps {
         adopting { $($file:ident: $file_text:literal,)* }
         judging { $($name:ident: $text:literal,)* }
         many { $($large:ident: $large_text:literal,)* }
+        wide { $($late:ident: $late_text:literal,)* }
         listing { $($word_list:ident: $list_text:literal,)* }
         running { $($event:ident: $event_text:literal,)* }
     ) => {
@@ -22,6 +23,7 @@ macro_rules! traps {
             $(#[doc = $file_text] $file,)*
             $(#[doc = $text] $name,)*
             $(#[doc = $large_text] $large,)*
+            $(#[doc = $late_text] $late,)*
             $(#[doc = $list_text] $word_list,)*
             $(#[doc = $event_text] $event,)*
         }
@@ -42,6 +44,9 @@ macro_rules! traps {
             /// Those that only show in levels of many vectors and in long files.
             pub const MANY: &'static [Trap] = &[$(Trap::$large,)*];
 
+            /// Those that only show in models of over 32 states.
+            pub const WIDE: &'static [Trap] = &[$(Trap::$late,)*];
+
             /// Those that only show where transitions are kept as lists.
             pub const LISTING: &'static [Trap] = &[$(Trap::$word_list,)*];
 
@@ -56,6 +61,7 @@ macro_rules! traps {
                     $(Trap::$file => $file_text,)*
                     $(Trap::$name => $text,)*
                     $(Trap::$large => $large_text,)*
+                    $(Trap::$late => $late_text,)*
                     $(Trap::$word_list => $list_text,)*
                     $(Trap::$event => $event_text,)*
                 }
@@ -312,6 +318,18 @@ traps! {
         SolverFilesAsModel: "a solver's file above 32,768 bytes is refused",
         SolverByteMore: "a solver's file of 4 MiB and one byte passes",
     }
+    wide {
+        RowsOfFirst: "5 and 6 test the first 128 rows",
+        RangesOfHalf: "11 and 7 test the entries of the first 32 states",
+        CornersOfHalf: "11 and 7 test the first 32 corners",
+        RowCellsOfFirst: "7 tests the first 64 entries of the rows",
+        ThirteenOfHalf: "13 tests the first 32 states",
+        FourteenOfHalf: "14 tests the first 32 corners",
+        LostOfHalf: "21 looks at the first 32 states that are reached",
+        WeightsOfHalf: "17 reads the first 32 weights",
+        LowsOfHalf: "24 compares the first 32 weights",
+        SameByThousand: "23 compares the first 1,000 cells of T",
+    }
     listing {
         ColumnsByStateLeft: "a column is that of the state left",
         FallingStates: "columns go by falling state",
@@ -349,5 +367,14 @@ impl Rules {
     /// Whether this trap is in force.
     pub fn has(&self, trap: Trap) -> bool {
         self.trap == Some(trap)
+    }
+
+    /// How many of the states are looked at: all, unless this trap wants the first 32.
+    pub(crate) fn some_states(&self, n: usize, trap: Trap) -> usize {
+        if self.has(trap) {
+            n.min(32)
+        } else {
+            n
+        }
     }
 }

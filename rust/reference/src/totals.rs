@@ -57,7 +57,8 @@ pub fn totals(certifier: &Certifier, mixture: &[u64], rules: &Rules) -> Result<T
         none?;
     }
     let most = WEIGHT - u64::from(rules.has(Trap::MillionRefused));
-    if mixture.iter().any(|&weight| weight > most) || mixture.iter().all(|&weight| weight == 0) {
+    let read = &mixture[..rules.some_states(model.n, Trap::WeightsOfHalf)];
+    if read.iter().any(|&weight| weight > most) || read.iter().all(|&weight| weight == 0) {
         return Err(Refusal::at(17, 0));
     }
     sixteen?;

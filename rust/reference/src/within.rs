@@ -26,7 +26,7 @@ pub fn within(certifier: &Certifier, lows: &[u64], highs: &[u64], rules: &Rules)
     let (model, standing) = examine(certifier, rules)?;
     let n = model.n;
     let passes = |held: bool, number: u8| if held { Ok(()) } else { Err(Refusal::at(number, 0)) };
-    let ordered = (0..n).all(|s| match (lows.get(s), highs.get(s)) {
+    let ordered = (0..rules.some_states(n, Trap::LowsOfHalf)).all(|s| match (lows.get(s), highs.get(s)) {
         (Some(low), Some(high)) => low <= high,
         _ if rules.has(Trap::MissingUncompared) => true,
         (low, high) => low.unwrap_or(&0) <= high.unwrap_or(&0),
