@@ -128,6 +128,16 @@ impl<'a> Reading<'a> {
         }
     }
 
+    /// The first word of a vector or a node. Where it does not fit, those before it may be of a model with other counts.
+    fn first<Of>(&self, word: Word<'a>, form: &Form<Of>, counts: String) -> Result<(Of, Word<'a>), Trouble> {
+        self.fitting(word, form).map_err(|mut trouble| {
+            if !trouble.told.notes.iter().any(|note| note.starts_with("help: ")) {
+                trouble.told.notes.push(format!("help: {}", counts));
+            }
+            trouble
+        })
+    }
+
     /// The value of the next word; a missing one gets 19 at the file's length.
     fn value<Of>(&mut self, form: &Form<Of>) -> Result<(Of, Word<'a>), Trouble> {
         match self.words.next() {
@@ -144,7 +154,8 @@ impl<'a> Reading<'a> {
     fn alphas(mut self, states: usize) -> Result<Vec<Alpha<'a>>, Trouble> {
         let mut alphas = Vec::new();
         while let Some(word) = self.words.next() {
-            let action = self.fitting(word, &action_form(alphas.len()))?;
+            let counts = format!("here a vector is an action and {}, one for each state", counted(states, "value"));
+            let action = self.first(word, &action_form(alphas.len()), counts)?;
             let ticks = (0..states).map(|state| self.value(&decimal_form(alphas.len(), state)));
             alphas.push(Alpha { action, ticks: ticks.collect::<Result<_, _>>()? });
         }
@@ -154,7 +165,9 @@ impl<'a> Reading<'a> {
     fn nodes(mut self, observations: usize) -> Result<Vec<Node<'a>>, Trouble> {
         let mut nodes = Vec::new();
         while let Some(word) = self.words.next() {
-            let ((), number) = self.fitting(word, &node_form(nodes.len()))?;
+            let next = counted(observations, "next node");
+            let counts = format!("here a node is its number, an action and {}, one for each observation", next);
+            let ((), number) = self.first(word, &node_form(nodes.len()), counts)?;
             let action = self.value(&action_form(nodes.len()))?;
             let next = (0..observations).map(|seen| self.value(&next_form(nodes.len(), seen)));
             nodes.push(Node { number, action, next: next.collect::<Result<_, _>>()? });
@@ -358,6 +371,14 @@ mod tests {
         let (number, place, which, told_of) = told("0 1 1", "1 0 0");
         assert_eq!((number, place, which), (19, 0, Some(Which::Graph)));
         assert_eq!(told_of.marks[0].text, "this is node 1, out of order");
+        assert_eq!(
+            told_of.notes[1],
+            "help: here a node is its number, an action and 1 next node, one for each observation"
+        );
+        // An alpha file of a model with one state.
+        let (number, place, _, told_of) = told("0 -1.5 1 -2.5", "");
+        assert_eq!((number, place), (19, 9));
+        assert_eq!(told_of.notes[1], "help: here a vector is an action and 2 values, one for each state");
         let (number, _, _, told_of) = told("0 1 1", "0 1 0");
         assert_eq!((number, &told_of.title[..]), (20, "vector 0 has action 0 in the alpha file, and 1 in the graph"));
         let (number, _, _, told_of) = told("0 1 1 0 2 2", "0 0 0");

@@ -56,7 +56,8 @@ pub fn read(file: &[u8]) -> Read<Source> {
 
 /// A word that does not fit.
 fn misfit(word: &Word, wanted: &str, note: Option<String>) -> Vec<Told> {
-    let notes = std::iter::once(format!("wanted: {}", wanted)).chain(note).collect();
+    let help = word.encoding().map(|help| format!("help: {}", help));
+    let notes = std::iter::once(format!("wanted: {}", wanted)).chain(note).chain(help).collect();
     let mark = Mark::new(word.span(), format!("found {}", word.quoted()));
     vec![Told { title: format!("{} does not fit here", word.quoted()), marks: vec![mark], notes }]
 }
