@@ -30,6 +30,28 @@ const CONVERSIONS: u64 = 4_000;
 const SOLVED: u64 = 300;
 const WIDE: u64 = 600;
 
+/// The suites of which one case can be asked for.
+pub const NAMES: &[&str] = &[
+    "fixed",
+    "random",
+    "calls",
+    "plans",
+    "ticks",
+    "ends",
+    "slices",
+    "lengths",
+    "adopted",
+    "many",
+    "adopt",
+    "replay",
+    "lists",
+    "prices",
+    "converted",
+    "convert",
+    "solved",
+    "wide",
+];
+
 /// Does what was asked for; whether all was well.
 pub fn run(options: &Options, library: &dyn Library) -> io::Result<bool> {
     let (tally, losses) = (BTreeMap::new(), solved::Losses::default());
@@ -347,10 +369,13 @@ mod tests {
             [("adopted", 4), ("adopt", 9), ("solved", 2), ("replay", 6), ("many", 3), ("lists", 4), ("prices", 5)];
         let solver = solver.into_iter().chain([("convert", 3), ("converted", 1), ("wide", 6)]);
         let lengths = (0..13).map(|number| ("lengths", number));
+        let mut left: BTreeSet<&str> = NAMES.iter().copied().collect();
         for (suite, number) in one.into_iter().chain(solver).chain(lengths) {
+            left.remove(suite);
             options.only = Some((suite.to_string(), number));
             assert!(run(&options, &BY_THE_DOCUMENT).unwrap(), "{}:{}", suite, number);
         }
+        assert!(left.is_empty(), "{:?}", left);
         options.only = None;
         options.traps = true;
         assert!(run(&options, &BY_THE_DOCUMENT).unwrap());
