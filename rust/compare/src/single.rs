@@ -105,20 +105,11 @@ pub fn sized(rng: &mut Rng, mut certifier: Certifier, level: &Level) -> Certifie
     certifier
 }
 
-/// No list, or that of the tables.
-fn list(rng: &mut Rng, tables: &Tables) -> Vec<u32> {
-    if rng.once_in(2) {
-        listing::exact(tables)
-    } else {
-        Vec::new()
-    }
-}
-
 pub fn offering(rng: &mut Rng, shape: Shape, certifier: &reference::Certifier, level: &reference::Level) -> Call {
     let level = lent::level(level, shape.n, shape.k);
     let standing = sized(rng, lent::certifier(certifier), &level);
     let tables = lent::tables(&certifier.tables);
-    Call::Offer { list: list(rng, &tables), tables, certifier: standing, level }
+    Call::Offer { list: listing::some(rng, &tables), tables, certifier: standing, level }
 }
 
 /// Totals at a mixture.
@@ -162,7 +153,14 @@ pub fn building(rng: &mut Rng, shape: Shape, certifier: &reference::Certifier, p
     let few = count.min(reference::BUILT_POINTS + 1);
     let level = room(rng, &Level::zeros(shape.n, shape.k, shape.n + few, few));
     let tables = lent::tables(&certifier.tables);
-    Call::Build { list: list(rng, &tables), tables, certifier: lent::certifier(certifier), count, points, level }
+    Call::Build {
+        list: listing::some(rng, &tables),
+        tables,
+        certifier: lent::certifier(certifier),
+        count,
+        points,
+        level,
+    }
 }
 
 /// Makes a level of so many vectors from a solver's files.

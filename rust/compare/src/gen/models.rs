@@ -149,7 +149,8 @@ pub fn unpriced(rng: &mut Rng, tables: &Tables, shape: Shape) -> Tables {
         2 => moved(rng, &mut new.sights, shape.k),
         3 => {
             let other = shapes::shape(rng);
-            new = self::tables(rng, rng.clone().pick(&[shape, other]));
+            let shape = rng.pick(&[shape, other]);
+            new = self::tables(rng, shape);
         }
         _ => {
             for _ in 0..1 + rng.index(2) {
