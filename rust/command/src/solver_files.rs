@@ -256,6 +256,7 @@ fn hint(word: &Word, which: Which) -> Option<String> {
         (Which::Alpha, bytes) if fraction > DECIMALS && bytes.contains(&b'.') => {
             "cut the decimals to 12: sed -E 's/(\\.[0-9]{12})[0-9]+/\\1/g'"
         }
+        (_, [b'{', ..]) => "this may be levels in JSON: such a file is given alone",
         (Which::Alpha, b"-") => "this may be the policy graph: for each step the alpha file comes first",
         (Which::Graph, bytes) if bytes.contains(&b'.') => {
             "this may be the alpha file: for each step the policy graph comes second"
@@ -379,6 +380,7 @@ mod tests {
         let (number, place, _, told_of) = told("0 -1.5 1 -2.5", "");
         assert_eq!((number, place), (19, 9));
         assert_eq!(told_of.notes[1], "help: here a vector is an action and 2 values, one for each state");
+        assert!(told("{\"levels\": []}", "").3.notes[1].contains("levels in JSON"));
         let (number, _, _, told_of) = told("0 1 1", "0 1 0");
         assert_eq!((number, &told_of.title[..]), (20, "vector 0 has action 0 in the alpha file, and 1 in the graph"));
         let (number, _, _, told_of) = told("0 1 1 0 2 2", "0 0 0");
