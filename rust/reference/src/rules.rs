@@ -2,14 +2,15 @@
 
 use std::fmt;
 
-/// Defines the traps with a sentence each: those of the reader, of the converter, of a solver's files, of the judging, of large
-/// levels, of many states, of lists of transitions, and of lists of events.
+/// Defines the traps with a sentence each: those of the reader, of the converter, of a solver's files, of the judging, of its limits
+/// and its order, of large levels, of many states, of lists of transitions, and of lists of events.
 macro_rules! traps {
     (
         reading { $($word:ident: $word_text:literal,)* }
         converting { $($outcome:ident: $outcome_text:literal,)* }
         adopting { $($file:ident: $file_text:literal,)* }
         judging { $($name:ident: $text:literal,)* }
+        ordering { $($order:ident: $order_text:literal,)* }
         many { $($large:ident: $large_text:literal,)* }
         wide { $($late:ident: $late_text:literal,)* }
         listing { $($word_list:ident: $list_text:literal,)* }
@@ -22,6 +23,7 @@ macro_rules! traps {
             $(#[doc = $outcome_text] $outcome,)*
             $(#[doc = $file_text] $file,)*
             $(#[doc = $text] $name,)*
+            $(#[doc = $order_text] $order,)*
             $(#[doc = $large_text] $large,)*
             $(#[doc = $late_text] $late,)*
             $(#[doc = $list_text] $word_list,)*
@@ -40,6 +42,9 @@ macro_rules! traps {
 
             /// Those that show in the judging.
             pub const JUDGING: &'static [Trap] = &[$(Trap::$name,)*];
+
+            /// Those about a limit, the first offender or the order of the tests: they only show in calls on what breaks a limit.
+            pub const ORDERING: &'static [Trap] = &[$(Trap::$order,)*];
 
             /// Those that only show in levels of many vectors and in long files.
             pub const MANY: &'static [Trap] = &[$(Trap::$large,)*];
@@ -60,6 +65,7 @@ macro_rules! traps {
                     $(Trap::$outcome => $outcome_text,)*
                     $(Trap::$file => $file_text,)*
                     $(Trap::$name => $text,)*
+                    $(Trap::$order => $order_text,)*
                     $(Trap::$large => $large_text,)*
                     $(Trap::$late => $late_text,)*
                     $(Trap::$word_list => $list_text,)*
@@ -90,6 +96,11 @@ traps! {
         MinusInProbability: "a minus fits a probability, which is then below its limit",
         MinusZeroRefused: "a reward of minus zero does not fit",
         RewardLowEndOpen: "rewards have no lower limit but their form",
+        RewardHighEndOpen: "rewards have no upper limit but their form",
+        DiscountAboveOne: "a discount above 1 passes",
+        ProbabilityAboveOne: "a probability above 1 passes",
+        StartAboveOne: "a start number above 1 passes",
+        CountsOneMore: "a count may be one past its limit",
         // Missing parts and exponents.
         WholePartWanted: "a number must have a whole part",
         DecimalsWanted: "a digit must follow a point",
@@ -114,6 +125,7 @@ traps! {
         StatementsAdd: "a later statement adds to the earlier",
         StartTotalEarly: "the start total is tested before the statements",
         RowTotalEarly: "a row's total is tested with its statement",
+        RowsBeforeStart: "5 and 6 of a file are tested before 4",
         UnstatedRowsPass: "a row of zeros in a file passes",
         RowPlaceInFile: "5 and 6 of a file have a row's place",
     }
@@ -292,6 +304,7 @@ traps! {
         // New prices.
         FallByChangeAlone: "new prices move numbers by the largest change alone, whatever the level",
         RisesOnly: "of the changes of rewards only rises are looked at",
+        FallsOnly: "of the changes of rewards only falls are looked at",
         NotHeld: "what new prices move is not held at the end of its range",
         ValuesWithoutTotal: "a point's value rises without its weights' total",
         UncoveredMoved: "entries that are not covered fall too",
@@ -309,6 +322,45 @@ traps! {
         WorthStepTooFew: "one step less is made than is asked for",
         ReachedNodesOnly: "nodes that are not reached are not tested",
         FiveSteps: "five steps may be asked for",
+    }
+    ordering {
+        // Tables.
+        DiscountOneMore: "the discount in tables may be 1,001",
+        RewardTickMore: "a reward in tables may be a tick past its limit",
+        RowsByState: "5 and 6 go first by state, then by action",
+        // What stands.
+        SevenForgetsActions: "7 does not test the actions of what stands",
+        SevenForgetsEntries: "7 does not test the entries of what stands",
+        SevenForgetsCorners: "7 does not test the corners of what stands",
+        SevenForgetsValues: "7 does not test the values of points that stand",
+        SevenForgetsTotals: "7 does not test the totals of points that stand",
+        SevenPassesNone: "7 passes a standing level without vectors",
+        SevenPassesPoint: "7 passes 33 standing points",
+        SevenPassesLevel: "7 passes a level of 101",
+        // What is offered.
+        NoVectorPasses: "a level without vectors may be offered",
+        PointMorePasses: "33 points may be offered",
+        NineBeforeEight: "9 is tested before 8",
+        CornersBeforeVectors: "11 takes corners before vectors",
+        PointsBeforeCorners: "11 takes points before corners",
+        TwentyOneBeforeTwelve: "21 is tested before 12",
+        FourteenBeforeThirteen: "14 is tested before 13",
+        FifteenBeforeFourteen: "15 is tested before 14",
+        LastDangling: "10 names the last vector",
+        LastUntotalled: "12 names the last point",
+        LastUncovered: "21 names the last vector",
+        LastAbove: "13 names the last vector",
+        LastCornerBelow: "14 names the last corner",
+        LastPointBelow: "15 names the last point",
+        // What is asked, and new prices.
+        MillionAndOne: "weight 1,000,001 passes",
+        ZerosPass: "weights that are all 0 pass",
+        TwentyThreeBeforeSix: "23 is tested before the new tables' 6",
+        OtherTransitionsPass: "23 passes over T",
+        // Plan graphs.
+        NodeMorePasses: "33 nodes pass",
+        AskedBeforeNodes: "18 tests what is asked before the nodes",
+        ActionsBeforeNext: "18 tests the actions of all nodes before the next nodes",
     }
     many {
         ThirtyTwoVectors: "a level has at most 32 vectors",
@@ -367,6 +419,16 @@ impl Rules {
     /// Whether this trap is in force.
     pub fn has(&self, trap: Trap) -> bool {
         self.trap == Some(trap)
+    }
+
+    /// The first of so many that is wrong; the last, if this trap is in force.
+    pub(crate) fn offender(&self, count: usize, last: Trap, wrong: impl Fn(usize) -> bool) -> Option<usize> {
+        let mut offenders = (0..count).filter(|&at| wrong(at));
+        if self.has(last) {
+            offenders.last()
+        } else {
+            offenders.next()
+        }
     }
 
     /// How many of the states are looked at: all, unless this trap wants the first 32.

@@ -56,9 +56,10 @@ pub fn shares(rng: &mut Rng, cells: usize, total: u64) -> Vec<u64> {
     row
 }
 
-/// A row of thousandths: shares, or now and then one thousandth in a cell and the others in another.
-pub(super) fn chances(rng: &mut Rng, cells: usize) -> Vec<u64> {
-    if !rng.once_in(5) {
+/// A row of thousandths: shares, or one thousandth in a cell and the others in another, always in a `thin` table and else now and
+/// then.
+pub(super) fn chances(rng: &mut Rng, cells: usize, thin: bool) -> Vec<u64> {
+    if !thin && !rng.once_in(8) {
         return shares(rng, cells, THOUSAND);
     }
     let mut row = vec![0; cells];

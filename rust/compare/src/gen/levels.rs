@@ -244,17 +244,20 @@ pub fn loosened(rng: &mut Rng, level: &Level, shape: Shape, t: u64) -> Level {
     parts.packed(rng)
 }
 
-/// A level that differs by one in one entry (more), corner or point value (less), so that it may break its inequality.
+/// A level that differs by one in an entry (more), corner or point value (less), or in a few of them, so that it may break their
+/// inequalities.
 pub fn nudged(rng: &mut Rng, level: &Level, shape: Shape) -> Level {
     let mut level = level.clone();
-    let points = if level.points > 0 { 3 } else { 2 };
-    match rng.below(points) {
-        0 => {
-            let entry = &mut level.entries[rng.index(level.vectors as usize * shape.n)];
-            *entry = entry.wrapping_add(1);
+    let kinds = if level.points > 0 { 3 } else { 2 };
+    for _ in 0..rng.pick(&[1, 1, 1, 2, 4]) {
+        match rng.below(kinds) {
+            0 => {
+                let entry = &mut level.entries[rng.index(level.vectors as usize * shape.n)];
+                *entry = entry.wrapping_add(1);
+            }
+            1 => level.corners[rng.index(shape.n)] -= 1,
+            _ => level.values[rng.index(level.points as usize)] -= 1,
         }
-        1 => level.corners[rng.index(shape.n)] -= 1,
-        _ => level.values[rng.index(level.points as usize)] -= 1,
     }
     level
 }
@@ -298,6 +301,9 @@ pub(super) fn spoil_level(rng: &mut Rng, level: &mut Level, shape: Shape, t: u64
         6 => {
             let corner = rng.pick(&[ticks, -ticks, ticks + 1, -ticks - 1, i64::MIN, i64::MAX, anything as i64]);
             level.corners[rng.index(n)] = corner;
+            if points > 0 && rng.once_in(3) {
+                level.values[rng.index(points)] = POINT_TOTAL as i64 * ticks + 1;
+            }
         }
         7 => level.masks[rng.index(vectors)] = mask(rng, n),
         8 => {

@@ -14,15 +14,16 @@ pub fn tables(rng: &mut Rng, shape: Shape) -> Tables {
 /// Tables that open, of which each row of T has one cell above 0 or two if they are sparse.
 pub fn tables_of(rng: &mut Rng, shape: Shape, sparse: bool) -> Tables {
     let Shape { n, m, k } = shape;
+    let thin = rng.once_in(8);
     let discount = rng.below(THOUSAND + 1);
     let mut tables = Tables {
         discount: rng.pick(&[0, 1, 500, 900, 950, 999, 1_000, discount]),
         ..Tables::zeros(n as u64, m as u64, k as u64)
     };
     for row in 0..m * n {
-        let reached = if sparse { few_shares(rng, n, THOUSAND) } else { chances(rng, n) };
+        let reached = if sparse { few_shares(rng, n, THOUSAND) } else { chances(rng, n, thin) };
         tables.transitions[row * n..(row + 1) * n].copy_from_slice(&reached);
-        tables.sights[row * k..(row + 1) * k].copy_from_slice(&chances(rng, k));
+        tables.sights[row * k..(row + 1) * k].copy_from_slice(&chances(rng, k, thin));
     }
     let most = rng.pick(&[1, 20, 999, 10_000, REWARD]);
     // Now and then costs alone: then 0 is more than any plan earns.
@@ -52,7 +53,7 @@ pub fn spoil_tables(rng: &mut Rng, tables: &mut Tables) {
             tables.observations = rng.pick(&[0, 1, 8, 9, 9, u64::MAX, anything]);
             refit(rng, tables);
         }
-        3 => tables.discount = rng.pick(&[0, 1_000, 1_001, u64::MAX, anything]),
+        3 => tables.discount = rng.pick(&[0, 1_000, 1_001, 1_001, 1_001, u64::MAX, anything]),
         kind => {
             let used = if tables.counts_fit() { tables.cells_used() } else { (1, 1, 1) };
             // The counts may want more cells than there are.

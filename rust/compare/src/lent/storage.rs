@@ -128,7 +128,7 @@ pub fn graph(storage: &reference::Graph, k: usize) -> Graph {
     }
 }
 
-/// Certifier's slices with room for every level of so many states and vectors, and anything in it.
+/// Certifier's slices with room for every level of so many states and vectors, and for a point more, and anything in it.
 pub fn roomy(rng: &mut Rng, mut certifier: Certifier, n: usize, vectors: usize) -> Certifier {
     fn grow(rng: &mut Rng, slice: &mut dyn Slice, length: usize) {
         let length = slice.length().max(length) + rng.index(3);
@@ -141,8 +141,8 @@ pub fn roomy(rng: &mut Rng, mut certifier: Certifier, n: usize, vectors: usize) 
     grow(rng, &mut certifier.masks, vectors);
     grow(rng, &mut certifier.entries, vectors * n);
     grow(rng, &mut certifier.corners, n);
-    grow(rng, &mut certifier.weights, POINTS * n);
-    grow(rng, &mut certifier.values, POINTS);
+    grow(rng, &mut certifier.weights, (POINTS + 1) * n);
+    grow(rng, &mut certifier.values, POINTS + 1);
     grow(rng, &mut certifier.informed, ACTIONS * n);
     grow(rng, &mut certifier.qmdp, ACTIONS * n);
     certifier

@@ -6,8 +6,9 @@ use crate::lent::{Call, Library};
 use crate::{adopting, calls, converting, files, listing, replaying, single, through, wide};
 use reference::Trap;
 
-/// How many random cases a slip or a trap is looked for in.
+/// How many random cases a slip or a trap is looked for in, and how many calls on storage.
 const HUNTED: u64 = 3_000;
+const CALLS: u64 = 6_000;
 
 /// A copy with one mistake, and whether a case has told it from the library.
 struct Hunted {
@@ -97,8 +98,8 @@ impl Suites<'_> {
             };
             by_call(name, call)
         });
-        let judging = traps(Trap::JUDGING);
-        all &= self.hunt("traps of the judging, by calls on storage", HUNTED, judging, &|number| {
+        let judging = [Trap::JUDGING, Trap::ORDERING].concat();
+        all &= self.hunt("traps of the judging, by calls on storage", CALLS, traps(&judging), &|number| {
             let mut rng = self.rng("calls", number);
             let case = calls::random(&mut rng, number);
             let differs =
