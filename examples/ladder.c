@@ -26,6 +26,16 @@ static int refused(uint64_t number, size_t place)
     return number != BIIDHAQUN_SERVED;
 }
 
+/* The status to end with, once everything is written; 2 where it cannot be. */
+static int ended(int status)
+{
+    if (fflush(stdout) != 0 || ferror(stdout)) {
+        fputs("ladder: standard output cannot be written\n", stderr);
+        return 2;
+    }
+    return status;
+}
+
 int main(void)
 {
     if (biidhaqun_version() != BIIDHAQUN_VERSION) {
@@ -47,10 +57,10 @@ int main(void)
     uint16_t start[BIIDHAQUN_STATES];
     struct biidhaqun_refusal x = biidhaqun_read_file(file, length, &tables, start, BIIDHAQUN_STATES);
     if (refused(x.number, x.place))
-        return 1;
+        return ended(1);
     x = biidhaqun_open_on(&tables, &certifier);
     if (refused(x.number, x.place))
-        return 1;
+        return ended(1);
 
     /* One point to build at, and the mixture to ask at: the start numbers. */
     uint32_t point[BIIDHAQUN_STATES];
@@ -60,19 +70,15 @@ int main(void)
     for (int step = 0; step < 3; step++) {
         x = biidhaqun_build_level(&tables, &certifier, 1, point, tables.states, &level);
         if (refused(x.number, x.place))
-            return 1;
+            return ended(1);
         x = biidhaqun_offer_level(&tables, &certifier, &level);
         if (refused(x.number, x.place))
-            return 1;
+            return ended(1);
         struct biidhaqun_bounds at = biidhaqun_totals_at(&tables, &certifier, point, tables.states);
         if (refused(at.number, at.place))
-            return 1;
+            return ended(1);
         printf("%zu %" PRId64 " %" PRId64 " %" PRId64 " %zu\n", certifier.state[0], at.lower, at.upper, at.gap,
                at.action);
     }
-    if (fflush(stdout) != 0) {
-        fputs("ladder: standard output cannot be written\n", stderr);
-        return 2;
-    }
-    return 0;
+    return ended(0);
 }

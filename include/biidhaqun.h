@@ -757,10 +757,10 @@ static inline void biidhaqun_level_in(struct biidhaqun_level *level, struct biid
 
 #undef BIIDHAQUN_LEND
 
-/* The mask of a vector that covers all of so many states, at most 64. */
+/* The mask of a vector that covers all of so many states, or the first 64 of more. */
 static inline uint64_t biidhaqun_full_mask(size_t states)
 {
-    return states == 0 ? 0 : ~(uint64_t)0 >> (64 - states);
+    return states < BIIDHAQUN_STATES ? ((uint64_t)1 << states) - 1 : ~(uint64_t)0;
 }
 
 /*

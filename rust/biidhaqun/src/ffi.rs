@@ -1,11 +1,12 @@
 //! The library's calls over slices. Nothing but this module is unsafe.
 //!
 //! A slice goes over as its pointer and its length. The library reads and writes inside these lengths only, writes nothing
-//! that is lent to be read, keeps no pointer, and answers whatever the content.
+//! that is lent to be read, keeps no pointer, and answers whatever the content. That is so of a library of this layout: each call
+//! asks for its version first.
 
 use crate::slices::{
     Adopted, Answers, Certifier, Conversion, Graph, Level, Offers, Reading, Refusal, Replayed, Tables, Totals,
-    TotalsWithin, Worth,
+    TotalsWithin, Worth, VERSION,
 };
 
 mod library {
@@ -464,6 +465,16 @@ pub fn version() -> u64 {
     unsafe { library::biidhaqun_version() }
 }
 
+/// Panics where the linked library has another layout than this crate: it would not take the slices for what they are.
+fn tested(linked: u64) {
+    assert!(
+        linked == VERSION,
+        "the linked libbiidhaqun.a has version {} of the layout, and the crate biidhaqun has {}: build both of one source",
+        linked,
+        VERSION
+    );
+}
+
 /// Reads a model file: its counts and discount are answered, its tables and its start numbers in hundredths written; or 1
 /// to 6, with 3 at 0 where a table has no room, or 100 where the start numbers have none.
 pub fn read(
@@ -473,6 +484,7 @@ pub fn read(
     reward: &mut [i64],
     start: &mut [u16],
 ) -> Reading {
+    tested(version());
     unsafe {
         library::biidhaqun_read(
             file.as_ptr(),
@@ -491,11 +503,13 @@ pub fn read(
 
 /// Writes a file whose rewards depend on what follows as a model file, at the front of the output; or 27, 1 to 6, 25, 26.
 pub fn convert(file: &[u8], output: &mut [u8]) -> Conversion {
+    tested(version());
     unsafe { library::biidhaqun_convert(file.as_ptr(), file.len(), output.as_mut_ptr(), output.len()) }
 }
 
 /// Opens a certifier on tables: level 0 stands, and the rows are zeros; or 3, 5, 6, 9.
 pub fn open(tables: &Tables, certifier: &mut Certifier) -> Refusal {
+    tested(version());
     unsafe {
         library::biidhaqun_open(
             tables.states,
@@ -536,6 +550,7 @@ pub fn open(tables: &Tables, certifier: &mut Certifier) -> Refusal {
 /// 13, 14, 15. A list that is not empty must be the tables' own ([`list`]), else 7: backups are then worked out from it, with the
 /// same answers.
 pub fn offer(tables: &Tables, list: &[u32], certifier: &mut Certifier, level: &Level) -> Refusal {
+    tested(version());
     unsafe {
         library::biidhaqun_offer(
             tables.states,
@@ -593,6 +608,7 @@ pub fn offer(tables: &Tables, list: &[u32], certifier: &mut Certifier, level: &L
 /// Offers the levels of a list one after the other, each as by [`offer`], and answers how many were accepted: those that are
 /// refused leave the certifier as it was; or 7, 9 for them all.
 pub fn replay(tables: &Tables, certifier: &mut Certifier, offers: &Offers) -> Replayed {
+    tested(version());
     unsafe {
         library::biidhaqun_replay(
             tables.states,
@@ -652,6 +668,7 @@ pub fn replay(tables: &Tables, certifier: &mut Certifier, offers: &Offers) -> Re
 
 /// The totals at a mixture; or 7, 16, 17, 22.
 pub fn totals(tables: &Tables, certifier: &Certifier, mixture: &[u32]) -> Totals {
+    tested(version());
     unsafe {
         library::biidhaqun_totals(
             tables.states,
@@ -691,6 +708,7 @@ pub fn totals(tables: &Tables, certifier: &Certifier, mixture: &[u32]) -> Totals
 /// The totals at so many mixtures, whose weights lie one after the other: what [`totals`] answers at each; or 7, 16, 17, 9
 /// for them all.
 pub fn each(tables: &Tables, certifier: &Certifier, mixtures: &[u32], count: usize, answers: &mut Answers) -> Refusal {
+    tested(version());
     unsafe {
         library::biidhaqun_each(
             tables.states,
@@ -738,6 +756,7 @@ pub fn each(tables: &Tables, certifier: &Certifier, mixtures: &[u32], count: usi
 
 /// The totals over all mixtures whose weights lie within ranges; or 7, 16, 24, 17, 22.
 pub fn within(tables: &Tables, certifier: &Certifier, lows: &[u32], highs: &[u32]) -> TotalsWithin {
+    tested(version());
     unsafe {
         library::biidhaqun_within(
             tables.states,
@@ -787,6 +806,7 @@ pub fn build(
     points: &[u32],
     level: &mut Level,
 ) -> Refusal {
+    tested(version());
     unsafe {
         library::biidhaqun_build(
             tables.states,
@@ -840,6 +860,7 @@ pub fn build(
 
 /// What a plan graph's node is worth at a state with some steps left, in ticks; or 3, 5, 6, 18.
 pub fn worth(tables: &Tables, graph: &Graph, node: usize, state: usize, steps: usize) -> Worth {
+    tested(version());
     unsafe {
         library::biidhaqun_worth(
             tables.states,
@@ -876,6 +897,7 @@ pub fn adopt(
     count: usize,
     level: &mut Level,
 ) -> Adopted {
+    tested(version());
     unsafe {
         library::biidhaqun_adopt(
             tables.states,
@@ -931,6 +953,7 @@ pub fn adopt(
 
 /// Writes the list of the tables' transitions over the first words of a slice; or 3, 5, 6, 9.
 pub fn list(tables: &Tables, list: &mut [u32]) -> Refusal {
+    tested(version());
     unsafe {
         library::biidhaqun_list(
             tables.states,
@@ -952,6 +975,7 @@ pub fn list(tables: &Tables, list: &mut [u32]) -> Refusal {
 /// Moves a certifier to new tables, of which only the rewards differ: its entries, corners, values and rows are moved, and from
 /// then on the new tables are handed in; or 7, the new tables' own 3, 5, 6, then 23.
 pub fn reprice(tables: &Tables, new: &Tables, certifier: &mut Certifier) -> Refusal {
+    tested(version());
     unsafe {
         library::biidhaqun_reprice(
             tables.states,
@@ -993,5 +1017,21 @@ pub fn reprice(tables: &Tables, new: &Tables, certifier: &mut Certifier) -> Refu
             certifier.qmdp.as_mut_ptr(),
             certifier.qmdp.len(),
         )
+    }
+}
+
+#[cfg(test)]
+mod tests {
+    use super::*;
+
+    #[test]
+    fn the_layout_of_this_crate() {
+        tested(version());
+    }
+
+    #[test]
+    #[should_panic(expected = "build both of one source")]
+    fn another_layout() {
+        tested(VERSION - 1);
     }
 }

@@ -55,9 +55,9 @@ pub struct Vector<'a> {
 }
 
 impl Vector<'_> {
-    /// Whether it covers this state.
+    /// Whether it covers this state. One past the 64 that a model may have is not covered.
     pub fn covers(&self, state: usize) -> bool {
-        state < self.entries.len() && self.mask >> state & 1 == 1
+        state < self.entries.len().min(slices::STATES) && self.mask >> state & 1 == 1
     }
 
     /// Whether it covers every state.
@@ -176,8 +176,8 @@ impl Level {
     /// The point with this number.
     pub fn point(&self, number: usize) -> Option<Point<'_>> {
         Some(Point {
-            weights: row(&self.slices.weights, number, self.states)?,
             value: *self.slices.values.get(number)?,
+            weights: row(&self.slices.weights, number, self.states)?,
         })
     }
 
@@ -217,7 +217,7 @@ impl Level {
     }
 }
 
-/// A row of cells.
+/// A row of cells, with a number that was found among the level's.
 fn row<Cell>(cells: &[Cell], number: usize, width: usize) -> Option<&[Cell]> {
     cells.get(number * width..(number + 1) * width)
 }

@@ -12,7 +12,8 @@
 //! any thread that has the stack for it: 256 kilobytes for all of them, 32 for all but reading, converting and worths.
 //!
 //! Depend on the crate by its path. `scripts/archive` builds the static library first; the variable `BIIDHAQUN_LIB` names another
-//! folder that has `libbiidhaqun.a`.
+//! folder that has `libbiidhaqun.a`. A library of another layout is handed nothing: every call asks for its [`version`] first, and
+//! panics where that is not the crate's own [`VERSION`].
 //!
 //! Where most of a model's transitions are 0, a certifier can work from a [`List`] of the others, with the same answers. Rewards
 //! may change while it stands at a level ([`Certifier::reprice`]): its bounds are moved so that they hold for the new ones.

@@ -89,7 +89,8 @@ impl Graph {
 
     /// The action of a node, and the nodes to go on with.
     pub fn node(&self, number: usize) -> Option<(u8, &[u16])> {
+        let action = *self.slices.actions.get(number)?;
         let (start, end) = (number * self.observations, (number + 1) * self.observations);
-        Some((*self.slices.actions.get(number)?, self.slices.next.get(start..end)?))
+        Some((action, self.slices.next.get(start..end)?))
     }
 }

@@ -53,9 +53,9 @@ pub const WRITTEN_STATES: usize = 16;
 /// Most words of a list of transitions: one for each column and for the end, and one for each cell of T.
 pub const LIST_WORDS: usize = ACTIONS * STATES + 1 + ACTIONS * STATES * STATES;
 
-/// The mask of a vector that covers all of so many states, at most 64: bit s is 1 where state s is covered.
+/// The mask of a vector that covers all of so many states, or the first 64 of more: bit s is 1 where state s is covered.
 pub fn full_mask(states: usize) -> u64 {
-    u64::MAX.checked_shr(64 - states as u32).unwrap_or(0)
+    u64::MAX.checked_shr(STATES.saturating_sub(states) as u32).unwrap_or(0)
 }
 
 /// Tables: a model in thousandths and ticks.

@@ -74,7 +74,6 @@ fn weights_within_ranges() {
     assert_eq!(refusal(within(&[0, 1], &[1, 2])), (22, 0));
 }
 
-/// Each of the two ceilings is the lower one somewhere.
 #[test]
 fn offers_and_buildings_from_a_list() {
     let (model, start, by_table) = standing(1);
@@ -179,6 +178,7 @@ fn new_tables_in_slices() {
     assert_eq!(moved(&|_, certifier| certifier.choices.clear()), (0, 0));
 }
 
+/// Each of the two ceilings is the lower one somewhere.
 #[test]
 fn the_ceilings_apart() {
     let (_, _, two) = standing(2);
@@ -648,6 +648,28 @@ fn a_fresh_certifier_has_no_totals_and_builds_at_sixteen_points() {
     assert_eq!(refusal(certifier.build(&many(17))), (9, 0));
 }
 
+/// A number that names no part is none, however large; a level for more states than a model may have is made and shown.
+#[test]
+fn numbers_of_no_part() {
+    let (_, _, certifier) = standing(1);
+    let level = certifier.standing();
+    let mut graph = Graph::new(2);
+    graph.add_node(0, &[0, 0]).unwrap();
+    for number in [level.vectors().count(), usize::MAX / 2, usize::MAX] {
+        assert_eq!((level.vector(number), level.point(number), graph.node(number)), (None, None, None));
+    }
+    assert_eq!(
+        [0, 1, 63, 64, 65, usize::MAX].map(slices::full_mask),
+        [0, 1, u64::MAX >> 1, u64::MAX, u64::MAX, u64::MAX]
+    );
+    let mut wide = Level::new(Shape { states: 65, actions: 1, observations: 1 });
+    wide.add_vector(0, &[0], &[0; 65]).unwrap();
+    let vector = wide.vector(0).unwrap();
+    assert!(vector.covers(63) && !vector.covers(64) && !vector.covers(usize::MAX) && !vector.covers_all());
+    assert!(wide.to_string().starts_with("vector 0: action 0, choices [0], covers [0, 1, "));
+    assert!(matches!(certifier.clone().offer(&wide), Err(Error::Length(_))));
+}
+
 /// A solver's files at the first level and at the second, of which the last entry is too high by a tenth.
 const FIRST: (&[u8], &[u8]) = (b"0\n-1.000 -1.000 \n\n1\n-10.000 6.000 \n\n", b"0 0  - - \n1 1  - - \n");
 const SECOND: (&[u8], &[u8]) = (b"0\n-0.505 2.610 \n\n", b"0 0  0 1 \n");
@@ -839,7 +861,7 @@ fn the_parts_of_a_model() {
 #[test]
 fn units_are_rounded_outwards() {
     let bracket = |lower, upper, weights: &[u32]| {
-        let bounds = Bounds { lower, upper, gap: upper - lower, action: 0 };
+        let bounds = Bounds { lower, upper, gap: 0, action: 0 };
         let bracket = bounds.bracket(&Mixture::new(weights));
         (bracket.floor.ten_thousandths(), bracket.ceiling.ten_thousandths())
     };

@@ -43,10 +43,10 @@ pub enum Request {
         built: Built,
         /// A mixture to ask at, beside the points that are given: a weight for each state, up to 1000000 [default: the start
         /// mixture, where no point is given]
-        #[arg(long = "at", value_name = "W,W,..", value_parser = weights)]
+        #[arg(long = "at", value_name = "W,W,..", value_parser = weights, allow_hyphen_values = true)]
         at: Vec<Weights>,
         /// Ranges of weights to ask within: a low and a high for each state, of all mixtures inside
-        #[arg(long = "within", value_name = "L..H,L..H,..", value_parser = ranges)]
+        #[arg(long = "within", value_name = "L..H,L..H,..", value_parser = ranges, allow_hyphen_values = true)]
         within: Vec<Ranges>,
         /// A model file that differs in its rewards alone: after the last level they are in force, and what is then certified is
         /// printed too
@@ -72,13 +72,13 @@ pub enum Request {
         levels: Vec<PathBuf>,
         /// A point of each level from a solver: a weight for each state, 1 to 100 in total; up to 16 times [default: the start
         /// mixture]
-        #[arg(long = "point", value_name = "W,W,..", value_parser = weights)]
+        #[arg(long = "point", value_name = "W,W,..", value_parser = weights, allow_hyphen_values = true)]
         points: Vec<Weights>,
         /// A mixture to ask at: a weight for each state, up to 1000000 [default: the start mixture]
-        #[arg(long = "at", value_name = "W,W,..", value_parser = weights)]
+        #[arg(long = "at", value_name = "W,W,..", value_parser = weights, allow_hyphen_values = true)]
         at: Vec<Weights>,
         /// Ranges of weights to ask within: a low and a high for each state, of all mixtures inside
-        #[arg(long = "within", value_name = "L..H,L..H,..", value_parser = ranges)]
+        #[arg(long = "within", value_name = "L..H,L..H,..", value_parser = ranges, allow_hyphen_values = true)]
         within: Vec<Ranges>,
         /// Print one JSON object
         #[arg(long)]
@@ -124,7 +124,7 @@ pub enum Request {
         #[command(flatten)]
         built: Built,
         /// The mixture at which the levels are drawn: a weight for each state, up to 1000000 [default: the start mixture]
-        #[arg(long = "at", value_name = "W,W,..", value_parser = weights)]
+        #[arg(long = "at", value_name = "W,W,..", value_parser = weights, allow_hyphen_values = true)]
         at: Option<Weights>,
         /// Where to write the image
         #[arg(long, value_name = "FILE.svg")]
@@ -133,20 +133,22 @@ pub enum Request {
     /// Explain a refusal
     Explain {
         /// The number of the refusal: 1 to 27, or 100
+        #[arg(value_parser = refusal)]
         number: u64,
     },
 }
 
 /// A model file, and the levels to be built upon it.
 #[derive(Clone, Debug, clap::Args)]
+#[group(skip)]
 pub struct Built {
     /// A model file
     pub file: PathBuf,
     /// How many levels to build, 1 to 100 [default: 3]
-    #[arg(long, value_name = "N", value_parser = clap::value_parser!(u64).range(1..=100))]
+    #[arg(long, value_name = "N", value_parser = levels, allow_hyphen_values = true)]
     pub levels: Option<u64>,
     /// A point to build at: a weight for each state, 1 to 100 in total; up to 16 times [default: the start mixture]
-    #[arg(long = "point", value_name = "W,W,..", value_parser = weights)]
+    #[arg(long = "point", value_name = "W,W,..", value_parser = weights, allow_hyphen_values = true)]
     pub points: Vec<Weights>,
 }
 
@@ -170,6 +172,15 @@ pub fn ended(serve: impl FnOnce(Request) -> Result<i32, String>) -> i32 {
 
 /// How many levels are built where nothing is said.
 pub const LEVELS: u64 = 3;
+
+fn levels(word: &str) -> Result<u64, String> {
+    let number = word.parse().ok().filter(|number| (1..=100).contains(number));
+    number.ok_or_else(|| format!("`{}` is no number from 1 to 100", word))
+}
+
+fn refusal(word: &str) -> Result<u64, String> {
+    word.parse().map_err(|_| format!("`{}` is no number of a refusal; they are 1 to 27 and 100", word))
+}
 
 /// A weight for each state.
 #[derive(Clone, Debug, PartialEq, Eq)]

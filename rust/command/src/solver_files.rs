@@ -4,11 +4,11 @@
 //! reference over the comparison's damaged files (`tests/solver_files.rs`).
 
 use crate::told::{counted, Mark, Told};
-use crate::words::{Word, Words};
-use std::ops::Range;
+use crate::words::{end, Word, Words};
 
 const SOLVER_BYTES: usize = 4 << 20;
 const VECTORS: usize = 1_000;
+const BUILT_POINTS: usize = 16;
 const ACTION_DIGITS: usize = 2;
 const NODE_DIGITS: usize = 3;
 const WHOLE_DIGITS: usize = 6;
@@ -16,8 +16,8 @@ const DECIMALS: usize = 12;
 /// Entries of level t lie within t times this of 0, in ticks.
 const TICKS: i128 = 100_000;
 
-/// The two files of a step, and what they are read by: the model's counts, the level to be made, and how many vectors the
-/// level below it has.
+/// The two files of a step, and what they are read by: the model's counts, the level to be made, how many vectors the level
+/// below it has, and at how many points it is to be made.
 #[derive(Clone, Copy, Debug)]
 pub struct Step<'a> {
     pub alpha: &'a [u8],
@@ -27,6 +27,7 @@ pub struct Step<'a> {
     pub observations: usize,
     pub level: usize,
     pub below: usize,
+    pub points: usize,
 }
 
 /// Which of the two files.
@@ -36,12 +37,13 @@ pub enum Which {
     Graph,
 }
 
-/// Why a step is refused: the number and the place, the file that it is in, and what a person is told.
+/// Why a step is refused: the number and the place, the file that it is in, and what a person is told. It is in none where
+/// there are too many points.
 #[derive(Clone, Debug, PartialEq, Eq)]
 pub struct Trouble {
     pub number: u64,
     pub place: usize,
-    pub which: Which,
+    pub which: Option<Which>,
     pub told: Told,
 }
 
@@ -58,13 +60,18 @@ struct Node<'a> {
     next: Vec<(Option<usize>, Word<'a>)>,
 }
 
-/// Why a step is refused, if it is so for one of its words or their number.
+/// Why a step is refused, if it is so for one of its words, their number, or the number of points.
 pub fn judge(step: &Step) -> Result<(), Trouble> {
     for (which, file) in [(Which::Alpha, step.alpha), (Which::Graph, step.graph)] {
         if file.len() > SOLVER_BYTES {
             let title = "the file has more than 4,194,304 bytes".to_string();
             let notes = vec!["leave out comments, and digits behind the point that say nothing".to_string()];
-            return Err(Trouble { number: 1, place: 0, which, told: Told { title, marks: Vec::new(), notes } });
+            return Err(Trouble {
+                number: 1,
+                place: 0,
+                which: Some(which),
+                told: Told { title, marks: Vec::new(), notes },
+            });
         }
     }
     let alphas = Reading::of(Which::Alpha, step.alpha).alphas(step.states)?;
@@ -77,7 +84,16 @@ pub fn judge(step: &Step) -> Result<(), Trouble> {
         };
         let marks = alphas.get(VECTORS).map(|alpha| Mark::new(alpha.action.1.span(), "the first that is too many"));
         let told = Told { title, marks: marks.into_iter().collect(), notes: Vec::new() };
-        return Err(Trouble { number: 9, place: 0, which: Which::Alpha, told });
+        return Err(Trouble { number: 9, place: 0, which: Some(Which::Alpha), told });
+    }
+    if step.points > BUILT_POINTS {
+        let title = format!("there are {} points, and levels are made at {} at most", step.points, BUILT_POINTS);
+        return Err(Trouble {
+            number: 9,
+            place: 0,
+            which: None,
+            told: Told { title, marks: Vec::new(), notes: Vec::new() },
+        });
     }
     exist(step, &nodes)?;
     in_range(step, &alphas)
@@ -101,7 +117,7 @@ impl<'a> Reading<'a> {
         notes.extend(hint(word, self.which).map(|hint| format!("help: {}", hint)));
         let title = format!("{} does not fit here", word.quoted());
         let told = Told { title, marks: vec![Mark::new(word.span(), reason)], notes };
-        Trouble { number: 19, place: word.place, which: self.which, told }
+        Trouble { number: 19, place: word.place, which: Some(self.which), told }
     }
 
     /// The value of a word by its form.
@@ -112,6 +128,16 @@ impl<'a> Reading<'a> {
         }
     }
 
+    /// The first word of a vector or a node. Where it does not fit, those before it may be of a model with other counts.
+    fn first<Of>(&self, word: Word<'a>, form: &Form<Of>, counts: String) -> Result<(Of, Word<'a>), Trouble> {
+        self.fitting(word, form).map_err(|mut trouble| {
+            if !trouble.told.notes.iter().any(|note| note.starts_with("help: ")) {
+                trouble.told.notes.push(format!("help: {}", counts));
+            }
+            trouble
+        })
+    }
+
     /// The value of the next word; a missing one gets 19 at the file's length.
     fn value<Of>(&mut self, form: &Form<Of>) -> Result<(Of, Word<'a>), Trouble> {
         match self.words.next() {
@@ -120,7 +146,7 @@ impl<'a> Reading<'a> {
                 let marks = vec![Mark::new(end(self.file), "a word is missing here")];
                 let notes = vec![format!("wanted: {}", form.wanted)];
                 let told = Told { title: "the file ends too early".to_string(), marks, notes };
-                Err(Trouble { number: 19, place: self.file.len(), which: self.which, told })
+                Err(Trouble { number: 19, place: self.file.len(), which: Some(self.which), told })
             }
         }
     }
@@ -128,7 +154,8 @@ impl<'a> Reading<'a> {
     fn alphas(mut self, states: usize) -> Result<Vec<Alpha<'a>>, Trouble> {
         let mut alphas = Vec::new();
         while let Some(word) = self.words.next() {
-            let action = self.fitting(word, &action_form(alphas.len()))?;
+            let counts = format!("here a vector is an action and {}, one for each state", counted(states, "value"));
+            let action = self.first(word, &action_form(alphas.len()), counts)?;
             let ticks = (0..states).map(|state| self.value(&decimal_form(alphas.len(), state)));
             alphas.push(Alpha { action, ticks: ticks.collect::<Result<_, _>>()? });
         }
@@ -138,7 +165,9 @@ impl<'a> Reading<'a> {
     fn nodes(mut self, observations: usize) -> Result<Vec<Node<'a>>, Trouble> {
         let mut nodes = Vec::new();
         while let Some(word) = self.words.next() {
-            let ((), number) = self.fitting(word, &node_form(nodes.len()))?;
+            let next = counted(observations, "next node");
+            let counts = format!("here a node is its number, an action and {}, one for each observation", next);
+            let ((), number) = self.first(word, &node_form(nodes.len()), counts)?;
             let action = self.value(&action_form(nodes.len()))?;
             let next = (0..observations).map(|seen| self.value(&next_form(nodes.len(), seen)));
             nodes.push(Node { number, action, next: next.collect::<Result<_, _>>()? });
@@ -227,6 +256,7 @@ fn hint(word: &Word, which: Which) -> Option<String> {
         (Which::Alpha, bytes) if fraction > DECIMALS && bytes.contains(&b'.') => {
             "cut the decimals to 12: sed -E 's/(\\.[0-9]{12})[0-9]+/\\1/g'"
         }
+        (_, [b'{', ..]) => "this may be levels in JSON: such a file is given alone",
         (Which::Alpha, b"-") => "this may be the policy graph: for each step the alpha file comes first",
         (Which::Graph, bytes) if bytes.contains(&b'.') => {
             "this may be the alpha file: for each step the policy graph comes second"
@@ -243,7 +273,7 @@ fn agree(step: &Step, alphas: &[Alpha], nodes: &[Node]) -> Result<(), Trouble> {
         let notes =
             vec!["wanted: for each vector of the alpha file one node of the graph, with its action".to_string()];
         let told = Told { title, marks: vec![mark], notes };
-        Err(Trouble { number: 20, place: 0, which: Which::Graph, told })
+        Err(Trouble { number: 20, place: 0, which: Some(Which::Graph), told })
     };
     if alphas.len() != nodes.len() {
         let title = format!(
@@ -274,7 +304,7 @@ fn exist(step: &Step, nodes: &[Node]) -> Result<(), Trouble> {
             let title = format!("vector {} names what does not exist", number);
             let told =
                 Told { title, marks: vec![Mark::new(word.span(), text)], notes: vec![format!("wanted: {}", wanted)] };
-            Err(Trouble { number: 10, place: number, which: Which::Graph, told })
+            Err(Trouble { number: 10, place: number, which: Some(Which::Graph), told })
         };
         let (action, word) = node.action;
         if action >= step.actions {
@@ -305,16 +335,10 @@ fn in_range(step: &Step, alphas: &[Alpha]) -> Result<(), Trouble> {
             let title = format!("vector {} has a value below the range of level {}", number, step.level);
             let notes = vec![format!("wanted: at least {}, as {} earn", lowest / 100, counted(step.level, "step"))];
             let told = Told { title, marks: vec![Mark::new(word.span(), "below the range")], notes };
-            return Err(Trouble { number: 11, place: number, which: Which::Alpha, told });
+            return Err(Trouble { number: 11, place: number, which: Some(Which::Alpha), told });
         }
     }
     Ok(())
-}
-
-/// The last place of a file that is worth pointing at: behind its last word.
-fn end(file: &[u8]) -> Range<usize> {
-    let last = Words::of(file).last().map_or(0, |word| word.span().end);
-    last..last
 }
 
 #[cfg(test)]
@@ -335,18 +359,28 @@ mod tests {
 
     #[test]
     fn what_is_told() {
-        let told = |alpha: &str, graph: &str| {
+        let told_at = |points: usize, alpha: &str, graph: &str| {
             let (alpha, graph) = (alpha.as_bytes(), graph.as_bytes());
-            let step = Step { alpha, graph, states: 2, actions: 2, observations: 1, level: 2, below: 1 };
+            let step = Step { alpha, graph, states: 2, actions: 2, observations: 1, level: 2, below: 1, points };
             let trouble = judge(&step).unwrap_err();
             (trouble.number, trouble.place, trouble.which, trouble.told)
         };
+        let told = |alpha: &str, graph: &str| told_at(16, alpha, graph);
         let (number, place, which, told_of) = told("0 1 0.1234567890123\n", "");
-        assert_eq!((number, place, which), (19, 4, Which::Alpha));
+        assert_eq!((number, place, which), (19, 4, Some(Which::Alpha)));
         assert!(told_of.notes[1].contains("sed -E"), "{:?}", told_of);
         let (number, place, which, told_of) = told("0 1 1", "1 0 0");
-        assert_eq!((number, place, which), (19, 0, Which::Graph));
+        assert_eq!((number, place, which), (19, 0, Some(Which::Graph)));
         assert_eq!(told_of.marks[0].text, "this is node 1, out of order");
+        assert_eq!(
+            told_of.notes[1],
+            "help: here a node is its number, an action and 1 next node, one for each observation"
+        );
+        // An alpha file of a model with one state.
+        let (number, place, _, told_of) = told("0 -1.5 1 -2.5", "");
+        assert_eq!((number, place), (19, 9));
+        assert_eq!(told_of.notes[1], "help: here a vector is an action and 2 values, one for each state");
+        assert!(told("{\"levels\": []}", "").3.notes[1].contains("levels in JSON"));
         let (number, _, _, told_of) = told("0 1 1", "0 1 0");
         assert_eq!((number, &told_of.title[..]), (20, "vector 0 has action 0 in the alpha file, and 1 in the graph"));
         let (number, _, _, told_of) = told("0 1 1 0 2 2", "0 0 0");
@@ -354,7 +388,12 @@ mod tests {
         let (number, place, _, told_of) = told("0 1 1", "0 0 -");
         assert_eq!((number, place, &told_of.marks[0].text[..]), (10, 0, "a hyphen at level 2"));
         let (number, place, which, _) = told("0 1 1 0 0 -2000.01", "0 0 0 1 0 0");
-        assert_eq!((number, place, which), (11, 1, Which::Alpha));
+        assert_eq!((number, place, which), (11, 1, Some(Which::Alpha)));
         assert_eq!(told("", "").0, 9);
+        // Too many points are told behind what does not fit, and before what does not exist.
+        let (number, _, which, told_of) = told_at(17, "0 1 1", "0 0 -");
+        let many = "there are 17 points, and levels are made at 16 at most";
+        assert_eq!((number, which, &told_of.title[..]), (9, None, many));
+        assert_eq!((told_at(17, "0 1", "0 0 -").0, told_at(17, "", "").2), (19, Some(Which::Alpha)));
     }
 }

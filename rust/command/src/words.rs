@@ -20,6 +20,17 @@ impl Word<'_> {
         self.bytes == text.as_bytes()
     }
 
+    /// What helps where it opens with a byte-order mark, as some editors save files.
+    pub fn encoding(&self) -> Option<&'static str> {
+        match self.bytes {
+            [0xef, 0xbb, 0xbf, ..] => Some("the file begins with a byte-order mark; save it without one"),
+            [0xff, 0xfe, ..] | [0xfe, 0xff, ..] => {
+                Some("the file is in UTF-16; save it as plain text, in ASCII or UTF-8")
+            }
+            _ => None,
+        }
+    }
+
     /// The word between backquotes, long ones cut.
     pub fn quoted(&self) -> String {
         const LONGEST: usize = 40;
@@ -46,6 +57,12 @@ impl<'a> Words<'a> {
     fn run(&self, test: impl Fn(u8) -> bool) -> usize {
         self.file[self.place..].iter().take_while(|&&byte| test(byte)).count()
     }
+}
+
+/// The last place of a file that is worth pointing at: behind its last word.
+pub fn end(file: &[u8]) -> Range<usize> {
+    let last = Words::of(file).last().map_or(0, |word| word.span().end);
+    last..last
 }
 
 fn parts(byte: u8) -> bool {
@@ -82,5 +99,18 @@ mod tests {
         assert_eq!(words(b" T:0\t#x\n\r1#"), [(1, &b"T"[..]), (2, b":"), (3, b"0"), (9, b"1")]);
         assert_eq!(words(b"# one\n# two\n\n:: x"), [(13, &b":"[..]), (14, b":"), (16, b"x")]);
         assert_eq!(words(b"#"), []);
+    }
+
+    #[test]
+    fn marks_of_an_encoding() {
+        let first = |file: &'static [u8]| Words::of(file).next().and_then(|word| word.encoding());
+        assert!(first(b"\xef\xbb\xbfdiscount: 1").unwrap().contains("byte-order mark"));
+        assert!(first(b"\xff\xfed\0i\0").unwrap().contains("UTF-16"));
+        assert_eq!((first(b"discount: 1"), first(b"\xff")), (None, None));
+    }
+
+    #[test]
+    fn behind_the_last_word() {
+        assert_eq!((end(b"T: 0 # x\n"), end(b" \n#")), (4..4, 0..0));
     }
 }

@@ -130,6 +130,13 @@ fn points_that_are_refused() {
     let (out, err) = refused(&["--point", "50,50"].repeat(17));
     assert!(out == "refused 9 at 0\n" && err.contains("\n  there are 17 points, and"), "{}", err);
     assert!(!err.contains("alpha1"), "{}", err);
+    // The same where the files would be refused next.
+    let (alpha, graph) = (temporary("dangling.alpha", "0 0 0\n"), temporary("dangling.pg", "0 0 9 9\n"));
+    let files = ["certify", "examples/dough.pomdp", &alpha, &graph];
+    let (out, err, _) = run(&[&files[..], &["--point", "50,50"].repeat(17)].concat());
+    assert!(out == "refused 9 at 0\n" && err.contains("\n  there are 17 points, and"), "{}", err);
+    assert!(!err.contains("error of ours"), "{}", err);
+    assert_eq!(run(&files).0, "refused 10 at 0\n");
     let (out, _) = refused(&["--json", "--point", "0,0"]);
     assert!(out.contains("\"number\": 12"), "{}", out);
 }

@@ -391,7 +391,11 @@ fn wrong_usage() {
     ] {
         assert!(!stopped(arguments, 2).is_empty());
     }
-    let at = |weights: &str| stopped(&["levels", "examples/dough.pomdp", &format!("--at={}", weights)], 2);
+    let many = stopped(&["levels", "examples/dough.pomdp", "--levels", "101"], 2);
+    assert!(many.contains("`101` is no number from 1 to 100"), "{}", many);
+    let other = stopped(&["levels", "examples/dough.pomdp", "--steps"], 2);
+    assert!(other.contains("\nUsage: biidhaqun levels <FILE>\n"), "{}", other);
+    let at = |weights: &str| stopped(&["levels", "examples/dough.pomdp", "--at", weights], 2);
     for (weights, told) in [
         ("1,", "a weight is missing"),
         ("-1,1", "`-1` is below 0"),

@@ -180,6 +180,8 @@ fn every_form_of_t_and_o() {
         "T: listen identity T: open uniform",
         "T: 0 identity T: 1 : * uniform",
         "start: uniform T: * identity T: open : left reset T: open : right reset",
+        "start: left start: uniform T: * identity T: open : * reset",
+        "T: * identity T: open : * reset",
         "T: * : * : * 0.5 T: listen : left 1.0 0.0 T: listen : 1 : left 0 T:listen:right:right 1",
         "T: listen\n1.0 0\n.0 1e0\nT: open\n0.50000 5e-1\n+.5 0.5",
     ] {
@@ -299,6 +301,8 @@ fn what_does_not_fit_is_said() {
         ("T: 0 1 0 0", "the file ends too early"),
         ("T: 0 : 0 1 zero", "`zero` does not fit here"),
         ("T: 0 : 0 reset 1", "`1` does not fit here"),
+        ("T: 0 : 0 reset start: left", "`start` stands behind a `reset`"),
+        ("start: left T: 0 : 0 reset T: 0 : 1 reset start: right", "`start` stands behind a `reset`"),
         ("O: 0 identical", "`identical` does not fit here"),
         ("R: 0 identity", "`identity` does not fit here"),
         ("start: somewhere", "`somewhere` does not fit here"),

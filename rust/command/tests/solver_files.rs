@@ -4,15 +4,15 @@ use command::solver_files::{judge, Step};
 use compare::adopting::{self, Case};
 use compare::gen::DOCUMENT;
 use compare::rng::Rng;
-use reference::{BUILT_POINTS, LEVELS};
+use reference::LEVELS;
 
 /// Random files, and the seed that they come from.
 const RANDOM: u64 = 10_000;
 const SEED: u64 = 7;
 
-/// What is refused for a word, or for the number of vectors, is so by both, by the same number at the same place; the shell
-/// says nothing of certifiers and points. It reads files upon levels that it made of files, which cover all states, and so
-/// never meets 21.
+/// What is refused for a word, or for the number of vectors or points, is so by both, by the same number at the same place; the
+/// shell says nothing of certifiers and of the points' weights. It reads files upon levels that it made of files, which cover all
+/// states, and so never meets 21.
 fn agree(case: &Case) {
     let Case { about, certifier, alpha, graph, points } = case;
     let answer = reference::adopt(certifier, alpha, graph, points, &DOCUMENT);
@@ -28,10 +28,10 @@ fn agree(case: &Case) {
         observations: certifier.tables.observations as usize,
         level: (certifier.level as usize).saturating_add(1),
         below: certifier.standing.vectors as usize,
+        points: points.count as usize,
     };
-    let of_points = points.count > BUILT_POINTS as u64;
     match (answer, judge(&step)) {
-        (Err(refusal), Err(trouble)) if number != 12 && !(number == 9 && of_points) => {
+        (Err(refusal), Err(trouble)) => {
             let theirs = (u64::from(refusal.number), refusal.place as usize);
             assert_eq!((trouble.number, trouble.place), theirs, "{}", about);
             for mark in &trouble.told.marks {
@@ -39,8 +39,8 @@ fn agree(case: &Case) {
             }
         }
         (Ok(_), Ok(())) => {}
-        // The points are at fault.
-        (Err(_), _) if number == 12 || (number == 9 && of_points) => {}
+        // The weights of a point are at fault.
+        (Err(_), Ok(())) if number == 12 => {}
         (answer, judged) => panic!("{}: {:?} and {:?}\n{}", about, answer.err(), judged.err(), case.show()),
     }
 }

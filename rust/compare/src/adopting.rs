@@ -12,7 +12,7 @@ use crate::lent::Call;
 use crate::rng::Rng;
 use crate::single;
 use crate::solved::Climb;
-use reference::{Certifier, Points};
+use reference::{Certifier, Points, VECTORS};
 
 /// A certifier, the two files of a step, and points.
 #[derive(Clone, Debug)]
@@ -130,10 +130,11 @@ impl Case {
         case
     }
 
-    /// The call, with slices as long as they must be.
+    /// The call, with slices as long as they must be: for as many vectors as the files have, whether they are refused later on or
+    /// not.
     pub fn call(&self, rng: &mut Rng) -> Call {
-        let made = reference::adopt(&self.certifier, &self.alpha, &self.graph, &self.points, &DOCUMENT);
-        let vectors = made.map_or(2, |level| level.vectors as usize);
+        let read = reference::adopted_vectors(&self.certifier, &self.alpha, &self.graph, &DOCUMENT);
+        let vectors = read.map_or(2, |vectors| vectors.min(VECTORS));
         single::adoption(rng, &self.certifier, (&self.alpha, &self.graph), &self.points, vectors)
     }
 

@@ -93,7 +93,7 @@ pub fn random(rng: &mut Rng, number: u64) -> Case {
                 gen::spoil_tables(rng, &mut tables);
             }
             let mut graph = gen::graph(rng, shape);
-            if rng.once_in(4) {
+            for _ in 0..rng.pick(&[0, 0, 0, 0, 1, 2]) {
                 gen::spoil_graph(rng, &mut graph, shape);
             }
             let asked = gen::question(rng, &graph, shape);

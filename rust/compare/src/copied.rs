@@ -167,12 +167,12 @@ impl Library for Copied {
 
     fn worth(&self, tables: &Tables, graph: &Graph, asked: Question) -> Worth {
         let tables = self.tables(tables);
-        let (nodes, k) = (graph.nodes.min(NODES), tables.observations as usize);
+        let (nodes, k) = (graph.nodes.min(NODES + 1), tables.observations as usize);
         let long = self.long(&graph.actions, nodes) && self.long(&graph.next, nodes * k);
         let graph = reference::Graph {
             nodes: if long { graph.nodes as u64 } else { 0 },
-            actions: stored(&graph.actions, nodes, NODES),
-            next: stored(&graph.next, nodes * k, NODES * OBSERVATIONS),
+            actions: stored(&graph.actions, nodes, NODES + 1),
+            next: stored(&graph.next, nodes * k, (NODES + 1) * OBSERVATIONS),
         };
         match reference::worth(&tables, &graph, asked.node, asked.state, asked.steps, &self.rules) {
             Ok(ticks) => Worth { ticks: totals::ticks(&ticks), ..Worth::default() },

@@ -25,3 +25,4 @@ pub mod suites;
 pub mod through;
 pub mod ticks;
 pub mod traps;
+pub mod wide;

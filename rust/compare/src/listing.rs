@@ -21,6 +21,15 @@ pub fn exact(tables: &Tables) -> Vec<u32> {
     }
 }
 
+/// No list, or that of the tables.
+pub fn some(rng: &mut Rng, tables: &Tables) -> Vec<u32> {
+    if rng.once_in(2) {
+        exact(tables)
+    } else {
+        Vec::new()
+    }
+}
+
 /// The list that a copy with one mistake makes.
 fn mistaken(rng: &mut Rng, tables: &reference::Tables) -> Vec<u32> {
     let words = reference::list(tables, LIST, &Rules::broken(rng.pick(Trap::LISTING))).unwrap_or_default();
@@ -72,7 +81,8 @@ pub fn any(rng: &mut Rng, tables: &reference::Tables, shape: Shape) -> Vec<u32> 
         }
         16 => words[cell] = rng.pick(&[words[cell] + 1, words[cell] - 1, words[cell] + STATE, words[cell] % STATE, 0]),
         17 => {
-            let at = rng.pick(&[0, rng.clone().index(columns + 1), columns]);
+            let any = rng.index(columns + 1);
+            let at = rng.pick(&[0, any, columns]);
             words[at] = rng.pick(&[words[at] + 1, words[at].saturating_sub(1), 0, u32::MAX]);
         }
         18 => {

@@ -17,6 +17,7 @@
 //!   and past the largest, used with `--library`,
 //! - `many`: levels of up to 1,001 vectors, offered, read, built upon, listed and adopted, and files of up to a byte over 4 MiB; the
 //!   same for every seed, used with `--library`,
+//! - `wide`: single calls on models of 33 to 64 states, of which what is wrong lies late in a slice, used likewise,
 //! - `adopt`: random files of a solver, most of them damaged, upon certifiers of any content, used likewise,
 //! - `replay`: lists of offers in blocks, refused ones among them, upon certifiers of any content, used likewise,
 //! - `lists`: lists of transitions made and turned back, and offers and buildings that are handed a list of any content: with the
@@ -37,7 +38,8 @@ use compare::gen::DOCUMENT;
 use compare::options::{Options, USAGE};
 use compare::program::Answerer;
 use compare::rng::Rng;
-use compare::{adopting, bracket, calls, ceilings, files, show, solved, ticks, traps};
+use compare::{bracket, ceilings, files, show, solved, suites, ticks, traps};
+use num_bigint::BigInt;
 use reference::{ladder, Rules};
 use std::collections::BTreeMap;
 use std::process::ExitCode;
@@ -195,19 +197,14 @@ impl Comparison<'_> {
         let mut largest: BTreeMap<usize, u64> = BTreeMap::new();
         for number in 0..CLIMBS {
             let climb = ticks::random(&mut Rng::for_case(self.options.seed, "ticks", number));
-            match ticks::check(&climb, &DOCUMENT) {
-                Ok(losses) => {
+            match self.climbed(&climb, number)? {
+                Some(losses) => {
                     for (at, loss) in losses.iter().enumerate() {
                         let seen = largest.entry(at + 1).or_insert(0);
                         *seen = (*seen).max(u64::try_from(loss).unwrap_or(u64::MAX));
                     }
                 }
-                Err(message) => {
-                    let shown = climb.show();
-                    println!("DIFFERENCE in ticks:{} (seed {}): {}\n{}", number, self.options.seed, message, shown);
-                    self.saved(shown.as_bytes())?;
-                    return Ok(false);
-                }
+                None => return Ok(false),
             }
         }
         println!("levels built in turn: {}; the largest loss by rounding at level t, in ticks:", CLIMBS);
@@ -215,6 +212,24 @@ impl Comparison<'_> {
             println!("  {}: {:.3}", t, *loss as f64 / ticks::PARTS as f64);
         }
         Ok(true)
+    }
+
+    /// What levels built and offered in turn lose by rounding, in parts of a tick; none, if they differ.
+    fn climbed(&self, climb: &ticks::Climb, number: u64) -> io::Result<Option<Vec<BigInt>>> {
+        let losses = ticks::check(climb, &DOCUMENT);
+        self.well(&format!("ticks:{}", number), losses, || climb.show())
+    }
+
+    /// What was found well of a case; a difference is told.
+    fn well<Of>(&self, name: &str, found: Result<Of, String>, shown: impl Fn() -> String) -> io::Result<Option<Of>> {
+        match found {
+            Ok(found) => Ok(Some(found)),
+            Err(message) => {
+                println!("DIFFERENCE in {} (seed {}): {}\n{}", name, self.options.seed, message, shown());
+                self.saved(shown().as_bytes())?;
+                Ok(None)
+            }
+        }
     }
 
     /// The steps of a solver upon the examples and upon random models: each is certified, and what it loses is told.
@@ -226,18 +241,16 @@ impl Comparison<'_> {
         };
         let examples = solved::examples(&self.options.examples)?;
         for (name, climb) in examples.into_iter().chain((0..SOLVED).map(random)) {
-            match solved::check(&climb, &DOCUMENT) {
-                Ok(losses) if name.starts_with("solved:") => largest.with(&losses),
-                Ok(losses) => {
-                    let mut own = solved::Losses::default();
-                    own.with(&losses);
-                    println!("{} as a solver has it, ticks lost at level t: {}", name, own.shown());
-                }
-                Err(message) => {
-                    println!("DIFFERENCE in {} (seed {}): {}\n{}", name, self.options.seed, message, climb.show());
-                    self.saved(climb.show().as_bytes())?;
-                    return Ok(false);
-                }
+            let losses = match self.well(&name, solved::check(&climb, &DOCUMENT), || climb.show())? {
+                Some(losses) => losses,
+                None => return Ok(false),
+            };
+            if name.starts_with("solved:") {
+                largest.with(&losses);
+            } else {
+                let mut own = solved::Losses::default();
+                own.with(&losses);
+                println!("{} as a solver has it, ticks lost at level t: {}", name, own.shown());
             }
         }
         println!("random models as a solver has them: {}; the largest loss at level t, in ticks:", SOLVED);
@@ -265,28 +278,27 @@ impl Comparison<'_> {
                 print!("{}", show::list(&bracket::random(&mut rng)));
                 self.random_list(number)
             }
-            "calls" => {
-                print!("{}", calls::random(&mut rng, number).show());
-                Ok(true)
-            }
             "ticks" => {
                 let climb = ticks::random(&mut rng);
                 print!("{}", climb.show());
-                match ticks::check(&climb, &DOCUMENT) {
-                    Ok(losses) => println!("losses in parts of a tick: {:?}", losses),
-                    Err(message) => println!("DIFFERENCE: {}", message),
+                let losses = self.climbed(&climb, number)?;
+                if let Some(losses) = &losses {
+                    println!("losses in parts of a tick: {:?}", losses);
                 }
-                Ok(true)
-            }
-            "adopt" => {
-                print!("{}", adopting::random(&mut rng).show());
-                Ok(true)
+                Ok(losses.is_some())
             }
             "solved" => {
                 let climb = solved::random(&mut rng);
                 print!("{}", climb.show());
-                println!("{:?}", solved::check(&climb, &DOCUMENT));
-                Ok(true)
+                let losses =
+                    self.well(&format!("solved:{}", number), solved::check(&climb, &DOCUMENT), || climb.show())?;
+                if let Some(losses) = &losses {
+                    println!("{:?}", losses);
+                }
+                Ok(losses.is_some())
+            }
+            _ if suites::NAMES.contains(&suite) => {
+                Err(io::Error::new(io::ErrorKind::InvalidInput, format!("{} goes with --library", suite)))
             }
             _ => Err(io::Error::new(io::ErrorKind::InvalidInput, "there is no such suite")),
         }
@@ -301,18 +313,11 @@ impl Comparison<'_> {
     /// The random list of offers of this number.
     fn random_list(&mut self, number: u64) -> io::Result<bool> {
         let list = bracket::random(&mut Rng::for_case(self.options.seed, "plans", number));
-        match bracket::check(&list, &DOCUMENT) {
-            Ok(seen) => {
-                self.plans.add(&seen);
-                Ok(true)
-            }
-            Err(message) => {
-                let shown = show::list(&list);
-                println!("DIFFERENCE in plans:{} (seed {}): {}\n{}", number, self.options.seed, message, shown);
-                self.saved(shown.as_bytes())?;
-                Ok(false)
-            }
+        let seen = self.well(&format!("plans:{}", number), bracket::check(&list, &DOCUMENT), || show::list(&list))?;
+        if let Some(seen) = &seen {
+            self.plans.add(seen);
         }
+        Ok(seen.is_some())
     }
 
     /// Whether the answer for a file is the reference's.

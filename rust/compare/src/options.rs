@@ -13,8 +13,9 @@ usage: compare LADDER [OPTIONS]     compare the program at the path LADDER with 
                    differ from the program in files, and from the reference in calls; with --library, from the library
   --ceilings       tell how often the informed ceiling is lower than the sawtooth, and by how much, on the model files of
                    --examples; by the reference alone, so with --self
-  --only SUITE:N   one case alone: fixed:N, random:N, calls:N, plans:N, ticks:N, ends:N, slices:N, lengths:N,
-                   adopted:N, adopt:N, replay:N, lists:N, prices:N, converted:N, convert:N or solved:N
+  --only SUITE:N   one case alone: fixed:N, random:N, plans:N, ticks:N or solved:N; with --library also calls:N, ends:N,
+                   slices:N, lengths:N, adopted:N, many:N, wide:N, adopt:N, replay:N, lists:N, prices:N, converted:N
+                   or convert:N
   --file PATH      one file alone
   --save PATH      where to write the case that differs (the file, or the case as text)
   --examples DIR   model files to compare as well (default: examples)";

@@ -21,9 +21,7 @@ fn whole(rng: &mut Rng) -> Call {
             for _ in 0..rng.below(2) {
                 gen::spoil_tables(rng, &mut tables);
             }
-            let tables = lent::tables(&tables);
-            let certifier = opening_room(rng, &tables);
-            Call::Open { tables, certifier }
+            opening(rng, &tables)
         }
         2 => {
             let tables = gen::tables(rng, shape);
@@ -80,14 +78,15 @@ fn whole(rng: &mut Rng) -> Call {
     }
 }
 
-/// Slices for level 0 of tables, and its rows.
-fn opening_room(rng: &mut Rng, tables: &Tables) -> Certifier {
+/// Opens tables, with slices for level 0 and its rows.
+pub fn opening(rng: &mut Rng, tables: &reference::Tables) -> Call {
+    let tables = lent::tables(tables);
     let fit = tables.counts_fit();
     let (n, m, k) = if fit { (tables.states, tables.actions, tables.observations) } else { (1, 1, 1) };
     let mut certifier = sized(rng, Certifier::default(), &Level::zeros(n, k, 1, 0));
     certifier.informed.sized(m * n, rng);
     certifier.qmdp.sized(m * n, rng);
-    certifier
+    Call::Open { tables, certifier }
 }
 
 /// Slices of a certifier that are as long as a level's, at least.
@@ -106,20 +105,11 @@ pub fn sized(rng: &mut Rng, mut certifier: Certifier, level: &Level) -> Certifie
     certifier
 }
 
-/// No list, or that of the tables.
-fn list(rng: &mut Rng, tables: &Tables) -> Vec<u32> {
-    if rng.once_in(2) {
-        listing::exact(tables)
-    } else {
-        Vec::new()
-    }
-}
-
 pub fn offering(rng: &mut Rng, shape: Shape, certifier: &reference::Certifier, level: &reference::Level) -> Call {
     let level = lent::level(level, shape.n, shape.k);
     let standing = sized(rng, lent::certifier(certifier), &level);
     let tables = lent::tables(&certifier.tables);
-    Call::Offer { list: list(rng, &tables), tables, certifier: standing, level }
+    Call::Offer { list: listing::some(rng, &tables), tables, certifier: standing, level }
 }
 
 /// Totals at a mixture.
@@ -127,7 +117,7 @@ pub fn totals(certifier: &reference::Certifier, mixture: Vec<u32>) -> Call {
     Call::Totals { tables: lent::tables(&certifier.tables), certifier: lent::certifier(certifier), mixture }
 }
 
-/// Totals at some mixtures, of which some are refused.
+/// Totals at some mixtures, of which some are refused; now and then as many are asked for as no slice holds.
 pub fn asking(rng: &mut Rng, shape: Shape, certifier: &reference::Certifier, count: usize) -> Call {
     let (mut mixtures, mut answers) = (Vec::new(), Answers::default());
     for _ in 0..count {
@@ -141,6 +131,8 @@ pub fn asking(rng: &mut Rng, shape: Shape, certifier: &reference::Certifier, cou
     answers.lower.sized(count, rng);
     answers.upper.sized(count, rng);
     answers.actions.sized(count, rng);
+    // Of two states or of four, the cells of 2^63 mixtures number 0 in 64 bits.
+    let count = if rng.once_in(12) { rng.pick(&[usize::MAX, usize::MAX / 2, 1 << 62, 1 << 63]) } else { count };
     let tables = lent::tables(&certifier.tables);
     Call::Each { tables, certifier: lent::certifier(certifier), mixtures, count, answers }
 }
@@ -161,7 +153,14 @@ pub fn building(rng: &mut Rng, shape: Shape, certifier: &reference::Certifier, p
     let few = count.min(reference::BUILT_POINTS + 1);
     let level = room(rng, &Level::zeros(shape.n, shape.k, shape.n + few, few));
     let tables = lent::tables(&certifier.tables);
-    Call::Build { list: list(rng, &tables), tables, certifier: lent::certifier(certifier), count, points, level }
+    Call::Build {
+        list: listing::some(rng, &tables),
+        tables,
+        certifier: lent::certifier(certifier),
+        count,
+        points,
+        level,
+    }
 }
 
 /// Makes a level of so many vectors from a solver's files.
@@ -273,11 +272,7 @@ fn served(rng: &mut Rng, kind: u64) -> Call {
         raised(&mut certifier, 2);
         let call = match kind {
             0 => reading_exactly(rng),
-            1 => {
-                let tables = lent::tables(&tables);
-                let certifier = opening_room(rng, &tables);
-                Call::Open { tables, certifier }
-            }
+            1 => opening(rng, &tables),
             2 => {
                 // As large as what stands, larger, or smaller.
                 let points = 1 + rng.index(3);

@@ -8,7 +8,7 @@ use crate::options::Options;
 use crate::rng::Rng;
 use crate::through::{self, Through};
 use crate::{
-    adopting, bracket, calls, converting, files, listing, many, pricing, replaying, show, single, solved, ticks,
+    adopting, bracket, calls, converting, files, listing, many, pricing, replaying, show, single, solved, ticks, wide,
 };
 use std::collections::BTreeMap;
 use std::time::{Duration, Instant};
@@ -28,6 +28,29 @@ const LISTS: u64 = 4_000;
 const PRICES: u64 = 4_000;
 const CONVERSIONS: u64 = 4_000;
 const SOLVED: u64 = 300;
+const WIDE: u64 = 600;
+
+/// The suites of which one case can be asked for.
+pub const NAMES: &[&str] = &[
+    "fixed",
+    "random",
+    "calls",
+    "plans",
+    "ticks",
+    "ends",
+    "slices",
+    "lengths",
+    "adopted",
+    "many",
+    "adopt",
+    "replay",
+    "lists",
+    "prices",
+    "converted",
+    "convert",
+    "solved",
+    "wide",
+];
 
 /// Does what was asked for; whether all was well.
 pub fn run(options: &Options, library: &dyn Library) -> io::Result<bool> {
@@ -137,6 +160,7 @@ impl Suites<'_> {
             ("prices", PRICES),
             ("convert", CONVERSIONS),
             ("solved", SOLVED),
+            ("wide", WIDE),
         ];
         let all: u64 = shares.iter().map(|(_, share)| share).sum();
         let mut done = shares.map(|(suite, share)| (suite, share, 0));
@@ -189,6 +213,7 @@ impl Suites<'_> {
             }
             "adopt" => print!("{}", adopting::random(&mut rng).show()),
             "replay" => print!("{}", replaying::random(&mut rng)),
+            "wide" => print!("{}", wide::random(&mut rng)),
             "lists" => print!("{}", listing::random(&mut rng)),
             "prices" => print!("{}", priced(&mut rng, number)),
             "convert" => print!("{}", converting::random(&mut rng)),
@@ -242,6 +267,7 @@ impl Suites<'_> {
                 let call = replaying::random(&mut rng);
                 self.call(&name, &single::half_touched(&mut rng, call))
             }
+            "wide" => self.call(&name, &wide::random(&mut rng)),
             "lists" => {
                 let call = listing::random(&mut rng);
                 *self.tally.entry(call.number(self.linked)).or_insert(0) += 1;
@@ -341,12 +367,15 @@ mod tests {
         let one = [("fixed", 3), ("random", 5), ("calls", 7), ("ends", 1), ("plans", 2), ("slices", 11), ("ticks", 3)];
         let solver =
             [("adopted", 4), ("adopt", 9), ("solved", 2), ("replay", 6), ("many", 3), ("lists", 4), ("prices", 5)];
-        let solver = solver.into_iter().chain([("convert", 3), ("converted", 1)]);
+        let solver = solver.into_iter().chain([("convert", 3), ("converted", 1), ("wide", 6)]);
         let lengths = (0..13).map(|number| ("lengths", number));
+        let mut left: BTreeSet<&str> = NAMES.iter().copied().collect();
         for (suite, number) in one.into_iter().chain(solver).chain(lengths) {
+            left.remove(suite);
             options.only = Some((suite.to_string(), number));
             assert!(run(&options, &BY_THE_DOCUMENT).unwrap(), "{}:{}", suite, number);
         }
+        assert!(left.is_empty(), "{:?}", left);
         options.only = None;
         options.traps = true;
         assert!(run(&options, &BY_THE_DOCUMENT).unwrap());

@@ -62,7 +62,7 @@ impl Walk<'_> {
             let found = match step {
                 Step::Offer(level) => self.offer(rng, lent::level(level, self.n, self.k)),
                 Step::Totals(mixture) => {
-                    let mixture = lent::mixture(mixture, self.n + rng.index(STATES - self.n + 1));
+                    let mixture = lent::mixture(mixture, self.n + rng.index(STATES.saturating_sub(self.n) + 1));
                     let (tables, certifier) = (self.tables.clone(), self.certifier.clone());
                     Call::Totals { tables, certifier, mixture }.difference(self.one, self.other)
                 }
@@ -86,17 +86,8 @@ impl Walk<'_> {
         None
     }
 
-    /// No list, or that of the tables.
-    fn list(&self, rng: &mut Rng) -> Vec<u32> {
-        if rng.once_in(2) {
-            listing::exact(&self.tables)
-        } else {
-            Vec::new()
-        }
-    }
-
     fn offer(&mut self, rng: &mut Rng, level: Level) -> Option<String> {
-        let (tables, list, certifier) = (self.tables.clone(), self.list(rng), self.certifier.clone());
+        let (tables, list, certifier) = (self.tables.clone(), listing::some(rng, &self.tables), self.certifier.clone());
         let call = Call::Offer { tables, list, certifier, level };
         let found = call.difference(self.one, self.other);
         if let (_, Call::Offer { certifier, .. }) = call.made(self.one) {
@@ -121,7 +112,7 @@ impl Walk<'_> {
     /// The level that the one builds, if it is served.
     fn build(&self, rng: &mut Rng, points: &Points) -> Result<Option<Level>, String> {
         let (count, points) = lent::points(points, self.n);
-        let (tables, list, certifier) = (self.tables.clone(), self.list(rng), self.certifier.clone());
+        let (tables, list, certifier) = (self.tables.clone(), listing::some(rng, &self.tables), self.certifier.clone());
         let call = Call::Build { tables, list, certifier, count, points, level: lent::roomy_level(rng, self.n) };
         if let Some(found) = call.difference(self.one, self.other) {
             return Err(found);
@@ -190,11 +181,14 @@ impl Calls for Through<'_> {
         let (n, k) = lent::counts(&certifier.tables);
         let level = lent::level(level, n, k);
         let mut rng = Rng::for_case(0, "room", 0);
-        let mut slices = lent::roomy(&mut rng, lent::certifier(certifier), n, level.actions.len());
+        let before = lent::roomy(&mut rng, lent::certifier(certifier), n, level.actions.len());
+        let mut slices = before.clone();
         let ended = self.0.offer(&lent::tables(&certifier.tables), &[], &mut slices, &level);
-        served(ended.number, ended.place)?;
-        *certifier = standing(slices, certifier.tables.clone());
-        Ok(())
+        // What a refusal changes shows, too.
+        if slices != before {
+            *certifier = standing(slices, certifier.tables.clone());
+        }
+        served(ended.number, ended.place)
     }
 
     fn totals(&self, certifier: &reference::Certifier, mixture: &[u64]) -> Result<Totals, Refusal> {
@@ -231,18 +225,20 @@ impl Calls for Through<'_> {
     }
 
     fn reprice(&self, certifier: &mut reference::Certifier, new: &reference::Tables) -> Result<(), Refusal> {
+        fn lay(slice: &[i64], cells: &mut [i64]) {
+            let length = slice.len().min(cells.len());
+            cells[..length].copy_from_slice(&slice[..length]);
+        }
         let mut slices = lent::certifier(certifier);
         let ended = self.0.reprice(&lent::tables(&certifier.tables), &lent::tables(new), &mut slices);
-        served(ended.number, ended.place)?;
-        fn lay(slice: &[i64], cells: &mut [i64]) {
-            cells[..slice.len()].copy_from_slice(slice);
-        }
+        // What a refusal changes shows, too.
         lay(&slices.entries, &mut certifier.standing.entries);
         lay(&slices.corners, &mut certifier.standing.corners);
         lay(&slices.values, &mut certifier.standing.values);
         lay(&slices.informed, &mut certifier.informed);
         lay(&slices.qmdp, &mut certifier.qmdp);
         certifier.level = slices.state[0] as u64;
+        served(ended.number, ended.place)?;
         certifier.tables = new.stored();
         Ok(())
     }

@@ -7,21 +7,29 @@ use crate::{bracket, calls, ticks};
 use reference::{ladder, Rules, Trap};
 use std::io;
 
-/// How many random cases of each suite are tried.
+/// How many random cases of each suite are tried; of calls, until all that can show in them were noticed.
 const FILES: u64 = 1_000;
-const CALLS: u64 = 1_000;
+const CALLS: u64 = 6_000;
 const PLANS: u64 = 400;
 const CLIMBS: u64 = 100;
 
 /// A trap, and the first case of each suite that caught it.
 struct Hunt {
     trap: Trap,
-    /// Whether only files can show it.
-    reading: bool,
+    /// Which suites can show it.
+    shown: Shown,
     files: Option<String>,
     calls: Option<String>,
     plans: Option<String>,
     ticks: Option<String>,
+}
+
+/// Where a trap can show: in files alone, in calls alone, or in all suites.
+#[derive(Clone, Copy, Debug, PartialEq, Eq)]
+enum Shown {
+    Files,
+    Calls,
+    All,
 }
 
 impl Hunt {
@@ -37,10 +45,11 @@ impl Hunt {
 /// suite the copy is held against all plans of small models, in the fourth against the plans that its vectors name. With
 /// `--library` there is a hunt in which the library itself is told from the copies (`suites/hunting.rs`).
 pub fn run(answerer: &Answerer, seed: u64) -> io::Result<bool> {
-    let hunt = |trap: Trap, reading: bool| Hunt { trap, reading, files: None, calls: None, plans: None, ticks: None };
-    let judging = Trap::JUDGING.iter().chain(Trap::RUNNING).map(|&trap| hunt(trap, false));
-    let reading = Trap::READING.iter().map(|&trap| hunt(trap, true));
-    let mut hunts: Vec<Hunt> = judging.chain(reading).collect();
+    let hunt = |trap: Trap, shown: Shown| Hunt { trap, shown, files: None, calls: None, plans: None, ticks: None };
+    let judging = Trap::JUDGING.iter().chain(Trap::RUNNING).map(|&trap| hunt(trap, Shown::All));
+    let ordering = Trap::ORDERING.iter().map(|&trap| hunt(trap, Shown::Calls));
+    let reading = Trap::READING.iter().map(|&trap| hunt(trap, Shown::Files));
+    let mut hunts: Vec<Hunt> = judging.chain(ordering).chain(reading).collect();
 
     for (number, case) in files::fixed().iter().enumerate() {
         if !catch_in_file(answerer, &mut hunts, &format!("fixed:{}", number), case)? {
@@ -54,8 +63,12 @@ pub fn run(answerer: &Answerer, seed: u64) -> io::Result<bool> {
         }
     }
     for number in 0..CALLS {
+        let left = |hunt: &Hunt| hunt.shown != Shown::Files && hunt.calls.is_none();
+        if !hunts.iter().any(left) {
+            break;
+        }
         let case = calls::random(&mut Rng::for_case(seed, "calls", number), number);
-        for hunt in hunts.iter_mut().filter(|hunt| !hunt.reading && hunt.calls.is_none()) {
+        for hunt in hunts.iter_mut().filter(|hunt| left(hunt)) {
             if case.difference(&hunt.rules()).is_some() {
                 hunt.calls = Some(format!("calls:{}", number));
             }
@@ -63,7 +76,7 @@ pub fn run(answerer: &Answerer, seed: u64) -> io::Result<bool> {
     }
     for number in 0..PLANS {
         let list = bracket::random(&mut Rng::for_case(seed, "plans", number));
-        for hunt in hunts.iter_mut().filter(|hunt| !hunt.reading && hunt.plans.is_none()) {
+        for hunt in hunts.iter_mut().filter(|hunt| hunt.shown == Shown::All && hunt.plans.is_none()) {
             if bracket::check(&list, &hunt.rules()).is_err() {
                 hunt.plans = Some(format!("plans:{}", number));
             }
@@ -71,7 +84,7 @@ pub fn run(answerer: &Answerer, seed: u64) -> io::Result<bool> {
     }
     for number in 0..CLIMBS {
         let climb = ticks::random(&mut Rng::for_case(seed, "ticks", number));
-        for hunt in hunts.iter_mut().filter(|hunt| !hunt.reading && hunt.ticks.is_none()) {
+        for hunt in hunts.iter_mut().filter(|hunt| hunt.shown == Shown::All && hunt.ticks.is_none()) {
             if ticks::check(&climb, &hunt.rules()).is_err() {
                 hunt.ticks = Some(format!("ticks:{}", number));
             }
@@ -109,7 +122,7 @@ fn catch_in_file(answerer: &Answerer, hunts: &mut [Hunt], name: &str, case: &fil
         println!("DIFFERENCE between the program and the reference in {}; run without --traps", name);
         return Ok(false);
     }
-    for hunt in hunts.iter_mut().filter(|hunt| hunt.files.is_none()) {
+    for hunt in hunts.iter_mut().filter(|hunt| hunt.shown != Shown::Calls && hunt.files.is_none()) {
         if ladder(&case.file, &hunt.rules()) != answer {
             hunt.files = Some(name.to_string());
         }

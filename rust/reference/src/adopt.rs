@@ -7,7 +7,7 @@
 use crate::backup::{reaches_uncovered, vector_backup};
 use crate::build::{least_ceiling, Points, BUILT_POINTS};
 use crate::certifier::{examine, full, Certifier};
-use crate::exact::{k, round_down, zero};
+use crate::exact::{k, round_down, stored, zero};
 use crate::file::FILE_BYTES;
 use crate::level::{first_untotalled, kept_choice, most_vectors, Level, Lists, TICKS, VECTORS};
 use crate::model::Model;
@@ -123,11 +123,12 @@ pub fn adopt(
             if entry < lowest && rules.has(Trap::EntriesRaised) {
                 entry = lowest.clone();
             }
-            if entry < lowest {
-                return Err(Refusal::at_index(11, v));
-            }
-            level.entries[v * model.n + s] = i64::try_from(&entry).unwrap_or(i64::MAX);
+            level.entries[v * model.n + s] = stored(&entry);
         }
+    }
+    least_ceiling(&model, &standing, points, &mut level, rules);
+    if let Some(place) = level.first_outside(model.n, certifier.level + 1, true, rules) {
+        return Err(Refusal::at_index(11, place));
     }
     dangling?;
     uncovered?;
@@ -135,7 +136,6 @@ pub fn adopt(
     if rules.has(Trap::AdoptedMasksEmpty) {
         level.masks.fill(0);
     }
-    least_ceiling(&model, &standing, points, &mut level, rules);
     Ok(level)
 }
 

@@ -2,7 +2,7 @@
 
 use crate::exact::{dot, k, round_down, round_up, zero};
 use crate::level::{Lists, POINT_TOTAL};
-use crate::model::Model;
+use crate::model::{Model, THOUSAND};
 use crate::rows;
 use crate::rules::{Rules, Trap};
 use num_bigint::BigInt;
@@ -75,11 +75,13 @@ pub fn reaches_uncovered(
 ) -> bool {
     let reached = |s: usize, s2: usize, o: usize| match rules.trap {
         Some(Trap::ReachedWithoutSight) => *model.t(s, a, s2) > zero(),
+        Some(Trap::ReachedByThousandths) => model.t(s, a, s2) * model.o(a, s2, o) >= BigInt::from(THOUSAND),
         Some(Trap::ReachedSeenAtStateLeft) => model.t(s, a, s2) * model.o(a, s, o) > zero(),
         _ => model.t(s, a, s2) * model.o(a, s2, o) > zero(),
     };
     let loses = |s: usize, s2: usize, o: usize| !standing.covered[choices[o]][s2] && reached(s, s2, o);
-    let from = |s: usize| (0..model.n).any(|s2| (0..model.k).any(|o| loses(s, s2, o)));
+    let looked = rules.some_states(model.n, Trap::LostOfHalf);
+    let from = |s: usize| (0..looked).any(|s2| (0..model.k).any(|o| loses(s, s2, o)));
     match rules.trap {
         Some(Trap::WithoutTwentyOne) => false,
         Some(Trap::EmptyMaskRefused) if !covered.contains(&true) => true,

@@ -49,12 +49,15 @@ struct Made {
 /// order.
 pub fn build(certifier: &Certifier, points: &Points, rules: &Rules) -> Result<Level, Refusal> {
     let (model, standing) = examine(certifier, rules)?;
-    if full(certifier, rules) {
-        return Err(Refusal::at(8, 0));
-    }
     let most = BUILT_POINTS as u64 + u64::from(rules.has(Trap::SeventeenPoints) && model.n < STATES);
-    if points.count > most {
-        return Err(Refusal::at(9, 0));
+    let mut counts = [(8, full(certifier, rules)), (9, points.count > most)];
+    if rules.has(Trap::NineBeforeEight) {
+        counts.reverse();
+    }
+    for (number, broken) in counts {
+        if broken {
+            return Err(Refusal::at(number, 0));
+        }
     }
     let (n, count) = (model.n, points.count as usize);
     let mut wide: Vec<usize> = (0..standing.vectors.len()).filter(|&v| standing.covers_all(v)).collect();

@@ -46,7 +46,9 @@ impl Certifier {
     fn rows_fit(&self, model: &Model, rules: &Rules) -> bool {
         let t = self.level + u64::from(rules.has(Trap::RowsRangeOfNext));
         let end = BigInt::from(TICKS) * t;
-        let fit = |cells: &[i64]| ticks(&cells[..model.m * model.n]).iter().all(|cell| *cell >= -&end && *cell <= end);
+        let used = model.m * model.n;
+        let tested = if rules.has(Trap::RowCellsOfFirst) { used.min(64) } else { used };
+        let fit = |cells: &[i64]| ticks(&cells[..tested]).iter().all(|cell| *cell >= -&end && *cell <= end);
         (fit(&self.informed) || rules.has(Trap::SevenForgetsInformed))
             && (fit(&self.qmdp) || rules.has(Trap::SevenForgetsQmdp))
     }
@@ -59,12 +61,20 @@ pub fn examine(certifier: &Certifier, rules: &Rules) -> Result<(Model, Lists), R
     let seven = Refusal::at(7, 0);
     let model = Model::of(&certifier.tables, rules).map_err(|_| seven)?;
     let standing = &certifier.standing;
-    let fits = certifier.level <= LEVELS
+    let in_range = || {
+        let all = rules.has(Trap::SevenReadsUncovered);
+        let [vector, corner, point] = standing.outside(model.n, certifier.level, all, rules);
+        (vector.is_none() || rules.has(Trap::SevenForgetsEntries))
+            && (corner.is_none() || rules.has(Trap::SevenForgetsCorners))
+            && (point.is_none() || rules.has(Trap::SevenForgetsValues))
+    };
+    let acts = || standing.actions[..standing.vectors as usize].iter().all(|&a| a < model.m as u64);
+    let fits = certifier.level <= LEVELS + u64::from(rules.has(Trap::SevenPassesLevel))
         && standing.counts_fit(&model, false, rules)
-        && standing.first_outside(model.n, certifier.level, rules.has(Trap::SevenReadsUncovered), rules).is_none()
-        && standing.first_untotalled(model.n, rules).is_none()
+        && in_range()
+        && (standing.first_untotalled(model.n, rules).is_none() || rules.has(Trap::SevenForgetsTotals))
         && certifier.rows_fit(&model, rules)
-        && standing.actions[..standing.vectors as usize].iter().all(|&a| a < model.m as u64);
+        && (acts() || rules.has(Trap::SevenForgetsActions));
     if !fits {
         return Err(seven);
     }
@@ -116,11 +126,12 @@ fn judge(certifier: &Certifier, offered: &Level, rules: &Rules) -> Result<Level,
         None => Ok(()),
     };
     let (model, standing) = examine(certifier, rules)?;
-    if full(certifier, rules) {
-        return Err(Refusal::at(8, 0));
+    let mut counts = [(8, full(certifier, rules)), (9, !offered.counts_fit(&model, true, rules))];
+    if rules.has(Trap::NineBeforeEight) {
+        counts.reverse();
     }
-    if !offered.counts_fit(&model, true, rules) {
-        return Err(Refusal::at(9, 0));
+    for (number, broken) in counts {
+        refuse_at(number, Some(0).filter(|_| broken))?;
     }
     let stored = offered.stored(&model, rules);
     if rules.has(Trap::AcceptAll) {
@@ -130,53 +141,60 @@ fn judge(certifier: &Certifier, offered: &Level, rules: &Rules) -> Result<Level,
         return Err(Refusal::at(13, 0));
     }
 
-    let dangling = offered.first_dangling(&model, certifier.standing.vectors);
-    let excused = offered.first_dangling(&model, offered.vectors).is_none() && rules.has(Trap::ChoicesOfOffered);
+    let dangling = offered.first_dangling(&model, certifier.standing.vectors, rules);
+    let excused = offered.first_dangling(&model, offered.vectors, rules).is_none() && rules.has(Trap::ChoicesOfOffered);
     if dangling.is_some() && excused {
         return Ok(stored);
     }
     refuse_at(10, dangling)?;
 
     let lists = offered.lists(model.n);
-    let uncovered = (0..lists.actions.len()).find(|&v| {
-        let choices = chosen(&offered.choices, v, model.k);
-        reaches_uncovered(&model, &standing, &lists.covered[v], lists.actions[v] as usize, &choices, rules)
-    });
-    if rules.has(Trap::TwentyOneFirst) {
-        refuse_at(21, uncovered)?;
-    }
     let t = if rules.has(Trap::RangeOfStanding) { certifier.level } else { certifier.level + 1 };
-    let outside = offered.first_outside(model.n, t, rules.has(Trap::ElevenReadsUncovered), rules);
-    let mut shape = [(11, outside), (12, offered.first_untotalled(model.n, rules))];
-    if rules.has(Trap::TotalsBeforeRanges) {
-        shape.reverse();
-    }
-    for (number, offender) in shape {
-        refuse_at(number, offender)?;
-    }
-
-    if rules.has(Trap::LaterLevelsWaved) && certifier.level >= 1 {
-        return Ok(stored);
-    }
-    if !rules.has(Trap::ThirteenFirst) {
-        refuse_at(21, uncovered)?;
-    }
-    if !rules.has(Trap::WithoutThirteen) {
-        refuse_at(13, first_above(&model, &standing, offered, &lists, rules))?;
-    }
-    refuse_at(21, uncovered)?;
     let below = |value: &BigInt, p: &[BigInt]| {
         (0..model.m).any(|a| k() * value < ceiling_backup(&model, &standing, p, a, rules))
     };
-    if !rules.has(Trap::WithoutFourteen) {
-        let low = (0..model.n).find(|&s| below(&lists.corners[s], &corner(model.n, s)));
-        refuse_at(14, low)?;
-    }
-    if !rules.has(Trap::WithoutFifteen) {
-        let low = lists.points.iter().position(|point| below(&point.value, &point.weights));
-        refuse_at(15, low)?;
+    let corner_below = |s: usize| below(&lists.corners[s], &corner(model.n, s));
+    let point_below = |j: usize| below(&lists.points[j].value, &lists.points[j].weights);
+    for number in order(rules) {
+        let offender = match number {
+            11 => offered.first_outside(model.n, t, rules.has(Trap::ElevenReadsUncovered), rules),
+            12 => offered.first_untotalled(model.n, rules),
+            _ if rules.has(Trap::LaterLevelsWaved) && certifier.level >= 1 => None,
+            21 => first_uncovered(&model, &standing, offered, &lists, rules),
+            13 if !rules.has(Trap::WithoutThirteen) => first_above(&model, &standing, offered, &lists, rules),
+            14 if !rules.has(Trap::WithoutFourteen) => {
+                let tested = rules.some_states(model.n, Trap::FourteenOfHalf);
+                rules.offender(tested, Trap::LastCornerBelow, corner_below)
+            }
+            15 if !rules.has(Trap::WithoutFifteen) => {
+                rules.offender(lists.points.len(), Trap::LastPointBelow, point_below)
+            }
+            _ => None,
+        };
+        refuse_at(number, offender)?;
     }
     Ok(stored)
+}
+
+/// The numbers that are tested on an offered level from 11 on, in order.
+fn order(rules: &Rules) -> [u8; 6] {
+    match rules.trap {
+        Some(Trap::TotalsBeforeRanges) => [12, 11, 21, 13, 14, 15],
+        Some(Trap::TwentyOneFirst) => [21, 11, 12, 13, 14, 15],
+        Some(Trap::TwentyOneBeforeTwelve) => [11, 21, 12, 13, 14, 15],
+        Some(Trap::ThirteenFirst) => [11, 12, 13, 21, 14, 15],
+        Some(Trap::FourteenBeforeThirteen) => [11, 12, 21, 14, 13, 15],
+        Some(Trap::FifteenBeforeFourteen) => [11, 12, 21, 13, 15, 14],
+        _ => [11, 12, 21, 13, 14, 15],
+    }
+}
+
+/// 21: the first vector that reaches from a covered state one that the vector chosen does not cover.
+fn first_uncovered(model: &Model, standing: &Lists, offered: &Level, lists: &Lists, rules: &Rules) -> Option<usize> {
+    rules.offender(lists.actions.len(), Trap::LastUncovered, |v| {
+        let choices = chosen(&offered.choices, v, model.k);
+        reaches_uncovered(model, standing, &lists.covered[v], lists.actions[v] as usize, &choices, rules)
+    })
 }
 
 /// The vectors that a vector chooses.
@@ -187,11 +205,11 @@ fn chosen(choices: &[u64], v: usize, k: usize) -> Vec<usize> {
 /// 13: the first vector with an entry of a covered state above its backup. Both are compared exactly, K times the entry with
 /// the backup.
 fn first_above(model: &Model, standing: &Lists, offered: &Level, lists: &Lists, rules: &Rules) -> Option<usize> {
-    (0..lists.vectors.len()).find(|&v| {
+    rules.offender(lists.vectors.len(), Trap::LastAbove, |v| {
         let action = lists.actions[v] as usize;
         let choices = chosen(&offered.choices, v, model.k);
         let tested = |s: &usize| lists.covered[v][*s] || rules.has(Trap::ThirteenReadsUncovered);
-        (0..model.n).filter(tested).any(|s| {
+        (0..rules.some_states(model.n, Trap::ThirteenOfHalf)).filter(tested).any(|s| {
             let backup = vector_backup(model, standing, s, action, &choices, rules);
             k() * &lists.vectors[v][s] > backup
         })

@@ -71,8 +71,8 @@ pub fn corner(count: usize, state: usize) -> Vec<BigInt> {
     (0..count).map(|s| BigInt::from(u8::from(s == state))).collect()
 }
 
-/// An entry or a value in storage. By the document all of them are within the range of level 100; what a trap makes may be
-/// too large for storage, and is then as large as can be.
+/// An entry or a value in storage. By the document all of them are within the range of level 100; what a trap makes, and the value of
+/// a point that gets 12, may be too large for storage, and is then as large as can be.
 pub fn stored(value: &BigInt) -> i64 {
     i64::try_from(value).unwrap_or(i64::MAX)
 }

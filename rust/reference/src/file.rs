@@ -116,10 +116,16 @@ struct Stated {
 impl Stated {
     /// The totals, in order: start, the rows of T, the rows of O.
     fn finished(self, length: usize, rules: &Rules) -> Result<(Reading, Vec<i64>), Refusal> {
-        start_total(&self.start, length)?;
-        let mut tests = [(5, self.tables.wrong_transition_row()), (6, self.tables.wrong_sight_row())];
+        let started = start_total(&self.start, length);
+        if !rules.has(Trap::RowsBeforeStart) {
+            started?;
+        }
+        let mut tests = [(5, self.tables.wrong_transition_row(rules)), (6, self.tables.wrong_sight_row(rules))];
         if rules.has(Trap::UnstatedRowsPass) {
-            tests = [(5, self.tables.wrong_transition_row_but_zeros()), (6, self.tables.wrong_sight_row_but_zeros())];
+            tests = [
+                (5, self.tables.wrong_transition_row_but_zeros(rules)),
+                (6, self.tables.wrong_sight_row_but_zeros(rules)),
+            ];
         }
         if rules.has(Trap::SightRowsFirst) {
             tests.reverse();
@@ -131,6 +137,7 @@ impl Stated {
                 return Err(Refusal::at_index(number, place));
             }
         }
+        started?;
         let outcomes = self.outcomes.map_or(Vec::new(), |outcomes| outcomes.finished(rules));
         Ok((Reading { tables: self.tables, start: self.start }, outcomes))
     }
@@ -199,7 +206,8 @@ impl<'a> Reader<'a> {
     fn count(&mut self, limit: usize) -> Result<u64, Refusal> {
         let word = self.word()?;
         let value = index_form(word.bytes, self.rules);
-        self.within(&word, value, 1, 1, limit as i64).map(|count| count as u64)
+        let most = limit as i64 + i64::from(self.rules.has(Trap::CountsOneMore));
+        self.within(&word, value, 1, 1, most).map(|count| count as u64)
     }
 
     /// The indices that a word stands for: a star for all below the count, or one or two digits for one of them.
@@ -215,9 +223,10 @@ impl<'a> Reader<'a> {
         Ok(vec![index as usize])
     }
 
-    /// The number that a word states in a form of one whole digit: 0 to 1.
-    fn up_to_one(&self, word: &Word, form: Form) -> Result<u64, Refusal> {
+    /// The number that a word states in a form of one whole digit: 0 to 1, unless this trap wants no limit but the form.
+    fn up_to_one(&self, word: &Word, form: Form, open: Trap) -> Result<u64, Refusal> {
         let unit = 10_i64.pow(form.decimals as u32);
+        let most = if self.rules.has(open) { 9_999 * unit } else { unit };
         if self.rules.has(Trap::MinusInProbability) {
             if let Some(rest) = word.bytes.strip_prefix(b"-") {
                 let value = number_form(rest, form, self.rules).map(|value| -value);
@@ -225,15 +234,15 @@ impl<'a> Reader<'a> {
             }
         }
         let value = number_form(word.bytes, form, self.rules);
-        self.within(word, value, unit, 0, unit).map(|number| number as u64)
+        self.within(word, value, unit, 0, most).map(|number| number as u64)
     }
 
     /// `count` probabilities, of which the first word was already taken.
     fn row(&mut self, first: Word, count: u64) -> Result<Vec<u64>, Refusal> {
-        let mut row = vec![self.up_to_one(&first, PROBABILITY)?];
+        let mut row = vec![self.up_to_one(&first, PROBABILITY, Trap::ProbabilityAboveOne)?];
         while (row.len() as u64) < count {
             let word = self.word()?;
-            row.push(self.up_to_one(&word, PROBABILITY)?);
+            row.push(self.up_to_one(&word, PROBABILITY, Trap::ProbabilityAboveOne)?);
         }
         Ok(row)
     }
@@ -243,7 +252,8 @@ impl<'a> Reader<'a> {
         let word = self.word()?;
         let value = reward_form(word.bytes, self.rules);
         let least = if self.rules.has(Trap::RewardLowEndOpen) { -999_999 } else { -REWARD };
-        self.within(&word, value, 100, least, REWARD)
+        let most = if self.rules.has(Trap::RewardHighEndOpen) { 999_999 } else { REWARD };
+        self.within(&word, value, 100, least, most)
     }
 
     /// The six lines that come first and in order: discount, values, the counts, start.
@@ -251,7 +261,7 @@ impl<'a> Reader<'a> {
         self.keyword("discount")?;
         self.keyword(":")?;
         let word = self.word()?;
-        let discount = self.up_to_one(&word, PROBABILITY)?;
+        let discount = self.up_to_one(&word, PROBABILITY, Trap::DiscountAboveOne)?;
         self.keyword("values")?;
         self.keyword(":")?;
         self.keyword("reward")?;
@@ -273,7 +283,7 @@ impl<'a> Reader<'a> {
         let mut start = vec![0; states as usize];
         for number in &mut start {
             let word = self.word()?;
-            *number = self.up_to_one(&word, START)?;
+            *number = self.up_to_one(&word, START, Trap::StartAboveOne)?;
         }
         if self.rules.has(Trap::StartTotalEarly) {
             start_total(&start, self.file.len())?;
@@ -397,7 +407,7 @@ impl<'a> Reader<'a> {
         if word.bytes == b":" {
             let indices = self.indices(count)?;
             let word = self.word()?;
-            let probability = self.up_to_one(&word, PROBABILITY)?;
+            let probability = self.up_to_one(&word, PROBABILITY, Trap::ProbabilityAboveOne)?;
             return Ok((indices, vec![probability; count as usize]));
         }
         let row = self.row(word, count)?;

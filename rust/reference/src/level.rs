@@ -83,7 +83,14 @@ impl Level {
     /// 9: at least one vector, no more vectors or points than fit, and no list shorter than what is read of it. The choices
     /// are asked of an offered level alone.
     pub(crate) fn counts_fit(&self, model: &Model, offered: bool, rules: &Rules) -> bool {
-        if self.vectors < 1 || self.vectors > most_vectors(rules) || self.points > POINTS as u64 {
+        let (none, more) = if offered {
+            (Trap::NoVectorPasses, Trap::PointMorePasses)
+        } else {
+            (Trap::SevenPassesNone, Trap::SevenPassesPoint)
+        };
+        let most_points = POINTS as u64 + u64::from(rules.has(more));
+        let no_vector = self.vectors < 1 && !rules.has(none);
+        if no_vector || self.vectors > most_vectors(rules) || self.points > most_points {
             return false;
         }
         let (vectors, points) = (self.vectors as usize, self.points as usize);
@@ -97,16 +104,25 @@ impl Level {
     }
 
     /// 10: the first vector whose action or chosen vector does not exist.
-    pub(crate) fn first_dangling(&self, model: &Model, standing: u64) -> Option<usize> {
-        (0..self.vectors as usize).find(|&v| {
+    pub(crate) fn first_dangling(&self, model: &Model, standing: u64, rules: &Rules) -> Option<usize> {
+        rules.offender(self.vectors as usize, Trap::LastDangling, |v| {
             self.actions[v] >= model.m as u64 || (0..model.k).any(|o| self.choices[v * model.k + o] >= standing)
         })
     }
 
-    /// 11: the number of the first vector, else corner, else point that is outside the range of level t. Entries of states
-    /// that are not covered are passed over, unless a trap wants `all`, and so is the value of a point whose total is outside 1
-    /// to 100.
+    /// 11: the number of the first vector, else corner, else point that is outside the range of level t.
     pub(crate) fn first_outside(&self, n: usize, t: u64, all: bool, rules: &Rules) -> Option<usize> {
+        let [vector, corner, point] = self.outside(n, t, all, rules);
+        match rules.trap {
+            Some(Trap::CornersBeforeVectors) => corner.or(vector).or(point),
+            Some(Trap::PointsBeforeCorners) => vector.or(point).or(corner),
+            _ => vector.or(corner).or(point),
+        }
+    }
+
+    /// The first vector, the first corner and the first point that are outside the range of level t. Entries of states that are
+    /// not covered are passed over, unless a trap wants `all`, and so is the value of a point whose total is outside 1 to 100.
+    pub(crate) fn outside(&self, n: usize, t: u64, all: bool, rules: &Rules) -> [Option<usize>; 3] {
         let outside = |value: i64, times: &BigInt| {
             let end = BigInt::from(TICKS) * t * times + u8::from(rules.has(Trap::RangeOffByOne));
             let value = BigInt::from(value);
@@ -115,9 +131,9 @@ impl Level {
         let one = BigInt::from(1);
         let vector = (0..self.vectors as usize).find(|&v| {
             let read = |s: &usize| all || covers(self.masks[v], *s);
-            (0..n).filter(read).any(|s| outside(self.entries[v * n + s], &one))
+            (0..rules.some_states(n, Trap::RangesOfHalf)).filter(read).any(|s| outside(self.entries[v * n + s], &one))
         });
-        let corner = (0..n).find(|&s| outside(self.corners[s], &one));
+        let corner = (0..rules.some_states(n, Trap::CornersOfHalf)).find(|&s| outside(self.corners[s], &one));
         let point = (0..self.points as usize).find(|&j| {
             let total = total(&self.weights[j * n..(j + 1) * n], rules);
             if !total_fits(&total, rules) && !rules.has(Trap::ValuesOfRefusedTotals) {
@@ -126,7 +142,7 @@ impl Level {
             let times = if rules.has(Trap::ValuesTimesHundred) { BigInt::from(POINT_TOTAL) } else { total };
             outside(self.values[j], &times)
         });
-        vector.or(corner).or(point)
+        [vector, corner, point]
     }
 
     /// 12: the first point whose weights total less than 1 or more than 100.
@@ -240,5 +256,6 @@ fn total_fits(total: &BigInt, rules: &Rules) -> bool {
 
 /// The first of `count` points over `n` states whose weights total less than 1 or more than 100.
 pub fn first_untotalled(cells: &[u64], count: usize, n: usize, rules: &Rules) -> Option<usize> {
-    (0..count).find(|&j| !total_fits(&total(&cells[j * n..(j + 1) * n], rules), rules))
+    let wrong = |j: usize| !total_fits(&total(&cells[j * n..(j + 1) * n], rules), rules);
+    rules.offender(count, Trap::LastUntotalled, wrong)
 }

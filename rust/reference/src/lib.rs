@@ -1,7 +1,8 @@
 //! Document 01 in big integers, with the changes of document 02 that were made.
 //!
 //! Every number that is computed is a [`num_bigint::BigInt`], so nothing can overflow, and every function follows one
-//! sentence of the document as it stands, without a shortcut. It is slow, and meant to be read next to the document.
+//! sentence of the document as it stands. The one shortcut is that sums pass over states without weight and states that are not
+//! reached, which add 0 ([`Model`]). It is slow, and meant to be read next to the document.
 //!
 //! What is handed in is plain storage ([`Tables`], [`Level`], [`Certifier`], [`Points`], [`Graph`]) that may hold
 //! anything. The cells in use come first, packed by the counts, the last index fastest. Tables and levels have lists of any

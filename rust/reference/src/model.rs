@@ -62,7 +62,16 @@ impl Tables {
 
     /// Whether the counts are within their limits. Nothing else is looked into unless they are.
     pub fn counts_fit(&self) -> bool {
-        let fits = |count: u64, limit: usize| count >= 1 && count <= limit as u64;
+        self.counts_within(0)
+    }
+
+    /// Whether the counts are within their limits or one past them: whoever tries the limits lends as much as these need.
+    pub fn counts_nearly_fit(&self) -> bool {
+        self.counts_within(1)
+    }
+
+    fn counts_within(&self, past: u64) -> bool {
+        let fits = |count: u64, limit: usize| count >= 1 && count <= limit as u64 + past;
         fits(self.states, STATES) && fits(self.actions, ACTIONS) && fits(self.observations, OBSERVATIONS)
     }
 
@@ -74,29 +83,25 @@ impl Tables {
 
     /// 3 on tables: counts, discount, probabilities and rewards within their limits, and no list shorter than the counts need.
     fn within_limits(&self, rules: &Rules) -> bool {
-        if !self.counts_fit() || self.discount > THOUSAND {
+        if !self.counts_fit() || self.discount > THOUSAND + u64::from(rules.has(Trap::DiscountOneMore)) {
             return false;
         }
         let (transitions, sights, rewards) = self.cells_used();
         if self.transitions.len() < transitions || self.sights.len() < sights || self.rewards.len() < rewards {
             return false;
         }
+        let reward = REWARD + i64::from(rules.has(Trap::RewardTickMore));
         let probability = |&cell: &u64| cell <= THOUSAND || rules.has(Trap::ProbabilityUnlimited);
         self.transitions[..transitions].iter().all(probability)
             && self.sights[..sights].iter().all(probability)
-            && self.rewards[..rewards].iter().all(|&cell| (-REWARD..=REWARD).contains(&cell))
+            && self.rewards[..rewards].iter().all(|&cell| (-reward..=reward).contains(&cell))
     }
 
-    /// The first row that `wrong` picks, by action and then by state.
-    fn first_row(&self, wrong: impl Fn(usize, usize) -> bool) -> Option<(usize, usize)> {
-        for a in 0..self.actions as usize {
-            for s in 0..self.states as usize {
-                if wrong(a, s) {
-                    return Some((a, s));
-                }
-            }
-        }
-        None
+    /// The first row that `wrong` picks, by action and then by state; by a trap the other way round.
+    fn first_row(&self, rules: &Rules, wrong: impl Fn(usize, usize) -> bool) -> Option<(usize, usize)> {
+        let (n, m) = (self.states as usize, self.actions as usize);
+        let row = |at: usize| if rules.has(Trap::RowsByState) { (at % m, at / m) } else { (at / n, at % n) };
+        (0..m * n).map(row).find(|&(a, s)| wrong(a, s))
     }
 
     /// The row of T for an action and a state left.
@@ -112,23 +117,23 @@ impl Tables {
     }
 
     /// 5: the first row of T that does not total 1,000.
-    pub fn wrong_transition_row(&self) -> Option<(usize, usize)> {
-        self.first_row(|a, s| total(self.transition_row(a, s)) != BigInt::from(THOUSAND))
+    pub fn wrong_transition_row(&self, rules: &Rules) -> Option<(usize, usize)> {
+        self.first_row(rules, |a, s| total(self.transition_row(a, s)) != BigInt::from(THOUSAND))
     }
 
     /// 6: the first row of O that does not total 1,000.
-    pub fn wrong_sight_row(&self) -> Option<(usize, usize)> {
-        self.first_row(|a, s2| total(self.sight_row(a, s2)) != BigInt::from(THOUSAND))
+    pub fn wrong_sight_row(&self, rules: &Rules) -> Option<(usize, usize)> {
+        self.first_row(rules, |a, s2| total(self.sight_row(a, s2)) != BigInt::from(THOUSAND))
     }
 
     /// 5 for a reader that passes rows of zeros.
-    pub fn wrong_transition_row_but_zeros(&self) -> Option<(usize, usize)> {
-        self.first_row(|a, s| wrong_but_zeros(self.transition_row(a, s)))
+    pub fn wrong_transition_row_but_zeros(&self, rules: &Rules) -> Option<(usize, usize)> {
+        self.first_row(rules, |a, s| wrong_but_zeros(self.transition_row(a, s)))
     }
 
     /// 6 for a reader that passes rows of zeros.
-    pub fn wrong_sight_row_but_zeros(&self) -> Option<(usize, usize)> {
-        self.first_row(|a, s2| wrong_but_zeros(self.sight_row(a, s2)))
+    pub fn wrong_sight_row_but_zeros(&self, rules: &Rules) -> Option<(usize, usize)> {
+        self.first_row(rules, |a, s2| wrong_but_zeros(self.sight_row(a, s2)))
     }
 
     /// What is kept of tables within the limits: the cells in use.
@@ -174,12 +179,13 @@ impl Model {
             return Err(Refusal::at(3, 0));
         }
         let n = if rules.has(Trap::RowsByLimit) { STATES } else { tables.states as usize };
-        let mut tests = [(5, tables.wrong_transition_row()), (6, tables.wrong_sight_row())];
+        let mut tests = [(5, tables.wrong_transition_row(rules)), (6, tables.wrong_sight_row(rules))];
         if rules.has(Trap::SightRowsFirst) {
             tests.reverse();
         }
         for (number, wrong) in tests {
-            if let Some((action, state)) = wrong {
+            let late = |&(action, state): &(usize, usize)| action * n + state >= 128 && rules.has(Trap::RowsOfFirst);
+            if let Some((action, state)) = wrong.filter(|row| !late(row)) {
                 return Err(Refusal::at_index(number, action * n + state));
             }
         }

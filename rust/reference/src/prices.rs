@@ -24,7 +24,11 @@ pub fn reprice(certifier: &mut Certifier, new: &Tables, rules: &Rules) -> Result
     if rules.has(Trap::TwentyThreeBeforeFive) && new.counts_fit() {
         same()?;
     }
-    let next = Model::of(new, rules)?;
+    let next = Model::of(new, rules);
+    if matches!(next, Err(Refusal { number: 6, .. })) && rules.has(Trap::TwentyThreeBeforeSix) {
+        same()?;
+    }
+    let next = next?;
     same()?;
 
     let d = change(&model, &next, rules);
@@ -79,8 +83,9 @@ fn same_plans(old: &Tables, new: &Tables, rules: &Rules) -> bool {
         return false;
     }
     let (t, o, _) = old.cells_used();
+    let t = if rules.has(Trap::SameByThousand) { t.min(1_000) } else { t };
     (old.discount == new.discount || rules.has(Trap::OtherDiscountPasses))
-        && old.transitions[..t] == new.transitions[..t]
+        && (old.transitions[..t] == new.transitions[..t] || rules.has(Trap::OtherTransitionsPass))
         && (old.sights[..o] == new.sights[..o] || rules.has(Trap::OtherSightsPass))
 }
 
@@ -91,7 +96,9 @@ fn change(old: &Model, new: &Model, rules: &Rules) -> BigInt {
         for s in 0..old.n {
             let rise = new.r(s, a) - old.r(s, a);
             let fall = -&rise;
-            largest = largest.max(rise);
+            if !rules.has(Trap::FallsOnly) {
+                largest = largest.max(rise);
+            }
             if !rules.has(Trap::RisesOnly) {
                 largest = largest.max(fall);
             }

@@ -2,15 +2,17 @@
 
 use std::fmt;
 
-/// Defines the traps with a sentence each: those of the reader, of the converter, of a solver's files, of the judging, of large
-/// levels, of lists of transitions, and of lists of events.
+/// Defines the traps with a sentence each: those of the reader, of the converter, of a solver's files, of the judging, of its limits
+/// and its order, of large levels, of many states, of lists of transitions, and of lists of events.
 macro_rules! traps {
     (
         reading { $($word:ident: $word_text:literal,)* }
         converting { $($outcome:ident: $outcome_text:literal,)* }
         adopting { $($file:ident: $file_text:literal,)* }
         judging { $($name:ident: $text:literal,)* }
+        ordering { $($order:ident: $order_text:literal,)* }
         many { $($large:ident: $large_text:literal,)* }
+        wide { $($late:ident: $late_text:literal,)* }
         listing { $($word_list:ident: $list_text:literal,)* }
         running { $($event:ident: $event_text:literal,)* }
     ) => {
@@ -21,7 +23,9 @@ macro_rules! traps {
             $(#[doc = $outcome_text] $outcome,)*
             $(#[doc = $file_text] $file,)*
             $(#[doc = $text] $name,)*
+            $(#[doc = $order_text] $order,)*
             $(#[doc = $large_text] $large,)*
+            $(#[doc = $late_text] $late,)*
             $(#[doc = $list_text] $word_list,)*
             $(#[doc = $event_text] $event,)*
         }
@@ -39,8 +43,14 @@ macro_rules! traps {
             /// Those that show in the judging.
             pub const JUDGING: &'static [Trap] = &[$(Trap::$name,)*];
 
+            /// Those about a limit, the first offender or the order of the tests: they only show in calls on what breaks a limit.
+            pub const ORDERING: &'static [Trap] = &[$(Trap::$order,)*];
+
             /// Those that only show in levels of many vectors and in long files.
             pub const MANY: &'static [Trap] = &[$(Trap::$large,)*];
+
+            /// Those that only show in models of over 32 states.
+            pub const WIDE: &'static [Trap] = &[$(Trap::$late,)*];
 
             /// Those that only show where transitions are kept as lists.
             pub const LISTING: &'static [Trap] = &[$(Trap::$word_list,)*];
@@ -55,7 +65,9 @@ macro_rules! traps {
                     $(Trap::$outcome => $outcome_text,)*
                     $(Trap::$file => $file_text,)*
                     $(Trap::$name => $text,)*
+                    $(Trap::$order => $order_text,)*
                     $(Trap::$large => $large_text,)*
+                    $(Trap::$late => $late_text,)*
                     $(Trap::$word_list => $list_text,)*
                     $(Trap::$event => $event_text,)*
                 }
@@ -84,6 +96,11 @@ traps! {
         MinusInProbability: "a minus fits a probability, which is then below its limit",
         MinusZeroRefused: "a reward of minus zero does not fit",
         RewardLowEndOpen: "rewards have no lower limit but their form",
+        RewardHighEndOpen: "rewards have no upper limit but their form",
+        DiscountAboveOne: "a discount above 1 passes",
+        ProbabilityAboveOne: "a probability above 1 passes",
+        StartAboveOne: "a start number above 1 passes",
+        CountsOneMore: "a count may be one past its limit",
         // Missing parts and exponents.
         WholePartWanted: "a number must have a whole part",
         DecimalsWanted: "a digit must follow a point",
@@ -108,6 +125,7 @@ traps! {
         StatementsAdd: "a later statement adds to the earlier",
         StartTotalEarly: "the start total is tested before the statements",
         RowTotalEarly: "a row's total is tested with its statement",
+        RowsBeforeStart: "5 and 6 of a file are tested before 4",
         UnstatedRowsPass: "a row of zeros in a file passes",
         RowPlaceInFile: "5 and 6 of a file have a row's place",
     }
@@ -228,6 +246,7 @@ traps! {
         EmptyMaskRefused: "a vector that covers no state gets 21",
         ReachedWithoutSight: "21 looks at T alone",
         ReachedSeenAtStateLeft: "21 takes O at the state left",
+        ReachedByThousandths: "21 passes over T × O below 1,000",
         MasksPastStates: "masks are stored past the states",
         UncoveredKept: "entries that are not covered are stored as they were offered",
         AllCount: "every vector counts at every mixture",
@@ -285,6 +304,7 @@ traps! {
         // New prices.
         FallByChangeAlone: "new prices move numbers by the largest change alone, whatever the level",
         RisesOnly: "of the changes of rewards only rises are looked at",
+        FallsOnly: "of the changes of rewards only falls are looked at",
         NotHeld: "what new prices move is not held at the end of its range",
         ValuesWithoutTotal: "a point's value rises without its weights' total",
         UncoveredMoved: "entries that are not covered fall too",
@@ -303,6 +323,45 @@ traps! {
         ReachedNodesOnly: "nodes that are not reached are not tested",
         FiveSteps: "five steps may be asked for",
     }
+    ordering {
+        // Tables.
+        DiscountOneMore: "the discount in tables may be 1,001",
+        RewardTickMore: "a reward in tables may be a tick past its limit",
+        RowsByState: "5 and 6 go first by state, then by action",
+        // What stands.
+        SevenForgetsActions: "7 does not test the actions of what stands",
+        SevenForgetsEntries: "7 does not test the entries of what stands",
+        SevenForgetsCorners: "7 does not test the corners of what stands",
+        SevenForgetsValues: "7 does not test the values of points that stand",
+        SevenForgetsTotals: "7 does not test the totals of points that stand",
+        SevenPassesNone: "7 passes a standing level without vectors",
+        SevenPassesPoint: "7 passes 33 standing points",
+        SevenPassesLevel: "7 passes a level of 101",
+        // What is offered.
+        NoVectorPasses: "a level without vectors may be offered",
+        PointMorePasses: "33 points may be offered",
+        NineBeforeEight: "9 is tested before 8",
+        CornersBeforeVectors: "11 takes corners before vectors",
+        PointsBeforeCorners: "11 takes points before corners",
+        TwentyOneBeforeTwelve: "21 is tested before 12",
+        FourteenBeforeThirteen: "14 is tested before 13",
+        FifteenBeforeFourteen: "15 is tested before 14",
+        LastDangling: "10 names the last vector",
+        LastUntotalled: "12 names the last point",
+        LastUncovered: "21 names the last vector",
+        LastAbove: "13 names the last vector",
+        LastCornerBelow: "14 names the last corner",
+        LastPointBelow: "15 names the last point",
+        // What is asked, and new prices.
+        MillionAndOne: "weight 1,000,001 passes",
+        ZerosPass: "weights that are all 0 pass",
+        TwentyThreeBeforeSix: "23 is tested before the new tables' 6",
+        OtherTransitionsPass: "23 passes over T",
+        // Plan graphs.
+        NodeMorePasses: "33 nodes pass",
+        AskedBeforeNodes: "18 tests what is asked before the nodes",
+        ActionsBeforeNext: "18 tests the actions of all nodes before the next nodes",
+    }
     many {
         ThirtyTwoVectors: "a level has at most 32 vectors",
         ThousandAndOne: "1,001 vectors pass",
@@ -310,6 +369,18 @@ traps! {
         HundredRead: "vectors and nodes above 99 are not read",
         SolverFilesAsModel: "a solver's file above 32,768 bytes is refused",
         SolverByteMore: "a solver's file of 4 MiB and one byte passes",
+    }
+    wide {
+        RowsOfFirst: "5 and 6 test the first 128 rows",
+        RangesOfHalf: "11 and 7 test the entries of the first 32 states",
+        CornersOfHalf: "11 and 7 test the first 32 corners",
+        RowCellsOfFirst: "7 tests the first 64 entries of the rows",
+        ThirteenOfHalf: "13 tests the first 32 states",
+        FourteenOfHalf: "14 tests the first 32 corners",
+        LostOfHalf: "21 looks at the first 32 states that are reached",
+        WeightsOfHalf: "17 reads the first 32 weights",
+        LowsOfHalf: "24 compares the first 32 weights",
+        SameByThousand: "23 compares the first 1,000 cells of T",
     }
     listing {
         ColumnsByStateLeft: "a column is that of the state left",
@@ -348,5 +419,24 @@ impl Rules {
     /// Whether this trap is in force.
     pub fn has(&self, trap: Trap) -> bool {
         self.trap == Some(trap)
+    }
+
+    /// The first of so many that is wrong; the last, if this trap is in force.
+    pub(crate) fn offender(&self, count: usize, last: Trap, wrong: impl Fn(usize) -> bool) -> Option<usize> {
+        let mut offenders = (0..count).filter(|&at| wrong(at));
+        if self.has(last) {
+            offenders.last()
+        } else {
+            offenders.next()
+        }
+    }
+
+    /// How many of the states are looked at: all, unless this trap wants the first 32.
+    pub(crate) fn some_states(&self, n: usize, trap: Trap) -> usize {
+        if self.has(trap) {
+            n.min(32)
+        } else {
+            n
+        }
     }
 }

@@ -56,8 +56,10 @@ pub fn totals(certifier: &Certifier, mixture: &[u64], rules: &Rules) -> Result<T
     if rules.has(Trap::TwentyTwoFirst) {
         none?;
     }
-    let most = WEIGHT - u64::from(rules.has(Trap::MillionRefused));
-    if mixture.iter().any(|&weight| weight > most) || mixture.iter().all(|&weight| weight == 0) {
+    let most = most_weight(rules);
+    let read = &mixture[..rules.some_states(model.n, Trap::WeightsOfHalf)];
+    let zeros = read.iter().all(|&weight| weight == 0) && !rules.has(Trap::ZerosPass);
+    if read.iter().any(|&weight| weight > most) || zeros {
         return Err(Refusal::at(17, 0));
     }
     sixteen?;
@@ -81,6 +83,15 @@ pub fn totals(certifier: &Certifier, mixture: &[u64], rules: &Rules) -> Result<T
     }
     let gap = if rules.has(Trap::GapOfSawtooth) { &sawtooth - &lower } else { &upper - &lower };
     Ok(Totals { lower, upper, gap, action: standing.actions[counting[largest]], sawtooth, informed })
+}
+
+/// The most that a weight is.
+pub(crate) fn most_weight(rules: &Rules) -> u64 {
+    match rules.trap {
+        Some(Trap::MillionRefused) => WEIGHT - 1,
+        Some(Trap::MillionAndOne) => WEIGHT + 1,
+        _ => WEIGHT,
+    }
 }
 
 /// Weights over their largest common divisor.

@@ -5,7 +5,7 @@ use crate::certifier::{examine, Certifier};
 use crate::exact::{dot, weights, zero};
 use crate::refusal::Refusal;
 use crate::rules::{Rules, Trap};
-use crate::totals::WEIGHT;
+use crate::totals::most_weight;
 use num_bigint::BigInt;
 
 /// What is answered of all mixtures inside ranges.
@@ -26,7 +26,7 @@ pub fn within(certifier: &Certifier, lows: &[u64], highs: &[u64], rules: &Rules)
     let (model, standing) = examine(certifier, rules)?;
     let n = model.n;
     let passes = |held: bool, number: u8| if held { Ok(()) } else { Err(Refusal::at(number, 0)) };
-    let ordered = (0..n).all(|s| match (lows.get(s), highs.get(s)) {
+    let ordered = (0..rules.some_states(n, Trap::LowsOfHalf)).all(|s| match (lows.get(s), highs.get(s)) {
         (Some(low), Some(high)) => low <= high,
         _ if rules.has(Trap::MissingUncompared) => true,
         (low, high) => low.unwrap_or(&0) <= high.unwrap_or(&0),
@@ -41,7 +41,8 @@ pub fn within(certifier: &Certifier, lows: &[u64], highs: &[u64], rules: &Rules)
     passes(lows.len() >= n && highs.len() >= n, 17)?;
     let (lows, highs) = (&lows[..n], &highs[..n]);
     let read = if rules.has(Trap::SeventeenOfLows) { lows } else { highs };
-    passes(read.iter().all(|&weight| weight <= WEIGHT) && read.iter().any(|&weight| weight > 0), 17)?;
+    let some = read.iter().any(|&weight| weight > 0) || rules.has(Trap::ZerosPass);
+    passes(read.iter().all(|&weight| weight <= most_weight(rules)) && some, 17)?;
     passes(ordered, 24)?;
     let (low, high) = (weights(lows), weights(highs));
     let counted = if rules.has(Trap::CountsAtLows) { &low } else { &high };

@@ -21,9 +21,9 @@ pub struct Graph {
 }
 
 impl Graph {
-    /// A graph of which every part is 0.
+    /// A graph of which every part is 0, with a node's room past the limit.
     pub fn zero() -> Graph {
-        Graph { nodes: 0, actions: vec![0; NODES], next: vec![0; NODES * OBSERVATIONS] }
+        Graph { nodes: 0, actions: vec![0; NODES + 1], next: vec![0; (NODES + 1) * OBSERVATIONS] }
     }
 
     /// The nodes to go on from a node, by observation.
@@ -43,24 +43,33 @@ pub fn worth(
     rules: &Rules,
 ) -> Result<BigInt, Refusal> {
     let model = Model::of(tables, rules)?;
-    if graph.nodes < 1 || graph.nodes > NODES as u64 {
+    if graph.nodes < 1 || graph.nodes > NODES as u64 + u64::from(rules.has(Trap::NodeMorePasses)) {
         return Err(Refusal::at(18, 0));
     }
-    let wrong = |at: usize| {
-        graph.actions[at] >= model.m as u64 || graph.after(&model, at).iter().any(|&next| next >= graph.nodes)
+    let most = STEPS + u64::from(rules.has(Trap::FiveSteps));
+    let asked = match node >= graph.nodes || state >= model.n as u64 || steps > most {
+        true => Err(Refusal::at(18, 0)),
+        false => Ok(()),
     };
+    if rules.has(Trap::AskedBeforeNodes) {
+        asked?;
+    }
+    let no_action = |at: usize| graph.actions[at] >= model.m as u64;
+    let wrong = |at: usize| no_action(at) || graph.after(&model, at).iter().any(|&next| next >= graph.nodes);
     let tested = if rules.has(Trap::ReachedNodesOnly) {
         reached(&model, graph, node, steps)
     } else {
         (0..graph.nodes as usize).collect()
     };
-    if let Some(at) = tested.into_iter().find(|&at| wrong(at)) {
-        return Err(Refusal::at_index(18, at));
+    let first = |wrong: &dyn Fn(usize) -> bool| match tested.iter().find(|&&at| wrong(at)) {
+        Some(&at) => Err(Refusal::at_index(18, at)),
+        None => Ok(()),
+    };
+    if rules.has(Trap::ActionsBeforeNext) {
+        first(&no_action)?;
     }
-    let most = STEPS + u64::from(rules.has(Trap::FiveSteps));
-    if node >= graph.nodes || state >= model.n as u64 || steps > most {
-        return Err(Refusal::at(18, 0));
-    }
+    first(&wrong)?;
+    asked?;
 
     // With no step left every node is worth 0 at every state; each further step backs that up and rounds down.
     let mut worths = vec![vec![zero(); model.n]; graph.nodes as usize];

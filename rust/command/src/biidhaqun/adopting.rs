@@ -7,7 +7,7 @@ use biidhaqun::slices::SOLVER_BYTES;
 use biidhaqun::{Certifier, Error, Mixture, Points, Refusal, Rule};
 use command::files;
 use command::options::Weights;
-use command::solver_files::{judge, Step, Which};
+use command::solver_files::{judge, Step, Trouble, Which};
 use command::told::Told;
 use std::path::{Path, PathBuf};
 
@@ -57,6 +57,7 @@ fn refused(certifier: &Certifier, files: &Files, points: &[Mixture], refusal: Re
         observations: shape.observations,
         level: certifier.level() + 1,
         below: certifier.standing().vectors().count(),
+        points: points.len(),
     };
     let solver = |which: Which, told| {
         let (path, file) = match which {
@@ -65,17 +66,17 @@ fn refused(certifier: &Certifier, files: &Files, points: &[Mixture], refusal: Re
         };
         Stop::Solver { path: path.clone(), file: file.clone(), refusal, told }
     };
-    match (refusal.rule, judge(&asked)) {
+    let same = |trouble: &Trouble| (trouble.number, trouble.place) == (refusal.number(), refusal.place.number());
+    match (refusal.rule, judge(&asked).err().filter(same)) {
         (Rule::Levels, _) => {
             let title = "100 levels already stand".to_string();
             solver(Which::Alpha, Some(Told { title, marks: Vec::new(), notes: Vec::new() }))
         }
-        (Rule::PointTotal, _) | (Rule::LevelSize, Ok(())) => {
+        (_, Some(Trouble { which: Some(which), told, .. })) => solver(which, Some(told)),
+        (_, Some(Trouble { told, .. })) => Stop::Refused { refusal, note: told.title, line: true },
+        (Rule::PointTotal, None) => {
             Stop::Refused { refusal, note: about_points(points, &refusal).unwrap_or_default(), line: true }
         }
-        (_, Err(trouble)) if (trouble.number, trouble.place) == (refusal.number(), refusal.place.number()) => {
-            solver(trouble.which, Some(trouble.told))
-        }
-        (_, other) => solver(other.err().map_or(Which::Alpha, |trouble| trouble.which), None),
+        (_, None) => solver(Which::Alpha, None),
     }
 }

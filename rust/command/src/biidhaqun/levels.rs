@@ -95,59 +95,17 @@ fn by(at: &Totals) -> String {
     }
 }
 
-/// A table for each mixture: in units of reward, in ticks times the weight, which ceiling speaks, and the action.
+/// A table for each mixture and for each of the ranges, and what their columns are.
 fn tables(certified: &Certified) -> String {
-    let mut text = String::new();
-    for (number, mixture) in certified.mixtures.iter().enumerate() {
-        if number > 0 {
-            text.push('\n');
-        }
-        text.push_str(&format!("at {}\n", about(certified.named, mixture)));
-        text.push_str(&format!(
-            "{:>5} {:>12} {:>12} {:>10} {:>14} {:>14}  {:<8}  {}\n",
-            "level", "floor", "ceiling", "gap", "lower", "upper", "by", "action"
-        ));
-        let levels =
-            certified.lines.iter().enumerate().map(|(level, totals)| ((level + 1).to_string(), &totals[number]));
-        let new = certified.prices.map(|prices| (NEW.to_string(), &prices.at[number]));
-        for (level, totals) in levels.chain(new) {
-            let at = match totals {
-                Some(at) => at,
-                None => {
-                    text.push_str(&format!("{:>5} no vector counts here\n", level));
-                    continue;
-                }
-            };
-            let bracket = at.bracket(mixture);
-            let gap = Totals { lower: 0, upper: at.gap, ..*at }.bracket(mixture).ceiling;
-            text.push_str(&format!(
-                "{:>5} {:>12} {:>12} {:>10} {:>14} {:>14}  {:<8}  {}\n",
-                level,
-                bracket.floor,
-                bracket.ceiling,
-                gap,
-                at.lower,
-                at.upper,
-                by(at),
-                certified.named.actions.or_number(at.action)
-            ));
-        }
-    }
+    let mixtures: Vec<String> = (0..certified.mixtures.len()).map(|number| table(certified, number)).collect();
+    let mut text = mixtures.join("\n");
     text.push_str("\nfloor, ceiling, gap: units of reward; lower, upper: ticks x the mixture's total weight\n");
     text.push_str(
         "by: which ceiling is the lower one, the sawtooth of corners and points or the fast informed bound\n",
     );
-    for (number, known) in certified.ranges.iter().enumerate() {
-        text.push_str(&format!("\nwithin {}\n{:>5} {:>14} {:>14}\n", known.text, "level", "lower", "upper"));
-        let levels =
-            certified.inside.iter().enumerate().map(|(level, totals)| ((level + 1).to_string(), &totals[number]));
-        let new = certified.prices.map(|prices| (NEW.to_string(), &prices.inside[number]));
-        for (level, totals) in levels.chain(new) {
-            text.push_str(&match totals {
-                Some(at) => format!("{:>5} {:>14} {:>14}\n", level, at.lower, at.upper),
-                None => format!("{:>5} no vector counts here\n", level),
-            });
-        }
+    for number in 0..certified.ranges.len() {
+        text.push('\n');
+        text.push_str(&table_within(certified, number));
     }
     if !certified.ranges.is_empty() {
         text.push_str("\nwithin ranges, lower, upper: the best plan at each mixture inside earns between the two\n");
@@ -157,6 +115,63 @@ fn tables(certified: &Certified) -> String {
         text.push_str(&format!("\n{}: level {} once the rewards of {} are in force\n", NEW, last, prices.file));
     }
     text
+}
+
+/// The table of a mixture: in units of reward, in ticks times the weight, which ceiling speaks, and the action.
+fn table(certified: &Certified, number: usize) -> String {
+    let mixture = &certified.mixtures[number];
+    let head = format!(
+        "at {}\n{:>5} {:>12} {:>12} {:>10} {:>14} {:>14}  {:<8}  {}\n",
+        about(certified.named, mixture),
+        "level",
+        "floor",
+        "ceiling",
+        "gap",
+        "lower",
+        "upper",
+        "by",
+        "action"
+    );
+    let line = |level: &str, at: &Totals| {
+        let bracket = at.bracket(mixture);
+        let gap = Totals { lower: 0, upper: at.gap, ..*at }.bracket(mixture).ceiling;
+        format!(
+            "{:>5} {:>12} {:>12} {:>10} {:>14} {:>14}  {:<8}  {}\n",
+            level,
+            bracket.floor,
+            bracket.ceiling,
+            gap,
+            at.lower,
+            at.upper,
+            by(at),
+            certified.named.actions.or_number(at.action)
+        )
+    };
+    let levels = certified.lines.iter().map(|totals| &totals[number]);
+    head + &rows(levels, certified.prices.map(|prices| &prices.at[number]), line)
+}
+
+/// The table of the ranges with this number.
+fn table_within(certified: &Certified, number: usize) -> String {
+    let head = format!("within {}\n{:>5} {:>14} {:>14}\n", certified.ranges[number].text, "level", "lower", "upper");
+    let line = |level: &str, at: &TotalsWithin| format!("{:>5} {:>14} {:>14}\n", level, at.lower, at.upper);
+    let levels = certified.inside.iter().map(|totals| &totals[number]);
+    head + &rows(levels, certified.prices.map(|prices| &prices.inside[number]), line)
+}
+
+/// A line for each level, and one for what is certified after new prices.
+fn rows<'a, At: 'a>(
+    levels: impl Iterator<Item = &'a Option<At>>,
+    new: Option<&'a Option<At>>,
+    line: impl Fn(&str, &At) -> String,
+) -> String {
+    let levels = levels.enumerate().map(|(level, at)| ((level + 1).to_string(), at));
+    let all = levels.chain(new.map(|at| (NEW.to_string(), at)));
+    all.map(|(level, at)| match at {
+        Some(at) => line(&level, at),
+        None => format!("{:>5} no vector counts here\n", level),
+    })
+    .collect()
 }
 
 /// What stands in place of a level's number after new prices.
@@ -176,64 +191,11 @@ fn about(named: &Named, mixture: &Mixture) -> String {
 
 /// All of it as one JSON object.
 fn object(certified: &Certified) -> String {
-    let named = certified.named;
+    let (shape, named) = (certified.model.shape(), certified.named);
     let names = |names: &Names| match names.all() {
         [] => Value::Null,
         all => json!(all),
     };
-    let at = |mixture: &Mixture, totals: &Option<Totals>| {
-        let totals = match totals {
-            Some(totals) => totals,
-            None => return json!({ "weights": mixture.weights, "refused": Rule::Counting.number() }),
-        };
-        let bracket = totals.bracket(mixture);
-        json!({
-            "weights": mixture.weights,
-            "lower": totals.lower,
-            "upper": totals.upper,
-            "gap": totals.gap,
-            "floor": f64::from(bracket.floor),
-            "ceiling": f64::from(bracket.ceiling),
-            "sawtooth": totals.sawtooth,
-            "informed": totals.informed,
-            "action": totals.action,
-            "action_name": named.actions.get(totals.action),
-        })
-    };
-    let within = |known: &Known, totals: &Option<TotalsWithin>| {
-        let (lows, highs) = (&known.lows.weights, &known.highs.weights);
-        match totals {
-            Some(at) => json!({ "lows": lows, "highs": highs, "lower": at.lower, "upper": at.upper }),
-            None => json!({ "lows": lows, "highs": highs, "refused": Rule::Counting.number() }),
-        }
-    };
-    let level = |(number, (totals, level)): (usize, (&Vec<Option<Totals>>, &Level))| {
-        let inside = certified.ranges.iter().zip(&certified.inside[number]);
-        let inside: Vec<Value> = inside.map(|(known, totals)| within(known, totals)).collect();
-        let at: Vec<Value> =
-            certified.mixtures.iter().zip(totals).map(|(mixture, totals)| at(mixture, totals)).collect();
-        let vectors = level.vectors().map(|vector| {
-            json!({
-                "action": vector.action,
-                "choices": vector.choices,
-                "mask": vector.mask,
-                "entries": vector.entries,
-            })
-        });
-        let points = level.points().map(|point| json!({ "weights": point.weights, "value": point.value }));
-        let mut object = json!({
-            "level": number + 1,
-            "at": at,
-            "vectors": vectors.collect::<Vec<_>>(),
-            "corners": level.corners(),
-            "points": points.collect::<Vec<_>>(),
-        });
-        if !inside.is_empty() {
-            object["within"] = json!(inside);
-        }
-        object
-    };
-    let shape = certified.model.shape();
     let mut object = json!({
         "states": shape.states,
         "actions": shape.actions,
@@ -244,17 +206,79 @@ fn object(certified: &Certified) -> String {
             "actions": names(&named.actions),
             "observations": names(&named.observations),
         },
-        "levels": certified.lines.iter().zip(certified.levels).enumerate().map(level).collect::<Vec<_>>(),
+        "levels": (0..certified.levels.len()).map(|number| level(certified, number)).collect::<Vec<_>>(),
     });
     if let Some(prices) = certified.prices {
-        let at = certified.mixtures.iter().zip(&prices.at).map(|(mixture, totals)| at(mixture, totals));
-        object["prices"] = json!({ "file": prices.file, "level": certified.lines.len(), "at": at.collect::<Vec<_>>() });
-        if !certified.ranges.is_empty() {
-            let inside = certified.ranges.iter().zip(&prices.inside).map(|(known, totals)| within(known, totals));
-            object["prices"]["within"] = json!(inside.collect::<Vec<_>>());
-        }
+        let new = json!({ "file": prices.file, "level": certified.lines.len() });
+        object["prices"] = with_answers(new, certified, &prices.at, &prices.inside);
     }
     format!("{:#}\n", object)
+}
+
+/// A level and what is certified upon it.
+fn level(certified: &Certified, number: usize) -> Value {
+    let level = &certified.levels[number];
+    let vectors = level.vectors().map(|vector| {
+        json!({
+            "action": vector.action,
+            "choices": vector.choices,
+            "mask": vector.mask,
+            "entries": vector.entries,
+        })
+    });
+    let points = level.points().map(|point| json!({ "weights": point.weights, "value": point.value }));
+    let object = json!({
+        "level": number + 1,
+        "vectors": vectors.collect::<Vec<_>>(),
+        "corners": level.corners(),
+        "points": points.collect::<Vec<_>>(),
+    });
+    with_answers(object, certified, &certified.lines[number], &certified.inside[number])
+}
+
+/// An object, with what is certified at the mixtures and, where there are ranges, within them.
+fn with_answers(
+    mut object: Value,
+    certified: &Certified,
+    at: &[Option<Totals>],
+    inside: &[Option<TotalsWithin>],
+) -> Value {
+    let at = certified.mixtures.iter().zip(at).map(|(mixture, at)| answer(certified.named, mixture, at));
+    object["at"] = at.collect();
+    if !certified.ranges.is_empty() {
+        object["within"] = certified.ranges.iter().zip(inside).map(|(known, at)| answer_within(known, at)).collect();
+    }
+    object
+}
+
+/// What is certified at a mixture.
+fn answer(named: &Named, mixture: &Mixture, at: &Option<Totals>) -> Value {
+    let at = match at {
+        Some(at) => at,
+        None => return json!({ "weights": mixture.weights, "refused": Rule::Counting.number() }),
+    };
+    let bracket = at.bracket(mixture);
+    json!({
+        "weights": mixture.weights,
+        "lower": at.lower,
+        "upper": at.upper,
+        "gap": at.gap,
+        "floor": f64::from(bracket.floor),
+        "ceiling": f64::from(bracket.ceiling),
+        "sawtooth": at.sawtooth,
+        "informed": at.informed,
+        "action": at.action,
+        "action_name": named.actions.get(at.action),
+    })
+}
+
+/// What is certified within ranges.
+fn answer_within(known: &Known, at: &Option<TotalsWithin>) -> Value {
+    let (lows, highs) = (&known.lows.weights, &known.highs.weights);
+    match at {
+        Some(at) => json!({ "lows": lows, "highs": highs, "lower": at.lower, "upper": at.upper }),
+        None => json!({ "lows": lows, "highs": highs, "refused": Rule::Counting.number() }),
+    }
 }
 
 /// A refusal as a JSON object.

@@ -24,8 +24,12 @@ fn main() {
     process::exit(options::ended(serve));
 }
 
-/// Serves a request; the exit status, or a sentence where an output cannot be written.
+/// Serves a request; the exit status, or a sentence where an output cannot be written or the library is of another version.
 fn serve(request: Request) -> Result<i32, String> {
+    if biidhaqun::version() != biidhaqun::VERSION {
+        let versions = format!("version {}, and the command is for {}", biidhaqun::version(), biidhaqun::VERSION);
+        return Err(format!("the library libbiidhaqun.a that was linked has {}", versions));
+    }
     let json = matches!(request, Request::Levels { json: true, .. } | Request::Certify { json: true, .. });
     let ended = match request {
         Request::Explain { number } => return explain::run(number),

@@ -6,7 +6,7 @@ use crate::model_file::Counts;
 use crate::names::{is_name, Named, Names};
 use crate::table::Table;
 use crate::told::{Mark, Told};
-use crate::words::{Word, Words};
+use crate::words::{end, Word, Words};
 use num_bigint::BigInt;
 use num_rational::BigRational;
 use num_traits::{One, Zero};
@@ -23,7 +23,8 @@ type Read<Answer> = Result<Answer, Vec<Told>>;
 
 /// The model that a file states.
 pub fn read(file: &[u8]) -> Read<Source> {
-    let mut parser = Parser { words: Words::of(file).peekable(), last: 0, headers: Headers::default(), end: end(file) };
+    let (words, headers, end) = (Words::of(file).peekable(), Headers::default(), end(file));
+    let mut parser = Parser { words, last: 0, headers, reset: None, end };
     let mut source = None;
     while let Some(key) = parser.next_if(|_| true) {
         match key.bytes {
@@ -53,17 +54,24 @@ pub fn read(file: &[u8]) -> Read<Source> {
     Ok(source)
 }
 
-/// Behind the last word.
-fn end(file: &[u8]) -> Range<usize> {
-    let last = Words::of(file).last().map_or(0, |word| word.span().end);
-    last..last
-}
-
 /// A word that does not fit.
 fn misfit(word: &Word, wanted: &str, note: Option<String>) -> Vec<Told> {
-    let notes = std::iter::once(format!("wanted: {}", wanted)).chain(note).collect();
+    let help = word.encoding().map(|help| format!("help: {}", help));
+    let notes = std::iter::once(format!("wanted: {}", wanted)).chain(note).chain(help).collect();
     let mark = Mark::new(word.span(), format!("found {}", word.quoted()));
     vec![Told { title: format!("{} does not fit here", word.quoted()), marks: vec![mark], notes }]
+}
+
+/// `start` behind a `reset`, which stands for the start numbers.
+fn behind_reset(start: &Word, reset: &Range<usize>) -> Vec<Told> {
+    vec![Told {
+        title: "`start` stands behind a `reset`".to_string(),
+        marks: vec![
+            Mark::new(start.span(), "stated here"),
+            Mark::new(reset.clone(), "this row is the start numbers, as they stand before it"),
+        ],
+        notes: vec!["wanted: `start` before the first `reset`".to_string()],
+    }]
 }
 
 /// A list of states, actions or observations: how many, their names, and where it stands.
@@ -140,6 +148,8 @@ struct Parser<'a> {
     /// Where the last word that was taken ends.
     last: usize,
     headers: Headers,
+    /// The first word `reset`, if there was one.
+    reset: Option<Range<usize>>,
     /// Behind the last word of the file.
     end: Range<usize>,
 }
@@ -263,6 +273,9 @@ impl<'a> Parser<'a> {
     /// A statement, of which the key was taken.
     fn statement(&mut self, key: &Word<'a>, mut source: Source) -> Read<Source> {
         if key.is("start") {
+            if let Some(reset) = &self.reset {
+                return Err(behind_reset(key, reset));
+            }
             source.start = self.start(&source)?;
             source.start_from = Some(key.place..self.last);
             return Ok(source);
@@ -313,6 +326,7 @@ impl<'a> Parser<'a> {
             let row = if self.takes("uniform") {
                 uniform(width)
             } else if kind == "state" && self.takes("reset") {
+                self.reset = self.reset.take().or(Some(self.last - "reset".len()..self.last));
                 source.start.clone()
             } else {
                 self.numbers(width, wanted)?

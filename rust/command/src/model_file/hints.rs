@@ -43,10 +43,10 @@ impl Want {
         let letters = text.starts_with(|first: char| first.is_ascii_alphabetic());
         let number = is_number_like(word.bytes);
         let import = |what: &str| format!("{}, or let `biidhaqun import` do it", what);
+        if let Some(hint) = word.encoding() {
+            return Some(hint.to_string());
+        }
         let hint = match self {
-            _ if word.bytes.starts_with(b"\xef\xbb\xbf") => {
-                "the file begins with a byte-order mark; save it without one".to_string()
-            }
             Want::Word(wanted) if text.to_lowercase() == *wanted => "small and capital letters differ".to_string(),
             Want::Statement if matches!(&text[..], "t" | "o" | "r") => "small and capital letters differ".to_string(),
             Want::Word("reward") if text == "cost" => import("state rewards, each with the other sign"),

@@ -7,7 +7,7 @@ use crate::names::Named;
 use crate::numerals::{shown, Form, INDEX, PROBABILITY, REWARD, START};
 use crate::table::Table;
 use crate::told::{Mark, Told};
-use crate::words::{Word, Words};
+use crate::words::{end, Word, Words};
 use std::ops::Range;
 
 /// The most bytes of a file.
@@ -267,12 +267,6 @@ fn misfit(word: &Word, want: Want, reason: Option<String>) -> Trouble {
             notes,
         },
     }
-}
-
-/// The last place of a file that is worth pointing at: behind its last word.
-fn end(file: &[u8]) -> Range<usize> {
-    let last = Words::of(file).last().map_or(0, |word| word.span().end);
-    last..last
 }
 
 /// Totals: the start numbers (4), the rows of T (5), the rows of O (6).

@@ -76,6 +76,7 @@ slips! {
         RefusedCeilings: "refused totals show ceilings",
         EachBySawtooth: "at many mixtures the upper totals are the sawtooth's",
         RefusedTotals: "refused totals carry numbers",
+        EachRoomFirst: "at many mixtures, room for the answers is asked for before the mixtures",
         OneRefusesAll: "a refused mixture among many refuses them all",
         LaterAnswersLeft: "what comes after a refused mixture is not answered",
         NoneRefusesAll: "among many mixtures, one at which no vector counts refuses them all",
@@ -108,6 +109,9 @@ slips! {
         ListTestedLate: "a list that is handed in is tested after all else",
         NewTablesBySeven: "new tables that are refused get 7",
         NewByOldCounts: "new tables are read by the counts in force",
+        StatesCut: "over 64 states are taken for 64",
+        ActionsCut: "over 8 actions are taken for 8",
+        ObservationsCut: "over 8 observations are taken for 8",
         VectorsByLimit: "entries and weights are packed by 64 states",
         StateInOtherOrder: "a state is the levels, the points, the vectors",
     }

@@ -3,7 +3,7 @@
 use super::{Copied, Slip};
 use crate::lent::{self, front, narrowed, stored};
 use biidhaqun::slices::{Certifier, Level, Tables};
-use reference::{POINTS, ROWS, STATES, VECTORS};
+use reference::{ACTIONS, OBSERVATIONS, POINTS, ROWS, STATES, VECTORS};
 
 /// How long the slices of a level are at least.
 pub(super) struct Needed {
@@ -46,6 +46,14 @@ impl Copied {
 
     pub fn tables(&self, lent: &Tables) -> reference::Tables {
         let mut tables = reference::Tables::default();
+        let mut cut = lent.clone();
+        match self.slip {
+            Some(Slip::StatesCut) => cut.states = cut.states.min(STATES),
+            Some(Slip::ActionsCut) => cut.actions = cut.actions.min(ACTIONS),
+            Some(Slip::ObservationsCut) => cut.observations = cut.observations.min(OBSERVATIONS),
+            _ => {}
+        }
+        let lent = &cut;
         if !lent.counts_fit() || (lent.states > 16 && self.has(Slip::SixteenStates)) {
             return tables;
         }
@@ -66,8 +74,8 @@ impl Copied {
     /// A level in slices, or none where a count is outside its limit or a slice is too short.
     pub(super) fn level(&self, lent: &Level, n: usize, k: usize) -> reference::Level {
         let none = reference::Level::default();
-        // The limits are the reference's to test; one vector more is enough to break them.
-        if lent.vectors > VECTORS + 1 || lent.points > POINTS {
+        // The limits are the reference's to test; one vector or point more is enough to break them.
+        if lent.vectors > VECTORS + 1 || lent.points > POINTS + 1 {
             return none;
         }
         let asked = self.asked(lent.vectors, lent.points, n, k);

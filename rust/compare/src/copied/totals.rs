@@ -61,13 +61,16 @@ impl Copied {
             _ => Ok(Totals::default()),
         })?;
         let enough = count.checked_mul(n).map_or(false, |needed| self.long(mixtures, needed));
-        if !enough {
-            return Err(reference::Refusal::at(17, 0));
-        }
         let room = self.long(&answers.numbers, count)
             && self.long(&answers.lower, count)
             && self.long(&answers.upper, count)
             && self.long(&answers.actions, count);
+        if !room && self.has(Slip::EachRoomFirst) {
+            return Err(NINE);
+        }
+        if !enough {
+            return Err(reference::Refusal::at(17, 0));
+        }
         if !room {
             return Err(NINE);
         }

@@ -7,6 +7,7 @@ use super::wrong::{wrong_words, BYTES};
 use super::Case;
 use crate::gen::Shape;
 use crate::rng::Rng;
+use reference::{ACTIONS, OBSERVATIONS};
 
 /// A random file: about half of them read.
 pub fn random(rng: &mut Rng) -> Case {
@@ -20,6 +21,8 @@ pub fn outcomes(rng: &mut Rng) -> Case {
     if rng.once_in(8) {
         let n = rng.pick(&[15, 16, 16, 17, 17, 63, 64]);
         shape = Shape { n, m: shape.m.min(2), k: shape.k.min(2) };
+    } else if rng.once_in(12) {
+        shape = Shape { n: shape.n.min(3), m: ACTIONS, k: OBSERVATIONS };
     }
     let coarse = !rng.once_in(3);
     let mut lines = match coarse {

@@ -1,6 +1,7 @@
 //! Numbers of any size, and lists of them.
 
 use crate::rng::Rng;
+use reference::THOUSAND;
 
 /// Anything: numbers near limits and ends, and plain random ones.
 pub(super) fn junk(rng: &mut Rng) -> u64 {
@@ -55,10 +56,23 @@ pub fn shares(rng: &mut Rng, cells: usize, total: u64) -> Vec<u64> {
     row
 }
 
-/// Whole weights with this total in one cell or two.
+/// A row of thousandths: shares, or one thousandth in a cell and the others in another, always in a `thin` table and else now and
+/// then.
+pub(super) fn chances(rng: &mut Rng, cells: usize, thin: bool) -> Vec<u64> {
+    if !thin && !rng.once_in(8) {
+        return shares(rng, cells, THOUSAND);
+    }
+    let mut row = vec![0; cells];
+    row[rng.index(cells)] += 1;
+    row[rng.index(cells)] += THOUSAND - 1;
+    row
+}
+
+/// Whole weights with this total, 1 or more, in one cell or two.
 pub(super) fn few_shares(rng: &mut Rng, cells: usize, total: u64) -> Vec<u64> {
     let mut row = vec![0; cells];
-    let part = rng.pick(&[total, rng.clone().below(total + 1)]);
+    let any = rng.below(total + 1);
+    let part = rng.pick(&[total, any, 1]);
     row[rng.index(cells)] += part;
     row[rng.index(cells)] += total - part;
     row

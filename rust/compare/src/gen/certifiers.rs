@@ -80,6 +80,9 @@ pub fn handed(rng: &mut Rng, shape: Shape) -> (Certifier, Vec<Step>) {
         let t = certifier.level;
         spoil_level(rng, &mut certifier.standing, shape, t, 1);
     }
+    if rng.once_in(40) {
+        certifier.standing.vectors = 0;
+    }
     if rng.once_in(2) {
         spoil_rows(rng, &mut certifier, shape);
     }

@@ -244,17 +244,20 @@ pub fn loosened(rng: &mut Rng, level: &Level, shape: Shape, t: u64) -> Level {
     parts.packed(rng)
 }
 
-/// A level that differs by one in one entry (more), corner or point value (less), so that it may break its inequality.
+/// A level that differs by one in an entry (more), corner or point value (less), or in a few of them, so that it may break their
+/// inequalities.
 pub fn nudged(rng: &mut Rng, level: &Level, shape: Shape) -> Level {
     let mut level = level.clone();
-    let points = if level.points > 0 { 3 } else { 2 };
-    match rng.below(points) {
-        0 => {
-            let entry = &mut level.entries[rng.index(level.vectors as usize * shape.n)];
-            *entry = entry.wrapping_add(1);
+    let kinds = if level.points > 0 { 3 } else { 2 };
+    for _ in 0..rng.pick(&[1, 1, 1, 2, 4]) {
+        match rng.below(kinds) {
+            0 => {
+                let entry = &mut level.entries[rng.index(level.vectors as usize * shape.n)];
+                *entry = entry.wrapping_add(1);
+            }
+            1 => level.corners[rng.index(shape.n)] -= 1,
+            _ => level.values[rng.index(level.points as usize)] -= 1,
         }
-        1 => level.corners[rng.index(shape.n)] -= 1,
-        _ => level.values[rng.index(level.points as usize)] -= 1,
     }
     level
 }
@@ -279,12 +282,12 @@ pub(super) fn spoil_level(rng: &mut Rng, level: &mut Level, shape: Shape, t: u64
     }
     match rng.below(if points > 0 { 11 } else { 8 }) {
         0 => {
-            level.vectors = rng.pick(&[0, 1, 32, 33, 33, 999, 1_000, 1_001, u64::MAX, anything]);
-            lengthen(rng, level, shape);
+            let vectors = rng.pick(&[0, 1, 32, 33, 33, 999, 1_000, 1_001, u64::MAX, anything]);
+            lengthen(rng, level, shape, (vectors, level.points));
         }
         1 => {
-            level.points = rng.pick(&[0, 1, 32, 33, u64::MAX, anything]);
-            lengthen(rng, level, shape);
+            let points = rng.pick(&[0, 1, 32, 33, 33, u64::MAX, anything]);
+            lengthen(rng, level, shape, (level.vectors, points));
         }
         2 => level.actions[rng.index(vectors)] = rng.pick(&[m as u64 - 1, m as u64, u64::MAX, anything]),
         3 => {
@@ -298,6 +301,9 @@ pub(super) fn spoil_level(rng: &mut Rng, level: &mut Level, shape: Shape, t: u64
         6 => {
             let corner = rng.pick(&[ticks, -ticks, ticks + 1, -ticks - 1, i64::MIN, i64::MAX, anything as i64]);
             level.corners[rng.index(n)] = corner;
+            if points > 0 && rng.once_in(3) {
+                level.values[rng.index(points)] = POINT_TOTAL as i64 * ticks + 1;
+            }
         }
         7 => level.masks[rng.index(vectors)] = mask(rng, n),
         8 => {
@@ -314,27 +320,39 @@ pub(super) fn spoil_level(rng: &mut Rng, level: &mut Level, shape: Shape, t: u64
     }
 }
 
-/// Fills up lists that are too short for their counts, if these are small: with zeros or with anything.
-fn lengthen(rng: &mut Rng, level: &mut Level, shape: Shape) {
-    fn fill<Cell>(cells: &mut Vec<Cell>, length: usize, mut cell: impl FnMut() -> Cell) {
+/// Gives a level other counts, and fills up lists that are too short for them, if these are small: with anything, or with vectors
+/// that cover no state and points of weight 1 and value 0, which break no limit but that of their number.
+fn lengthen(rng: &mut Rng, level: &mut Level, shape: Shape, (vectors, points): (u64, u64)) {
+    fn fill<Cell>(cells: &mut Vec<Cell>, length: usize, mut cell: impl FnMut(usize) -> Cell) {
         while cells.len() < length {
-            cells.push(cell());
+            cells.push(cell(cells.len()));
         }
     }
     let Shape { n, k, .. } = shape;
-    let zeros = rng.once_in(2);
-    let mut cell = || if zeros { 0 } else { junk(rng) };
-    if level.vectors <= FEW as u64 {
-        let vectors = level.vectors as usize;
-        fill(&mut level.actions, vectors, &mut cell);
-        fill(&mut level.choices, vectors * k, &mut cell);
-        fill(&mut level.masks, vectors, &mut cell);
-        fill(&mut level.entries, vectors * n, || cell() as i64);
+    let plain = rng.once_in(2);
+    let few = |count: u64| usize::try_from(count).ok().filter(|&count| count <= FEW);
+    // One vector stays in any case.
+    if let (true, Some(stood)) = (plain, few(level.vectors.max(1))) {
+        level.actions.truncate(stood);
+        level.choices.truncate(stood * k);
+        level.masks.truncate(stood);
+        level.entries.truncate(stood * n);
     }
-    if level.points <= FEW as u64 {
-        let points = level.points as usize;
-        fill(&mut level.weights, points * n, &mut cell);
-        fill(&mut level.values, points, || cell() as i64);
+    if let (true, Some(stood)) = (plain, few(level.points)) {
+        level.weights.truncate(stood * n);
+        level.values.truncate(stood);
+    }
+    (level.vectors, level.points) = (vectors, points);
+    let mut cell = |least: u64| if plain { least } else { junk(rng) };
+    if let Some(vectors) = few(vectors) {
+        fill(&mut level.actions, vectors, |_| cell(0));
+        fill(&mut level.choices, vectors * k, |_| cell(0));
+        fill(&mut level.masks, vectors, |_| cell(0));
+        fill(&mut level.entries, vectors * n, |_| cell(0) as i64);
+    }
+    if let Some(points) = few(points) {
+        fill(&mut level.weights, points * n, |at| cell(u64::from(at % n == 0)));
+        fill(&mut level.values, points, |_| cell(0) as i64);
     }
 }
 

@@ -1,6 +1,6 @@
 //! Tables that open, those that nearly do, and other prices for them.
 
-use super::cells::{few_shares, junk, shares, signed_junk, trail};
+use super::cells::{chances, few_shares, junk, signed_junk, trail};
 use super::shapes::{self, Shape, SOME_STATES};
 use crate::rng::Rng;
 use reference::{Tables, REWARD, THOUSAND};
@@ -14,15 +14,16 @@ pub fn tables(rng: &mut Rng, shape: Shape) -> Tables {
 /// Tables that open, of which each row of T has one cell above 0 or two if they are sparse.
 pub fn tables_of(rng: &mut Rng, shape: Shape, sparse: bool) -> Tables {
     let Shape { n, m, k } = shape;
+    let thin = rng.once_in(8);
     let discount = rng.below(THOUSAND + 1);
     let mut tables = Tables {
         discount: rng.pick(&[0, 1, 500, 900, 950, 999, 1_000, discount]),
         ..Tables::zeros(n as u64, m as u64, k as u64)
     };
     for row in 0..m * n {
-        let reached = if sparse { few_shares(rng, n, THOUSAND) } else { shares(rng, n, THOUSAND) };
+        let reached = if sparse { few_shares(rng, n, THOUSAND) } else { chances(rng, n, thin) };
         tables.transitions[row * n..(row + 1) * n].copy_from_slice(&reached);
-        tables.sights[row * k..(row + 1) * k].copy_from_slice(&shares(rng, k, THOUSAND));
+        tables.sights[row * k..(row + 1) * k].copy_from_slice(&chances(rng, k, thin));
     }
     let most = rng.pick(&[1, 20, 999, 10_000, REWARD]);
     // Now and then costs alone: then 0 is more than any plan earns.
@@ -40,10 +41,19 @@ pub fn tables_of(rng: &mut Rng, shape: Shape, sparse: bool) -> Tables {
 pub fn spoil_tables(rng: &mut Rng, tables: &mut Tables) {
     let anything = junk(rng);
     match rng.below(8) {
-        0 => tables.states = rng.pick(&[0, 1, 63, 64, 65, u64::MAX, anything]),
-        1 => tables.actions = rng.pick(&[0, 1, 8, 9, u64::MAX, anything]),
-        2 => tables.observations = rng.pick(&[0, 1, 8, 9, u64::MAX, anything]),
-        3 => tables.discount = rng.pick(&[0, 1_000, 1_001, u64::MAX, anything]),
+        0 => {
+            tables.states = rng.pick(&[0, 1, 63, 64, 65, 65, u64::MAX, anything]);
+            refit(rng, tables);
+        }
+        1 => {
+            tables.actions = rng.pick(&[0, 1, 8, 9, 9, u64::MAX, anything]);
+            refit(rng, tables);
+        }
+        2 => {
+            tables.observations = rng.pick(&[0, 1, 8, 9, 9, u64::MAX, anything]);
+            refit(rng, tables);
+        }
+        3 => tables.discount = rng.pick(&[0, 1_000, 1_001, 1_001, 1_001, u64::MAX, anything]),
         kind => {
             let used = if tables.counts_fit() { tables.cells_used() } else { (1, 1, 1) };
             // The counts may want more cells than there are.
@@ -67,6 +77,24 @@ pub fn spoil_tables(rng: &mut Rng, tables: &mut Tables) {
             }
         }
     }
+}
+
+/// Half the time, makes lists as long as counts want that are at most one past their limits: with rows that total 1,000, so that
+/// nothing but a limit refuses them.
+fn refit(rng: &mut Rng, tables: &mut Tables) {
+    if !tables.counts_nearly_fit() || rng.once_in(2) {
+        return;
+    }
+    let (t, o, r) = tables.cells_used();
+    for (cells, used, width) in
+        [(&mut tables.transitions, t, tables.states), (&mut tables.sights, o, tables.observations)]
+    {
+        *cells = vec![0; used];
+        for row in cells.chunks_exact_mut(width as usize) {
+            row[rng.index(width as usize)] = THOUSAND;
+        }
+    }
+    tables.rewards = (0..r).map(|_| rng.within(-REWARD, REWARD)).collect();
 }
 
 /// Takes a thousandth from a row of T or of O, which then does not total 1,000.
@@ -122,7 +150,8 @@ pub fn unpriced(rng: &mut Rng, tables: &Tables, shape: Shape) -> Tables {
         2 => moved(rng, &mut new.sights, shape.k),
         3 => {
             let other = shapes::shape(rng);
-            new = self::tables(rng, rng.clone().pick(&[shape, other]));
+            let shape = rng.pick(&[shape, other]);
+            new = self::tables(rng, shape);
         }
         _ => {
             for _ in 0..1 + rng.index(2) {

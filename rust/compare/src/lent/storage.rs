@@ -32,18 +32,18 @@ fn count(number: u64, most: usize) -> usize {
     size(number).min(most)
 }
 
-/// The counts by which objects of these tables are packed; any, where the tables are refused in any case.
+/// The counts by which objects of these tables are packed; any, where the tables are refused whatever the limits.
 pub fn counts(tables: &reference::Tables) -> (usize, usize) {
-    if tables.counts_fit() {
+    if tables.counts_nearly_fit() {
         (tables.states as usize, tables.observations as usize)
     } else {
         (1, 1)
     }
 }
 
-/// How many entries each kind of rows has; any number, where the tables are refused in any case.
+/// How many entries each kind of rows has; any number, where the tables are refused whatever the limits.
 pub fn rows(tables: &reference::Tables) -> usize {
-    if tables.counts_fit() {
+    if tables.counts_nearly_fit() {
         (tables.actions * tables.states) as usize
     } else {
         1
@@ -52,7 +52,7 @@ pub fn rows(tables: &reference::Tables) -> usize {
 
 pub fn tables(storage: &reference::Tables) -> Tables {
     let all = (storage.transitions.len(), storage.sights.len(), storage.rewards.len());
-    let (t, o, r) = if storage.counts_fit() { storage.cells_used() } else { all };
+    let (t, o, r) = if storage.counts_nearly_fit() { storage.cells_used() } else { all };
     Tables {
         states: size(storage.states),
         actions: size(storage.actions),
@@ -82,7 +82,15 @@ pub fn level(storage: &reference::Level, n: usize, k: usize) -> Level {
 
 pub fn certifier(storage: &reference::Certifier) -> Certifier {
     let (n, k) = counts(&storage.tables);
-    let level = level(&storage.standing, n, k);
+    let mut level = level(&storage.standing, n, k);
+    if !storage.tables.counts_fit() {
+        // Of as many states as the tables name, so that nothing but their limit refuses them.
+        let (vectors, points) = (level.actions.len(), level.values.len());
+        level.entries.resize(vectors * n, 0);
+        level.corners.resize(n, 0);
+        level.weights.resize(points * n, 0);
+    }
+    let rows = rows(&storage.tables);
     Certifier {
         state: vec![size(storage.level), level.vectors, level.points],
         actions: level.actions,
@@ -92,8 +100,8 @@ pub fn certifier(storage: &reference::Certifier) -> Certifier {
         corners: level.corners,
         weights: level.weights,
         values: level.values,
-        informed: storage.informed[..rows(&storage.tables)].to_vec(),
-        qmdp: storage.qmdp[..rows(&storage.tables)].to_vec(),
+        informed: stored(&storage.informed, rows, rows),
+        qmdp: stored(&storage.qmdp, rows, rows),
     }
 }
 
@@ -111,7 +119,8 @@ pub fn weights(storage: &[u64]) -> Vec<u32> {
 }
 
 pub fn graph(storage: &reference::Graph, k: usize) -> Graph {
-    let nodes = count(storage.nodes, NODES);
+    // One node past the limit is lent, so that nothing but the limit refuses it.
+    let nodes = count(storage.nodes, NODES + 1);
     Graph {
         nodes: size(storage.nodes),
         actions: narrowed(&storage.actions, nodes),
@@ -119,19 +128,23 @@ pub fn graph(storage: &reference::Graph, k: usize) -> Graph {
     }
 }
 
-/// Certifier's slices with room for every level of so many states and vectors, and anything in it.
+/// Certifier's slices with room for every level of so many states and vectors, and for a point more, and anything in it.
 pub fn roomy(rng: &mut Rng, mut certifier: Certifier, n: usize, vectors: usize) -> Certifier {
+    fn grow(rng: &mut Rng, slice: &mut dyn Slice, length: usize) {
+        let length = slice.length().max(length) + rng.index(3);
+        slice.sized(length, rng);
+    }
     let vectors = vectors.max(certifier.actions.len());
     certifier.state.sized(certifier.state.len().max(3), rng);
-    certifier.actions.sized(vectors + rng.index(3), rng);
-    certifier.choices.sized(vectors * OBSERVATIONS + rng.index(3), rng);
-    certifier.masks.sized(vectors + rng.index(3), rng);
-    certifier.entries.sized(vectors * n + rng.index(3), rng);
-    certifier.corners.sized(n + rng.index(3), rng);
-    certifier.weights.sized(POINTS * n + rng.index(3), rng);
-    certifier.values.sized(POINTS + rng.index(3), rng);
-    certifier.informed.sized(ACTIONS * n + rng.index(3), rng);
-    certifier.qmdp.sized(ACTIONS * n + rng.index(3), rng);
+    grow(rng, &mut certifier.actions, vectors);
+    grow(rng, &mut certifier.choices, vectors * OBSERVATIONS);
+    grow(rng, &mut certifier.masks, vectors);
+    grow(rng, &mut certifier.entries, vectors * n);
+    grow(rng, &mut certifier.corners, n);
+    grow(rng, &mut certifier.weights, (POINTS + 1) * n);
+    grow(rng, &mut certifier.values, POINTS + 1);
+    grow(rng, &mut certifier.informed, ACTIONS * n);
+    grow(rng, &mut certifier.qmdp, ACTIONS * n);
     certifier
 }
 

@@ -3,11 +3,12 @@
 use super::Suites;
 use crate::copied::{Copied, Slip, BY_THE_DOCUMENT};
 use crate::lent::{Call, Library};
-use crate::{adopting, calls, converting, files, listing, replaying, single, through};
+use crate::{adopting, calls, converting, files, listing, replaying, single, through, wide};
 use reference::Trap;
 
-/// How many random cases a slip or a trap is looked for in.
+/// How many random cases a slip or a trap is looked for in, and how many calls on storage.
 const HUNTED: u64 = 3_000;
+const CALLS: u64 = 6_000;
 
 /// A copy with one mistake, and whether a case has told it from the library.
 struct Hunted {
@@ -33,7 +34,8 @@ fn by_call(name: String, call: Call) -> (String, Differs) {
 impl Suites<'_> {
     /// Whether the library differs from every copy with one mistake: slips of the interface in single calls, traps of the
     /// reader in files, those of the converter in conversions, those of a solver's files in adoptions, traps of the judging
-    /// in calls on storage, both kinds in calls with many vectors and long files. In each case the library itself is held
+    /// in calls on storage, those of many states in single calls on such models, both kinds in calls with many vectors and long
+    /// files. In each case the library itself is held
     /// against the document first.
     pub(super) fn traps(&self) -> bool {
         let slips = |list: &[Slip]| -> Vec<Hunted> {
@@ -96,8 +98,8 @@ impl Suites<'_> {
             };
             by_call(name, call)
         });
-        let judging = traps(Trap::JUDGING);
-        all &= self.hunt("traps of the judging, by calls on storage", HUNTED, judging, &|number| {
+        let judging = [Trap::JUDGING, Trap::ORDERING].concat();
+        all &= self.hunt("traps of the judging, by calls on storage", CALLS, traps(&judging), &|number| {
             let mut rng = self.rng("calls", number);
             let case = calls::random(&mut rng, number);
             let differs =
@@ -106,6 +108,9 @@ impl Suites<'_> {
         });
         all &= self.hunt("traps of lists, by single calls", HUNTED, traps(Trap::LISTING), &|number| {
             by_call(format!("lists:{}", number), listing::random(&mut self.rng("lists", number)))
+        });
+        all &= self.hunt("traps of many states, by single calls", HUNTED, traps(Trap::WIDE), &|number| {
+            by_call(format!("wide:{}", number), wide::random(&mut self.rng("wide", number)))
         });
         let mut large = traps(Trap::MANY);
         large.extend(slips(Slip::MANY));
