@@ -14,7 +14,7 @@ use std::cell::Cell;
 /// only written.
 fn whole(rng: &mut Rng) -> Call {
     let shape = gen::shape(rng);
-    match rng.below(13) {
+    match rng.below(14) {
         0 => reading_exactly(rng),
         1 => {
             let mut tables = gen::tables(rng, shape);
@@ -61,6 +61,16 @@ fn whole(rng: &mut Rng) -> Call {
         7 => listing::random(rng),
         8 => pricing::random(rng),
         9 => converting::random(rng),
+        10 => {
+            let levels = rng.below(3);
+            let certifier = followed(&gen::list(rng, shape, levels));
+            let count = rng.index(4);
+            let mut points = gen::points(rng, shape.n, count);
+            if rng.once_in(2) {
+                gen::spoil_points(rng, shape.n, &mut points);
+            }
+            building(rng, shape, &certifier, &points)
+        }
         _ => {
             let (certifier, steps) = gen::handed(rng, shape);
             match rng.pick(&steps) {

@@ -1,11 +1,11 @@
 //! Certifiers of any content, and calls on them.
 
 use super::cells::{at_ends, junk, litter, signed_junk};
-use super::levels::{built, hide, level_at_ends, loosened, mask, masked, range, spoil_level, value_range};
+use super::levels::{built, crowd, hide, level_at_ends, loosened, mask, masked, range, spoil_level, value_range};
 use super::lists::Step;
 use super::models::{repriced, spoil_tables, tables, unpriced};
 use super::shapes::Shape;
-use super::weights::{mixture, points, ranges, spoil_mixture, spoil_points, spoil_ranges};
+use super::weights::{mixture, points, ranges, spoil_mixture, spoil_points, spoil_ranges, spoil_weights};
 use crate::rng::Rng;
 use reference::{offer, open, Certifier, BUILT_POINTS, DOCUMENT, LEVELS, REWARD, ROWS, STATES, THOUSAND, WEIGHT};
 
@@ -76,6 +76,9 @@ pub fn handed(rng: &mut Rng, shape: Shape) -> (Certifier, Vec<Step>) {
     if rng.once_in(2) {
         certifier.level = rng.pick(&[0, 1, 2, 98, 99, 100, 101, u64::MAX]);
     }
+    if rng.once_in(40) {
+        crowd(&mut certifier.standing, shape.n);
+    }
     if rng.once_in(3) {
         let t = certifier.level;
         spoil_level(rng, &mut certifier.standing, shape, t, 1);
@@ -95,6 +98,9 @@ pub fn handed(rng: &mut Rng, shape: Shape) -> (Certifier, Vec<Step>) {
         certifier.tables.transitions.push(7);
     }
     let mut level = offered.clone();
+    if level.points > 0 && rng.once_in(6) {
+        spoil_weights(rng, &mut level.weights[..shape.n]);
+    }
     for _ in 0..rng.index(3) {
         spoil_level(rng, &mut level, shape, certifier.level.saturating_add(1), certifier.standing.vectors);
     }

@@ -305,7 +305,13 @@ pub(super) fn spoil_level(rng: &mut Rng, level: &mut Level, shape: Shape, t: u64
                 level.values[rng.index(points)] = POINT_TOTAL as i64 * ticks + 1;
             }
         }
-        7 => level.masks[rng.index(vectors)] = mask(rng, n),
+        7 => {
+            level.masks[rng.index(vectors)] = mask(rng, n);
+            if points > 0 && rng.once_in(2) {
+                let point = rng.index(points);
+                spoil_weights(rng, &mut level.weights[point * n..(point + 1) * n]);
+            }
+        }
         8 => {
             // At the ends of its own range, and of the widest.
             let point = rng.index(points);
@@ -354,6 +360,19 @@ fn lengthen(rng: &mut Rng, level: &mut Level, shape: Shape, (vectors, points): (
         fill(&mut level.weights, points * n, |at| cell(u64::from(at % n == 0)));
         fill(&mut level.values, points, |_| cell(0) as i64);
     }
+}
+
+/// Adds points of weight 1 and value 0 to a level within the limits, up to one more than fits.
+pub(super) fn crowd(level: &mut Level, n: usize) {
+    let stood = level.points as usize;
+    level.weights.truncate(stood * n);
+    level.values.truncate(stood);
+    for _ in stood..=POINTS {
+        level.weights.push(1);
+        level.weights.resize(level.weights.len() + n - 1, 0);
+        level.values.push(0);
+    }
+    level.points = POINTS as u64 + 1;
 }
 
 /// A level for t whose every number is at an end of its range; where there are as many states as can be, it has as many vectors

@@ -42,15 +42,15 @@ pub fn spoil_tables(rng: &mut Rng, tables: &mut Tables) {
     let anything = junk(rng);
     match rng.below(8) {
         0 => {
-            tables.states = rng.pick(&[0, 1, 63, 64, 65, 65, u64::MAX, anything]);
+            tables.states = rng.pick(&[0, 1, 63, 64, 65, 65, 65, u64::MAX, anything]);
             refit(rng, tables);
         }
         1 => {
-            tables.actions = rng.pick(&[0, 1, 8, 9, 9, u64::MAX, anything]);
+            tables.actions = rng.pick(&[0, 1, 8, 9, 9, 9, u64::MAX, anything]);
             refit(rng, tables);
         }
         2 => {
-            tables.observations = rng.pick(&[0, 1, 8, 9, 9, u64::MAX, anything]);
+            tables.observations = rng.pick(&[0, 1, 8, 9, 9, 9, u64::MAX, anything]);
             refit(rng, tables);
         }
         3 => tables.discount = rng.pick(&[0, 1_000, 1_001, 1_001, 1_001, u64::MAX, anything]),
@@ -79,10 +79,10 @@ pub fn spoil_tables(rng: &mut Rng, tables: &mut Tables) {
     }
 }
 
-/// Half the time, makes lists as long as counts want that are at most one past their limits: with rows that total 1,000, so that
+/// Most of the time, makes lists as long as counts want that are at most one past their limits: with rows that total 1,000, so that
 /// nothing but a limit refuses them.
 fn refit(rng: &mut Rng, tables: &mut Tables) {
-    if !tables.counts_nearly_fit() || rng.once_in(2) {
+    if !tables.counts_nearly_fit() || rng.once_in(4) {
         return;
     }
     let (t, o, r) = tables.cells_used();

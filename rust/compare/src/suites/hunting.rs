@@ -6,9 +6,8 @@ use crate::lent::{Call, Library};
 use crate::{adopting, calls, converting, files, listing, replaying, single, through, wide};
 use reference::Trap;
 
-/// How many random cases a slip or a trap is looked for in, and how many calls on storage.
-const HUNTED: u64 = 3_000;
-const CALLS: u64 = 6_000;
+/// How many random cases a slip or a trap is looked for in.
+const HUNTED: u64 = 6_000;
 
 /// A copy with one mistake, and whether a case has told it from the library.
 struct Hunted {
@@ -99,7 +98,7 @@ impl Suites<'_> {
             by_call(name, call)
         });
         let judging = [Trap::JUDGING, Trap::ORDERING].concat();
-        all &= self.hunt("traps of the judging, by calls on storage", CALLS, traps(&judging), &|number| {
+        all &= self.hunt("traps of the judging, by calls on storage", HUNTED, traps(&judging), &|number| {
             let mut rng = self.rng("calls", number);
             let case = calls::random(&mut rng, number);
             let differs =
