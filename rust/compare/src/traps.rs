@@ -8,10 +8,10 @@ use reference::{ladder, Rules, Trap};
 use std::io;
 
 /// How many random cases of each suite are tried; of calls, until all that can show in them were noticed.
-const FILES: u64 = 1_000;
+const FILES: u64 = 500;
 const CALLS: u64 = 6_000;
-const PLANS: u64 = 400;
-const CLIMBS: u64 = 100;
+const PLANS: u64 = 250;
+const CLIMBS: u64 = 30;
 
 /// A trap, and the first case of each suite that caught it.
 struct Hunt {
