@@ -1,5 +1,5 @@
 -- What more than one proof of this crate names.
-pub use Rattle.integers.proofs.Kit.{◌≡◌, ◌∙◌, refl, ap, sym, List, ℕ, ◌<◌, ◌-◌, arith, needs, take}
+pub use Rattle.integers.proofs.Kit.{◌≡◌, ◌∙◌, refl, ap, sym, List, ℕ, ◌<◌, ◌-◌, arith, rules, take}
 pub use Rattle.words.specs.Words.{Words, between, words_in}
 pub use Rattle.grammar.specs.Grammar.{Answer, ◌then◌, got}
 pub use Rattle.grammar.proofs.Laws.{inside, value-is, value-next}

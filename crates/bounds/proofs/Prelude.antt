@@ -1,2 +1,2 @@
 -- What more than one proof of this crate names.
-pub use Rattle.integers.proofs.Kit.{◌≡◌, ◌∙◌, ap, sym, true, ℕ, arith, needs}
+pub use Rattle.integers.proofs.Kit.{◌≡◌, ◌∙◌, ap, sym, true, ℕ, arith, rules}

@@ -1,4 +1,5 @@
 // Totals at a mixture: the floor, the lower of two ceilings, and the action to open with. Tables, the standing level and its rows are lent.
+#![tactic(auto)]
 ghost use Rattle.std.specs.Prelude.{◌≡◌, true, List, ℕ, ◌<◌};
 ghost use Rattle.integers.specs.Whole.{Below};
 ghost use Rattle.tables.specs.Limits.{max_weight};

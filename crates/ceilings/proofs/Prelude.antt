@@ -1,5 +1,5 @@
 -- What more than one proof of this crate names.
-pub use Rattle.integers.proofs.Kit.{◌≡◌, ◌∙◌, sym, ◌≤◌, ◌*◌, ◌-◌, arith, needs, get_or, pos, w64, to_z, of_z}
+pub use Rattle.integers.proofs.Kit.{◌≡◌, ◌∙◌, sym, ◌≤◌, ◌*◌, ◌-◌, arith, rules, get_or, pos, w64, to_z, of_z}
 pub use Rattle.integers.proofs.Lists.{padded-none, padded-turn}
 pub use Rattle.integers.proofs.Words.{answer}
 pub use Rattle.integers.specs.Cells.{padded}

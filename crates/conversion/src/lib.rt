@@ -1,4 +1,5 @@
 // What the converter answers. The converter itself is in `converting`.
+#![tactic(auto)]
 use tables::Verdict;
 
 // What a file is refused for, and the bytes written; with a refusal 0.

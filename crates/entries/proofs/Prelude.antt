@@ -1,5 +1,5 @@
 -- What more than one proof of this crate names.
-pub use Rattle.integers.proofs.Kit.{arith, needs}
+pub use Rattle.integers.proofs.Kit.{arith, rules}
 pub use Rattle.drafts.specs.Drafts.{stated}
 pub use Rattle.grammar.specs.Grammar.{colon, index, key}
 pub use Rattle.grammar.proofs.Laws.{inside, second_word, takes-reads, value-next}

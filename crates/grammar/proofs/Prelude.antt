@@ -1,5 +1,5 @@
 -- What more than one proof of this crate names.
-pub use Rattle.integers.proofs.Kit.{◌≡◌, ◌∙◌, refl, ap, sym, true, false, Bool, cond, List, ℕ, ◌≤◌, ◌-◌, arith, needs, drop}
+pub use Rattle.integers.proofs.Kit.{◌≡◌, ◌∙◌, refl, ap, sym, true, false, Bool, cond, List, ℕ, ◌≤◌, ◌-◌, arith, rules, drop}
 pub use Rattle.grammar.proofs.Arms.{reads-back}
 pub use Rattle.grammar.proofs.Laws.{inside, lies_in, limited-below, reads_on, takes-end, takes-reads, takes-word, value-next}
 pub use Rattle.grammar.specs.Grammar.{limited, same}

@@ -10,7 +10,7 @@ fits z h = record { sfits = abs_mag z h }
 
 -- of a call's result, `back c.CALL.result c.CALL.ok`; of an element read, `back _ c.PLACE.given`
 pub back : (z : ℤ) → mag z < 2 ^ 63 → to_z w64 (of_z w64 z) ≡ z
-back z h = to_z-of_z (record { sfits = h })
+back z h = to_z-of_z {w = w64} (record { sfits = h })
 
 pub back-small : (z : ℤ) → nat_abs z < 2 ^ 63 → to_z w64 (of_z w64 z) ≡ z
 back-small z h = back z (abs_mag z h)

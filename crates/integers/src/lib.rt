@@ -1,4 +1,6 @@
 // Arithmetic of 64-bit whole numbers whose results are exact: each caller shows that they fit.
+#![tactic(auto)]
+
 ghost use Rattle.std.specs.Prelude.{◌≡◌, ◌+◌, ◌*◌, ◌<◌, ◌^◌, leb, nat_abs, ◌+ℤ◌, ◌-ℤ◌};
 ghost use Rattle.integers.specs.Whole.{◌·◌, lesser, floor_div, ceil_div};
 

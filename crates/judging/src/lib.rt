@@ -1,4 +1,5 @@
 // What an offer to a certifier is refused for, 7 to 15 and 21. Tables, the standing level and the offered one are lent; nothing is written.
+#![tactic(auto)]
 ghost use Rattle.std.specs.Prelude.{◌≡◌, true, ◌*◌, ◌≤◌, length};
 ghost use Rattle.tables.specs.declared.Verdict.TheVariants.{Fine};
 ghost use Rattle.tables.specs.Limits.{max_states, max_observations, max_vectors, max_levels};

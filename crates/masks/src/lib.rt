@@ -1,4 +1,5 @@
 // Masks of vectors: the states that they cover, as the bits of a number; and entries where they are covered.
+#![tactic(auto)]
 ghost use Rattle.std.specs.Prelude.{◌≡◌, true, ◌≤◌, ◌<◌, ◌^◌, ltb, length};
 ghost use Rattle.tables.specs.Limits.{max_states, max_vectors};
 ghost use Rattle.tables.specs.Storage.{weight_in};

@@ -1,4 +1,5 @@
 // Whether tables differ in their prices alone: 7, then 3, 5 and 6 of the new tables, then 23.
+#![tactic(auto)]
 ghost use Rattle.std.specs.Prelude.{◌≡◌, List, [], ℕ, ◌≤◌, eqb, length, get_or};
 ghost use Rattle.integers.specs.Search.{every};
 ghost use Rattle.tables.specs.Storage.{model_in, tables_in};

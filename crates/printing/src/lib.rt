@@ -1,4 +1,5 @@
 // What the program `ladder` prints of a model file: its levels, or its refusal.
+#![tactic(auto)]
 use climbing::ROWS;
 use tables::{Tables, Verdict};
 

@@ -1,4 +1,5 @@
 // A file and an offset in it, carried from word to word.
+#![tactic(auto)]
 ghost use Rattle.std.specs.Prelude.{◌≡◌};
 ghost use Rattle.words.specs.Steps.{Next};
 ghost use Rattle.reader.specs.Pair.{past_word, Paired};

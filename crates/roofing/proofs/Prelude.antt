@@ -1,5 +1,5 @@
 -- What more than one proof of this crate names.
-pub use Rattle.integers.proofs.Kit.{◌≡◌, refl, sym, ◌≤◌, ◌<◌, ◌-◌, arith, needs, pos, length}
+pub use Rattle.integers.proofs.Kit.{◌≡◌, refl, sym, ◌≤◌, ◌<◌, ◌-◌, arith, rules, pos, length}
 pub use Rattle.roofing.proofs.Least.{least-said}
 pub use Rattle.backups.specs.Steps.{CeilingOf}
 pub use Rattle.integers.proofs.Lists.{laid_none, laid-turn}

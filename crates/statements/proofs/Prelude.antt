@@ -1,5 +1,5 @@
 -- What more than one proof of this crate names.
-pub use Rattle.integers.proofs.Kit.{◌∙◌, List, ℕ, arith, needs, ℤ}
+pub use Rattle.integers.proofs.Kit.{◌∙◌, List, ℕ, arith, rules, ℤ}
 pub use Rattle.words.specs.Words.{told}
 pub use Rattle.grammar.proofs.Laws.{inside, value-next}
 pub use Rattle.entries.specs.Entries.{table}

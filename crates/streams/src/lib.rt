@@ -1,4 +1,5 @@
 // What the program `ladder` writes, line by line, and where its input ends. A line says whether it could be written.
+#![tactic(auto)]
 ghost use Rattle.std.specs.Prelude.{◌≡◌};
 ghost use Rattle.tables.specs.declared.Verdict.TheVariants.{Fine};
 

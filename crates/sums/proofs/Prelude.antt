@@ -1,5 +1,5 @@
 -- What more than one proof of this crate names.
-pub use Rattle.integers.proofs.Kit.{◌≡◌, ◌∙◌, refl, sym, ◌≤◌, ◌*◌, ◌-◌, arith, mul-le-mul, needs, lit<, w64, to_z}
+pub use Rattle.integers.proofs.Kit.{◌≡◌, ◌∙◌, refl, sym, ◌≤◌, ◌*◌, ◌-◌, arith, mul-le-mul, rules, lit<, w64, to_z}
 pub use Rattle.integers.proofs.Lists.{padded-none, padded-turn}
 pub use Rattle.integers.proofs.Sums.{sum-none, total-none, total-step}
 pub use Rattle.integers.proofs.Terms.{Terms, term-added, term_fits}

@@ -1,4 +1,5 @@
 // Successor weights and expected rewards. The sums are regrouped so that each partial sum is worked out once: Σ_s p(s) × T(s,a,s') for an action.
+#![tactic(auto)]
 ghost use Rattle.std.specs.Prelude.{◌≡◌, ◌+◌, ◌*◌, ◌≤◌, ◌<◌};
 ghost use Rattle.integers.specs.Whole.{Below};
 ghost use Rattle.integers.specs.Cells.{padded};

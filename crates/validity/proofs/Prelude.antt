@@ -1,5 +1,5 @@
 -- What more than one proof of this crate names.
-pub use Rattle.integers.proofs.Kit.{◌≡◌, ◌∙◌, refl, ap, sym, true, Bool, List, ℕ, ◌≤◌, ◌<◌, ◌+◌, ◌*◌, ◌-◌, arith, mul-le-mul, needs, le-leb, lt-leb}
+pub use Rattle.integers.proofs.Kit.{◌≡◌, ◌∙◌, refl, ap, sym, true, Bool, List, ℕ, ◌≤◌, ◌<◌, ◌+◌, ◌*◌, ◌-◌, arith, mul-le-mul, rules, le-leb, lt-leb}
 pub use Rattle.integers.proofs.Kit.{not-false, not-true, leb, length, get_or}
 pub use Rattle.integers.proofs.Lists.{cell_below, row_below}
 pub use Rattle.integers.proofs.Searches.{every_more, every-none, every-not}

@@ -1,4 +1,5 @@
 // Refusals 3, 5 and 6 of tables of any content.
+#![tactic(auto)]
 ghost use Rattle.std.specs.Prelude.{◌≡◌, ◌&&◌, ◌+◌, ◌*◌, ◌≤◌, max, length, get_or};
 ghost use Rattle.integers.specs.Whole.{total_to, largest_to};
 ghost use Rattle.tables.specs.Limits.{max_states, max_actions, max_observations};

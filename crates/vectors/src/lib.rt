@@ -1,4 +1,5 @@
 // What follows a vector: what its choices foresee at a state reached, and vector backups.
+#![tactic(auto)]
 ghost use Rattle.std.specs.Prelude.{◌≡◌, ◌≤◌, ◌<◌, length, get_or, pos, nat_abs, ◌+ℤ◌};
 ghost use Rattle.integers.specs.Whole.{◌·◌, floor_div, Within};
 ghost use Rattle.integers.specs.Cells.{padded};

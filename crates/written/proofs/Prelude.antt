@@ -1,5 +1,5 @@
 -- What more than one proof of this crate names.
-pub use Rattle.integers.proofs.Kit.{◌≡◌, ◌∙◌, refl, ap, sym, subst, subst⁻¹, List, [], ◌∷◌, ℕ, ◌≤◌, ◌<◌, ◌+◌, ◌*◌, ◌-◌, arith, needs, length, get_or}
+pub use Rattle.integers.proofs.Kit.{◌≡◌, ◌∙◌, refl, ap, sym, subst, subst⁻¹, List, [], ◌∷◌, ℕ, ◌≤◌, ◌<◌, ◌+◌, ◌*◌, ◌-◌, arith, rules, length, get_or}
 pub use mathlib.Core.List.{◌++◌}
 pub use Rattle.tables.specs.Storage.{cell_in, reward_in}
 pub use Rattle.digits.specs.Steps.{HasRoom, Wrote}

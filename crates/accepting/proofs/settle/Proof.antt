@@ -1,4 +1,4 @@
-use Rattle.integers.proofs.Kit.{◌≡◌, refl, List, needs, ℤ}
+use Rattle.integers.proofs.Kit.{◌≡◌, refl, List, rules, ℤ}
 use Rattle.tables.specs.Tables.{Tables}
 use Rattle.tables.specs.declared.Verdict.{Verdict}
 use Rattle.tables.specs.declared.Verdict.TheVariants.{Refused}
@@ -96,7 +96,7 @@ returns-2 c =
 
 pub settle-spec : {M : Type 1} → statement M
 settle-spec =
-    tie.close (tie.spec (λ c. search needs) (λ c. search needs) returns raise-standing-requires lay-level-requires step-requires
+    tie.close (tie.spec (λ c. search rules) (λ c. search rules) returns raise-standing-requires lay-level-requires step-requires
     (λ c. search (of-state (of-level c)).raise-standing.auto) (λ c. search (of-level c).lay-level.auto) (λ c. search (of-level c).lay-level.auto)
     (λ c. search (of-level c).lay-level.auto) (λ c. search (of-level c).lay-level.auto) (λ c. search (of-level c).lay-level.auto)
     (λ c. search (of-level c).lay-level.auto) (λ c. search (of-level c).lay-level.auto) (λ c. search c.before.before.step.auto)

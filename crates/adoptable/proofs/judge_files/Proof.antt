@@ -1,4 +1,4 @@
-use Rattle.adoptable.proofs.Prelude.{needs, ◌≡◌, sym, ◌∙◌, Fine, unless, breaks, passes}
+use Rattle.adoptable.proofs.Prelude.{rules, ◌≡◌, sym, ◌∙◌, Fine, unless, breaks, passes}
 use Rattle.integers.proofs.Kit.{ℕ, List, ap, refl, true, Bool, ◌&&◌, [], ◌*◌, le-leb, lt-leb, not-false, not-true, leb, ltb, length}
 use Rattle.tables.specs.Tables.{Tables}
 use Rattle.tables.specs.declared.Verdict.{Verdict}
@@ -133,6 +133,6 @@ returns-6 c choices =
 
 pub judge-files-spec : {M : Type 1} → statement M
 judge-files-spec =
-    tie.close (tie.spec (λ c κs. search needs) returns (λ c κs. search needs) returns-2 (λ c κs. search needs) (λ c κs. search needs) returns-3
-    judge-files-requires (λ c. search needs) (λ c. search needs) (λ c κs. search needs) returns-4 standing-in-requires judge-room-requires (λ c. search needs)
-    (λ c. search needs) (λ c κs. search needs) returns-5 returns-6)
+    tie.close (tie.spec (λ c κs. search rules) returns (λ c κs. search rules) returns-2 (λ c κs. search rules) (λ c κs. search rules) returns-3
+    judge-files-requires (λ c. search rules) (λ c. search rules) (λ c κs. search rules) returns-4 standing-in-requires judge-room-requires (λ c. search rules)
+    (λ c. search rules) (λ c κs. search rules) returns-5 returns-6)

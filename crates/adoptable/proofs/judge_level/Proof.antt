@@ -1,4 +1,4 @@
-use Rattle.adoptable.proofs.Prelude.{needs, ◌≡◌, sym, ◌∙◌}
+use Rattle.adoptable.proofs.Prelude.{rules, ◌≡◌, sym, ◌∙◌}
 use Rattle.integers.proofs.Kit.{arith}
 use Rattle.tables.specs.declared.Verdict.{Verdict}
 use Rattle.tables.specs.Verdicts.{◌before◌}
@@ -80,6 +80,6 @@ returns-4 c =
 
 pub judge-level-spec : {M : Type 1} → statement M
 judge-level-spec =
-    tie.close (tie.spec (λ c κs. (from-entry c).requires.1.0) (λ c. search needs) (λ c. search needs) returns
-    (λ c κs. solving-chooses (solving c)) (λ c. search needs) (λ c. search needs) returns-2 (λ c κs. solving (of-masks c.before.before))
-    (λ c. search needs) (λ c. search needs) returns-3 weights-hold-requires returns-4)
+    tie.close (tie.spec (λ c κs. (from-entry c).requires.1.0) (λ c. search rules) (λ c. search rules) returns
+    (λ c κs. solving-chooses (solving c)) (λ c. search rules) (λ c. search rules) returns-2 (λ c κs. solving (of-masks c.before.before))
+    (λ c. search rules) (λ c. search rules) returns-3 weights-hold-requires returns-4)

@@ -1,4 +1,4 @@
-use Rattle.adoptable.proofs.Prelude.{needs, ◌≡◌, sym, ◌∙◌, breaks, passes, unless, Fine}
+use Rattle.adoptable.proofs.Prelude.{rules, ◌≡◌, sym, ◌∙◌, breaks, passes, unless, Fine}
 use Rattle.integers.proofs.Kit.{true, false, Bool, ◌&&◌, ◌≤◌, arith, le-leb, leb-true, lt-leb, le-ltb, lt-ltb, not-false, not-true, leb}
 use Rattle.integers.proofs.Searches.{and-true}
 use Rattle.tables.specs.declared.Verdict.TheVariants.{Refused}
@@ -58,4 +58,4 @@ returns-5 c =
     (none-fails (vectors-within p) (le-leb _ _ e.if3.false) (sym c.before.complete.ensures ∙ not-false _ c.if4.false))
 
 pub judge-room-spec : {M : Type 1} → statement M
-judge-room-spec = tie.close (tie.spec returns (λ c κs. search needs) returns-2 returns-3 complete-requires returns-4 returns-5)
+judge-room-spec = tie.close (tie.spec returns (λ c κs. search rules) returns-2 returns-3 complete-requires returns-4 returns-5)

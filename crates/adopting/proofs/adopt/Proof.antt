@@ -1,4 +1,4 @@
-use Rattle.integers.proofs.Kit.{needs, arith, ℕ, List, ◌≡◌, ◌∙◌, refl, sym, ap}
+use Rattle.integers.proofs.Kit.{rules, arith, ℕ, List, ◌≡◌, ◌∙◌, refl, sym, ap}
 use mathlib.Core.List.{[]}
 use Rattle.tables.specs.Tables.{Tables}
 use Rattle.tables.specs.declared.Verdict.TheVariants.{Fine}
@@ -172,6 +172,6 @@ returns-3 c =
 
 pub adopt-spec : {M : Type 1} → statement M
 adopt-spec =
-    tie.close (tie.spec (λ c κs. search needs) (λ c. search needs) (λ c. search needs) returns standing-in-requires judge-level-requires
-    (λ c. search needs) (λ c. search needs) returns-2 write-vectors-requires (λ c. refl) build-roof-requires (λ c. search needs) (λ c. search needs)
-    (λ c. search needs) (λ c. search needs) (λ c. search needs) (λ c. search needs) returns-3)
+    tie.close (tie.spec (λ c κs. search rules) (λ c. search rules) (λ c. search rules) returns standing-in-requires judge-level-requires
+    (λ c. search rules) (λ c. search rules) returns-2 write-vectors-requires (λ c. refl) build-roof-requires (λ c. search rules) (λ c. search rules)
+    (λ c. search rules) (λ c. search rules) (λ c. search rules) (λ c. search rules) returns-3)

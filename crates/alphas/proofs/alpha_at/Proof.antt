@@ -1,4 +1,4 @@
-use Rattle.alphas.proofs.Prelude.{ℕ, refl, ap, ◌∙◌, List, arith, needs, take, Words, Answer, got, ◌then◌, value-is, value-next, gave-back, lists-value}
+use Rattle.alphas.proofs.Prelude.{ℕ, refl, ap, ◌∙◌, List, arith, rules, take, Words, Answer, got, ◌then◌, value-is, value-next, gave-back, lists-value}
 use Rattle.alphas.proofs.Prelude.{action, decimal, several}
 use lib.IntN.{ℤ}
 use Rattle.alphas.specs.Alphas.{Alpha, alpha}
@@ -49,5 +49,5 @@ returns-3 c =
 
 pub alpha-at-spec : {M : Type 1} → statement M
 alpha-at-spec =
-    tie.close (tie.spec (λ c κs. search needs) (λ c. search needs) (λ c. search needs) (λ c κs. search needs) (λ c κs. search needs) returns
-    ticks-at-requires (λ c. search needs) (λ c. search needs) (λ c κs. search needs) (λ c κs. search needs) returns-2 returns-3)
+    tie.close (tie.spec (λ c κs. search rules) (λ c. search rules) (λ c. search rules) (λ c κs. search rules) (λ c κs. search rules) returns
+    ticks-at-requires (λ c. search rules) (λ c. search rules) (λ c κs. search rules) (λ c κs. search rules) returns-2 returns-3)

@@ -1,4 +1,4 @@
-use Rattle.alphas.proofs.Prelude.{◌≡◌, refl, sym, ap, needs, arith}
+use Rattle.alphas.proofs.Prelude.{◌≡◌, refl, sym, ap, rules, arith}
 use denote.Enum.Declared.{tag_of}
 use Rattle.tables.specs.declared.Verdict.TheVariants.{Refused}
 use Rattle.grammar.specs.declared.Read.{Read}
@@ -19,4 +19,4 @@ returns-2 : tie.Need-returns-2
 returns-2 c = of-value c.before.before.args.x c.before.match.keys2
 
 pub back-spec : {M : Type 1} → statement M
-back-spec = tie.close (tie.spec (λ c. search needs) (λ c. search needs) returns returns-2)
+back-spec = tie.close (tie.spec (λ c. search rules) (λ c. search rules) returns returns-2)

@@ -1,4 +1,4 @@
-use Rattle.alphas.proofs.Prelude.{◌-◌, arith, needs, got, inside, next_node}
+use Rattle.alphas.proofs.Prelude.{◌-◌, arith, rules, got, inside, next_node}
 use Rattle.words.specs.Words.{told}
 use Rattle.words.specs.Steps.{Worded}
 use Rattle.numerals.specs.Numeral.{node_form}
@@ -34,5 +34,5 @@ returns-2 c =
 
 pub next-at-spec : {M : Type 1} → statement M
 next-at-spec =
-    tie.close (tie.spec (λ c κs. search needs) (λ c. search needs) (λ c κs. inside (worded c.before)) (λ c. search needs) (λ c. search needs)
+    tie.close (tie.spec (λ c κs. search rules) (λ c. search rules) (λ c κs. inside (worded c.before)) (λ c. search rules) (λ c. search rules)
     number-of-requires returns returns-2)

@@ -1,4 +1,4 @@
-use Rattle.alphas.proofs.Prelude.{◌-◌, ◌<◌, refl, arith, needs, value-next, next_node, Filled, filled_none, filled_more, filled-back, filled-end}
+use Rattle.alphas.proofs.Prelude.{◌-◌, ◌<◌, refl, arith, rules, value-next, next_node, Filled, filled_none, filled_more, filled-back, filled-end}
 use Rattle.tables.specs.Limits.{max_observations}
 use Rattle.alphas.proofs.nexts_at.Statement.{statement}
 use Rattle.alphas.proofs.nexts_at.Tie as tie
@@ -34,6 +34,6 @@ returns-2 c = filled-end _ _ _ _ _ c.before.loop.invariant (omega (arith, c.befo
 
 pub nexts-at-spec : {M : Type 1} → statement M
 nexts-at-spec =
-    tie.close (tie.spec invariant-loop decreases-loop loop-holds (λ c κs. c.before.loop.invariant.inside) (λ c. search needs) (λ c. search needs) returns
+    tie.close (tie.spec invariant-loop decreases-loop loop-holds (λ c κs. c.before.loop.invariant.inside) (λ c. search rules) (λ c. search rules) returns
     (λ c. omega (arith, (value-next _ _ c.before.before.before.next-at.ensures c.before.x.given.1).0)) (λ c. omega (arith, below c)) below
     (λ c. omega arith) (λ c. omega arith) loop-again returns-2)

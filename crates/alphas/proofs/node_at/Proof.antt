@@ -1,4 +1,4 @@
-use Rattle.alphas.proofs.Prelude.{ℕ, refl, ◌≡◌, ap, ◌∙◌, List, arith, needs, take, Words, words_in, between, Answer, got, ◌then◌, value-is, value-next}
+use Rattle.alphas.proofs.Prelude.{ℕ, refl, ◌≡◌, ap, ◌∙◌, List, arith, rules, take, Words, words_in, between, Answer, got, ◌then◌, value-is, value-next}
 use Rattle.alphas.proofs.Prelude.{gave-back, lists-value, action, next_node, several}
 use Rattle.alphas.specs.Alphas.{PolicyNode, node}
 use Rattle.alphas.proofs.node_at.Statement.{statement}
@@ -89,6 +89,6 @@ returns-4 c =
 
 pub node_at_spec : {M : Type 1} → statement M
 node_at_spec =
-    tie.close (tie.spec (λ c κs. search needs) (λ c. search needs) (λ c. search needs) (λ c κs. search needs) (λ c κs. search needs) returns
-    number-at-requires-2 (λ c. search needs) (λ c. search needs) (λ c κs. search needs) (λ c κs. search needs) returns-2 nexts-at-requires
-    (λ c. search needs) (λ c. search needs) (λ c κs. search needs) (λ c κs. search needs) returns-3 returns-4)
+    tie.close (tie.spec (λ c κs. search rules) (λ c. search rules) (λ c. search rules) (λ c κs. search rules) (λ c κs. search rules) returns
+    number-at-requires-2 (λ c. search rules) (λ c. search rules) (λ c κs. search rules) (λ c κs. search rules) returns-2 nexts-at-requires
+    (λ c. search rules) (λ c. search rules) (λ c κs. search rules) (λ c κs. search rules) returns-3 returns-4)

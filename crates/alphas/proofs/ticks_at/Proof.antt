@@ -1,4 +1,4 @@
-use Rattle.alphas.proofs.Prelude.{◌-◌, ◌<◌, refl, ap, ◌∙◌, arith, needs, words_in, between, decimal}
+use Rattle.alphas.proofs.Prelude.{◌-◌, ◌<◌, refl, ap, ◌∙◌, arith, rules, words_in, between, decimal}
 use Rattle.alphas.proofs.Prelude.{Filled, filled_none, filled_more, filled-back, filled-end}
 use Rattle.integers.proofs.Kit.{◌^◌, ℤ, mag}
 use Rattle.integers.specs.Whole.{floor_div}
@@ -38,7 +38,7 @@ loop-again : tie.Need-loop-preserved invariant-loop decreases-loop
 loop-again c =
     let x = c.before.before.before in let l = (at-loop c).loop in let ((value, (past, _)), value-told) = x.x.given in
     let d = x.before.before in
-    let fit : mag d.signed-at.result.value < 2 ^ 63 = search (needs, d.signed-at.type-inv.1.1) in
+    let fit : mag d.signed-at.result.value < 2 ^ 63 = search (rules, d.signed-at.type-inv.1.1) in
     filled_more _ _ _ _ _ l.inv (told d) value past value-told
     (answer c.floor-div.type-inv (c.floor-div.ensures ∙ ap (λ (z : ℤ). floor_div z per_tick) (back _ fit))) (omega arith)
 
@@ -51,5 +51,5 @@ below c = omega (arith, (at-loop c).loop.invariant.few)
 pub ticks-at-spec : {M : Type 1} → statement M
 ticks-at-spec =
     tie.close (tie.spec invariant-loop decreases-loop loop-holds
-    (λ c κs. (c.before.loop.invariant.inside, (record { few_digits = omega arith; few_places = omega arith }, omega arith))) (λ c. search needs)
-    (λ c. search needs) returns (λ c κs. search needs) (λ c. omega (arith, below c)) below (λ c. omega arith) (λ c. omega arith) loop-again returns-2)
+    (λ c κs. (c.before.loop.invariant.inside, (record { few_digits = omega arith; few_places = omega arith }, omega arith))) (λ c. search rules)
+    (λ c. search rules) returns (λ c κs. search rules) (λ c. omega (arith, below c)) below (λ c. omega arith) (λ c. omega arith) loop-again returns-2)

@@ -1,4 +1,4 @@
-use Rattle.amounts.proofs.Prelude.{ℕ, ◌-◌, ◌*◌, ◌^◌, ◌≤◌, ◌≡◌, sym, ap, ◌∙◌, arith, needs, drop, digits, value}
+use Rattle.amounts.proofs.Prelude.{ℕ, ◌-◌, ◌*◌, ◌^◌, ◌≤◌, ◌≡◌, sym, ap, ◌∙◌, arith, rules, drop, digits, value}
 use Rattle.numerals.proofs.Laws.{product, room, digits-read, places-read, amount-is, amount-not, written_all, digit-fraction}
 use native.Mathlib.Decide.{dec_lt}
 use lib.Seq.{drop-drop}
@@ -45,5 +45,5 @@ returns c =
 
 pub amount-of-spec : {M : Type 1} → statement M
 amount-of-spec =
-    tie.close (tie.spec (λ c κs. (c.before.requires.0, digits-read c.before.requires.1)) (λ c. search needs)
+    tie.close (tie.spec (λ c κs. (c.before.requires.0, digits-read c.before.requires.1)) (λ c. search rules)
     (λ c κs. places-read c.before.before.before.requires.1) mul-fraction-of fraction-of-requires returns)

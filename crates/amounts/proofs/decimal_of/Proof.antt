@@ -1,4 +1,4 @@
-use Rattle.amounts.proofs.Prelude.{ℕ, ◌-◌, ◌*◌, ◌^◌, ◌≤◌, ◌≡◌, sym, ap, ◌∙◌, arith, needs, drop, digits, value}
+use Rattle.amounts.proofs.Prelude.{ℕ, ◌-◌, ◌*◌, ◌^◌, ◌≤◌, ◌≡◌, sym, ap, ◌∙◌, arith, rules, drop, digits, value}
 use Prim.Native.Nat.{◌+◌, ◌<◌}
 use mathlib.Core.Bool.{true, true≢false}
 use mathlib.Core.List.{List}
@@ -70,7 +70,7 @@ returns-2 c =
 
 pub decimal-of-spec : {M : Type 1} → statement M
 decimal-of-spec =
-    tie.close (tie.spec (λ c κs. (c.before.requires.0, places-read c.before.requires.1.0)) (λ c. search needs) (λ c κs. search needs) returns
+    tie.close (tie.spec (λ c κs. (c.before.requires.0, places-read c.before.requires.1.0)) (λ c. search rules) (λ c κs. search rules) returns
     (λ c. omega (arith, (after-digits-from c).digits_from.ensures.few))
     (λ c κs. omega (arith, places-read (after-digits-from c).before.before.requires.1.0)) (λ c. omega (arith, small c, roomy c))
     (λ c. omega (arith, small c, roomy c)) (λ c κs. ((after-digits-from c.before.before).digits_from.ensures.low, omega (arith, small c)))

@@ -1,4 +1,4 @@
-use Rattle.amounts.proofs.Prelude.{sym, ap, ◌∙◌, arith, needs, drop}
+use Rattle.amounts.proofs.Prelude.{sym, ap, ◌∙◌, arith, rules, drop}
 use lib.Seq.{drop-drop}
 use Rattle.numerals.specs.Numeral.{after_point}
 use Rattle.numerals.proofs.Laws.{pointed-low, fraction-pointed, fraction-plain, fraction-none}
@@ -30,4 +30,4 @@ returns-3 c =
 
 pub fraction-of-spec : {M : Type 1} → statement M
 fraction-of-spec =
-    tie.close (tie.spec (λ c κs. search needs) (λ c. search needs) decimal-of-requires returns returns-2 (λ c κs. search needs) returns-3)
+    tie.close (tie.spec (λ c κs. search rules) (λ c. search rules) decimal-of-requires returns returns-2 (λ c κs. search rules) returns-3)

@@ -1,4 +1,4 @@
-use Rattle.amounts.proofs.Prelude.{◌≡◌, sym, ◌∙◌, arith, needs}
+use Rattle.amounts.proofs.Prelude.{◌≡◌, sym, ◌∙◌, arith, rules}
 use mathlib.Core.Path.{refl}
 use mathlib.Core.Bool.{true, false}
 use mathlib.Core.List.{[], ◌∷◌}
@@ -25,10 +25,10 @@ returns-2 c =
 returns-3 : tie.Need-returns-3
 returns-3 c =
     let a = (start c.before).args in
-    let e = by-keys (λ (k : Class). is_point k ≡ false) (0 ∷ 1 ∷ 2 ∷ 3 ∷ 5 ∷ 6 ∷ 7 ∷ []) c.before.class_of.ensures (search needs)
+    let e = by-keys (λ (k : Class). is_point k ≡ false) (0 ∷ 1 ∷ 2 ∷ 3 ∷ 5 ∷ 6 ∷ 7 ∷ []) c.before.class_of.ensures (search rules)
     c.match.keys2 in
     sym (pointed-in a.w.now a.from (omega arith) ∙ e)
 
 pub is-pointed-spec : {M : Type 1} → statement M
 is-pointed-spec =
-    tie.close (tie.spec returns (λ c. search needs) (λ c κs. search needs) (λ c. search needs) returns-2 returns-3)
+    tie.close (tie.spec returns (λ c. search rules) (λ c κs. search rules) (λ c. search rules) returns-2 returns-3)

@@ -1,4 +1,4 @@
-use Rattle.integers.proofs.Kit.{ap, sym, needs}
+use Rattle.integers.proofs.Kit.{ap, sym, rules}
 use Rattle.answers.specs.Calls.{refusal_of}
 use Rattle.answers.proofs.refusal_of.Statement.{statement}
 use Rattle.answers.proofs.refusal_of.Tie as tie

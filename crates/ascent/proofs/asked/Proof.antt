@@ -1,4 +1,4 @@
-use Rattle.integers.proofs.Kit.{needs}
+use Rattle.integers.proofs.Kit.{rules}
 use Rattle.ascent.proofs.asked.Statement.{statement}
 use Rattle.ascent.proofs.asked.Tie as tie
 
@@ -12,4 +12,4 @@ returns : tie.Need-returns
 returns c = (c.totals.ensures (start c).args.t5.choices).0
 
 pub asked-spec : {M : Type 1} → statement M
-asked-spec = tie.close (tie.spec (λ c. search needs) (λ c κs. search needs) returns)
+asked-spec = tie.close (tie.spec (λ c. search rules) (λ c κs. search rules) returns)

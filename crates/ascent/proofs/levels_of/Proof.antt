@@ -1,4 +1,4 @@
-use Rattle.integers.proofs.Kit.{◌≡◌, ◌∙◌, ap, sym, subst, List, ℕ, ◌≤◌, ◌<◌, ◌+◌, ◌-◌, arith, needs, length}
+use Rattle.integers.proofs.Kit.{◌≡◌, ◌∙◌, ap, sym, subst, List, ℕ, ◌≤◌, ◌<◌, ◌+◌, ◌-◌, arith, rules, length}
 use Rattle.tables.specs.Limits.{max_states, max_levels}
 use Rattle.tables.specs.Tables.{Tables}
 use Rattle.tables.specs.Storage.{weight_in, tables_in}
@@ -42,7 +42,7 @@ opens s = blank-opens (tables s) s.requires.0 s.requires.1.0
 points : (c : tie.After-mixture invariant-loop decreases-loop) → PointsHold (tables (start c)) blank 1 (blank_cells c.mixture.result)
 points c =
     let s = start c in
-    let long : max_states ≡ length c.mixture.result = search (needs, c.mixture.type-inv) in
+    let long : max_states ≡ length c.mixture.result = search (rules, c.mixture.type-inv) in
     let point = subst (λ (b : List ℕ). IsPoint s.args.c.states (weight_in b)) (sym c.mixture.ensures) s.pre.1.1 in
     blank-points (tables s) s.pre.0 c.mixture.result long point
 
@@ -82,6 +82,6 @@ loop-again c =
 
 pub levels-of-spec : {M : Type 1} → statement M
 levels-of-spec =
-    tie.close (tie.spec invariant-loop decreases-loop (λ c κs. search needs) (λ c κs. opens (start c)) loop-holds made-requires raised-requires (λ c κs. search needs)
-    (λ c κs. search needs) print-totals-requires (λ c. search needs) (λ c. omega (arith, (in-loop (printed c.before)).loop-test.taken))
-    (λ c. omega (arith, (in-loop (printed c.before)).loop-test.taken)) loop-again (λ c. search needs))
+    tie.close (tie.spec invariant-loop decreases-loop (λ c κs. search rules) (λ c κs. opens (start c)) loop-holds made-requires raised-requires (λ c κs. search rules)
+    (λ c κs. search rules) print-totals-requires (λ c. search rules) (λ c. omega (arith, (in-loop (printed c.before)).loop-test.taken))
+    (λ c. omega (arith, (in-loop (printed c.before)).loop-test.taken)) loop-again (λ c. search rules))

@@ -1,4 +1,4 @@
-use Rattle.integers.proofs.Kit.{ℕ, ◌≡◌, sym, ◌∙◌, true, List, [], needs, arith, ap, not-true, not-false, lt-ltb, ltb}
+use Rattle.integers.proofs.Kit.{ℕ, ◌≡◌, sym, ◌∙◌, true, List, [], rules, arith, ap, not-true, not-false, lt-ltb, ltb}
 use Rattle.tables.specs.Tables.{Tables}
 use Rattle.tables.specs.Limits.{max_vectors}
 use Rattle.tables.specs.Storage.{tables_in}
@@ -55,4 +55,4 @@ returns-3 c choices =
     passes 7 0 (held n.before choices) (rw (above_zero _ (rw (number_is n) at c.if2.false)))
 
 pub judge-standing-spec : {M : Type 1} → statement M
-judge-standing-spec = tie.close (tie.spec (λ c κs. search needs) returns standing-in-requires returns-2 returns-3)
+judge-standing-spec = tie.close (tie.spec (λ c κs. search rules) returns standing-in-requires returns-2 returns-3)

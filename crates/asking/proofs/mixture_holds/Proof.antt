@@ -1,4 +1,4 @@
-use Rattle.integers.proofs.Kit.{◌-◌, ◌*◌, ◌≤◌, ◌≡◌, sym, true, false, arith, needs, le-leb, lt-leb, leb, length}
+use Rattle.integers.proofs.Kit.{◌-◌, ◌*◌, ◌≤◌, ◌≡◌, sym, true, false, arith, rules, le-leb, lt-leb, leb, length}
 use Rattle.tables.specs.Storage.{weight_in}
 use Rattle.integers.specs.Whole.{total_to}
 use Rattle.tables.specs.Limits.{max_weight}
@@ -57,5 +57,5 @@ returns-3 c =
 
 pub mixture-holds-spec : {M : Type 1} → statement M
 mixture-holds-spec =
-    tie.close (tie.spec invariant-loop decreases-loop returns loop-holds (λ c. search needs) (λ c. omega arith) (λ c κs. search needs) returns-2 (λ c. omega arith)
-    (λ c. search needs) (λ c. search needs) loop-again returns-3)
+    tie.close (tie.spec invariant-loop decreases-loop returns loop-holds (λ c. search rules) (λ c. omega arith) (λ c κs. search rules) returns-2 (λ c. omega arith)
+    (λ c. search rules) (λ c. search rules) loop-again returns-3)

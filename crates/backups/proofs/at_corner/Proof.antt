@@ -1,5 +1,5 @@
 use Rattle.backups.proofs.Prelude.{arith}
-use Rattle.integers.proofs.Kit.{needs}
+use Rattle.integers.proofs.Kit.{rules}
 use Rattle.backups.proofs.Roofs.{corner-at, corner-light, allowed}
 use Rattle.backups.proofs.at_corner.Statement.{statement}
 use Rattle.backups.proofs.at_corner.Tie as tie
@@ -18,4 +18,4 @@ returns c =
     allowed _ (λ s l. corner-at w.corner-weights.ensures (omega (arith, below, roof.valid.few_states)) s) c.backups-at.ensures
 
 pub at-corner-spec : {M : Type 1} → statement M
-at-corner-spec = tie.close (tie.spec (λ c κs. search needs) (λ c. search needs) backups-at-requires returns)
+at-corner-spec = tie.close (tie.spec (λ c κs. search rules) (λ c. search rules) backups-at-requires returns)

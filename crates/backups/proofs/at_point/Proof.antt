@@ -1,4 +1,4 @@
-use Rattle.integers.proofs.Kit.{needs}
+use Rattle.integers.proofs.Kit.{rules}
 use Rattle.backups.proofs.Roofs.{point_at, point-light, allowed}
 use Rattle.backups.proofs.at_point.Statement.{statement}
 use Rattle.backups.proofs.at_point.Tie as tie
@@ -17,4 +17,4 @@ returns c =
     allowed _ (point_at a.c.states a.given.now a.i w.point-weights.ensures) c.backups-at.ensures
 
 pub at-point-spec : {M : Type 1} → statement M
-at-point-spec = tie.close (tie.spec (λ c κs. search needs) (λ c. search needs) backups-at-requires returns)
+at-point-spec = tie.close (tie.spec (λ c κs. search rules) (λ c. search rules) backups-at-requires returns)

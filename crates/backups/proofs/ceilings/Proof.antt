@@ -1,5 +1,5 @@
 use Rattle.backups.proofs.Prelude.{◌≤◌, ◌-◌, ◌≡◌, sym, ◌∙◌, arith, w64, to_z, of_z, sum_to, answer, ceiling_in, ahead_at, max_states}
-use Rattle.integers.proofs.Kit.{needs}
+use Rattle.integers.proofs.Kit.{rules}
 use Rattle.integers.proofs.Lists.{padded-length}
 use Rattle.integers.proofs.Sums.{sum-none, sum_step}
 use Rattle.backups.proofs.Roofs.{ahead-below, ahead-fits}
@@ -48,12 +48,12 @@ plus-requires c κs =
 loop-again : tie.Need-loop-preserved invariant-loop decreases-loop
 loop-again c =
     let l = (in-loop c.before).before in
-    (search needs, answer c.plus.type-inv (c.plus.ensures ∙ rw (here c.before) (sum_step _ _ l.loop.inv.1)))
+    (search rules, answer c.plus.type-inv (c.plus.ensures ∙ rw (here c.before) (sum_step _ _ l.loop.inv.1)))
 
 returns : tie.Need-returns invariant-loop decreases-loop
 returns c = let e : c.before.loop.o ≡ (start c.before).args.k = omega arith in rw e at c.before.loop.invariant.1
 
 pub ceilings-spec : {M : Type 1} → statement M
 ceilings-spec =
-    tie.close (tie.spec invariant-loop decreases-loop (λ c. (search needs, sym (sum-none _))) successors-requires slice-aggregate-ceiling ceiling-requires
-    plus-requires (λ c. search needs) (λ c. search needs) loop-again returns)
+    tie.close (tie.spec invariant-loop decreases-loop (λ c. (search rules, sym (sum-none _))) successors-requires slice-aggregate-ceiling ceiling-requires
+    plus-requires (λ c. search rules) (λ c. search rules) loop-again returns)

@@ -1,4 +1,4 @@
-use Rattle.integers.proofs.Kit.{◌≡◌, ◌∙◌, sym, Bool, ◌&&◌, ◌≤◌, ◌*◌, arith, mul-le-mul, needs, le-leb, lt-leb, not-false, not-true, leb}
+use Rattle.integers.proofs.Kit.{◌≡◌, ◌∙◌, sym, Bool, ◌&&◌, ◌≤◌, ◌*◌, arith, mul-le-mul, rules, le-leb, lt-leb, not-false, not-true, leb}
 use Rattle.tables.specs.Limits.{max_states, max_observations, max_vectors}
 use Rattle.plans.specs.Limits.{max_points}
 use Rattle.standing.proofs.Stages.{fails, holds_on}
@@ -122,8 +122,8 @@ returns-10 c = on-9 c.before.before (fails _ (sym c.before.enough6.ensures ∙ n
 
 pub blocks-fit-spec : {M : Type 1} → statement M
 blocks-fit-spec =
-    tie.close (tie.spec returns returns-2 returns-3 returns-4 (λ c κs. search needs) returns-5 (λ c. omega (arith, choices-few (of-actions c)))
-    (λ c κs. search needs) returns-6 (λ c κs. search needs) returns-7 (λ c. omega (arith, entries-few (of-actions (of-choices (of-masks c)))))
-    (λ c κs. search needs) returns-8 (λ c κs. search needs) returns-9
-    (λ c. omega (arith, weights-few (of-actions (of-choices (of-masks (of-entries (of-corners c))))))) (λ c κs. search needs) returns-10
-    (λ c κs. search needs) (λ c. on-10 c.before c.enough7.ensures))
+    tie.close (tie.spec returns returns-2 returns-3 returns-4 (λ c κs. search rules) returns-5 (λ c. omega (arith, choices-few (of-actions c)))
+    (λ c κs. search rules) returns-6 (λ c κs. search rules) returns-7 (λ c. omega (arith, entries-few (of-actions (of-choices (of-masks c)))))
+    (λ c κs. search rules) returns-8 (λ c κs. search rules) returns-9
+    (λ c. omega (arith, weights-few (of-actions (of-choices (of-masks (of-entries (of-corners c))))))) (λ c κs. search rules) returns-10
+    (λ c κs. search rules) (λ c. on-10 c.before c.enough7.ensures))

@@ -1,4 +1,4 @@
-use Rattle.integers.proofs.Kit.{◌≡◌, ◌∙◌, sym, true, List, ℕ, needs, not-false, not-true}
+use Rattle.integers.proofs.Kit.{◌≡◌, ◌∙◌, sym, true, List, ℕ, rules, not-false, not-true}
 use Rattle.tables.specs.Limits.{max_vectors}
 use Rattle.tables.specs.Tables.{Tables}
 use Rattle.tables.specs.Storage.{tables_in}
@@ -48,4 +48,4 @@ returns-3 c choices =
     passes 7 0 (holds-here c.before.before choices) (let e = sym c.before.blocks-fit.ensures ∙ not-false _ c.if2.false in rw e)
 
 pub judge-list-spec : {M : Type 1} → statement M
-judge-list-spec = tie.close (tie.spec (λ c κs. search needs) returns blocks-fit-requires returns-2 returns-3)
+judge-list-spec = tie.close (tie.spec (λ c κs. search rules) returns blocks-fit-requires returns-2 returns-3)

@@ -1,4 +1,4 @@
-use Rattle.bodies.proofs.Prelude.{ℕ, ◌+◌, ◌≡◌, ◌∙◌, ap, sym, List, arith, needs}
+use Rattle.bodies.proofs.Prelude.{ℕ, ◌+◌, ◌≡◌, ◌∙◌, ap, sym, List, arith, rules}
 use Rattle.integers.proofs.Kit.{◌*◌, ◌≤◌, refl, Bool, true, false, false≢true, mul-le-mul, length, length-replicate, replicate, pos, ℤ}
 use Rattle.tables.specs.declared.Counts.{Counts}
 use Rattle.tables.specs.Limits.{max_states, max_converted, max_actions, max_observations}
@@ -207,8 +207,8 @@ returns-4 c =
 
 pub body-at-spec : {M : Type 1} → statement M
 body-at-spec =
-    tie.close (tie.spec (λ c κs. search needs) (λ c. search needs) (λ c. search needs) (λ c κs. search needs) (λ c. search needs) returns
-    statements-at-requires (λ c. search needs) (λ c. search needs) (λ c κs. search needs) (λ c. search needs) (λ c. search needs) (λ c. search needs)
-    (λ c. search needs) returns-2 totals-of-requires (λ c. search needs) (λ c. search needs) (λ c κs. search needs) (λ c. search needs)
-    (λ c. search needs) (λ c. search needs) (λ c. search needs) returns-3 (λ c. search needs) (λ c. search needs) (λ c. search needs)
-    (λ c. search needs) returns-4)
+    tie.close (tie.spec (λ c κs. search rules) (λ c. search rules) (λ c. search rules) (λ c κs. search rules) (λ c. search rules) returns
+    statements-at-requires (λ c. search rules) (λ c. search rules) (λ c κs. search rules) (λ c. search rules) (λ c. search rules) (λ c. search rules)
+    (λ c. search rules) returns-2 totals-of-requires (λ c. search rules) (λ c. search rules) (λ c κs. search rules) (λ c. search rules)
+    (λ c. search rules) (λ c. search rules) (λ c. search rules) returns-3 (λ c. search rules) (λ c. search rules) (λ c. search rules)
+    (λ c. search rules) returns-4)

@@ -1,4 +1,4 @@
-use Rattle.bodies.proofs.Prelude.{ℕ, ◌+◌, ◌≡◌, sym, ap, ◌∙◌, List, arith, needs, placed}
+use Rattle.bodies.proofs.Prelude.{ℕ, ◌+◌, ◌≡◌, sym, ap, ◌∙◌, List, arith, rules, placed}
 use Rattle.integers.proofs.Kit.{ne_eqb, eq-eqb, eqb, true, get_or}
 use Rattle.tables.specs.Limits.{start_total}
 use Rattle.bodies.specs.Body.{sums_verdict}
@@ -55,5 +55,5 @@ returns-3 c discount reward =
     (c.placed-at2.ensures ∙ ap (placed size) c.before.rows-total2.ensures))
 
 pub totals-of-spec : {M : Type 1} → statement M
-totals-of-spec = tie.close (tie.spec (λ c κs. search needs) returns rows-total-requires (λ c. search needs) (λ c. search needs)
-    (λ c κs. search needs) returns-2 rows-total-requires-2 (λ c κs. search needs) returns-3)
+totals-of-spec = tie.close (tie.spec (λ c κs. search rules) returns rows-total-requires (λ c. search rules) (λ c. search rules)
+    (λ c κs. search rules) returns-2 rows-total-requires-2 (λ c κs. search rules) returns-3)

@@ -1,4 +1,4 @@
-use Rattle.bounds.proofs.Prelude.{ℕ, ◌≡◌, ◌∙◌, ap, sym, true, arith, needs}
+use Rattle.bounds.proofs.Prelude.{ℕ, ◌≡◌, ◌∙◌, ap, sym, true, arith, rules}
 use Rattle.integers.proofs.Kit.{not-true, not-false}
 use Rattle.masks.specs.Steps.{some_includes}
 use Rattle.runs.specs.State.{mixture_holds}
@@ -92,5 +92,5 @@ returns-3 c =
 
 pub answer-spec : {M : Type 1} → statement M
 answer-spec =
-    tie.close (tie.spec mixture-holds-requires (λ c κs. search needs) returns point-weights-requires as_long support-requires some-has-requires
-    (λ c κs. search needs) returns-2 still-long bounds-at-requires returns-3)
+    tie.close (tie.spec mixture-holds-requires (λ c κs. search rules) returns point-weights-requires as_long support-requires some-has-requires
+    (λ c κs. search rules) returns-2 still-long bounds-at-requires returns-3)

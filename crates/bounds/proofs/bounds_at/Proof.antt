@@ -1,4 +1,4 @@
-use Rattle.bounds.proofs.Prelude.{ℕ, ◌≡◌, ◌∙◌, ap, sym, true, arith, needs}
+use Rattle.bounds.proofs.Prelude.{ℕ, ◌≡◌, ◌∙◌, ap, sym, true, arith, rules}
 use Rattle.tables.specs.Storage.{weight_in}
 use Rattle.integers.proofs.Kit.{◌+◌, ◌<◌, get_or, pos, w64, to_z, of_z}
 use Rattle.integers.proofs.Lists.{row_below}
@@ -129,4 +129,4 @@ returns c =
 pub bounds-at-spec : {M : Type 1} → statement M
 bounds-at-spec =
     tie.close (tie.spec best-vector-requires start-requires product-requires ceiling-requires largest-product-requires
-    (λ c κs. search needs) minus-requires action-stored (λ c κs. search needs) returns)
+    (λ c κs. search rules) minus-requires action-stored (λ c κs. search rules) returns)

@@ -1,4 +1,4 @@
-use Rattle.bounds.proofs.Prelude.{ℕ, ◌≡◌, sym, ◌∙◌, needs}
+use Rattle.bounds.proofs.Prelude.{ℕ, ◌≡◌, sym, ◌∙◌, rules}
 use Rattle.integers.proofs.Kit.{List, []}
 use Rattle.tables.specs.Tables.{Tables}
 use Rattle.tables.specs.Storage.{tables_in}
@@ -88,5 +88,5 @@ returns-2 c =
 
 pub totals-spec : {M : Type 1} → statement M
 totals-spec =
-    tie.close (tie.spec (λ c κs. search needs) (λ c. search needs) (λ c. search needs) (λ c κs. search needs) returns standing-in-requires gains-requires
+    tie.close (tie.spec (λ c κs. search rules) (λ c. search rules) (λ c. search rules) (λ c κs. search rules) returns standing-in-requires gains-requires
     as_long answer-requires returns-2)

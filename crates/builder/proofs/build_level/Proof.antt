@@ -1,4 +1,4 @@
-use Rattle.integers.proofs.Kit.{◌+◌, needs}
+use Rattle.integers.proofs.Kit.{◌+◌, rules}
 use Rattle.tables.specs.Tables.{Tables}
 use Rattle.tables.specs.Storage.{tables_in}
 use Rattle.levels.specs.Storage.{Cells, cells, lent_for}
@@ -56,5 +56,5 @@ returns c =
 
 pub build-level-spec : {M : Type 1} → statement M
 build-level-spec =
-    tie.close (tie.spec build-vectors-requires build-roof-requires (λ c. search needs) (λ c. search needs) (λ c. search needs) (λ c. search needs)
-    (λ c. search needs) (λ c. search needs) returns)
+    tie.close (tie.spec build-vectors-requires build-roof-requires (λ c. search rules) (λ c. search rules) (λ c. search rules) (λ c. search rules)
+    (λ c. search rules) (λ c. search rules) returns)

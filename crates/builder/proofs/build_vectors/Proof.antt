@@ -1,4 +1,4 @@
-use Rattle.builder.proofs.Prelude.{◌-◌, ◌≤◌, ◌<◌, ◌≡◌, sym, arith, needs, model_in, point_in}
+use Rattle.builder.proofs.Prelude.{◌-◌, ◌≤◌, ◌<◌, ◌≡◌, sym, arith, rules, model_in, point_in}
 use Rattle.integers.proofs.Kit.{List, ℕ, ◌+◌, ℤ}
 use Rattle.integers.proofs.Sums.{total-cong}
 use Rattle.tables.specs.declared.Counts.{Counts}
@@ -157,7 +157,7 @@ returns c =
 pub build-vectors-spec : {M : Type 1} → statement M
 build-vectors-spec =
     tie.close (tie.spec invariant-loop decreases-loop add-count all-requires (λ c. (omega arith, filled_none _ _ _)) seed-weights-requires
-    (λ c. search needs) best-candidate-requires (λ c κs. (made (of_row c)).action_in)
+    (λ c. search rules) best-candidate-requires (λ c κs. (made (of_row c)).action_in)
     (λ c. (room (of_row c.before)).actions_fit) (λ c. omega (arith, below (of-best (of_row c.before))))
     (λ c. (room (of_row c.before)).masks_fit) start-requires (λ c. sym (made (of-choices c.before.before)).chosen-long) paste-u16-requires
     start-requires-2 (λ c. sym (made (of-entries c.before.before)).entries_long) paste-i64-requires

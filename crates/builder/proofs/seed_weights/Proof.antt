@@ -1,4 +1,4 @@
-use Rattle.builder.proofs.Prelude.{◌-◌, arith, needs, point_in, corner-at, point_at}
+use Rattle.builder.proofs.Prelude.{◌-◌, arith, rules, point_in, corner-at, point_at}
 use Rattle.builder.proofs.Levels.{seed-corner, seed-point}
 use Rattle.builder.proofs.seed_weights.Statement.{statement}
 use Rattle.builder.proofs.seed_weights.Tie as tie
@@ -21,4 +21,4 @@ returns-2 c s l =
     (point_at a.n a.weights.now (a.v.0 - a.n) c.point-weights.ensures s l)
 
 pub seed-weights-spec : {M : Type 1} → statement M
-seed-weights-spec = tie.close (tie.spec (λ c κs. search needs) returns point-weights-requires returns-2)
+seed-weights-spec = tie.close (tie.spec (λ c κs. search rules) returns point-weights-requires returns-2)

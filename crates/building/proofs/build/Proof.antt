@@ -1,4 +1,4 @@
-use Rattle.integers.proofs.Kit.{◌≡◌, ◌∙◌, ap, sym, true, false≢true, not-false, not-true, List, [], ℕ, arith, needs}
+use Rattle.integers.proofs.Kit.{◌≡◌, ◌∙◌, ap, sym, true, false≢true, not-false, not-true, List, [], ℕ, arith, rules}
 use Rattle.tables.specs.Tables.{Tables}
 use Rattle.tables.specs.declared.Verdict.TheVariants.{Fine}
 use Rattle.tables.specs.Storage.{model_of, tables_in}
@@ -158,7 +158,7 @@ returns-3 c =
 
 pub build-spec : {M : Type 1} → statement M
 build-spec =
-    tie.close (tie.spec (λ c κs. search needs) returns (λ c κs. search needs) (λ c. search needs) (λ c. search needs) returns-2 standing-in-requires
+    tie.close (tie.spec (λ c κs. search rules) returns (λ c κs. search rules) (λ c. search rules) (λ c. search rules) returns-2 standing-in-requires
     build-level-requires (λ c. search (of-level c).build-level.auto) (λ c. search (of-level c).build-level.auto)
     (λ c. search (of-level c).build-level.auto) (λ c. search (of-level c).build-level.auto) (λ c. search (of-level c).build-level.auto)
     (λ c. search (of-level c).build-level.auto) returns-3)

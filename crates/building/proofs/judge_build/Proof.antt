@@ -1,4 +1,4 @@
-use Rattle.integers.proofs.Kit.{◌≡◌, ◌∙◌, refl, ap, sym, true, Bool, ◌&&◌, List, [], ℕ, ◌≤◌, ◌<◌, ◌+◌, ◌*◌, arith, needs, le-leb, lt-leb, not-false, not-true}
+use Rattle.integers.proofs.Kit.{◌≡◌, ◌∙◌, refl, ap, sym, true, Bool, ◌&&◌, List, [], ℕ, ◌≤◌, ◌<◌, ◌+◌, ◌*◌, arith, rules, le-leb, lt-leb, not-false, not-true}
 use Rattle.integers.proofs.Kit.{lt-ltb, le-ltb, leb, ltb, length}
 use Rattle.integers.proofs.Searches.{and-true, and_is}
 use Rattle.tables.specs.Tables.{Tables}
@@ -172,5 +172,5 @@ returns-7 c choices =
 
 pub judge-build-spec : {M : Type 1} → statement M
 judge-build-spec =
-    tie.close (tie.spec (λ c κs. search needs) returns standing-in-requires returns-2 returns-3 add-complete complete-requires returns-4
-    weights-hold-requires (λ c. search needs) (λ c. search needs) returns-5 all-requires some-has-requires returns-6 returns-7)
+    tie.close (tie.spec (λ c κs. search rules) returns standing-in-requires returns-2 returns-3 add-complete complete-requires returns-4
+    weights-hold-requires (λ c. search rules) (λ c. search rules) returns-5 all-requires some-has-requires returns-6 returns-7)

@@ -1,4 +1,4 @@
-use Rattle.integers.proofs.Kit.{◌-◌, ◌≤◌, ◌≡◌, ◌∙◌, sym, ap, true, ℕ, arith, needs, length, set}
+use Rattle.integers.proofs.Kit.{◌-◌, ◌≤◌, ◌≡◌, ◌∙◌, sym, ap, true, ℕ, arith, rules, length, set}
 use Rattle.integers.specs.Cells.{padded}
 use Rattle.integers.proofs.Lists.{filled-below, padded-none, padded-turn, padded-length}
 use Rattle.tables.specs.Limits.{max_states, max_observations}
@@ -59,7 +59,7 @@ loop-again c =
     let i = s.before in
     let l = i.before in
     let a = (start l).args in (
-      search needs,
+      search rules,
       c.before.put-choice.ensures
           ∙ ap (λ (i : ℕ). set l.loop.chosen i best.best-vector.result.0) (row-alone a.k l.loop.o)
           ∙ padded-turn _ _ _ _ l.loop.invariant.1
@@ -73,5 +73,5 @@ returns c = let e : c.before.loop.o ≡ (start c.before).args.k = omega arith in
 
 pub choose_spec : {M : Type 1} → statement M
 choose_spec =
-    tie.close (tie.spec invariant-loop decreases-loop all-requires (λ c. (search needs, sym (padded-none _ _ _))) (λ c κs. search needs) weights_long
-    best-vector-requires (λ c. sym (long (in-loop c))) put-choice-requires (λ c. search needs) (λ c. search needs) loop-again returns)
+    tie.close (tie.spec invariant-loop decreases-loop all-requires (λ c. (search rules, sym (padded-none _ _ _))) (λ c κs. search rules) weights_long
+    best-vector-requires (λ c. sym (long (in-loop c))) put-choice-requires (λ c. search rules) (λ c. search rules) loop-again returns)

@@ -1,4 +1,4 @@
-use Rattle.ceilings.proofs.Prelude.{◌*◌, ◌≤◌, ◌≡◌, ◌∙◌, arith, needs, pos, w64, to_z, of_z, answer, weight_in, product, max_reached, corner_in}
+use Rattle.ceilings.proofs.Prelude.{◌*◌, ◌≤◌, ◌≡◌, ◌∙◌, arith, rules, pos, w64, to_z, of_z, answer, weight_in, product, max_reached, corner_in}
 use Rattle.ceilings.proofs.Prelude.{first-cells, first-fit}
 use mir.Facts.{to_z_pos}
 use Rattle.integers.proofs.Words.{fits}
@@ -12,7 +12,7 @@ abbrev start : tie.After-largest-drop → tie.Start
 start c = c.before.before.before.before
 
 product-requires : tie.Need-product-requires
-product-requires c κs = let (_, (reached, (corners, _))) = (start c).requires in ((search needs, search needs), (reached, λ s l above. first-fit corners s l))
+product-requires c κs = let (_, (reached, (corners, _))) = (start c).requires in ((search rules, search rules), (reached, λ s l above. first-fit corners s l))
 
 small : (c : tie.After-largest-drop) → c.largest-drop.result ≤ max_reached * max_gain
 small c =
@@ -42,5 +42,5 @@ returns c =
 
 pub ceiling-spec : {M : Type 1} → statement M
 ceiling-spec =
-    tie.close (tie.spec (λ c κs. search needs) product-requires (λ c. fits (pos c.before.largest-drop.result) (omega (arith, small c.before)))
+    tie.close (tie.spec (λ c κs. search rules) product-requires (λ c. fits (pos c.before.largest-drop.result) (omega (arith, small c.before)))
     minus-requires returns)

@@ -1,4 +1,4 @@
-use Rattle.ceilings.proofs.Prelude.{◌≡◌, ◌∙◌, arith, needs, w64, to_z, of_z, answer, weight_in, product, corner_in, first-cells, first-fit}
+use Rattle.ceilings.proofs.Prelude.{◌≡◌, ◌∙◌, arith, rules, w64, to_z, of_z, answer, weight_in, product, corner_in, first-cells, first-fit}
 use Rattle.integers.proofs.Kit.{ℤ, ◌-ℤ◌, to_z-of_z}
 use Rattle.sawtooth.proofs.Laws.{gain-parts, gain-limit, positive-below, positive-from}
 use Rattle.ceilings.proofs.gain_of.Statement.{statement}
@@ -11,7 +11,7 @@ start c = c.before.before.before
 product-requires : tie.Need-product-requires
 product-requires c κs =
     let (_, (corners, (weights, _))) = c.before.requires in (
-      (search needs, search needs),
+      (search rules, search rules),
       (record { long = weights.long; below = λ i l. omega (arith, weights.below i l) }, λ s l above. first-fit corners s l),
     )
 

@@ -1,4 +1,4 @@
-use Rattle.ceilings.proofs.Prelude.{◌-◌, ◌≤◌, ◌≡◌, sym, arith, needs, get_or, pos, padded, padded-none, padded-turn, max_states, max_points}
+use Rattle.ceilings.proofs.Prelude.{◌-◌, ◌≤◌, ◌≡◌, sym, arith, rules, get_or, pos, padded, padded-none, padded-turn, max_states, max_points}
 use Rattle.integers.proofs.Words.{back}
 use Rattle.integers.proofs.Lists.{padded-length}
 use Rattle.tables.proofs.Fitting.{rows-stored}
@@ -43,7 +43,7 @@ gain-of-requires c κs =
 loop-again : tie.Need-loop-preserved invariant-loop decreases-loop
 loop-again c =
     let p = c.before.before.before in let l = p.before.before in (
-      search needs,
+      search rules,
       padded-turn _ _ _ _ l.loop.invariant.1 (filled-gain _ _ _ _ p.point-weights.ensures (start p).args.corners.now
           (start p).args.values.now (back _ c.before.gain-of-arg.given) c.gain-of.ensures) (omega arith),
     )
@@ -53,6 +53,6 @@ returns c = let e : c.before.loop.i ≡ c.before.before.before.args.points = ome
 
 pub gains-spec : {M : Type 1} → statement M
 gains-spec =
-    tie.close (tie.spec invariant-loop decreases-loop (λ c. (search needs, sym (padded-none _ _ _))) point-weights-requires slice-aggregate-gain-of
-    (λ c. search needs) (λ c. search needs) gain-of-requires (λ c. search needs) (λ c. search needs) (λ c. search needs) (λ c. search needs)
+    tie.close (tie.spec invariant-loop decreases-loop (λ c. (search rules, sym (padded-none _ _ _))) point-weights-requires slice-aggregate-gain-of
+    (λ c. search rules) (λ c. search rules) gain-of-requires (λ c. search rules) (λ c. search rules) (λ c. search rules) (λ c. search rules)
     loop-again returns)

@@ -1,4 +1,4 @@
-use Rattle.cells.proofs.Prelude.{◌≤◌, ◌-◌, arith, needs, Pasting, pasting-start, pasting-more, pasting-end}
+use Rattle.cells.proofs.Prelude.{◌≤◌, ◌-◌, arith, rules, Pasting, pasting-start, pasting-more, pasting-end}
 use mathlib.Core.Path.{refl}
 use Rattle.cells.proofs.paste_u16.Statement.{statement}
 use Rattle.cells.proofs.paste_u16.Tie as tie
@@ -15,5 +15,5 @@ loop-again c = (omega arith, pasting-more _ _ _ _ _ 0 (omega arith) (omega arith
 pub paste-u16-spec : {M : Type 1} → statement M
 paste-u16-spec = tie.close (tie.spec invariant-loop decreases-loop (λ c. (omega arith, pasting-start _ _ _)) (λ c. omega arith) (λ c. omega arith)
     (λ c. omega (arith, c.before.before.loop.invariant.1.long)) (λ c. omega (arith, c.before.before.loop.invariant.1.long))
-    (λ c. omega (arith, c.before.before.loop.invariant.1.long)) (λ c. search needs) (λ c. search needs) loop-again
+    (λ c. omega (arith, c.before.before.loop.invariant.1.long)) (λ c. search rules) (λ c. search rules) loop-again
     (λ c. c.before.loop.invariant.1.long) (λ c. pasting-end c.before.before.args.w c.before.loop.invariant.1 (omega arith)))

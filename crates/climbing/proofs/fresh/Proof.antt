@@ -1,4 +1,4 @@
-use Rattle.integers.proofs.Kit.{◌∙◌, refl, needs}
+use Rattle.integers.proofs.Kit.{◌∙◌, refl, rules}
 use Rattle.climbing.proofs.fresh.Statement.{statement}
 use Rattle.climbing.proofs.fresh.Tie as tie
 
@@ -18,4 +18,4 @@ returns c = (of-open c.before).«open».ensures.1
 pub fresh-spec : {M : Type 1} → statement M
 fresh-spec =
     tie.close (tie.spec (λ c. refl) (λ c. refl) (λ c. refl) (λ c. refl) (λ c. refl) (λ c. refl) (λ c. refl) (λ c. refl) (λ c. refl) (λ c. refl)
-    (λ c κs. search needs) served-requires returns)
+    (λ c κs. search rules) served-requires returns)

@@ -1,4 +1,4 @@
-use Rattle.integers.proofs.Kit.{◌∙◌, refl, needs}
+use Rattle.integers.proofs.Kit.{◌∙◌, refl, rules}
 use Rattle.climbing.proofs.made.Statement.{statement}
 use Rattle.climbing.proofs.made.Tie as tie
 
@@ -23,5 +23,5 @@ returns c =
 
 pub made-spec : {M : Type 1} → statement M
 made-spec =
-    tie.close (tie.spec (λ c. refl) (λ c. search needs) (λ c. refl) (λ c. refl) (λ c. refl) (λ c. refl) (λ c. refl) (λ c. refl) (λ c κs. search needs)
+    tie.close (tie.spec (λ c. refl) (λ c. search rules) (λ c. refl) (λ c. refl) (λ c. refl) (λ c. refl) (λ c. refl) (λ c. refl) (λ c κs. search rules)
     served-requires returns)

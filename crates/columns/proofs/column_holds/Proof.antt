@@ -1,4 +1,4 @@
-use Rattle.integers.proofs.Kit.{needs, ℕ, ◌≤◌, ◌<◌, ◌+◌, ◌-◌, ◌≡◌, ◌∙◌, sym, ap, arith, length, get_or, List, true, false, eq-eqb, ne_eqb, ⊎_elim}
+use Rattle.integers.proofs.Kit.{rules, ℕ, ◌≤◌, ◌<◌, ◌+◌, ◌-◌, ◌≡◌, ◌∙◌, sym, ap, arith, length, get_or, List, true, false, eq-eqb, ne_eqb, ⊎_elim}
 use Rattle.integers.specs.Search.{every}
 use Rattle.integers.proofs.Searches.{every-none, every_more, every-not}
 use Rattle.tables.specs.Storage.{transition_in}
@@ -104,5 +104,5 @@ returns-2 c = let e : c.before.loop.s ≡ (at-start c.before).args.n = omega ari
 
 pub column-holds-spec : {M : Type 1} → statement M
 column-holds-spec =
-    tie.close (tie.spec invariant-loop decreases-loop loop-holds (λ c κs. search needs) (λ c. omega (arith, word_in c)) (λ c. word_in c.before) cell-requires
-    returns (λ c. omega (arith, word_in c.before.before.before)) (λ c. search needs) (λ c. search needs) loop-again returns-2)
+    tie.close (tie.spec invariant-loop decreases-loop loop-holds (λ c κs. search rules) (λ c. omega (arith, word_in c)) (λ c. word_in c.before) cell-requires
+    returns (λ c. omega (arith, word_in c.before.before.before)) (λ c. search rules) (λ c. search rules) loop-again returns-2)

@@ -1,4 +1,4 @@
-use Rattle.integers.proofs.Kit.{needs, ℕ, ◌≤◌, ◌+◌, ◌-◌, ◌≡◌, ◌∙◌, refl, sym, ap, arith, length, ⊎_elim}
+use Rattle.integers.proofs.Kit.{rules, ℕ, ◌≤◌, ◌+◌, ◌-◌, ◌≡◌, ◌∙◌, refl, sym, ap, arith, length, ⊎_elim}
 use Rattle.tables.specs.Storage.{transition_in}
 use Rattle.columns.specs.Columns.{cells_of}
 use Rattle.columns.proofs.Columns.{cells-none, length_some, cells-few}
@@ -38,4 +38,4 @@ returns c = let e : c.before.loop.s ≡ c.before.before.before.args.n = omega ar
 
 pub count_spec : {M : Type 1} → statement M
 count_spec =
-    tie.close (tie.spec invariant-loop decreases-loop loop-holds (λ c κs. search needs) add-found (λ c. search needs) (λ c. search needs) loop-again returns)
+    tie.close (tie.spec invariant-loop decreases-loop loop-holds (λ c κs. search rules) add-found (λ c. search rules) (λ c. search rules) loop-again returns)

@@ -1,4 +1,4 @@
-use Rattle.integers.proofs.Kit.{needs, ◌≤◌, ◌∙◌, refl, sym, arith, length, not-true, not-false}
+use Rattle.integers.proofs.Kit.{rules, ◌≤◌, ◌∙◌, refl, sym, arith, length, not-true, not-false}
 use Rattle.tables.specs.Storage.{transition_in}
 use Rattle.columns.specs.Columns.{list_of}
 use Rattle.columns.proofs.Columns.{list_length, short-list, in_parts}
@@ -38,5 +38,5 @@ returns-3 c =
 
 pub is-list-spec : {M : Type 1} → statement M
 is-list-spec =
-    tie.close (tie.spec (λ c κs. search needs) returns begins-hold-requires returns-2
+    tie.close (tie.spec (λ c κs. search rules) returns begins-hold-requires returns-2
     (λ c κs. ((start c.before.before.before).requires, long c.before.before)) returns-3)

@@ -1,4 +1,4 @@
-use Rattle.integers.proofs.Kit.{needs, ℕ, ◌≤◌, ◌<◌, ◌+◌, ◌-◌, ◌≡◌, ◌∙◌, sym, ap, arith, length, set, List, ⊎_elim}
+use Rattle.integers.proofs.Kit.{rules, ℕ, ◌≤◌, ◌<◌, ◌+◌, ◌-◌, ◌≡◌, ◌∙◌, sym, ap, arith, length, set, List, ⊎_elim}
 use Rattle.integers.proofs.Lists.{Pasting, pasting-start, pasting-more, pasting-end}
 use Rattle.tables.specs.Storage.{transition_in}
 use Rattle.columns.specs.Columns.{cell, cells_of}
@@ -87,5 +87,5 @@ returns c =
 
 pub put-column-spec : {M : Type 1} → statement M
 put-column-spec =
-    tie.close (tie.spec invariant-loop decreases-loop loop-holds (λ c κs. search needs) cell-requires (λ c. omega (arith, word_in c.before)) (λ c. word_in c.before)
-    (λ c. omega (arith, word_in c.before)) (λ c. search needs) (λ c. search needs) loop-again same_length returns)
+    tie.close (tie.spec invariant-loop decreases-loop loop-holds (λ c κs. search rules) cell-requires (λ c. omega (arith, word_in c.before)) (λ c. word_in c.before)
+    (λ c. omega (arith, word_in c.before)) (λ c. search rules) (λ c. search rules) loop-again same_length returns)

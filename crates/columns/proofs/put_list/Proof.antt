@@ -1,4 +1,4 @@
-use Rattle.integers.proofs.Kit.{needs, ℕ, ◌≤◌, ◌+◌, ◌*◌, ◌≡◌, ◌∙◌, sym, ap, arith, length, get_or, List, paste}
+use Rattle.integers.proofs.Kit.{rules, ℕ, ◌≤◌, ◌+◌, ◌*◌, ◌≡◌, ◌∙◌, sym, ap, arith, length, get_or, List, paste}
 use Rattle.integers.specs.Cells.{laid}
 use Rattle.integers.proofs.Lists.{laid-cong, laid-paste}
 use Rattle.tables.specs.Storage.{transition_in}
@@ -38,4 +38,4 @@ returns c =
     joined a.n a.m (transition_in a.n a.cells.now) a.list.now s.pre.1 begun.put-begins.ensures put.put-cells.ensures
 
 pub put-list-spec : {M : Type 1} → statement M
-put-list-spec = tie.close (tie.spec put-begins-requires (λ c κs. search needs) (λ c. search needs) returns)
+put-list-spec = tie.close (tie.spec put-begins-requires (λ c κs. search rules) (λ c. search rules) returns)

@@ -1,4 +1,4 @@
-use Rattle.integers.proofs.Kit.{◌≡◌, ◌∙◌, refl, subst, needs, le-leb, lt-leb, length}
+use Rattle.integers.proofs.Kit.{◌≡◌, ◌∙◌, refl, subst, rules, le-leb, lt-leb, length}
 use Rattle.tables.specs.declared.Verdict.{Verdict}
 use Rattle.tables.specs.Verdicts.{◌before◌}
 use Rattle.bodies.specs.Body.{ModelFile}
@@ -64,5 +64,5 @@ returns-4 c =
 
 pub convert-spec : {M : Type 1} → statement M
 convert-spec =
-    tie.close (tie.spec (λ c κs. search needs) returns (λ c κs. search needs) returns-2 (λ c κs. search needs) (λ c. search needs) (λ c κs. search needs)
-    (λ c. search needs) from-counts-requires returns-3 (λ c. search needs) returns-4)
+    tie.close (tie.spec (λ c κs. search rules) returns (λ c κs. search rules) returns-2 (λ c κs. search rules) (λ c. search rules) (λ c κs. search rules)
+    (λ c. search rules) from-counts-requires returns-3 (λ c. search rules) returns-4)

@@ -1,4 +1,4 @@
-use Rattle.integers.proofs.Kit.{◌≡◌, ◌∙◌, refl, ap, sym, subst, true, ℕ, ◌+◌, ◌*◌, needs, length, length-replicate, ℤ, pos}
+use Rattle.integers.proofs.Kit.{◌≡◌, ◌∙◌, refl, ap, sym, subst, true, ℕ, ◌+◌, ◌*◌, rules, length, length-replicate, ℤ, pos}
 use Rattle.tables.specs.declared.Verdict.{Verdict}
 use Rattle.tables.specs.Limits.{max_states, max_converted, max_actions, max_observations}
 use Rattle.words.specs.Words.{words_in, between}
@@ -75,6 +75,6 @@ returns-2 c =
 
 pub from-counts-spec : {M : Type 1} → statement M
 from-counts-spec =
-    tie.close (tie.spec (λ c. search needs) (λ c. search needs) (λ c. search needs) (λ c. search needs) body-at-requires (λ c. search needs)
-    (λ c. search needs) (λ c κs. search needs) returns (λ c. search needs) (λ c. search needs) (λ c. search needs) (λ c. search needs)
-    write-expected-requires (λ c. search needs) returns-2)
+    tie.close (tie.spec (λ c. search rules) (λ c. search rules) (λ c. search rules) (λ c. search rules) body-at-requires (λ c. search rules)
+    (λ c. search rules) (λ c κs. search rules) returns (λ c. search rules) (λ c. search rules) (λ c. search rules) (λ c. search rules)
+    write-expected-requires (λ c. search rules) returns-2)

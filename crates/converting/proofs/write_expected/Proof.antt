@@ -1,4 +1,4 @@
-use Rattle.integers.proofs.Kit.{◌≡◌, ◌∙◌, refl, ap, sym, subst, List, ◌*◌, needs, le-leb, lt-leb, replicate, ℤ, pos}
+use Rattle.integers.proofs.Kit.{◌≡◌, ◌∙◌, refl, ap, sym, subst, List, ◌*◌, rules, le-leb, lt-leb, replicate, ℤ, pos}
 use Rattle.tables.specs.declared.Verdict.{Verdict}
 use Rattle.tables.specs.declared.Verdict.TheVariants.{Fine}
 use Rattle.tables.specs.Verdicts.{left}
@@ -76,5 +76,5 @@ returns-3 c =
 
 pub write-expected-spec : {M : Type 1} → statement M
 write-expected-spec =
-    tie.close (tie.spec (λ c κs. search needs) returns (λ c. search needs) expect-requires (λ c. search needs) (λ c. search needs) (λ c κs. search needs)
-    returns-2 (λ c. search needs) put-file-requires (λ c. search needs) returns-3)
+    tie.close (tie.spec (λ c κs. search rules) returns (λ c. search rules) expect-requires (λ c. search rules) (λ c. search rules) (λ c κs. search rules)
+    returns-2 (λ c. search rules) put-file-requires (λ c. search rules) returns-3)

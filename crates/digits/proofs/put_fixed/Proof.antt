@@ -1,4 +1,4 @@
-use Rattle.digits.proofs.Prelude.{◌≡◌, ℕ, List, ◌∷◌, ◌++◌, ◌≤◌, ◌<◌, ◌/◌, ◌%◌, ◌^◌, arith, needs, subst, subst⁻¹, last_digits, whole, fixed}
+use Rattle.digits.proofs.Prelude.{◌≡◌, ℕ, List, ◌∷◌, ◌++◌, ◌≤◌, ◌<◌, ◌/◌, ◌%◌, ◌^◌, arith, rules, subst, subst⁻¹, last_digits, whole, fixed}
 use Rattle.digits.proofs.Prelude.{HasRoom, Wrote, room-first, room-then, wrote_then}
 use native.Mathlib.Nat.{pow-le-pow_right, pow-zero}
 use Rattle.digits.proofs.put_fixed.Statement.{statement}
@@ -54,5 +54,5 @@ returns c =
 pub put-fixed-spec : {M : Type 1} → statement M
 put-fixed-spec =
     tie.close (tie.spec (λ c. some-unit c.before.before) (λ c κs. room-first (46 ∷ decimals c.before.before) (room c.before.before))
-    (λ c. search needs) (λ c κs. room-first (decimals (start (after-out c).before)) (room-point (after-out c).before))
-    (λ c. some-unit (start (wholly (after-put c)))) (λ c κs. room-decimals (after-put c)) (λ c. search needs) returns)
+    (λ c. search rules) (λ c κs. room-first (decimals (start (after-out c).before)) (room-point (after-out c).before))
+    (λ c. some-unit (start (wholly (after-put c)))) (λ c κs. room-decimals (after-put c)) (λ c. search rules) returns)

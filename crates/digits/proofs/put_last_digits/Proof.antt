@@ -1,4 +1,4 @@
-use Rattle.digits.proofs.Prelude.{◌≡◌, ◌∙◌, refl, sym, ap, ℕ, ◌≤◌, ◌<◌, ◌+◌, ◌-◌, arith, needs, length, last_digits}
+use Rattle.digits.proofs.Prelude.{◌≡◌, ◌∙◌, refl, sym, ap, ℕ, ◌≤◌, ◌<◌, ◌+◌, ◌-◌, arith, rules, length, last_digits}
 use lib.ListN.{length-set}
 use Rattle.digits.proofs.Over.{over_none, digits-turn, digits-length}
 use Rattle.digits.specs.Digits.{text_over}
@@ -54,7 +54,7 @@ returns c =
 
 pub put-last-digits-spec : {M : Type 1} → statement M
 put-last-digits-spec =
-    tie.close (tie.spec invariant-loop decreases-loop (λ c. (omega arith, (refl, refl))) (λ c. omega (arith, c.loop-test.true)) (λ c κs. search needs)
+    tie.close (tie.spec invariant-loop decreases-loop (λ c. (omega arith, (refl, refl))) (λ c. omega (arith, c.loop-test.true)) (λ c κs. search rules)
     (λ c. omega (arith, room c.before.before, c.before.before.loop.invariant.0))
     (λ c. omega (arith, room c.before.before, c.before.before.loop.invariant.0, c.before.loop-test.true))
     (λ c. omega (arith, c.before.loop-test.true)) loop-again (λ c. omega (arith, room c.before))

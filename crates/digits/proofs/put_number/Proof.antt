@@ -1,4 +1,4 @@
-use Rattle.digits.proofs.Prelude.{[], ◌∷◌, needs, HasRoom, room-first, room-then, wrote_then, fixed}
+use Rattle.digits.proofs.Prelude.{[], ◌∷◌, rules, HasRoom, room-first, room-then, wrote_then, fixed}
 use Rattle.digits.proofs.put_number.Statement.{statement}
 use Rattle.digits.proofs.put_number.Tie as tie
 
@@ -22,5 +22,5 @@ returns c =
 
 pub put-number-spec : {M : Type 1} → statement M
 put-number-spec =
-    tie.close (tie.spec (λ c. search needs) (λ c κs. room c.before.before.before)
-    (λ c κs. let s = after-put c in ((start s).pre.0, room-number s)) (λ c. search needs) returns)
+    tie.close (tie.spec (λ c. search rules) (λ c κs. room c.before.before.before)
+    (λ c κs. let s = after-put c in ((start s).pre.0, room-number s)) (λ c. search rules) returns)

@@ -1,4 +1,4 @@
-use Rattle.digits.proofs.Prelude.{ℕ, List, [], ◌∷◌, ◌++◌, needs, HasRoom, room-first, room-then, wrote_then, whole, opening}
+use Rattle.digits.proofs.Prelude.{ℕ, List, [], ◌∷◌, ◌++◌, rules, HasRoom, room-first, room-then, wrote_then, whole, opening}
 use Rattle.digits.proofs.put_opening.Statement.{statement}
 use Rattle.digits.proofs.put_opening.Tie as tie
 
@@ -47,7 +47,7 @@ returns c =
 
 pub put-opening-spec : {M : Type 1} → statement M
 put-opening-spec =
-    tie.close (tie.spec (λ c. search needs) (λ c κs. room c.before.before.before)
-    (λ c κs. let k = c.before.before.before in room-first (rest (start k)) (room-action k)) (λ c. search needs)
+    tie.close (tie.spec (λ c. search rules) (λ c κs. room c.before.before.before)
+    (λ c κs. let k = c.before.before.before in room-first (rest (start k)) (room-action k)) (λ c. search rules)
     (λ c κs. let a = (after-out2 c).before in room-first (whole (start (keyed a)).args.s) (room-rest a)) (λ c κs. room-state (after-put2 c))
-    (λ c. search needs) returns)
+    (λ c. search rules) returns)

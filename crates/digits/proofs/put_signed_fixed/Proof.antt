@@ -1,4 +1,4 @@
-use Rattle.digits.proofs.Prelude.{◌≡◌, ◌∙◌, ap, ℕ, List, ◌∷◌, arith, needs, subst, subst⁻¹, fixed, signed_fixed}
+use Rattle.digits.proofs.Prelude.{◌≡◌, ◌∙◌, ap, ℕ, List, ◌∷◌, arith, rules, subst, subst⁻¹, fixed, signed_fixed}
 use Rattle.digits.proofs.Prelude.{HasRoom, Wrote, room-first, room-then, wrote_then}
 use Rattle.integers.proofs.Kit.{true, false, ℤ, pos, negsuc, nat_abs, lt_z, to_z-of_z}
 use Rattle.integers.proofs.Parts.{lt_z-true, lt_z-false}
@@ -64,7 +64,7 @@ returns-2 c =
 
 pub put-signed-fixed-spec : {M : Type 1} → statement M
 put-signed-fixed-spec =
-    tie.close (tie.spec (λ c κs. search needs) (λ c. search needs)
+    tie.close (tie.spec (λ c κs. search rules) (λ c. search rules)
     (λ c κs. let t = c.before.before in room-first (fixed (asked t).args.places t.before.magnitude.result) (room t))
-    (λ c κs. let s = after-put c in ((asked (then s)).requires.0, room-size s)) (λ c. search needs) returns
-    (λ c κs. ((asked-2 c.before).requires.0, room-2 c.before)) (λ c. search needs) returns-2)
+    (λ c κs. let s = after-put c in ((asked (then s)).requires.0, room-size s)) (λ c. search rules) returns
+    (λ c κs. ((asked-2 c.before).requires.0, room-2 c.before)) (λ c. search rules) returns-2)

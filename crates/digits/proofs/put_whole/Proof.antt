@@ -1,4 +1,4 @@
-use Rattle.digits.proofs.Prelude.{ℕ, subst, sym, needs, HasRoom, Wrote, last_digits, whole}
+use Rattle.digits.proofs.Prelude.{ℕ, subst, sym, rules, HasRoom, Wrote, last_digits, whole}
 use Rattle.digits.proofs.put_whole.Statement.{statement}
 use Rattle.digits.proofs.put_whole.Tie as tie
 
@@ -20,4 +20,4 @@ returns c =
     counted.digits-for.ensures put.put-last-digits.ensures
 
 pub put-whole-spec : {M : Type 1} → statement M
-put-whole-spec = tie.close (tie.spec (λ c κs. search needs) put-last-digits-requires (λ c. search needs) returns)
+put-whole-spec = tie.close (tie.spec (λ c κs. search rules) put-last-digits-requires (λ c. search rules) returns)

@@ -1,4 +1,4 @@
-use Rattle.digits.proofs.Prelude.{ℕ, List, [], ◌∷◌, ◌++◌, needs, HasRoom, room-first, room-then, wrote_then, whole, line}
+use Rattle.digits.proofs.Prelude.{ℕ, List, [], ◌∷◌, ◌++◌, rules, HasRoom, room-first, room-then, wrote_then, whole, line}
 use Rattle.digits.proofs.put_whole_line.Statement.{statement}
 use Rattle.digits.proofs.put_whole_line.Tie as tie
 
@@ -47,7 +47,7 @@ returns c =
 
 pub put-whole-line-spec : {M : Type 1} → statement M
 put-whole-line-spec =
-    tie.close (tie.spec (λ c κs. room c.before.before.before) (λ c. search needs)
+    tie.close (tie.spec (λ c κs. room c.before.before.before) (λ c. search rules)
     (λ c κs. let n = (after-out c).before in room-first (rest (start n)) (room-colon n))
-    (λ c κs. room-first (10 ∷ []) (room-number c.before.before.before)) (λ c. search needs) (λ c κs. room-end (after-put-whole c))
-    (λ c. search needs) returns)
+    (λ c κs. room-first (10 ∷ []) (room-number c.before.before.before)) (λ c. search rules) (λ c κs. room-end (after-put-whole c))
+    (λ c. search rules) returns)

@@ -1,4 +1,4 @@
-use Rattle.drafts.proofs.Prelude.{◌∙◌, mul-le-mul_right, arith, stands-within, needs}
+use Rattle.drafts.proofs.Prelude.{◌∙◌, mul-le-mul_right, arith, stands-within, rules}
 use Rattle.drafts.proofs.Marks.{stated-by}
 use Rattle.drafts.proofs.mark_all.Statement.{statement}
 use Rattle.drafts.proofs.mark_all.Tie as tie
@@ -23,5 +23,5 @@ returns c =
     s.before.lowest-of3.ensures s.spread-of3.ensures
 
 pub mark-all-spec : {M : Type 1} → statement M
-mark-all-spec = tie.close (tie.spec (λ c κs. search needs) (λ c κs. search needs) (λ c κs. search needs) (λ c κs. search needs) (λ c κs. search needs)
-    (λ c κs. search needs) mark-blocks-requires (λ c. search needs) returns)
+mark-all-spec = tie.close (tie.spec (λ c κs. search rules) (λ c κs. search rules) (λ c κs. search rules) (λ c κs. search rules) (λ c κs. search rules)
+    (λ c κs. search rules) mark-blocks-requires (λ c. search rules) returns)

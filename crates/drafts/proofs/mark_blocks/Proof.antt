@@ -1,4 +1,4 @@
-use Rattle.drafts.proofs.Prelude.{◌+◌, ◌-◌, ◌*◌, ◌≤◌, mul-le-mul, mul-le-mul_right, arith, needs, eqb, some, row_below, max_states, max_actions}
+use Rattle.drafts.proofs.Prelude.{◌+◌, ◌-◌, ◌*◌, ◌≤◌, mul-le-mul, mul-le-mul_right, arith, rules, eqb, some, row_below, max_states, max_actions}
 use Rattle.drafts.proofs.Prelude.{Marking, marking-start, marking-more, marking-end}
 use Prim.Native.Nat.{ℕ, ◌<◌}
 use Rattle.tables.specs.Storage.{cell_place}
@@ -40,5 +40,5 @@ loop-again c =
 pub mark-blocks-spec : {M : Type 1} → statement M
 mark-blocks-spec =
     tie.close (tie.spec invariant-loop decreases-loop (λ c. (omega arith, marking-start _ _ _)) (λ c. omega arith) (λ c κs. omega arith) mark-rows-requires
-    (λ c. search needs) (λ c. search needs) loop-again (λ c. c.before.loop.invariant.1.long)
+    (λ c. search rules) (λ c. search rules) loop-again (λ c. c.before.loop.invariant.1.long)
     (λ c. marking-end _ c.before.loop.invariant.1 (omega arith)))

@@ -1,4 +1,4 @@
-use Rattle.drafts.proofs.Prelude.{◌∙◌, needs}
+use Rattle.drafts.proofs.Prelude.{◌∙◌, rules}
 use Rattle.integers.proofs.Kit.{◌≡◌, ap, ℕ, set}
 use Rattle.tables.specs.Storage.{row_place, cell_place}
 use Rattle.tables.proofs.Fitting.{cell-stored}
@@ -23,4 +23,4 @@ returns c = let a = (start c).args in ap (λ (q : ℕ). set a.cells.now q a.p) (
 
 pub mark-one-spec : {M : Type 1} → statement M
 mark-one-spec =
-    tie.close (tie.spec (λ c κs. search needs) (λ c κs. search needs) (λ c. search needs) slice-write-cells (λ c. search needs) returns)
+    tie.close (tie.spec (λ c κs. search rules) (λ c κs. search rules) (λ c. search rules) slice-write-cells (λ c. search rules) returns)

@@ -1,4 +1,4 @@
-use Rattle.drafts.proofs.Prelude.{◌+◌, ◌-◌, ◌≤◌, arith, needs, eqb, w64, to_z, to_z-of_z, some, row_below, Marking}
+use Rattle.drafts.proofs.Prelude.{◌+◌, ◌-◌, ◌≤◌, arith, rules, eqb, w64, to_z, to_z-of_z, some, row_below, Marking}
 use Rattle.drafts.proofs.Prelude.{marking-start, marking-more, marking-end}
 use Rattle.tables.specs.Storage.{row_place}
 use Rattle.drafts.proofs.mark_rewards.Statement.{statement}
@@ -30,4 +30,4 @@ returns c = rw (to_z-of_z c.before.before.ranges.v) at (marking-end c.before.bef
 pub mark-rewards-spec : {M : Type 1} → statement M
 mark-rewards-spec =
     tie.close (tie.spec invariant-loop decreases-loop (λ c. (omega arith, marking-start _ _ _)) (λ c. omega arith) (λ c. omega arith) (λ c κs. omega arith)
-    mark-i64-requires (λ c. search needs) (λ c. search needs) loop-again (λ c. c.before.loop.invariant.1.long) returns)
+    mark-i64-requires (λ c. search rules) (λ c. search rules) loop-again (λ c. c.before.loop.invariant.1.long) returns)

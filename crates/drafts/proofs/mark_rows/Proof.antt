@@ -1,4 +1,4 @@
-use Rattle.drafts.proofs.Prelude.{◌+◌, ◌-◌, ◌≤◌, arith, needs, eqb, some, row_below, Marking, marking-start, marking-more, marking-end}
+use Rattle.drafts.proofs.Prelude.{◌+◌, ◌-◌, ◌≤◌, arith, rules, eqb, some, row_below, Marking, marking-start, marking-more, marking-end}
 use Rattle.tables.specs.Storage.{row_place}
 use Rattle.drafts.proofs.mark_rows.Statement.{statement}
 use Rattle.drafts.proofs.mark_rows.Tie as tie
@@ -27,5 +27,5 @@ loop-again c =
 pub mark-rows-spec : {M : Type 1} → statement M
 mark-rows-spec =
     tie.close (tie.spec invariant-loop decreases-loop (λ c. (omega arith, marking-start _ _ _)) (λ c. omega arith) (λ c. omega arith) (λ c κs. omega arith)
-    mark-u16-requires (λ c. search needs) (λ c. search needs) loop-again (λ c. c.before.loop.invariant.1.long)
+    mark-u16-requires (λ c. search rules) (λ c. search rules) loop-again (λ c. c.before.loop.invariant.1.long)
     (λ c. marking-end _ c.before.loop.invariant.1 (omega arith)))

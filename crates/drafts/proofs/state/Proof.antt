@@ -1,4 +1,4 @@
-use Rattle.drafts.proofs.Prelude.{◌∙◌, mul-le-mul_right, arith, needs}
+use Rattle.drafts.proofs.Prelude.{◌∙◌, mul-le-mul_right, arith, rules}
 use Rattle.integers.proofs.Kit.{◌≡◌, true, ◌&&◌, ℕ, ◌<◌, ltb-true, ltb}
 use mathlib.Core.Bool.{and-eq-true_iff}
 use Rattle.drafts.proofs.Marks.{stated-one}
@@ -26,4 +26,4 @@ returns c =
 
 pub state-spec : {M : Type 1} → statement M
 state-spec =
-    tie.close (tie.spec mark-one-requires (λ c κs. search needs) (λ c. search needs) returns (λ c. search needs) (λ c. search needs))
+    tie.close (tie.spec mark-one-requires (λ c κs. search rules) (λ c. search rules) returns (λ c. search rules) (λ c. search rules))

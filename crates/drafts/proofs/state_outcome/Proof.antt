@@ -1,4 +1,4 @@
-use Rattle.drafts.proofs.Prelude.{◌∙◌, mul-le-mul_right, arith, to_z-of_z, stands-within, needs}
+use Rattle.drafts.proofs.Prelude.{◌∙◌, mul-le-mul_right, arith, to_z-of_z, stands-within, rules}
 use Rattle.drafts.proofs.Marks.{outcomed-by}
 use Rattle.drafts.proofs.state_outcome.Statement.{statement}
 use Rattle.drafts.proofs.state_outcome.Tie as tie
@@ -42,5 +42,5 @@ returns c =
 
 pub state-outcome-spec : {M : Type 1} → statement M
 state-outcome-spec =
-    tie.close (tie.spec (λ c κs. search needs) (λ c κs. search needs) (λ c κs. search needs) (λ c κs. search needs) (λ c κs. search needs)
-    (λ c κs. search needs) (λ c κs. search needs) (λ c κs. search needs) mark-outcomes-requires (λ c. search needs) returns)
+    tie.close (tie.spec (λ c κs. search rules) (λ c κs. search rules) (λ c κs. search rules) (λ c κs. search rules) (λ c κs. search rules)
+    (λ c κs. search rules) (λ c κs. search rules) (λ c κs. search rules) mark-outcomes-requires (λ c. search rules) returns)

@@ -1,4 +1,4 @@
-use Rattle.drafts.proofs.Prelude.{◌∙◌, mul-le-mul_right, arith, to_z-of_z, stands-within, needs}
+use Rattle.drafts.proofs.Prelude.{◌∙◌, mul-le-mul_right, arith, to_z-of_z, stands-within, rules}
 use Rattle.drafts.proofs.Marks.{rewarded-by}
 use Rattle.drafts.proofs.state_reward.Statement.{statement}
 use Rattle.drafts.proofs.state_reward.Tie as tie
@@ -19,5 +19,5 @@ returns c =
 
 pub state-reward-spec : {M : Type 1} → statement M
 state-reward-spec =
-    tie.close (tie.spec (λ c κs. search needs) (λ c κs. search needs) (λ c κs. search needs) (λ c κs. search needs) mark-rewards-requires
-    (λ c. search needs) returns)
+    tie.close (tie.spec (λ c κs. search rules) (λ c κs. search rules) (λ c κs. search rules) (λ c κs. search rules) mark-rewards-requires
+    (λ c. search rules) returns)

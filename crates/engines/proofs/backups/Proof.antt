@@ -1,4 +1,4 @@
-use Rattle.integers.proofs.Kit.{◌∙◌, arith, needs, pos}
+use Rattle.integers.proofs.Kit.{◌∙◌, arith, rules, pos}
 use Rattle.integers.proofs.Lists.{padded-cong}
 use Rattle.tables.specs.Limits.{max_states}
 use Rattle.columns.specs.Steps.{Says}
@@ -23,4 +23,4 @@ returns-2 c =
     c.backups2.ensures ∙ padded-cong (pos 0) max_states a.n _ _ (backup-same (says c.before) a.g a.reward.now a.f.now)
 
 pub backups-spec : {M : Type 1} → statement M
-backups-spec = tie.close (tie.spec (λ c κs. search needs) (λ c. search needs) backups-requires-2 returns-2)
+backups-spec = tie.close (tie.spec (λ c κs. search rules) (λ c. search rules) backups-requires-2 returns-2)

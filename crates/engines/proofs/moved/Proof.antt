@@ -1,4 +1,4 @@
-use Rattle.integers.proofs.Kit.{◌∙◌, arith, needs}
+use Rattle.integers.proofs.Kit.{◌∙◌, arith, rules}
 use Rattle.integers.proofs.Lists.{padded-cong}
 use Rattle.tables.specs.Limits.{max_states}
 use Rattle.columns.specs.Steps.{Says}
@@ -21,4 +21,4 @@ returns-2 : tie.Need-returns-2
 returns-2 c = let a = (start c.before).args in c.moved2.ensures ∙ padded-cong 0 max_states a.n _ _ (moved_same (says c.before) a.p.now)
 
 pub moved-spec : {M : Type 1} → statement M
-moved-spec = tie.close (tie.spec (λ c κs. search needs) (λ c. search needs) moved-requires-2 returns-2)
+moved-spec = tie.close (tie.spec (λ c κs. search rules) (λ c. search rules) moved-requires-2 returns-2)

@@ -1,4 +1,4 @@
-use Rattle.entries.proofs.Prelude.{arith, needs, stated, index, inside, takes-reads, second_word, value-next, probability, upon, leaves-back, leaves-on}
+use Rattle.entries.proofs.Prelude.{arith, rules, stated, index, inside, takes-reads, second_word, value-next, probability, upon, leaves-back, leaves-on}
 use Rattle.entries.specs.Entries.{filled, entry_by}
 use Rattle.entries.proofs.Laws.{leaves-done}
 use Rattle.entries.proofs.entry_at.Statement.{statement}
@@ -97,5 +97,5 @@ returns-3 c =
 
 pub entry-at-spec : {M : Type 1} → statement M
 entry-at-spec =
-    tie.close (tie.spec (λ c κs. search needs) index-of-requires (λ c. search needs) (λ c. search needs) returns number-of-requires (λ c. search needs)
-    (λ c. search needs) returns-2 cast-state state-requires (λ c. search needs) returns-3)
+    tie.close (tie.spec (λ c κs. search rules) index-of-requires (λ c. search rules) (λ c. search rules) returns number-of-requires (λ c. search rules)
+    (λ c. search rules) returns-2 cast-state state-requires (λ c. search rules) returns-3)

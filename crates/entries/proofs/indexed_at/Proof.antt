@@ -1,4 +1,4 @@
-use Rattle.entries.proofs.Prelude.{needs, key, colon, index, inside, takes-reads, second_word, indexed}
+use Rattle.entries.proofs.Prelude.{rules, key, colon, index, inside, takes-reads, second_word, indexed}
 use Rattle.grammar.proofs.Laws.{reads_on}
 use Rattle.grammar.proofs.Arms.{reads-back}
 use Rattle.entries.proofs.indexed_at.Statement.{statement}
@@ -31,5 +31,5 @@ returns-2 c =
 
 pub indexed-at-spec : {M : Type 1} → statement M
 indexed-at-spec =
-    tie.close (tie.spec (λ c κs. search needs) (λ c. search needs) key-of-requires (λ c. search needs) (λ c. search needs) returns index-of-requires
+    tie.close (tie.spec (λ c κs. search rules) (λ c. search rules) key-of-requires (λ c. search rules) (λ c. search rules) returns index-of-requires
     returns-2)

@@ -1,4 +1,4 @@
-use Rattle.entries.proofs.Prelude.{arith, needs, stated, value-next}
+use Rattle.entries.proofs.Prelude.{arith, rules, stated, value-next}
 use Rattle.integers.proofs.Kit.{◌≤◌, ◌-◌}
 use Rattle.grammar.specs.Grammar.{number}
 use Rattle.entries.proofs.Laws.{RowLeft, row-start, row_back, row_on, row-end}
@@ -56,5 +56,5 @@ returns-2 c = row-end _ _ _ _ _ _ c.before.loop.invariant.1 (omega arith) (start
 pub row-at-spec : {M : Type 1} → statement M
 row-at-spec =
     tie.close (tie.spec invariant-loop decreases-loop (λ c. (omega arith, row-start _ _ _ _ _ _ c.before.before.requires.0.0)) number-at-requires
-    (λ c. search needs) (λ c. search needs) (λ c. (after-number-at c).before.before.loop.invariant.1.long) returns cast-state state-requires
-    (λ c. search needs) (λ c. search needs) loop-again (λ c. c.before.loop.invariant.1.long) returns-2)
+    (λ c. search rules) (λ c. search rules) (λ c. (after-number-at c).before.before.loop.invariant.1.long) returns cast-state state-requires
+    (λ c. search rules) (λ c. search rules) loop-again (λ c. c.before.loop.invariant.1.long) returns-2)

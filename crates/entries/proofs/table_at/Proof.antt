@@ -1,4 +1,4 @@
-use Rattle.entries.proofs.Prelude.{arith, needs, stated, key, colon, value-next, probability, indexed, upon, leaves-back, leaves-on}
+use Rattle.entries.proofs.Prelude.{arith, rules, stated, key, colon, value-next, probability, indexed, upon, leaves-back, leaves-on}
 use Rattle.integers.proofs.Kit.{List, ℕ}
 use Rattle.words.specs.Words.{Words, words_in, between}
 use Rattle.grammar.specs.Grammar.{choose}
@@ -101,6 +101,6 @@ returns-4 c =
     mark past-mark p.before.before.key-at.ensures mark-told c.before.before.entry_at.ensures))
 
 pub table-at-spec : {M : Type 1} → statement M
-table-at-spec = tie.close (tie.spec (λ c κs. search needs) (λ c. search needs) (λ c. search needs) returns indexed-at-requires-2 (λ c. search needs)
-    (λ c. search needs) returns-2 (λ c. search needs) key-at-requires (λ c. search needs) (λ c. search needs) row-at-requires (λ c. search needs)
-    returns-3 entry-at-requires (λ c. search needs) returns-4)
+table-at-spec = tie.close (tie.spec (λ c κs. search rules) (λ c. search rules) (λ c. search rules) returns indexed-at-requires-2 (λ c. search rules)
+    (λ c. search rules) returns-2 (λ c. search rules) key-at-requires (λ c. search rules) (λ c. search rules) row-at-requires (λ c. search rules)
+    returns-3 entry-at-requires (λ c. search rules) returns-4)

@@ -1,4 +1,4 @@
-use Rattle.expected.proofs.Prelude.{◌∙◌, ap, sym, needs}
+use Rattle.expected.proofs.Prelude.{◌∙◌, ap, sym, rules}
 use Rattle.integers.proofs.Kit.{List, ℤ}
 use Rattle.tables.specs.declared.Verdict.{Verdict}
 use Rattle.tables.specs.Verdicts.{left}
@@ -27,4 +27,4 @@ returns-2 c =
 
 pub expect-spec : {M : Type 1} → statement M
 expect-spec =
-    tie.close (tie.spec (λ c κs. search needs) (λ c. search needs) (λ c. search needs) returns (λ c κs. search needs) (λ c. search needs) returns-2)
+    tie.close (tie.spec (λ c κs. search rules) (λ c. search rules) (λ c. search rules) returns (λ c κs. search rules) (λ c. search rules) returns-2)

@@ -1,4 +1,4 @@
-use Rattle.expected.proofs.Prelude.{◌≡◌, ◌∙◌, ℕ, ◌≤◌, ◌-◌, ap, sym, arith, needs, answer}
+use Rattle.expected.proofs.Prelude.{◌≡◌, ◌∙◌, ℕ, ◌≤◌, ◌-◌, ap, sym, arith, rules, answer}
 use Rattle.integers.proofs.Kit.{refl, Bool, List, ℤ, not-false, not-true}
 use Rattle.tables.specs.declared.Counts.{Counts}
 use Rattle.tables.specs.declared.Verdict.{Verdict}
@@ -89,7 +89,7 @@ returns-2 c =
 pub judge-spec : {M : Type 1} → statement M
 judge-spec =
     tie.close (tie.spec invariant-loop decreases-loop invariant-rows decreases-rows (λ c. (omega arith, (refl, first-none _)))
-    (λ c. (omega arith, (c.before.rows.invariant.1.0, first-none _))) millionths-requires (λ c κs. search needs) row-requires
+    (λ c. (omega arith, (c.before.rows.invariant.1.0, first-none _))) millionths-requires (λ c κs. search rules) row-requires
     (λ c. omega (arith, (in-loop c.before).loop-test.taken, (start (in-loop c.before).before).pre.few_states))
     (λ c. omega (arith, (in-loop c.before).loop-test.taken)) loop-again
     (λ c. omega (arith, c.before.before.rows-test.true, (start c.before).pre.few_actions))

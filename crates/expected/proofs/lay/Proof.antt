@@ -1,4 +1,4 @@
-use Rattle.expected.proofs.Prelude.{◌≡◌, ◌∙◌, ℕ, ◌≤◌, ◌*◌, ◌-◌, ap, sym, arith, needs, lit<, one, answer}
+use Rattle.expected.proofs.Prelude.{◌≡◌, ◌∙◌, ℕ, ◌≤◌, ◌*◌, ◌-◌, ap, sym, arith, rules, lit<, one, answer}
 use Rattle.integers.proofs.Kit.{List, ℤ, ◌<◌, ◌/◌, ◌%◌, pos, length}
 use Rattle.integers.specs.Whole.{floor_div}
 use Rattle.integers.specs.Cells.{laid, laid_rows}
@@ -62,5 +62,5 @@ pub lay-spec : {M : Type 1} → statement M
 lay-spec =
     tie.close (tie.spec invariant-loop decreases-loop (λ c. omega (arith, places-few c.before.before.before.requires.0)) (λ c. (omega arith, sym (laid_none _ _)))
     (λ c. omega (arith, (start c.before).pre.0.some_states)) (λ c. omega (arith, (start c.before).pre.0.some_states)) millionths-requires
-    (λ c. search needs) (λ c κs. (lit< tt, lit< tt)) (λ c. omega (arith, below c.before.before)) slice_set
+    (λ c. search rules) (λ c κs. (lit< tt, lit< tt)) (λ c. omega (arith, below c.before.before)) slice_set
     (λ c. omega (arith, below c.before.before)) (λ c. omega (arith, c.before.before.loop-test.true)) loop-again same_length returns)

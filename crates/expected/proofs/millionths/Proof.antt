@@ -1,4 +1,4 @@
-use Rattle.expected.proofs.Prelude.{◌≡◌, ◌∙◌, ◌≤◌, ◌-◌, sym, arith, needs, lit<, w64, to_z, of_z, ◌·◌, sum_to, sum-none, one, Terms, term_fits, term-added}
+use Rattle.expected.proofs.Prelude.{◌≡◌, ◌∙◌, ◌≤◌, ◌-◌, sym, arith, rules, lit<, w64, to_z, of_z, ◌·◌, sum_to, sum-none, one, Terms, term_fits, term-added}
 use Rattle.expected.proofs.Prelude.{answer}
 use Rattle.integers.proofs.Kit.{mul-le-mul_right}
 use Rattle.tables.specs.Storage.{transition_in}
@@ -65,4 +65,4 @@ returns c =
 pub millionths-spec : {M : Type 1} → statement M
 millionths-spec =
     tie.close (tie.spec invariant-loop decreases-loop (λ c. (omega arith, sym (sum-none _))) transition-at-requires seen-requires add-scaled-requires
-    (λ c. search needs) (λ c. search needs) loop-again returns)
+    (λ c. search rules) (λ c. search rules) loop-again returns)

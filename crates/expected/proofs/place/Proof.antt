@@ -1,4 +1,4 @@
-use Rattle.expected.proofs.Prelude.{◌∙◌, ◌≤◌, ◌*◌, ap, ℕ, arith, needs}
+use Rattle.expected.proofs.Prelude.{◌∙◌, ◌≤◌, ◌*◌, ap, ℕ, arith, rules}
 use Rattle.integers.proofs.Kit.{◌+◌, mul-le-mul}
 use Rattle.tables.specs.Limits.{max_actions, max_states, max_converted, max_observations}
 use Rattle.tables.specs.Storage.{row_place}
@@ -20,5 +20,5 @@ returns c =
 
 pub place-spec : {M : Type 1} → statement M
 place-spec =
-    tie.close (tie.spec (λ c κs. search needs) (λ c κs. search needs) (λ c. omega (arith, few c))
+    tie.close (tie.spec (λ c κs. search rules) (λ c κs. search rules) (λ c. omega (arith, few c))
     (λ c. omega (arith, few c.before, c.before.before.before.requires)) returns)

@@ -1,4 +1,4 @@
-use Rattle.expected.proofs.Prelude.{◌≡◌, ◌≤◌, ◌-◌, sym, arith, needs, lit<, w64, to_z, of_z, ◌·◌, sum_to, sum-none, one, Terms, term_fits, term-added}
+use Rattle.expected.proofs.Prelude.{◌≡◌, ◌≤◌, ◌-◌, sym, arith, rules, lit<, w64, to_z, of_z, ◌·◌, sum_to, sum-none, one, Terms, term_fits, term-added}
 use Rattle.expected.proofs.Prelude.{answer}
 use Rattle.tables.specs.Limits.{max_reward}
 use Rattle.tables.specs.Storage.{observation_in}
@@ -50,7 +50,7 @@ add-scaled-requires c κs =
 loop-again : tie.Need-loop-preserved invariant-loop decreases-loop
 loop-again c =
     let l = c.before.before.before.before in let a = start l in (
-      search needs,
+      search rules,
       term-added (terms a) _ l.loop.invariant.1 c.before.before.observation-at.ensures (value c.before)
           (answer c.add-scaled.type-inv c.add-scaled.ensures),
     )
@@ -63,5 +63,5 @@ returns c =
 
 pub seen-spec : {M : Type 1} → statement M
 seen-spec =
-    tie.close (tie.spec invariant-loop decreases-loop (λ c. (search needs, sym (sum-none _))) observation-at-requires outcome-at-requires add-scaled-requires
-    (λ c. search needs) (λ c. search needs) loop-again returns)
+    tie.close (tie.spec invariant-loop decreases-loop (λ c. (search rules, sym (sum-none _))) observation-at-requires outcome-at-requires add-scaled-requires
+    (λ c. search rules) (λ c. search rules) loop-again returns)

@@ -1,4 +1,4 @@
-use Rattle.exponents.proofs.Prelude.{ℕ, ◌≤◌, ◌≡◌, sym, ap, subst, ◌∙◌, arith, needs, drop}
+use Rattle.exponents.proofs.Prelude.{ℕ, ◌≤◌, ◌≡◌, sym, ap, subst, ◌∙◌, arith, rules, drop}
 use Prim.Native.Nat.{◌+◌, ◌-◌}
 use mathlib.Core.Bool.{Bool, true, true≢false}
 use mathlib.Core.List.{List}
@@ -40,5 +40,5 @@ returns-3 c =
 
 pub marked-of-spec : {M : Type 1} → statement M
 marked-of-spec =
-    tie.close (tie.spec (λ c. search needs) returns returns-2 (λ c. search needs)
-    (λ c. search needs) (λ c. search needs) (λ c. search needs) powered-by-requires returns-3)
+    tie.close (tie.spec (λ c. search rules) returns returns-2 (λ c. search rules)
+    (λ c. search rules) (λ c. search rules) (λ c. search rules) powered-by-requires returns-3)

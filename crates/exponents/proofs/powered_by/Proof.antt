@@ -1,4 +1,4 @@
-use Rattle.exponents.proofs.Prelude.{ℕ, ◌≤◌, ◌≡◌, sym, ap, subst, ◌∙◌, arith, needs, drop}
+use Rattle.exponents.proofs.Prelude.{ℕ, ◌≤◌, ◌≡◌, sym, ap, subst, ◌∙◌, arith, rules, drop}
 use Rattle.numerals.specs.Numeral.{value, negative, unsigned, scaled}
 use mathlib.Core.Bool.{Bool}
 use mathlib.Core.List.{List}
@@ -59,4 +59,4 @@ returns-4 c =
 
 pub powered-by-spec : {M : Type 1} → statement M
 powered-by-spec =
-    tie.close (tie.spec (λ c κs. search needs) (λ c. search needs) digits-from-requires returns returns-2 returns-3 (λ c κs. search needs) returns-4)
+    tie.close (tie.spec (λ c κs. search rules) (λ c. search rules) digits-from-requires returns returns-2 returns-3 (λ c κs. search rules) returns-4)

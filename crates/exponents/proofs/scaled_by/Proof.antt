@@ -1,4 +1,4 @@
-use Rattle.exponents.proofs.Prelude.{ℕ, ◌≤◌, ◌≡◌, arith, needs}
+use Rattle.exponents.proofs.Prelude.{ℕ, ◌≤◌, ◌≡◌, arith, rules}
 use Prim.Native.Nat.{◌^◌, ◌<◌}
 use mathlib.Core.Bool.{true}
 use native.Mathlib.Nat.{mul-le-mul}
@@ -32,5 +32,5 @@ returns-3 c = scaled-times c.before.before.args.power c.before.before.args.v c.b
 
 pub scaled-by-spec : {M : Type 1} → statement M
 scaled-by-spec =
-    tie.close (tie.spec (λ c κs. search needs) (λ c. power-positive _ c.before.scale.ensures) returns
+    tie.close (tie.spec (λ c κs. search rules) (λ c. power-positive _ c.before.scale.ensures) returns
     (λ c. power-positive _ c.before.before.scale.ensures) returns-2 mul-t8 returns-3)

@@ -1,4 +1,4 @@
-use Rattle.integers.proofs.Kit.{◌∙◌, ap, needs}
+use Rattle.integers.proofs.Kit.{◌∙◌, ap, rules}
 use Rattle.answers.specs.Calls.{refusal_of}
 use Rattle.exports.proofs.biidhaqun_offer.Statement.{statement}
 use Rattle.exports.proofs.biidhaqun_offer.Tie as tie
@@ -24,7 +24,7 @@ returns c =
 
 pub biidhaqun-offer-spec : {M : Type 1} → statement M
 biidhaqun-offer-spec =
-    tie.close (tie.spec (λ c κs. search needs) (λ c κs. search needs) (λ c. (acted c).before.before.state.given) (λ c. (acted c).actions.given)
+    tie.close (tie.spec (λ c κs. search rules) (λ c κs. search rules) (λ c. (acted c).before.before.state.given) (λ c. (acted c).actions.given)
     (λ c. (masked c).before.before.choices.given) (λ c. (masked c).masks.given) (λ c. (weighed c).before.before.entries.given)
     (λ c. (weighed c).before.corners.given) (λ c. (weighed c).weights.given) (λ c. c.before.before.before.values.given)
     (λ c. c.before.before.informed.given) (λ c. c.before.qmdp.given) returns)

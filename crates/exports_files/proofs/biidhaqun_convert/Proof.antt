@@ -1,4 +1,4 @@
-use Rattle.integers.proofs.Kit.{ap, needs}
+use Rattle.integers.proofs.Kit.{ap, rules}
 use Rattle.exports_files.specs.Calls.{conversion_by}
 use Rattle.exports_files.proofs.biidhaqun_convert.Statement.{statement}
 use Rattle.exports_files.proofs.biidhaqun_convert.Tie as tie
@@ -12,4 +12,4 @@ returns c = let a = (called c).convert.ensures in (rw c.refusal-of.ensures (ap c
 
 pub biidhaqun-convert-spec : {M : Type 1} → statement M
 biidhaqun-convert-spec =
-    tie.close (tie.spec (λ c κs. search needs) (λ c κs. search needs) (λ c. c.before.before.out.given) returns)
+    tie.close (tie.spec (λ c κs. search rules) (λ c κs. search rules) (λ c. c.before.before.out.given) returns)

@@ -1,4 +1,4 @@
-use Rattle.integers.proofs.Kit.{ap, needs}
+use Rattle.integers.proofs.Kit.{ap, rules}
 use Rattle.exports_files.specs.Calls.{reading_by}
 use Rattle.exports_files.proofs.biidhaqun_read.Statement.{statement}
 use Rattle.exports_files.proofs.biidhaqun_read.Tie as tie
@@ -19,5 +19,5 @@ returns c = let a = (called c).read.ensures in (rw c.before.refusal-of.ensures (
 
 pub biidhaqun-read-spec : {M : Type 1} → statement M
 biidhaqun-read-spec =
-    tie.close (tie.spec (λ c κs. search needs) (λ c κs. search needs) (λ c. (moved c).transition.given) (λ c. (rewarded c).before.before.observation.given)
+    tie.close (tie.spec (λ c κs. search rules) (λ c κs. search rules) (λ c. (moved c).transition.given) (λ c. (rewarded c).before.before.observation.given)
     (λ c. (rewarded c).reward.given) (λ c. c.before.before.before.start.given) returns)

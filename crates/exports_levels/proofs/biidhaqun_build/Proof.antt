@@ -1,4 +1,4 @@
-use Rattle.integers.proofs.Kit.{◌∙◌, ap, needs}
+use Rattle.integers.proofs.Kit.{◌∙◌, ap, rules}
 use Rattle.answers.specs.Calls.{refusal_of}
 use Rattle.exports_levels.proofs.biidhaqun_build.Statement.{statement}
 use Rattle.exports_levels.proofs.biidhaqun_build.Tie as tie
@@ -27,6 +27,6 @@ returns c =
 
 pub biidhaqun-build-spec : {M : Type 1} → statement M
 biidhaqun-build-spec =
-    tie.close (tie.spec (λ c κs. search needs) (λ c κs. search needs) (λ c. (acted c).newactions.given) (λ c. (masked c).before.before.newchoices.given)
+    tie.close (tie.spec (λ c κs. search rules) (λ c κs. search rules) (λ c. (acted c).newactions.given) (λ c. (masked c).before.before.newchoices.given)
     (λ c. (masked c).newmasks.given) (λ c. c.before.before.before.newentries.given) (λ c. c.before.before.newcorners.given)
     (λ c. c.before.newvalues.given) returns)

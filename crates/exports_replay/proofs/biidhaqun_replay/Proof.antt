@@ -1,4 +1,4 @@
-use Rattle.integers.proofs.Kit.{ap, needs}
+use Rattle.integers.proofs.Kit.{ap, rules}
 use Rattle.replay.specs.declared.Replayed.{Replayed}
 use Rattle.replay.specs.Replay.{replay_answer}
 use Rattle.exports_replay.specs.Calls.{replay_by}
@@ -29,7 +29,7 @@ returns c =
 
 pub biidhaqun-replay-spec : {M : Type 1} → statement M
 biidhaqun-replay-spec =
-    tie.close (tie.spec (λ c κs. search needs) (λ c κs. search needs) (λ c. (acted c).before.before.state.given) (λ c. (acted c).actions.given)
+    tie.close (tie.spec (λ c κs. search rules) (λ c κs. search rules) (λ c. (acted c).before.before.state.given) (λ c. (acted c).actions.given)
     (λ c. (masked c).before.before.choices.given) (λ c. (masked c).masks.given) (λ c. (weighed c).before.before.entries.given)
     (λ c. (weighed c).before.corners.given) (λ c. (weighed c).weights.given) (λ c. c.before.before.before.values.given)
     (λ c. c.before.before.informed.given) (λ c. c.before.qmdp.given) returns)

@@ -1,4 +1,4 @@
-use Rattle.integers.proofs.Kit.{ap, needs}
+use Rattle.integers.proofs.Kit.{ap, rules}
 use Rattle.adoption.specs.declared.Adopted.{Adopted}
 use Rattle.exports_solver.specs.Calls.{adoption_by}
 use Rattle.exports_solver.proofs.biidhaqun_adopt.Statement.{statement}
@@ -23,6 +23,6 @@ returns c =
 
 pub biidhaqun-adopt-spec : {M : Type 1} → statement M
 biidhaqun-adopt-spec =
-    tie.close (tie.spec (λ c κs. search needs) (λ c κs. search needs) (λ c. (acted c).newactions.given) (λ c. (masked c).before.before.newchoices.given)
+    tie.close (tie.spec (λ c κs. search rules) (λ c κs. search rules) (λ c. (acted c).newactions.given) (λ c. (masked c).before.before.newchoices.given)
     (λ c. (masked c).newmasks.given) (λ c. c.before.before.before.newentries.given) (λ c. c.before.before.newcorners.given)
     (λ c. c.before.newvalues.given) returns)

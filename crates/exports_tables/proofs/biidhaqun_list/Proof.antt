@@ -1,4 +1,4 @@
-use Rattle.integers.proofs.Kit.{◌∙◌, ap, needs}
+use Rattle.integers.proofs.Kit.{◌∙◌, ap, rules}
 use Rattle.answers.specs.Calls.{refusal_of}
 use Rattle.exports_tables.proofs.biidhaqun_list.Statement.{statement}
 use Rattle.exports_tables.proofs.biidhaqun_list.Tie as tie
@@ -14,4 +14,4 @@ returns c =
 
 pub biidhaqun-list-spec : {M : Type 1} → statement M
 biidhaqun-list-spec =
-    tie.close (tie.spec (λ c κs. search needs) (λ c κs. search needs) (λ c. c.before.before.list.given) returns)
+    tie.close (tie.spec (λ c κs. search rules) (λ c κs. search rules) (λ c. c.before.before.list.given) returns)

@@ -1,4 +1,4 @@
-use Rattle.integers.proofs.Kit.{◌∙◌, ap, needs}
+use Rattle.integers.proofs.Kit.{◌∙◌, ap, rules}
 use Rattle.answers.specs.Calls.{refusal_of}
 use Rattle.exports_tables.proofs.biidhaqun_open.Statement.{statement}
 use Rattle.exports_tables.proofs.biidhaqun_open.Tie as tie
@@ -24,6 +24,6 @@ returns c =
 
 pub biidhaqun-open-spec : {M : Type 1} → statement M
 biidhaqun-open-spec =
-    tie.close (tie.spec (λ c κs. search needs) (λ c κs. search needs) (λ c. (stated c).state.given) (λ c. (chosen c).before.before.actions.given)
+    tie.close (tie.spec (λ c κs. search rules) (λ c κs. search rules) (λ c. (stated c).state.given) (λ c. (chosen c).before.before.actions.given)
     (λ c. (chosen c).choices.given) (λ c. (entered c).before.before.masks.given) (λ c. (entered c).entries.given)
     (λ c. c.before.before.before.corners.given) (λ c. c.before.before.informed.given) (λ c. c.before.qmdp.given) returns)

@@ -1,4 +1,4 @@
-use Rattle.integers.proofs.Kit.{◌∙◌, ap, needs}
+use Rattle.integers.proofs.Kit.{◌∙◌, ap, rules}
 use Rattle.answers.specs.Calls.{refusal_of}
 use Rattle.exports_tables.proofs.biidhaqun_reprice.Statement.{statement}
 use Rattle.exports_tables.proofs.biidhaqun_reprice.Tie as tie
@@ -18,5 +18,5 @@ returns c =
 
 pub biidhaqun-reprice-spec : {M : Type 1} → statement M
 biidhaqun-reprice-spec =
-    tie.close (tie.spec (λ c κs. search needs) (λ c κs. search needs) (λ c. (valued c).before.before.entries.given) (λ c. (valued c).before.corners.given)
+    tie.close (tie.spec (λ c κs. search rules) (λ c κs. search rules) (λ c. (valued c).before.before.entries.given) (λ c. (valued c).before.corners.given)
     (λ c. (valued c).values.given) (λ c. c.before.before.informed.given) (λ c. c.before.qmdp.given) returns)

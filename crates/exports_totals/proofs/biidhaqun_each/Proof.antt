@@ -1,4 +1,4 @@
-use Rattle.integers.proofs.Kit.{◌∙◌, ap, needs}
+use Rattle.integers.proofs.Kit.{◌∙◌, ap, rules}
 use Rattle.answers.specs.Calls.{refusal_of}
 use Rattle.exports_totals.proofs.biidhaqun_each.Statement.{statement}
 use Rattle.exports_totals.proofs.biidhaqun_each.Tie as tie
@@ -18,5 +18,5 @@ returns c =
 
 pub biidhaqun-each-spec : {M : Type 1} → statement M
 biidhaqun-each-spec =
-    tie.close (tie.spec (λ c κs. search needs) (λ c κs. search needs) (λ c. (lowered c).before.before.verdicts.given) (λ c. (lowered c).lower.given)
+    tie.close (tie.spec (λ c κs. search rules) (λ c κs. search rules) (λ c. (lowered c).before.before.verdicts.given) (λ c. (lowered c).lower.given)
     (λ c. c.before.before.before.upper.given) (λ c. c.before.before.advice.given) returns)

@@ -1,4 +1,4 @@
-use Rattle.integers.proofs.Kit.{refl, ap, needs}
+use Rattle.integers.proofs.Kit.{refl, ap, rules}
 use Rattle.integers.proofs.Words.{back}
 use Rattle.exports_totals.specs.Calls.{totals_by}
 use Rattle.exports_totals.proofs.biidhaqun_totals.Statement.{statement}
@@ -21,4 +21,4 @@ returns c =
     )
 
 pub biidhaqun-totals-spec : {M : Type 1} → statement M
-biidhaqun-totals-spec = tie.close (tie.spec (λ c κs. search needs) (λ c κs. search needs) returns)
+biidhaqun-totals-spec = tie.close (tie.spec (λ c κs. search rules) (λ c κs. search rules) returns)

@@ -1,4 +1,4 @@
-use Rattle.grammar.proofs.Prelude.{sym, ap, ◌∙◌, limited, found, needs}
+use Rattle.grammar.proofs.Prelude.{sym, ap, ◌∙◌, limited, found, rules}
 use Rattle.grammar.specs.Grammar.{Finding}
 use Rattle.grammar.proofs.Laws.{limit-under, limit-over, limit-in}
 use Rattle.grammar.proofs.Arms.{is-not}
@@ -35,5 +35,5 @@ returns-4 c =
 
 pub amount-in-spec : {M : Type 1} → statement M
 amount-in-spec =
-    tie.close (tie.spec (λ c. search needs) (λ c. search needs) (λ c. search needs) (λ c κs. search needs) (λ c. search needs) (λ c. search needs)
+    tie.close (tie.spec (λ c. search rules) (λ c. search rules) (λ c. search rules) (λ c κs. search rules) (λ c. search rules) (λ c. search rules)
     returns returns-2 returns-3 returns-4)

@@ -1,4 +1,4 @@
-use Rattle.grammar.proofs.Prelude.{number, value-next, reads_on, reads-back, needs}
+use Rattle.grammar.proofs.Prelude.{number, value-next, reads_on, reads-back, rules}
 use Rattle.grammar.specs.Grammar.{field}
 use Rattle.grammar.proofs.field_at.Statement.{statement}
 use Rattle.grammar.proofs.field_at.Tie as tie
@@ -24,4 +24,4 @@ returns-2 c =
 
 pub field-at-spec : {M : Type 1} → statement M
 field-at-spec =
-    tie.close (tie.spec (λ c. search needs) (λ c κs. search needs) (λ c. search needs) (λ c. search needs) returns number-at-requires returns-2)
+    tie.close (tie.spec (λ c. search rules) (λ c κs. search rules) (λ c. search rules) (λ c. search rules) returns number-at-requires returns-2)

@@ -1,4 +1,4 @@
-use Rattle.grammar.proofs.Prelude.{◌-◌, arith, number, needs}
+use Rattle.grammar.proofs.Prelude.{◌-◌, arith, number, rules}
 use Rattle.numerals.specs.Numeral.{count_form}
 use Rattle.words.specs.Words.{told}
 use Rattle.grammar.specs.Grammar.{got, index}
@@ -25,5 +25,5 @@ returns-2 c =
 
 pub index-of-spec : {M : Type 1} → statement M
 index-of-spec =
-    tie.close (tie.spec (λ c. search needs) (λ c κs. search needs) (λ c. search needs) (λ c. search needs) (λ c. search needs) (λ c κs. search needs)
+    tie.close (tie.spec (λ c. search rules) (λ c κs. search rules) (λ c. search rules) (λ c. search rules) (λ c. search rules) (λ c κs. search rules)
     returns returns-2)

@@ -1,4 +1,4 @@
-use Rattle.grammar.proofs.Prelude.{key, inside, takes-reads, needs}
+use Rattle.grammar.proofs.Prelude.{key, inside, takes-reads, rules}
 use Rattle.grammar.proofs.key_at.Statement.{statement}
 use Rattle.grammar.proofs.key_at.Tie as tie
 
@@ -10,4 +10,4 @@ returns : tie.Need-returns
 returns c = takes-reads (key (start c.before).args.k.now) (c.before.word-from.ensures.within (start c.before).requires) c.key_of.ensures
 
 pub key-at-spec : {M : Type 1} → statement M
-key-at-spec = tie.close (tie.spec (λ c κs. search needs) (λ c κs. inside (c.word-from.ensures.within (start c).requires)) returns)
+key-at-spec = tie.close (tie.spec (λ c κs. search rules) (λ c κs. inside (c.word-from.ensures.within (start c).requires)) returns)

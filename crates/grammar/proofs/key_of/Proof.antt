@@ -1,5 +1,5 @@
 use Rattle.grammar.proofs.Prelude.{ℕ, ◌≤◌, ◌≡◌, sym, ap, ◌∙◌, Bool, true, false, cond, List, arith, same, key, found, bytes_of}
-use Rattle.grammar.proofs.Prelude.{takes-end, takes-word, lies_in, needs}
+use Rattle.grammar.proofs.Prelude.{takes-end, takes-word, lies_in, rules}
 use Rattle.words.specs.declared.Word.{Word}
 use Rattle.words.specs.declared.Word.TheVariants.{At}
 use Rattle.words.specs.Words.{told}
@@ -59,5 +59,5 @@ returns-3 c =
 
 pub key-of-spec : {M : Type 1} → statement M
 key-of-spec =
-    tie.close (tie.spec (λ c. search needs) (λ c. search needs) returns sub-is-same part-is-same-start part-is-same-end (λ c κs. search needs)
+    tie.close (tie.spec (λ c. search rules) (λ c. search rules) returns sub-is-same part-is-same-start part-is-same-end (λ c κs. search rules)
     returns-2 returns-3)

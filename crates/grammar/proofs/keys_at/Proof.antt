@@ -1,4 +1,4 @@
-use Rattle.grammar.proofs.Prelude.{key, inside, takes-reads, reads_on, reads-back, needs}
+use Rattle.grammar.proofs.Prelude.{key, inside, takes-reads, reads_on, reads-back, rules}
 use Rattle.grammar.specs.Grammar.{keys}
 use Rattle.grammar.proofs.Laws.{second_word}
 use Rattle.grammar.proofs.keys_at.Statement.{statement}
@@ -34,4 +34,4 @@ returns-2 c =
     (takes-reads (key a.args.second.now) (second_word value next p a.pre k.key_of.ensures value-told) c.key-of2.ensures)
 
 pub keys-at-spec : {M : Type 1} → statement M
-keys-at-spec = tie.close (tie.spec (λ c κs. search needs) key-of-requires (λ c. search needs) (λ c. search needs) returns key-of-requires-2 returns-2)
+keys-at-spec = tie.close (tie.spec (λ c κs. search rules) key-of-requires (λ c. search rules) (λ c. search rules) returns key-of-requires-2 returns-2)

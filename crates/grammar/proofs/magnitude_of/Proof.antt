@@ -1,5 +1,5 @@
 use Rattle.grammar.proofs.Prelude.{ℕ, ◌≤◌, ◌≡◌, ap, ◌∙◌, Bool, true, false, List, arith, drop, amount_of, limited, found, bytes_of}
-use Rattle.grammar.proofs.Prelude.{takes-end, takes-word, lies_in, limited-below, needs}
+use Rattle.grammar.proofs.Prelude.{takes-end, takes-word, lies_in, limited-below, rules}
 use mir.Val.{bool_byte}
 use Rattle.numerals.specs.Numeral.{negative, unsigned}
 use Rattle.numerals.proofs.Laws.{past-minus}
@@ -51,5 +51,5 @@ returns-2 c =
 
 pub magnitude-of-spec : {M : Type 1} → statement M
 magnitude-of-spec =
-    tie.close (tie.spec (λ c. search needs) (λ c. search needs) returns sub-is-negative part-is-negative-start part-is-negative-end
-    (λ c κs. search needs) (λ c. search needs) amount-in-requires returns-2)
+    tie.close (tie.spec (λ c. search rules) (λ c. search rules) returns sub-is-negative part-is-negative-start part-is-negative-end
+    (λ c κs. search rules) (λ c. search rules) amount-in-requires returns-2)

@@ -1,4 +1,4 @@
-use Rattle.grammar.proofs.Prelude.{sym, ap, ◌∙◌, arith, lies_in, needs}
+use Rattle.grammar.proofs.Prelude.{sym, ap, ◌∙◌, arith, lies_in, rules}
 use Rattle.words.specs.declared.Word.{Word}
 use Rattle.words.specs.Words.{told}
 use Rattle.grammar.specs.Grammar.{minus}
@@ -24,5 +24,5 @@ returns-2 c =
 
 pub minus-of-spec : {M : Type 1} → statement M
 minus-of-spec =
-    tie.close (tie.spec (λ c. search needs) (λ c. search needs) (λ c. search needs) sub-is-negative part-is-negative-start part-is-negative-end
-    (λ c κs. search needs) returns-2)
+    tie.close (tie.spec (λ c. search rules) (λ c. search rules) (λ c. search rules) sub-is-negative part-is-negative-start part-is-negative-end
+    (λ c κs. search rules) returns-2)

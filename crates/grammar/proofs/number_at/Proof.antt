@@ -1,4 +1,4 @@
-use Rattle.grammar.proofs.Prelude.{number, inside, takes-reads, needs}
+use Rattle.grammar.proofs.Prelude.{number, inside, takes-reads, rules}
 use Rattle.grammar.proofs.number_at.Statement.{statement}
 use Rattle.grammar.proofs.number_at.Tie as tie
 
@@ -11,4 +11,4 @@ returns c =
     takes-reads (number a.args.form a.args.least a.args.most) (c.before.word-from.ensures.within a.requires.0) c.number_of_lem.ensures
 
 pub number-at-spec : {M : Type 1} → statement M
-number-at-spec = tie.close (tie.spec (λ c κs. search needs) number-of-requires returns)
+number-at-spec = tie.close (tie.spec (λ c κs. search rules) number-of-requires returns)

@@ -1,4 +1,4 @@
-use Rattle.grammar.proofs.Prelude.{ℕ, List, arith, amount_of, limited, number, bytes_of, takes-end, takes-word, lies_in, limited-below, needs}
+use Rattle.grammar.proofs.Prelude.{ℕ, List, arith, amount_of, limited, number, bytes_of, takes-end, takes-word, lies_in, limited-below, rules}
 use Rattle.grammar.proofs.number_of.Statement.{statement}
 use Rattle.grammar.proofs.number_of.Tie as tie
 
@@ -25,4 +25,4 @@ returns-2 c =
     (limited-below a.least a.most (amount_of a.form (bytes_of a.file.now from to))) c.amount-in.ensures
 
 pub number-of-spec : {M : Type 1} → statement M
-number-of-spec = tie.close (tie.spec (λ c. search needs) (λ c. search needs) returns amount-in-requires returns-2)
+number-of-spec = tie.close (tie.spec (λ c. search rules) (λ c. search rules) returns amount-in-requires returns-2)

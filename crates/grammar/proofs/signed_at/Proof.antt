@@ -1,4 +1,4 @@
-use Rattle.grammar.proofs.Prelude.{◌∙◌, ap, sym, Bool, arith, inside, reads-back, takes-reads, value-next, needs}
+use Rattle.grammar.proofs.Prelude.{◌∙◌, ap, sym, Bool, arith, inside, reads-back, takes-reads, value-next, rules}
 use lib.IntN.{pos}
 use Rattle.integers.proofs.Words.{answer}
 use Rattle.words.specs.Words.{words_in, between}
@@ -45,5 +45,5 @@ returns-2 c =
 
 pub signed-at-spec : {M : Type 1} → statement M
 signed-at-spec =
-    tie.close (tie.spec (λ c κs. search needs) (λ c κs. (inside (worded c), c.before.before.requires.1.0)) (λ c. search needs) (λ c. search needs)
+    tie.close (tie.spec (λ c κs. search rules) (λ c κs. (inside (worded c), c.before.before.requires.1.0)) (λ c. search rules) (λ c. search rules)
     returns (λ c κs. inside (worded (after-word-from c.before))) with-sign-requires returns-2)

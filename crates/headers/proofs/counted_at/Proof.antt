@@ -1,4 +1,4 @@
-use Rattle.integers.proofs.Kit.{ℕ, ◌≤◌, ◌≡◌, refl, List, arith, needs}
+use Rattle.integers.proofs.Kit.{ℕ, ◌≤◌, ◌≡◌, refl, List, arith, rules}
 use Rattle.tables.specs.Limits.{max_states, max_actions, max_observations}
 use Rattle.words.specs.Words.{words_in, between}
 use Rattle.grammar.specs.declared.Read.{Read}
@@ -98,6 +98,6 @@ returns-4 c =
 
 pub counted-at-spec : {M : Type 1} → statement M
 counted-at-spec =
-    tie.close (tie.spec (λ c. search needs) (λ c κs. search needs) (λ c. search needs) (λ c. search needs) (λ c κs. search needs) returns
-    (λ c. search needs) field-at-requires-2 (λ c. search needs) (λ c. search needs) (λ c κs. search needs) returns-2 (λ c. search needs)
-    field-at-requires-3 (λ c. search needs) (λ c. search needs) (λ c κs. search needs) returns-3 returns-4)
+    tie.close (tie.spec (λ c. search rules) (λ c κs. search rules) (λ c. search rules) (λ c. search rules) (λ c κs. search rules) returns
+    (λ c. search rules) field-at-requires-2 (λ c. search rules) (λ c. search rules) (λ c κs. search rules) returns-2 (λ c. search rules)
+    field-at-requires-3 (λ c. search rules) (λ c. search rules) (λ c κs. search rules) returns-3 returns-4)

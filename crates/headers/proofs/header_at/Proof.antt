@@ -1,4 +1,4 @@
-use Rattle.integers.proofs.Kit.{ℕ, needs}
+use Rattle.integers.proofs.Kit.{ℕ, rules}
 use Rattle.words.specs.Words.{Words}
 use Rattle.tables.specs.declared.Counts.{Counts}
 use Rattle.grammar.specs.Grammar.{Answer, ◌then◌, key, key_named}
@@ -74,6 +74,6 @@ returns-4 c =
 
 pub header-at-spec : {M : Type 1} → statement M
 header-at-spec =
-    tie.close (tie.spec (λ c. search needs) (λ c κs. search needs) (λ c. search needs) (λ c. search needs) (λ c κs. search needs) returns
-    (λ c. search needs) (λ c. search needs) keys-at-requires (λ c. search needs) (λ c. search needs) (λ c κs. search needs) returns-2
-    (λ c. search needs) key-at-requires (λ c. search needs) (λ c. search needs) (λ c κs. search needs) returns-3 counted-at-requires returns-4)
+    tie.close (tie.spec (λ c. search rules) (λ c κs. search rules) (λ c. search rules) (λ c. search rules) (λ c κs. search rules) returns
+    (λ c. search rules) (λ c. search rules) keys-at-requires (λ c. search rules) (λ c. search rules) (λ c κs. search rules) returns-2
+    (λ c. search rules) key-at-requires (λ c. search rules) (λ c. search rules) (λ c κs. search rules) returns-3 counted-at-requires returns-4)

@@ -1,4 +1,4 @@
-use Rattle.integers.proofs.Kit.{ℕ, ◌≡◌, ap, subst, ◌∙◌, List, arith, needs, length, length-replicate, replicate}
+use Rattle.integers.proofs.Kit.{ℕ, ◌≡◌, ap, subst, ◌∙◌, List, arith, rules, length, length-replicate, replicate}
 use Rattle.tables.specs.Limits.{max_states}
 use Rattle.words.specs.Words.{words_in, between}
 use Rattle.drafts.specs.Drafts.{stated}
@@ -60,5 +60,5 @@ returns-2 c =
 
 pub start-at-spec : {M : Type 1} → statement M
 start-at-spec =
-    tie.close (tie.spec (λ c. search needs) (λ c. search needs) (λ c κs. search needs) (λ c. search needs) (λ c. search needs) returns
-    row-at-requires (λ c. search needs) returns-2)
+    tie.close (tie.spec (λ c. search rules) (λ c. search rules) (λ c κs. search rules) (λ c. search rules) (λ c. search rules) returns
+    row-at-requires (λ c. search rules) returns-2)

@@ -1,4 +1,4 @@
-use Rattle.integers.proofs.Kit.{ℕ, ◌≡◌, ◌∙◌, ap, sym, true, arith, needs, not-true, not-false}
+use Rattle.integers.proofs.Kit.{ℕ, ◌≡◌, ◌∙◌, ap, sym, true, arith, rules, not-true, not-false}
 use Rattle.masks.specs.Steps.{some_includes}
 use Rattle.bounds.specs.Steps.{support_in, widened}
 use Rattle.intervals.specs.Intervals.{ranges_hold, highs_hold}
@@ -95,6 +95,6 @@ returns-4 c =
 
 pub answer-spec : {M : Type 1} → statement M
 answer-spec =
-    tie.close (tie.spec (λ c κs. search needs) (λ c κs. search needs) returns (λ c κs. search needs) (λ c κs. search needs) returns-2
-    point-weights-requires point-weights-requires-2 (λ c. search needs) (λ c κs. search needs) (λ c κs. search needs) (λ c κs. search needs) returns-3
-    (λ c. search needs) (λ c. search needs) totals-at-requires returns-4)
+    tie.close (tie.spec (λ c κs. search rules) (λ c κs. search rules) returns (λ c κs. search rules) (λ c κs. search rules) returns-2
+    point-weights-requires point-weights-requires-2 (λ c. search rules) (λ c κs. search rules) (λ c κs. search rules) (λ c κs. search rules) returns-3
+    (λ c. search rules) (λ c. search rules) totals-at-requires returns-4)

@@ -1,4 +1,4 @@
-use Rattle.integers.proofs.Kit.{◌≡◌, true, false, needs, le-leb, lt-leb, leb, length}
+use Rattle.integers.proofs.Kit.{◌≡◌, true, false, rules, le-leb, lt-leb, leb, length}
 use Rattle.intervals.proofs.highs_hold.Statement.{statement}
 use Rattle.intervals.proofs.highs_hold.Tie as tie
 
@@ -15,4 +15,4 @@ returns-2 c =
     let long : leb a.n (length a.lows.now) ≡ true = le-leb _ _ e.if1.false in rw long c.mixture-holds.ensures
 
 pub highs-hold-spec : {M : Type 1} → statement M
-highs-hold-spec = tie.close (tie.spec returns (λ c κs. search needs) returns-2)
+highs-hold-spec = tie.close (tie.spec returns (λ c κs. search rules) returns-2)

@@ -1,4 +1,4 @@
-use Rattle.integers.proofs.Kit.{◌-◌, ◌≤◌, ◌≡◌, sym, true, arith, needs, le-leb, lt-leb, leb}
+use Rattle.integers.proofs.Kit.{◌-◌, ◌≤◌, ◌≡◌, sym, true, arith, rules, le-leb, lt-leb, leb}
 use Rattle.integers.proofs.Searches.{every-none, every_more, every-not}
 use Rattle.tables.specs.Storage.{weight_in}
 use Rattle.intervals.specs.Intervals.{ranges_hold}
@@ -37,5 +37,5 @@ returns-2 c = let e : c.before.loop.s ≡ (start c.before).args.n = omega arith 
 
 pub ranges-hold-spec : {M : Type 1} → statement M
 ranges-hold-spec =
-    tie.close (tie.spec invariant-loop decreases-loop (λ c. (omega arith, every-none _)) (λ c κs. search needs) (λ c κs. search needs) returns (λ c. omega arith)
-    (λ c. search needs) loop-again returns-2)
+    tie.close (tie.spec invariant-loop decreases-loop (λ c. (omega arith, every-none _)) (λ c κs. search rules) (λ c κs. search rules) returns (λ c. omega arith)
+    (λ c. search rules) loop-again returns-2)

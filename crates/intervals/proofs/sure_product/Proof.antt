@@ -1,4 +1,4 @@
-use Rattle.integers.proofs.Kit.{◌≤◌, ◌<◌, ◌-◌, ◌+◌, ◌≡◌, ◌∙◌, sym, arith, needs, ℕ, ℤ, List, get_or, pos, w64, to_z, lit<}
+use Rattle.integers.proofs.Kit.{◌≤◌, ◌<◌, ◌-◌, ◌+◌, ◌≡◌, ◌∙◌, sym, arith, rules, ℕ, ℤ, List, get_or, pos, w64, to_z, lit<}
 use Rattle.integers.proofs.Words.{back, answer}
 use Rattle.integers.specs.Whole.{◌·◌, sum_to}
 use Rattle.integers.proofs.Sums.{sum-none, sum_step}
@@ -62,6 +62,6 @@ returns c =
 
 pub sure-product-spec : {M : Type 1} → statement M
 sure-product-spec =
-    tie.close (tie.spec invariant-loop decreases-loop (λ c. (search needs, sym (sum-none _))) (λ c. search needs) (λ c. search needs) (λ c. search needs)
-    (λ c. search needs) (λ c. search needs) (λ c. search needs) (λ c. search needs) (λ c κs. search needs) add-scaled-requires (λ c. search needs)
-    (λ c. search needs) loop-again returns)
+    tie.close (tie.spec invariant-loop decreases-loop (λ c. (search rules, sym (sum-none _))) (λ c. search rules) (λ c. search rules) (λ c. search rules)
+    (λ c. search rules) (λ c. search rules) (λ c. search rules) (λ c. search rules) (λ c κs. search rules) add-scaled-requires (λ c. search rules)
+    (λ c. search rules) loop-again returns)

@@ -1,4 +1,4 @@
-use Rattle.integers.proofs.Kit.{needs, ℕ, ◌+◌, ◌≤◌, ◌<◌, ◌-◌, ◌≡◌, ◌∙◌, sym, ap, arith, Bool, true, List, get_or, pos, w64, to_z, of_z, ⊎_elim, not-false, not-true}
+use Rattle.integers.proofs.Kit.{rules, ℕ, ◌+◌, ◌≤◌, ◌<◌, ◌-◌, ◌≡◌, ◌∙◌, sym, ap, arith, Bool, true, List, get_or, pos, w64, to_z, of_z, ⊎_elim, not-false, not-true}
 use Rattle.integers.proofs.Words.{answer}
 use Rattle.integers.specs.Search.{first_largest_of}
 use Rattle.tables.specs.Storage.{weight_in, entry_in}
@@ -113,5 +113,5 @@ returns c =
 
 pub surest-product-spec : {M : Type 1} → statement M
 surest-product-spec =
-    tie.close (tie.spec invariant-loop decreases-loop loop-holds (λ c. search needs) (λ c. search needs) (λ c κs. search needs) (λ c κs. search needs)
+    tie.close (tie.spec invariant-loop decreases-loop loop-holds (λ c. search rules) (λ c. search rules) (λ c κs. search rules) (λ c κs. search rules)
     sure-product-requires (λ c. omega arith) (λ c. omega arith) loop-again returns)

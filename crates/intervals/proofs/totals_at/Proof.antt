@@ -1,4 +1,4 @@
-use Rattle.integers.proofs.Kit.{ℕ, ◌≡◌, ◌∙◌, refl, ap, arith, needs, get_or, pos, w64, to_z, of_z, zero-add}
+use Rattle.integers.proofs.Kit.{ℕ, ◌≡◌, ◌∙◌, refl, ap, arith, rules, get_or, pos, w64, to_z, of_z, zero-add}
 use Rattle.integers.proofs.Words.{answer}
 use Rattle.tables.specs.Storage.{weight_in}
 use Rattle.plans.proofs.Intervals.{least-cong}
@@ -35,4 +35,4 @@ returns : tie.Need-returns
 returns c = rw (answer c.before.surest-product.type-inv c.before.surest-product.ensures, at-upper c)
 
 pub totals-at-spec : {M : Type 1} → statement M
-totals-at-spec = tie.close (tie.spec (λ c κs. search needs) sure-product-requires returns)
+totals-at-spec = tie.close (tie.spec (λ c κs. search rules) sure-product-requires returns)

@@ -1,4 +1,4 @@
-use Rattle.integers.proofs.Kit.{ℕ, ◌≡◌, sym, ◌∙◌, List, needs, []}
+use Rattle.integers.proofs.Kit.{ℕ, ◌≡◌, sym, ◌∙◌, List, rules, []}
 use Rattle.tables.specs.Tables.{Tables}
 use Rattle.tables.specs.declared.Verdict.TheVariants.{Fine}
 use Rattle.tables.specs.Storage.{tables_in}
@@ -70,5 +70,5 @@ returns-2 c =
 
 pub totals-within-spec : {M : Type 1} → statement M
 totals-within-spec =
-    tie.close (tie.spec (λ c κs. search needs) (λ c. search needs) (λ c. search needs) (λ c κs. search needs) returns standing-in-requires
+    tie.close (tie.spec (λ c κs. search rules) (λ c. search rules) (λ c. search rules) (λ c κs. search rules) returns standing-in-requires
     answer-requires returns-2)

@@ -1,4 +1,4 @@
-use Rattle.integers.proofs.Kit.{◌≡◌, needs}
+use Rattle.integers.proofs.Kit.{◌≡◌, rules}
 use Rattle.tables.specs.Limits.{max_vectors}
 use Rattle.tables.specs.Tables.{Tables}
 use Rattle.tables.specs.Storage.{tables_in}
@@ -88,5 +88,5 @@ returns-3 c =
 
 pub judge-backups-spec : {M : Type 1} → statement M
 judge-backups-spec =
-    tie.close (tie.spec (λ c κs. (known (first c)).standing.state-long) masks-hold-requires (λ c. search needs) (λ c. search needs) returns
-    floors-hold-requires (λ c. search needs) (λ c. search needs) returns-2 roof-holds-requires returns-3)
+    tie.close (tie.spec (λ c κs. (known (first c)).standing.state-long) masks-hold-requires (λ c. search rules) (λ c. search rules) returns
+    floors-hold-requires (λ c. search rules) (λ c. search rules) returns-2 roof-holds-requires returns-3)

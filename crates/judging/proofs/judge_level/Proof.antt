@@ -1,4 +1,4 @@
-use Rattle.integers.proofs.Kit.{◌≡◌, ◌∙◌, needs}
+use Rattle.integers.proofs.Kit.{◌≡◌, ◌∙◌, rules}
 use Rattle.tables.specs.declared.Verdict.{Verdict}
 use Rattle.tables.proofs.Refusals.{stops, goes}
 use Rattle.levels.specs.Storage.{level_in}
@@ -47,5 +47,5 @@ returns-3 c =
 
 pub judge-level-spec : {M : Type 1} → statement M
 judge-level-spec =
-    tie.close (tie.spec (λ c κs. search needs) (λ c. search needs) (λ c. search needs) returns (λ c κs. search needs) (λ c. search needs) (λ c. search needs)
-    returns-2 (λ c κs. search needs) returns-3)
+    tie.close (tie.spec (λ c κs. search rules) (λ c. search rules) (λ c. search rules) returns (λ c κs. search rules) (λ c. search rules) (λ c. search rules)
+    returns-2 (λ c κs. search rules) returns-3)

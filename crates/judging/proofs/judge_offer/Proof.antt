@@ -1,4 +1,4 @@
-use Rattle.integers.proofs.Kit.{◌≡◌, ◌∙◌, sym, refl, true, needs, not-true, not-false}
+use Rattle.integers.proofs.Kit.{◌≡◌, ◌∙◌, sym, refl, true, rules, not-true, not-false}
 use Rattle.tables.specs.Storage.{tables_in}
 use Rattle.columns.specs.Columns.{list_holds}
 use Rattle.judging.proofs.Offers.{refused-shape, left-backups}
@@ -33,5 +33,5 @@ returns-3 c =
 
 pub judge-offer-spec : {M : Type 1} → statement M
 judge-offer-spec =
-    tie.close (tie.spec (λ c κs. search needs) returns (λ c κs. search needs) (λ c. search needs) (λ c. search needs) returns-2 judge-backups-requires
+    tie.close (tie.spec (λ c κs. search rules) returns (λ c κs. search rules) (λ c. search rules) (λ c. search rules) returns-2 judge-backups-requires
     returns-3)

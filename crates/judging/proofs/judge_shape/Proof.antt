@@ -1,4 +1,4 @@
-use Rattle.integers.proofs.Kit.{◌≡◌, ◌∙◌, ap, sym, true, ◌≤◌, ◌<◌, arith, needs, not-false, not-true, lt-ltb, le-ltb, ltb}
+use Rattle.integers.proofs.Kit.{◌≡◌, ◌∙◌, ap, sym, true, ◌≤◌, ◌<◌, arith, rules, not-false, not-true, lt-ltb, le-ltb, ltb}
 use Rattle.integers.proofs.Searches.{and_is}
 use Rattle.tables.specs.Tables.{Tables}
 use Rattle.tables.specs.declared.Verdict.{Verdict}
@@ -164,5 +164,5 @@ returns-6 c =
 
 pub judge-shape-spec : {M : Type 1} → statement M
 judge-shape-spec =
-    tie.close (tie.spec (λ c κs. search needs) returns standing-in-requires returns-2 (λ c κs. search needs) returns-3 complete-requires returns-4
-    complete-requires-2 returns-5 (λ c. search needs) judge-level-requires returns-6)
+    tie.close (tie.spec (λ c κs. search rules) returns standing-in-requires returns-2 (λ c κs. search rules) returns-3 complete-requires returns-4
+    complete-requires-2 returns-5 (λ c. search rules) judge-level-requires returns-6)

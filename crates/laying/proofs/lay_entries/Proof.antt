@@ -1,4 +1,4 @@
-use Rattle.integers.proofs.Kit.{needs, ℕ, ◌+◌, ◌*◌, ◌≤◌, ◌<◌, ◌-◌, ◌≡◌, refl, sym, ◌∙◌, arith, List, ℤ, pos, length, ap, paste}
+use Rattle.integers.proofs.Kit.{rules, ℕ, ◌+◌, ◌*◌, ◌≤◌, ◌<◌, ◌-◌, ◌≡◌, refl, sym, ◌∙◌, arith, List, ℤ, pos, length, ap, paste}
 use Rattle.integers.specs.Cells.{listed, laid_rows}
 use Rattle.integers.proofs.Words.{answer}
 use Rattle.integers.proofs.Lists.{length-listed, get_or-listed, laid_rows-none, laid_rows-more, Pasting, pasting-start, pasting-more, pasting-end}
@@ -92,6 +92,6 @@ returns c = let e : c.before.loop.v ≡ c.before.before.before.args.vectors = om
 
 pub lay-entries-spec : {M : Type 1} → statement M
 lay-entries-spec =
-    tie.close (tie.spec invariant-loop2 decreases-loop2 invariant-loop decreases-loop loop-holds (λ c. (omega arith, pasting-start _ _ _)) (λ c κs. search needs) entry-at-requires
+    tie.close (tie.spec invariant-loop2 decreases-loop2 invariant-loop decreases-loop loop-holds (λ c. (omega arith, pasting-start _ _ _)) (λ c κs. search rules) entry-at-requires
     (λ c. omega (arith, c.before.row.ensures.1, (start (of-vector c.before.before)).pre.0.0)) slice-set-from-entries
     (λ c. omega arith) (λ c. omega arith) loop2-again (λ c. omega arith) (λ c. omega arith) loop-again (λ c. c.before.loop.invariant.1.1) returns)

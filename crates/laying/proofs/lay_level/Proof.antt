@@ -1,4 +1,4 @@
-use Rattle.integers.proofs.Kit.{◌∙◌, ◌*◌, arith, mul-le-mul, needs, pos}
+use Rattle.integers.proofs.Kit.{◌∙◌, ◌*◌, arith, mul-le-mul, rules, pos}
 use Rattle.integers.proofs.Lists.{paste-laid}
 use Rattle.levels.proofs.Over.{same_cells}
 use Rattle.laying.proofs.lay_level.Statement.{statement}
@@ -68,7 +68,7 @@ returns c =
 
 pub lay-level-spec : {M : Type 1} → statement M
 lay-level-spec =
-    tie.close (tie.spec (λ c κs. search needs) (λ c. search needs) (λ c κs. search needs) (λ c κs. search needs) (λ c κs. search needs) (λ c κs. search needs)
+    tie.close (tie.spec (λ c κs. search rules) (λ c. search rules) (λ c κs. search rules) (λ c κs. search rules) (λ c κs. search rules) (λ c κs. search rules)
     mul-paste-u32 paste-u32-requires paste-i64-requires-2 (λ c. (of-choices (of-masks (to-masks c.before))).paste-u8.auto.0)
     (λ c. (of-masks (to-masks c.before)).paste-u16.auto.0) (λ c. search (to-masks c.before).lay-masks.auto)
     (λ c. (of-corners (of-weights (of_values c.before))).lay-entries.auto.0) (λ c. (of-weights (of_values c.before)).paste-i64.auto.0)

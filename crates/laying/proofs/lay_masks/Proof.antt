@@ -1,4 +1,4 @@
-use Rattle.integers.proofs.Kit.{needs, ℕ, ◌≤◌, ◌-◌, ◌≡◌, sym, arith, List}
+use Rattle.integers.proofs.Kit.{rules, ℕ, ◌≤◌, ◌-◌, ◌≡◌, sym, arith, List}
 use Rattle.integers.specs.Cells.{laid}
 use Rattle.integers.proofs.Lists.{laid_none, laid-turn, laid-long}
 use Rattle.masks.specs.Masks.{mask_of, covered_in}
@@ -43,5 +43,5 @@ returns c = let e : c.before.loop.v ≡ (start c.before).args.vectors = omega ar
 
 pub lay-masks-spec : {M : Type 1} → statement M
 lay-masks-spec =
-    tie.close (tie.spec invariant-loop decreases-loop loop-holds (λ c. search needs) (λ c. search needs) (λ c κs. search needs) (λ c. search needs) slice-write-masks
-    (λ c. search needs) (λ c. search needs) loop-again same_length returns)
+    tie.close (tie.spec invariant-loop decreases-loop loop-holds (λ c. search rules) (λ c. search rules) (λ c κs. search rules) (λ c. search rules) slice-write-masks
+    (λ c. search rules) (λ c. search rules) loop-again same_length returns)

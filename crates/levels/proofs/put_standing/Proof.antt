@@ -1,4 +1,4 @@
-use Rattle.integers.proofs.Kit.{◌≡◌, refl, List, [], ◌∷◌, ℕ, ◌≤◌, arith, needs, length, drop, set}
+use Rattle.integers.proofs.Kit.{◌≡◌, refl, List, [], ◌∷◌, ℕ, ◌≤◌, arith, rules, length, drop, set}
 use lib.ListN.{length-set}
 use Rattle.levels.specs.Storage.{state_size}
 use Rattle.levels.proofs.put_standing.Statement.{statement}
@@ -18,4 +18,4 @@ returns : tie.Need-returns
 returns c = written c.args.state.now c.args.s.number c.args.s.vectors c.args.s.points c.requires
 
 pub put-standing-spec : {M : Type 1} → statement M
-put-standing-spec = tie.close (tie.spec (λ c. search needs) slice-write-state-2 (λ c. search needs) (λ c. search needs) returns)
+put-standing-spec = tie.close (tie.spec (λ c. search rules) slice-write-state-2 (λ c. search rules) (λ c. search rules) returns)

@@ -1,4 +1,4 @@
-use Rattle.integers.proofs.Kit.{◌≡◌, ◌∙◌, sym, refl, needs, eq-eqb, ne_eqb}
+use Rattle.integers.proofs.Kit.{◌≡◌, ◌∙◌, sym, refl, rules, eq-eqb, ne_eqb}
 use Rattle.tables.specs.Tables.{Tables}
 use Rattle.tables.specs.declared.Verdict.TheVariants.{Fine}
 use Rattle.tables.specs.Storage.{tables_in}
@@ -35,4 +35,4 @@ returns-3 c = let told = c.before in rw (ne_eqb _ _ (after-judge-tables told).be
 
 pub holds-spec : {M : Type 1} → statement M
 holds-spec =
-    tie.close (tie.spec returns (λ c κs. search needs) (λ c. search needs) (λ c. search needs) returns-2 is-list-requires returns-3)
+    tie.close (tie.spec returns (λ c κs. search rules) (λ c. search rules) (λ c. search rules) returns-2 is-list-requires returns-3)

@@ -1,4 +1,4 @@
-use Rattle.integers.proofs.Kit.{◌≡◌, ◌∙◌, sym, refl, arith, needs, le-leb, lt-leb}
+use Rattle.integers.proofs.Kit.{◌≡◌, ◌∙◌, sym, refl, arith, rules, le-leb, lt-leb}
 use Rattle.integers.proofs.Lists.{laid-long}
 use Rattle.tables.specs.Tables.{Tables}
 use Rattle.tables.specs.declared.Verdict.TheVariants.{Fine}
@@ -55,4 +55,4 @@ returns-3 c =
 
 pub make_spec : {M : Type 1} → statement M
 make_spec =
-    tie.close (tie.spec (λ c κs. search needs) (λ c. search needs) (λ c. search needs) returns size-requires returns-2 put-list-requires same_length returns-3)
+    tie.close (tie.spec (λ c κs. search rules) (λ c. search rules) (λ c. search rules) returns size-requires returns-2 put-list-requires same_length returns-3)

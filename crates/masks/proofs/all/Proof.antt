@@ -1,4 +1,4 @@
-use Rattle.integers.proofs.Kit.{needs, ◌-◌, ◌+◌, ◌*◌, ◌≤◌, ◌<◌, ◌^◌, true, arith}
+use Rattle.integers.proofs.Kit.{rules, ◌-◌, ◌+◌, ◌*◌, ◌≤◌, ◌<◌, ◌^◌, true, arith}
 use lib.Pow.{pow_mono, pow_pos}
 use Rattle.masks.proofs.Bits.{mask_below, mask-doubled}
 use Rattle.masks.proofs.all.Statement.{statement}
@@ -11,5 +11,5 @@ fits c =
     rw (c.only.ensures, mask-doubled a.args.n a.requires.0) (omega (arith, mask_below a.args.n (λ s. true), few))
 
 pub all-spec : {M : Type 1} → statement M
-all-spec = tie.close (tie.spec (λ c. search needs) (λ c κs. search needs) (λ c. omega (arith, c.only.ensures, pow_pos (c.before.args.n - 1)))
+all-spec = tie.close (tie.spec (λ c. search rules) (λ c κs. search rules) (λ c. omega (arith, c.only.ensures, pow_pos (c.before.args.n - 1)))
     (λ c. omega (arith, fits c)) (λ c. omega (arith, fits c)) (λ c. rw c.only.ensures (mask-doubled c.before.args.n c.before.requires.0)))

@@ -1,4 +1,4 @@
-use Rattle.integers.proofs.Kit.{needs, ◌≡◌, ◌∙◌, sym, ◌-◌, ◌^◌, arith}
+use Rattle.integers.proofs.Kit.{rules, ◌≡◌, ◌∙◌, sym, ◌-◌, ◌^◌, arith}
 use lib.Bits.{and_mask}
 use Rattle.masks.proofs.Bits.{mask-all, mask_narrowed}
 use Rattle.masks.proofs.narrowed.Statement.{statement}
@@ -11,4 +11,4 @@ returns c =
     rw ones (and_mask a.mask a.n ∙ sym (mask_narrowed a.n a.mask))
 
 pub narrowed-spec : {M : Type 1} → statement M
-narrowed-spec = tie.close (tie.spec (λ c κs. search needs) returns)
+narrowed-spec = tie.close (tie.spec (λ c κs. search rules) returns)

@@ -1,4 +1,4 @@
-use Rattle.integers.proofs.Kit.{needs, ◌≤◌, ◌≡◌, ◌∙◌, refl, sym, ◌-◌, false, arith, get_or, add-one}
+use Rattle.integers.proofs.Kit.{rules, ◌≤◌, ◌≡◌, ◌∙◌, refl, sym, ◌-◌, false, arith, get_or, add-one}
 use Rattle.integers.specs.Search.{some}
 use Rattle.integers.proofs.Searches.{some_at}
 use Rattle.masks.specs.Steps.{includes, some_includes}
@@ -30,5 +30,5 @@ returns-2 : tie.Need-returns-2 invariant-loop decreases-loop
 returns-2 c = let e : c.before.loop.v ≡ c.before.before.before.args.vectors = omega arith in sym (rw e at c.before.loop.invariant.1)
 
 pub some-has-spec : {M : Type 1} → statement M
-some-has-spec = tie.close (tie.spec invariant-loop decreases-loop loop-holds (λ c. search needs) (λ c. search needs) (λ c κs. search needs) returns (λ c. search needs)
-    (λ c. search needs) loop-again returns-2)
+some-has-spec = tie.close (tie.spec invariant-loop decreases-loop loop-holds (λ c. search rules) (λ c. search rules) (λ c κs. search rules) returns (λ c. search rules)
+    (λ c. search rules) loop-again returns-2)

@@ -1,4 +1,4 @@
-use Rattle.integers.proofs.Kit.{needs, ◌≤◌, ◌≡◌, ◌∙◌, sym, ap, suc, ◌+◌, ◌-◌, ltb, ℕ, Bool, List, arith, ⊎_elim, ◌^◌, lt-ltb, le-ltb}
+use Rattle.integers.proofs.Kit.{rules, ◌≤◌, ◌≡◌, ◌∙◌, sym, ap, suc, ◌+◌, ◌-◌, ltb, ℕ, Bool, List, arith, ⊎_elim, ◌^◌, lt-ltb, le-ltb}
 use native.Mathlib.Nat.{pow-suc}
 use lib.Pow.{pow_mono}
 use Rattle.tables.specs.Storage.{weight_in}
@@ -47,5 +47,5 @@ returns : tie.Need-returns invariant-loop decreases-loop
 returns c = let e : c.before.loop.s ≡ c.before.before.before.args.n = omega arith in rw e at c.before.loop.invariant.1
 
 pub support-spec : {M : Type 1} → statement M
-support-spec = tie.close (tie.spec invariant-loop decreases-loop loop-holds (λ c. search needs) (λ c. search needs) (λ c κs. search needs) add-states (λ c. search needs)
-    (λ c. search needs) loop-again returns)
+support-spec = tie.close (tie.spec invariant-loop decreases-loop loop-holds (λ c. search rules) (λ c. search rules) (λ c κs. search rules) add-states (λ c. search rules)
+    (λ c. search rules) loop-again returns)

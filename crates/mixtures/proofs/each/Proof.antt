@@ -1,4 +1,4 @@
-use Rattle.integers.proofs.Kit.{◌≡◌, ◌∙◌, ap, sym, true, List, [], ℕ, ◌<◌, ◌*◌, needs, leb-true, not-false, not-true, leb, length}
+use Rattle.integers.proofs.Kit.{◌≡◌, ◌∙◌, ap, sym, true, List, [], ℕ, ◌<◌, ◌*◌, rules, leb-true, not-false, not-true, leb, length}
 use Rattle.tables.specs.Tables.{Tables}
 use Rattle.tables.specs.Storage.{tables_in, row_in}
 use Rattle.levels.specs.declared.Standing.{Standing}
@@ -173,7 +173,7 @@ returns-4 c =
 
 pub each_spec : {M : Type 1} → statement M
 each_spec =
-    tie.close (tie.spec (λ c κs. search needs) (λ c. search needs) (λ c. search needs) returns some_states returns-2 (λ c κs. search needs) returns-3
+    tie.close (tie.spec (λ c κs. search rules) (λ c. search rules) (λ c. search rules) returns some_states returns-2 (λ c κs. search rules) returns-3
     standing-in-requires gains-requires as_long write-answers-requires (λ c. search (of-answers c).write-answers.auto)
     (λ c. search (of-answers c).write-answers.auto) (λ c. search (of-answers c).write-answers.auto) (λ c. search (of-answers c).write-answers.auto)
     returns-4)

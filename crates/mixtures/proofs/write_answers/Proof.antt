@@ -1,4 +1,4 @@
-use Rattle.integers.proofs.Kit.{◌≡◌, ◌∙◌, ap, List, ℕ, ◌≤◌, ◌<◌, ◌+◌, ◌*◌, ◌-◌, ◌^◌, arith, needs, length, w64, to_z, of_z}
+use Rattle.integers.proofs.Kit.{◌≡◌, ◌∙◌, ap, List, ℕ, ◌≤◌, ◌<◌, ◌+◌, ◌*◌, ◌-◌, ◌^◌, arith, rules, length, w64, to_z, of_z}
 use Rattle.integers.proofs.Words.{back-small}
 use Rattle.runs.specs.declared.Bounds.{Bounds}
 use Rattle.bounds.specs.Steps.{answer_in}
@@ -125,7 +125,7 @@ returns c =
 
 pub write-answers-spec : {M : Type 1} → statement M
 write-answers-spec =
-    tie.close (tie.spec invariant-loop decreases-loop loop-holds (λ c κs. fit c) answer-requires (λ c κs. search needs) verdicts-write
+    tie.close (tie.spec invariant-loop decreases-loop loop-holds (λ c κs. fit c) answer-requires (λ c κs. search rules) verdicts-write
     (λ c. let k = of-answer (of-refusal c) in omega (arith, lower-fits (start k), (room (start k)).lower, k.loop-test.taken)) lower-write
     (λ c. let k = of-answer (of-refusal c) in omega (arith, upper_fits (start k), (room (start k)).upper, k.loop-test.taken)) upper-write
     number-requires advice-write

@@ -1,4 +1,4 @@
-use Rattle.integers.proofs.Kit.{◌+◌, needs, length, le-leb, lt-leb}
+use Rattle.integers.proofs.Kit.{◌+◌, rules, length, le-leb, lt-leb}
 use Rattle.modelfile.specs.ModelFile.{max_bytes, room, roomed}
 use Rattle.modelfile.proofs.Laws.{answers-long, answers-within, answers-unheaded, answers-headed, headed-within}
 use Rattle.modelfile.proofs.read.Statement.{statement}
@@ -54,5 +54,5 @@ returns-3 c =
 
 pub read_spec : {M : Type 1} → statement M
 read_spec =
-    tie.close (tie.spec (λ c κs. search needs) returns (λ c κs. search needs) (λ c. search needs) (λ c κs. search needs) (λ c. search needs)
-    roomed-at-requires returns-2 (λ c. search needs) (λ c. search needs) (λ c. search needs) (λ c. search needs) returns-3)
+    tie.close (tie.spec (λ c κs. search rules) returns (λ c κs. search rules) (λ c. search rules) (λ c κs. search rules) (λ c. search rules)
+    roomed-at-requires returns-2 (λ c. search rules) (λ c. search rules) (λ c. search rules) (λ c. search rules) returns-3)

@@ -1,4 +1,4 @@
-use Rattle.integers.proofs.Kit.{◌+◌, ◌∙◌, sym, needs, length, not-true, not-false}
+use Rattle.integers.proofs.Kit.{◌+◌, ◌∙◌, sym, rules, length, not-true, not-false}
 use Rattle.words.specs.Words.{words_in, between}
 use Rattle.modelfile.specs.ModelFile.{room}
 use Rattle.modelfile.proofs.Laws.{answers-short, answers-roomy}
@@ -37,5 +37,5 @@ returns-2 c =
 
 pub roomed-at-spec : {M : Type 1} → statement M
 roomed-at-spec =
-    tie.close (tie.spec has-room-requires (λ c κs. search needs) returns (λ c κs. (begin (after-body-at-arg c).before.before).requires)
-    (λ c. search needs) (λ c. search needs) (λ c. search needs) (λ c. search needs) returns-2)
+    tie.close (tie.spec has-room-requires (λ c κs. search rules) returns (λ c κs. (begin (after-body-at-arg c).before.before).requires)
+    (λ c. search rules) (λ c. search rules) (λ c. search rules) (λ c. search rules) returns-2)

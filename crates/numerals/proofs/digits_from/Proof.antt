@@ -1,4 +1,4 @@
-use Rattle.numerals.proofs.Prelude.{ℕ, suc, ◌^◌, ◌<◌, ◌≡◌, refl, sym, ◌∙◌, arith, needs}
+use Rattle.numerals.proofs.Prelude.{ℕ, suc, ◌^◌, ◌<◌, ◌≡◌, refl, sym, ◌∙◌, arith, rules}
 use Prim.Native.Nat.{◌+◌, ◌-◌, ◌*◌, ◌≤◌}
 use lib.ListN.{drop, length, get_or}
 use Rattle.numerals.specs.Numeral.{digits, value, is_digit}
@@ -94,7 +94,7 @@ returns c =
 returns-2 : tie.Need-returns-2 invariant-loop decreases-loop
 returns-2 c =
     let w = (start (at-loop c.before)).args.w.now in let l = (at-loop c.before).loop in
-    let d = by-keys (λ (k : Class). is_digit k ≡ false) (0 ∷ 1 ∷ 2 ∷ 4 ∷ 5 ∷ 6 ∷ 7 ∷ []) c.before.class_of.ensures (search needs)
+    let d = by-keys (λ (k : Class). is_digit k ≡ false) (0 ∷ 1 ∷ 2 ∷ 4 ∷ 5 ∷ 6 ∷ 7 ∷ []) c.before.class_of.ensures (search rules)
     c.match.keys2 in
     let e = digits-stop w l.at (omega arith) d in done l.inv (λ h. absurd (omega arith))
 
@@ -139,5 +139,5 @@ returns-3 c =
 
 pub digits-from-spec : {M : Type 1} → statement M
 digits-from-spec =
-    tie.close (tie.spec invariant-loop decreases-loop (λ c κs. search needs) loop-holds (λ c. omega arith) returns (λ c κs. search needs)
+    tie.close (tie.spec invariant-loop decreases-loop (λ c κs. search rules) loop-holds (λ c. omega arith) returns (λ c κs. search rules)
     (λ c. c.match.keys1) returns-2 mul-v cast-v add-v (λ c. omega arith) (λ c. omega arith) loop-again returns-3)

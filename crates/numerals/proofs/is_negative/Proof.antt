@@ -1,4 +1,4 @@
-use Rattle.numerals.proofs.Prelude.{◌≡◌, refl, sym, ◌∙◌, arith, needs}
+use Rattle.numerals.proofs.Prelude.{◌≡◌, refl, sym, ◌∙◌, arith, rules}
 use mathlib.Core.Bool.{true, false}
 use mathlib.Core.List.{[], ◌∷◌}
 use Rattle.words.specs.declared.Class.{Class}
@@ -22,10 +22,10 @@ returns-2 c =
 
 returns-3 : tie.Need-returns-3
 returns-3 c =
-    let e = by-keys (λ (k : Class). is_minus k ≡ false) (0 ∷ 1 ∷ 2 ∷ 3 ∷ 4 ∷ 6 ∷ 7 ∷ []) c.before.class_of.ensures (search needs)
+    let e = by-keys (λ (k : Class). is_minus k ≡ false) (0 ∷ 1 ∷ 2 ∷ 3 ∷ 4 ∷ 6 ∷ 7 ∷ []) c.before.class_of.ensures (search rules)
     c.match.keys2 in
     sym e ∙ negative-first (start c.before).args.w.now (omega arith)
 
 pub is-negative-spec : {M : Type 1} → statement M
 is-negative-spec =
-    tie.close (tie.spec returns (λ c. search needs) (λ c κs. search needs) (λ c. search needs) returns-2 returns-3)
+    tie.close (tie.spec returns (λ c. search rules) (λ c κs. search rules) (λ c. search rules) returns-2 returns-3)

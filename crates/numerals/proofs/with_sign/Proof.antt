@@ -1,4 +1,4 @@
-use Rattle.numerals.proofs.Prelude.{ℕ, suc, ◌^◌, ◌<◌, sym, ap, ◌∙◌, arith, needs}
+use Rattle.numerals.proofs.Prelude.{ℕ, suc, ◌^◌, ◌<◌, sym, ap, ◌∙◌, arith, rules}
 use Prim.Native.Nat.{zero}
 use mathlib.Core.Bool.{Bool}
 use lib.IntN.{pos, neg_ℤ, +ℤ_idl}
@@ -30,4 +30,4 @@ returns-2 c =
 
 pub with-sign-spec : {M : Type 1} → statement M
 with-sign-spec =
-    tie.close (tie.spec (λ c. search needs) sub-result returns (λ c. search needs) returns-2)
+    tie.close (tie.spec (λ c. search rules) sub-result returns (λ c. search rules) returns-2)

@@ -1,4 +1,4 @@
-use Rattle.integers.proofs.Kit.{◌≡◌, ◌∙◌, sym, needs}
+use Rattle.integers.proofs.Kit.{◌≡◌, ◌∙◌, sym, rules}
 use Rattle.tables.specs.Tables.{Tables}
 use Rattle.tables.specs.declared.Verdict.{Verdict}
 use Rattle.tables.specs.Verdicts.{◌before◌}
@@ -72,7 +72,7 @@ returns c =
 
 pub offer-spec : {M : Type 1} → statement M
 offer-spec =
-    tie.close (tie.spec (λ c κs. search needs) settle-requires (λ c. (acted c).before.before.state.given) (λ c. (acted c).actions.given)
+    tie.close (tie.spec (λ c κs. search rules) settle-requires (λ c. (acted c).before.before.state.given) (λ c. (acted c).actions.given)
     (λ c. (masked c).before.before.choices.given) (λ c. (masked c).masks.given) (λ c. (weighed c).before.before.entries.given)
     (λ c. (weighed c).before.corners.given) (λ c. (weighed c).weights.given) (λ c. c.before.before.values.given) (λ c. c.before.informed.given)
     (λ c. c.qmdp.given) returns)

@@ -1,4 +1,4 @@
-use Rattle.integers.proofs.Kit.{◌≡◌, ◌∙◌, sym, ◌&&◌, ◌≤◌, ◌*◌, arith, mul-le-mul, needs, le-leb, lt-leb, not-false, not-true, leb}
+use Rattle.integers.proofs.Kit.{◌≡◌, ◌∙◌, sym, ◌&&◌, ◌≤◌, ◌*◌, arith, mul-le-mul, rules, le-leb, lt-leb, not-false, not-true, leb}
 use Rattle.tables.specs.Tables.{Tables}
 use Rattle.tables.specs.declared.Verdict.TheVariants.{Fine}
 use Rattle.tables.specs.Limits.{max_states, max_actions}
@@ -85,5 +85,5 @@ returns-6 c =
 
 pub judge-open-spec : {M : Type 1} → statement M
 judge-open-spec =
-    tie.close (tie.spec (λ c κs. search needs) (λ c. search needs) (λ c. search needs) returns returns-2 (λ c κs. search needs) complete-requires returns-3
+    tie.close (tie.spec (λ c κs. search rules) (λ c. search rules) (λ c. search rules) returns returns-2 (λ c κs. search rules) complete-requires returns-3
     (λ c. omega (arith, few c.before)) returns-4 returns-5 returns-6)

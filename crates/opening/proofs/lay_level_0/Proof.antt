@@ -1,4 +1,4 @@
-use Rattle.integers.proofs.Kit.{◌∙◌, refl, sym, true, needs}
+use Rattle.integers.proofs.Kit.{◌∙◌, refl, sym, true, rules}
 use Rattle.integers.proofs.Lists.{laid_none, laid-turn, same-laid}
 use Rattle.tables.specs.Limits.{max_observations}
 use Rattle.masks.specs.Masks.{mask_of}
@@ -40,5 +40,5 @@ returns c =
 
 pub lay-level-0-spec : {M : Type 1} → statement M
 lay-level-0-spec =
-    tie.close (tie.spec (λ c. search needs) (λ c. search needs) (λ c κs. search needs) (λ c κs. search needs) (λ c. search needs) (λ c κs. search needs)
-    (λ c κs. search needs) (λ c. search needs) (λ c. search needs) (λ c. search needs) (λ c. search needs) (λ c. search needs) returns)
+    tie.close (tie.spec (λ c. search rules) (λ c. search rules) (λ c κs. search rules) (λ c κs. search rules) (λ c. search rules) (λ c κs. search rules)
+    (λ c κs. search rules) (λ c. search rules) (λ c. search rules) (λ c. search rules) (λ c. search rules) (λ c. search rules) returns)

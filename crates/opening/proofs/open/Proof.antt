@@ -1,4 +1,4 @@
-use Rattle.integers.proofs.Kit.{◌≡◌, ◌∙◌, ap, sym, ◌∷◌, ◌≤◌, ◌<◌, ◌*◌, arith, mul-le-mul, needs, length, drop}
+use Rattle.integers.proofs.Kit.{◌≡◌, ◌∙◌, ap, sym, ◌∷◌, ◌≤◌, ◌<◌, ◌*◌, arith, mul-le-mul, rules, length, drop}
 use Rattle.tables.specs.Tables.{Tables}
 use Rattle.tables.specs.declared.Verdict.TheVariants.{Fine}
 use Rattle.tables.specs.Limits.{max_states, max_actions, max_observations}
@@ -123,7 +123,7 @@ returns-2 c =
 
 pub open_spec : {M : Type 1} → statement M
 open_spec =
-    tie.close (tie.spec (λ c κs. search needs) (λ c. search needs) (λ c. search needs) returns (λ c κs. search needs) put-standing-requires lay-level-0-requires
+    tie.close (tie.spec (λ c κs. search rules) (λ c. search rules) (λ c. search rules) returns (λ c κs. search rules) put-standing-requires lay-level-0-requires
     (λ c. omega (arith, few (of-state (of-laid c)).before)) clear-i64-requires
     (λ c. omega (arith, few (of-state (of-level (after-informed c).before)).before)) clear-i64-requires-2
     (λ c. (of-state (of-level (of-informed c))).put-standing.auto.0) (λ c. search (of-level (of-informed c)).lay-level-0.auto)

@@ -1,4 +1,4 @@
-use Rattle.integers.proofs.Kit.{◌≡◌, sym, true, ◌≤◌, ◌-◌, arith, needs, eqb, eq-eqb, ne_eqb, get_or}
+use Rattle.integers.proofs.Kit.{◌≡◌, sym, true, ◌≤◌, ◌-◌, arith, rules, eqb, eq-eqb, ne_eqb, get_or}
 use Rattle.integers.specs.Search.{every}
 use Rattle.integers.proofs.Searches.{every-none, every_more, every-not}
 use Rattle.prices.proofs.same_cells.Statement.{statement}
@@ -25,5 +25,5 @@ returns-2 c = let e : c.before.loop.i ≡ c.before.before.args.count = omega ari
 
 pub cells-same-spec : {M : Type 1} → statement M
 cells-same-spec =
-    tie.close (tie.spec invariant-loop decreases-loop (λ c. (omega arith, every-none _)) (λ c. search needs) (λ c. search needs) (λ c. search needs) (λ c. search needs)
+    tie.close (tie.spec invariant-loop decreases-loop (λ c. (omega arith, every-none _)) (λ c. search rules) (λ c. search rules) (λ c. search rules) (λ c. search rules)
     returns (λ c. omega arith) (λ c. omega arith) loop-again returns-2)

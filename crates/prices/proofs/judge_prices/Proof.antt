@@ -1,4 +1,4 @@
-use Rattle.integers.proofs.Kit.{◌≡◌, ◌∙◌, sym, true, List, [], ℕ, needs, not-true, not-false}
+use Rattle.integers.proofs.Kit.{◌≡◌, ◌∙◌, sym, true, List, [], ℕ, rules, not-true, not-false}
 use Rattle.tables.specs.Tables.{Tables}
 use Rattle.tables.specs.declared.Verdict.TheVariants.{Fine}
 use Rattle.tables.specs.Limits.{max_vectors}
@@ -93,5 +93,5 @@ returns-4 c choices =
 
 pub judge-prices-spec : {M : Type 1} → statement M
 judge-prices-spec =
-    tie.close (tie.spec (λ c κs. search needs) returns (λ c κs. search needs) (λ c. search needs) (λ c. search needs) returns-2 plans-same-requires returns-3
+    tie.close (tie.spec (λ c κs. search rules) returns (λ c κs. search rules) (λ c. search rules) (λ c. search rules) returns-2 plans-same-requires returns-3
     returns-4)

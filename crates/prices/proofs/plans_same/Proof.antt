@@ -1,4 +1,4 @@
-use Rattle.integers.proofs.Kit.{◌≡◌, ◌∙◌, sym, true, ◌*◌, ◌≤◌, arith, mul-le-mul, needs, not-true, not-false, []}
+use Rattle.integers.proofs.Kit.{◌≡◌, ◌∙◌, sym, true, ◌*◌, ◌≤◌, arith, mul-le-mul, rules, not-true, not-false, []}
 use Rattle.tables.specs.Limits.{max_states, max_actions}
 use Rattle.tables.specs.Storage.{cell_in, model_in}
 use Rattle.standing.proofs.Stages.{fails, holds_on}
@@ -61,6 +61,6 @@ returns-3 c =
 
 pub plans-same-spec : {M : Type 1} → statement M
 plans-same-spec =
-    tie.close (tie.spec (λ c κs. search needs) returns (λ c. omega (arith, rows_few c.before)) (λ c. search needs)
-    (λ c κs. ((start c.before.before).requires.0.transitions, (new c.before.before).transitions)) returns-2 (λ c. search needs)
+    tie.close (tie.spec (λ c κs. search rules) returns (λ c. omega (arith, rows_few c.before)) (λ c. search rules)
+    (λ c κs. ((start c.before.before).requires.0.transitions, (new c.before.before).transitions)) returns-2 (λ c. search rules)
     (λ c κs. ((start (of-counts c.before)).requires.0.observed, (new (of-counts c.before)).observed)) returns-3)

@@ -1,4 +1,4 @@
-use Rattle.integers.proofs.Kit.{◌≡◌, ◌∙◌, ap, nat_abs, ◌-ℤ◌, arith, needs, to_z-of_z}
+use Rattle.integers.proofs.Kit.{◌≡◌, ◌∙◌, ap, nat_abs, ◌-ℤ◌, arith, rules, to_z-of_z}
 use Rattle.integers.proofs.Words.{answer}
 use Rattle.pricing.proofs.apart.Statement.{statement}
 use Rattle.pricing.proofs.apart.Tie as tie
@@ -13,4 +13,4 @@ returns c =
     c.magnitude.ensures ∙ ap nat_abs (answer c.before.minus.type-inv difference)
 
 pub apart-spec : {M : Type 1} → statement M
-apart-spec = tie.close (tie.spec minus-requires (λ c κs. search needs) returns)
+apart-spec = tie.close (tie.spec minus-requires (λ c κs. search rules) returns)

@@ -1,4 +1,4 @@
-use Rattle.integers.proofs.Kit.{◌≡◌, ◌∙◌, pos, neg_ℤ, ◌-ℤ◌, arith, needs, w64, to_z, of_z, to_z-of_z, to_z_pos}
+use Rattle.integers.proofs.Kit.{◌≡◌, ◌∙◌, pos, neg_ℤ, ◌-ℤ◌, arith, rules, w64, to_z, of_z, to_z-of_z, to_z_pos}
 use lib.IntN.{+ℤ_idl}
 use Rattle.integers.proofs.Words.{answer}
 use Rattle.plans.specs.Prices.{fallen}
@@ -38,4 +38,4 @@ returns-2 c =
     lower_is l ∙ rw (rw (lower_is l, least-is l.before) at c.if1.false)
 
 pub fallen-spec : {M : Type 1} → statement M
-fallen-spec = tie.close (tie.spec (λ c. search needs) minus-requires (λ c. search needs) minus-requires-2 returns returns-2)
+fallen-spec = tie.close (tie.spec (λ c. search rules) minus-requires (λ c. search rules) minus-requires-2 returns returns-2)

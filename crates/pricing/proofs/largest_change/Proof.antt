@@ -1,4 +1,4 @@
-use Rattle.integers.proofs.Kit.{◌≡◌, ◌∙◌, sym, ap, ℕ, ◌≤◌, ◌-◌, arith, needs, get_or, pos}
+use Rattle.integers.proofs.Kit.{◌≡◌, ◌∙◌, sym, ap, ℕ, ◌≤◌, ◌-◌, arith, rules, get_or, pos}
 use Prim.Native.Nat.{max}
 use Rattle.integers.specs.Whole.{largest_to}
 use Rattle.integers.proofs.Sums.{largest-none, largest-more}
@@ -40,5 +40,5 @@ returns c = let e : c.before.loop.i ≡ c.before.before.args.count = omega arith
 
 pub largest-change-spec : {M : Type 1} → statement M
 largest-change-spec =
-    tie.close (tie.spec invariant-loop decreases-loop (λ c. (omega arith, sym (largest-none _))) (λ c. search needs) (λ c. search needs) (λ c. search needs)
-    (λ c. search needs) apart-requires (λ c κs. search needs) (λ c. omega arith) (λ c. omega arith) loop-again returns)
+    tie.close (tie.spec invariant-loop decreases-loop (λ c. (omega arith, sym (largest-none _))) (λ c. search rules) (λ c. search rules) (λ c. search rules)
+    (λ c. search rules) apart-requires (λ c κs. search rules) (λ c. omega arith) (λ c. omega arith) loop-again returns)

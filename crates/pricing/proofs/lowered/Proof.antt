@@ -1,4 +1,4 @@
-use Rattle.integers.proofs.Kit.{◌≡◌, ◌∙◌, sym, true, false, arith, needs, not-true, not-false, to_z-of_z}
+use Rattle.integers.proofs.Kit.{◌≡◌, ◌∙◌, sym, true, false, arith, rules, not-true, not-false, to_z-of_z}
 use Rattle.integers.proofs.Words.{answer}
 use Rattle.masks.specs.Masks.{covered}
 use Rattle.pricing.proofs.lowered.Statement.{statement}
@@ -24,4 +24,4 @@ returns-2 c =
     let a = c.before.before.before in rw (is-covered c.before) (answer c.fallen.type-inv (c.fallen.ensures ∙ rw (to_z-of_z a.ranges.x)))
 
 pub lowered-spec : {M : Type 1} → statement M
-lowered-spec = tie.close (tie.spec (λ c κs. search needs) returns fallen-requires returns-2)
+lowered-spec = tie.close (tie.spec (λ c κs. search rules) returns fallen-requires returns-2)

@@ -1,4 +1,4 @@
-use Rattle.integers.proofs.Kit.{◌≡◌, ◌∙◌, sym, List, [], ℕ, ◌≤◌, ◌*◌, arith, mul-le-mul, needs}
+use Rattle.integers.proofs.Kit.{◌≡◌, ◌∙◌, sym, List, [], ℕ, ◌≤◌, ◌*◌, arith, mul-le-mul, rules}
 use Rattle.tables.specs.Tables.{Tables}
 use Rattle.tables.specs.declared.Verdict.TheVariants.{Fine}
 use Rattle.tables.specs.Limits.{max_reward, max_entry}
@@ -177,7 +177,7 @@ returns-2 c =
 
 pub reprice-spec : {M : Type 1} → statement M
 reprice-spec =
-    tie.close (tie.spec (λ c κs. search needs) (λ c. search needs) (λ c. search needs) (λ c. search needs) (λ c. search needs) (λ c. search needs)
-    (λ c. search needs) (λ c. search needs) returns standing-in-requires range-of-requires mul-cells largest-change-requires
+    tie.close (tie.spec (λ c κs. search rules) (λ c. search rules) (λ c. search rules) (λ c. search rules) (λ c. search rules) (λ c. search rules)
+    (λ c. search rules) (λ c. search rules) returns standing-in-requires range-of-requires mul-cells largest-change-requires
     (λ c. omega (arith, move-small c)) lower-entries-requires raise-cells-requires raise-values-requires raise-cells-requires-2 raise-cells-requires-3
-    (λ c. search needs) (λ c. search needs) (λ c. search needs) (λ c. search needs) (λ c. search needs) returns-2)
+    (λ c. search rules) (λ c. search rules) (λ c. search rules) (λ c. search rules) (λ c. search rules) returns-2)

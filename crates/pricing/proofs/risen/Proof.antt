@@ -1,4 +1,4 @@
-use Rattle.integers.proofs.Kit.{◌≡◌, ◌∙◌, pos, ◌+ℤ◌, arith, needs, w64, to_z, of_z, to_z-of_z, to_z_pos}
+use Rattle.integers.proofs.Kit.{◌≡◌, ◌∙◌, pos, ◌+ℤ◌, arith, rules, w64, to_z, of_z, to_z-of_z, to_z_pos}
 use Rattle.integers.proofs.Words.{answer}
 use Rattle.plans.specs.Prices.{risen}
 use Rattle.pricing.proofs.risen.Statement.{statement}
@@ -22,4 +22,4 @@ unfolding risen
 returns c = answer c.lesser.type-inv (c.lesser.ensures ∙ rw (higher-is c.before, limit_is c.before.before))
 
 pub risen-spec : {M : Type 1} → statement M
-risen-spec = tie.close (tie.spec (λ c. search needs) plus-requires (λ c. search needs) (λ c κs. search needs) returns)
+risen-spec = tie.close (tie.spec (λ c. search rules) plus-requires (λ c. search rules) (λ c κs. search rules) returns)

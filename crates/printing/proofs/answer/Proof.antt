@@ -1,4 +1,4 @@
-use Rattle.integers.proofs.Kit.{◌∙◌, refl, sym, ℕ, ◌*◌, needs, length-replicate, pos}
+use Rattle.integers.proofs.Kit.{◌∙◌, refl, sym, ℕ, ◌*◌, rules, length-replicate, pos}
 use Rattle.tables.specs.Limits.{max_states, max_actions, max_observations}
 use Rattle.tables.proofs.Fitting.{Long}
 use Rattle.bodies.specs.Body.{ModelFile}
@@ -38,7 +38,7 @@ levels-of-requires c κs =
 
 pub answer-spec : {M : Type 1} → statement M
 answer-spec =
-    tie.close (tie.spec (λ c. refl) (λ c. refl) (λ c. refl) (λ c. refl) (λ c κs. (refl, (refl, (refl, refl)))) (λ c. search needs)
+    tie.close (tie.spec (λ c. refl) (λ c. refl) (λ c. refl) (λ c. refl) (λ c κs. (refl, (refl, (refl, refl)))) (λ c. search rules)
     (λ c. sym (long (after_read c)).transition) (λ c. sym (long (after_read c.before)).observation)
-    (λ c. sym (long (after_read c.before.before)).reward) levels-of-requires (λ c. search needs) (λ c κs. search needs) (λ c. search needs)
-    (λ c. search needs))
+    (λ c. sym (long (after_read c.before.before)).reward) levels-of-requires (λ c. search rules) (λ c κs. search rules) (λ c. search rules)
+    (λ c. search rules))

@@ -1,4 +1,4 @@
-use Rattle.integers.proofs.Kit.{needs, ℕ, ◌≤◌, ◌<◌, ◌-◌, ◌≡◌, ◌∙◌, sym, ap, arith, Bool, true, List, get_or, ℤ, w64, to_z, of_z, ⊎_elim, not-false, not-true}
+use Rattle.integers.proofs.Kit.{rules, ℕ, ◌≤◌, ◌<◌, ◌-◌, ◌≡◌, ◌∙◌, sym, ap, arith, Bool, true, List, get_or, ℤ, w64, to_z, of_z, ⊎_elim, not-false, not-true}
 use Rattle.integers.proofs.Words.{answer}
 use Rattle.tables.specs.Storage.{weight_in}
 use Rattle.masks.specs.Masks.{covered_in, masked_in}
@@ -88,5 +88,5 @@ returns c =
     rw e at c.before.loop.invariant.1.place
 
 pub best-vector-spec : {M : Type 1} → statement M
-best-vector-spec = tie.close (tie.spec invariant-loop decreases-loop (λ c. (omega arith, found_nothing _ _)) (λ c. search needs) (λ c. search needs) (λ c κs. search needs)
-    (λ c κs. search needs) product-requires (λ c. omega arith) (λ c. omega arith) loop-again returns)
+best-vector-spec = tie.close (tie.spec invariant-loop decreases-loop (λ c. (omega arith, found_nothing _ _)) (λ c. search rules) (λ c. search rules) (λ c κs. search rules)
+    (λ c κs. search rules) product-requires (λ c. omega arith) (λ c. omega arith) loop-again returns)

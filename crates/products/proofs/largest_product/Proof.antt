@@ -1,4 +1,4 @@
-use Rattle.integers.proofs.Kit.{needs, ◌≤◌, ◌-◌, ◌≡◌, ◌∙◌, arith, w64, to_z, of_z, ap, ⊎_elim}
+use Rattle.integers.proofs.Kit.{rules, ◌≤◌, ◌-◌, ◌≡◌, ◌∙◌, arith, w64, to_z, of_z, ap, ⊎_elim}
 use Rattle.integers.proofs.Words.{answer}
 use Rattle.plans.specs.Rows.{highest}
 use Rattle.plans.proofs.Rows.{highest-first, highest-later, highest-same}
@@ -60,5 +60,5 @@ returns c = let e : c.before.loop.v ≡ (start c.before).args.vectors = omega ar
 
 pub largest-product-spec : {M : Type 1} → statement M
 largest-product-spec =
-    tie.close (tie.spec invariant-loop decreases-loop (λ c κs. search needs) product-requires loop-holds start-requires-2 product-requires-2 (λ c. omega arith)
+    tie.close (tie.spec invariant-loop decreases-loop (λ c κs. search rules) product-requires loop-holds start-requires-2 product-requires-2 (λ c. omega arith)
     (λ c. omega arith) loop-again returns)

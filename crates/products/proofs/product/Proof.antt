@@ -1,4 +1,4 @@
-use Rattle.integers.proofs.Kit.{◌≤◌, ◌-◌, ◌+◌, ◌≡◌, ◌∙◌, refl, sym, arith, needs, get_or, pos, w64, to_z}
+use Rattle.integers.proofs.Kit.{◌≤◌, ◌-◌, ◌+◌, ◌≡◌, ◌∙◌, refl, sym, arith, rules, get_or, pos, w64, to_z}
 use Rattle.integers.proofs.Words.{back, answer}
 use Rattle.tables.specs.Storage.{weight_in}
 use Rattle.plans.specs.Level.{product}
@@ -20,7 +20,7 @@ abbrev at-loop : tie.After-add-scaled-arg invariant-loop decreases-loop → tie.
 at-loop c = c.before.before.before
 
 loop-holds : tie.Need-loop-init invariant-loop decreases-loop
-loop-holds c = (search needs, sym (sum-none _))
+loop-holds c = (search rules, sym (sum-none _))
 
 add-scaled-requires : tie.Need-add-scaled-requires invariant-loop decreases-loop
 add-scaled-requires c κs =
@@ -30,7 +30,7 @@ add-scaled-requires c κs =
 
 loop-again : tie.Need-loop-preserved invariant-loop decreases-loop
 loop-again c = (
-  search needs,
+  search rules,
   answer c.add-scaled.type-inv c.add-scaled.ensures ∙ rw (back _ c.before.add-scaled-arg.given)
       (sum_step _ _ (at-loop c.before).loop.inv.1),
 )
@@ -41,5 +41,5 @@ returns c = let e : c.before.loop.s ≡ c.before.before.before.args.n = omega ar
 
 pub product-spec : {M : Type 1} → statement M
 product-spec =
-    tie.close (tie.spec invariant-loop decreases-loop loop-holds (λ c. search needs) (λ c. search needs) (λ c. search needs) (λ c. search needs) (λ c. search needs)
-    add-scaled-requires (λ c. search needs) (λ c. search needs) loop-again returns)
+    tie.close (tie.spec invariant-loop decreases-loop loop-holds (λ c. search rules) (λ c. search rules) (λ c. search rules) (λ c. search rules) (λ c. search rules)
+    add-scaled-requires (λ c. search rules) (λ c. search rules) loop-again returns)

@@ -1,4 +1,4 @@
-use Rattle.integers.proofs.Kit.{◌≡◌, ◌∙◌, refl, sym, ◌+◌, ◌*◌, arith, needs, length}
+use Rattle.integers.proofs.Kit.{◌≡◌, ◌∙◌, refl, sym, ◌+◌, ◌*◌, arith, rules, length}
 use Rattle.tables.specs.Limits.{max_states, max_actions, max_observations, max_vectors}
 use Rattle.levels.specs.Storage.{state_size}
 use Rattle.runs.proofs.Judged.{accepted}
@@ -42,16 +42,16 @@ sized : (s : tie.Start) → Sized s.args.h
 sized s =
     let (_, (_, (_, (_, (h, _))))) = s.well-formed in
     let (_, (_, (state, (actions, (choices, (masks, (entries, (corners, (weights, (values, (informed, (qmdp, _)))))))))))) = h in record {
-      state = sym (search (needs, state));
-      actions = sym (search (needs, actions));
-      choices = sym (search (needs, choices));
-      masks = sym (search (needs, masks));
-      entries = sym (search (needs, entries));
-      corners = sym (search (needs, corners));
-      weights = sym (search (needs, weights));
-      values = sym (search (needs, values));
-      informed = sym (search (needs, informed));
-      qmdp = sym (search (needs, qmdp));
+      state = sym (search (rules, state));
+      actions = sym (search (rules, actions));
+      choices = sym (search (rules, choices));
+      masks = sym (search (rules, masks));
+      entries = sym (search (rules, entries));
+      corners = sym (search (rules, corners));
+      weights = sym (search (rules, weights));
+      values = sym (search (rules, values));
+      informed = sym (search (rules, informed));
+      qmdp = sym (search (rules, qmdp));
     }
 
 add-offer : tie.Need-overflow-add-offer
@@ -68,5 +68,5 @@ raised-spec =
     tie.close (tie.spec (λ c. refl) (λ c. (sized (start c)).state) (λ c. (sized (start c.before)).actions) (λ c. (sized (start c.before.before)).choices)
     (λ c. (sized (start c.before.before.before)).masks) (λ c. (sized (at-entries c)).entries) (λ c. (sized (at-entries c.before)).corners)
     (λ c. (sized (at-entries c.before.before)).weights) (λ c. (sized (at-entries c.before.before.before)).values)
-    (λ c. (sized (at-entries (of-entries c))).informed) (λ c. (sized (at-entries (of-entries c.before))).qmdp) add-offer (λ c κs. search needs)
+    (λ c. (sized (at-entries (of-entries c))).informed) (λ c. (sized (at-entries (of-entries c.before))).qmdp) add-offer (λ c κs. search rules)
     served-requires returns)

@@ -1,4 +1,4 @@
-use Rattle.integers.proofs.Kit.{needs, ℕ, ◌≤◌, ◌-◌, ◌≡◌, refl, sym, ◌∙◌, arith, List, ℤ, nat_abs, not-false, not-true, leb}
+use Rattle.integers.proofs.Kit.{rules, ℕ, ◌≤◌, ◌-◌, ◌≡◌, refl, sym, ◌∙◌, arith, List, ℤ, nat_abs, not-false, not-true, leb}
 use Rattle.integers.proofs.Words.{answer}
 use Rattle.tables.specs.declared.Verdict.{Verdict}
 use Rattle.tables.specs.declared.Verdict.TheVariants.{Fine}

@@ -1,4 +1,4 @@
-use Rattle.integers.proofs.Kit.{needs, ℕ, ◌+◌, ◌*◌, ◌≤◌, ◌-◌, ◌≡◌, refl, sym, ◌∙◌, arith, List, length, get_or, ℤ, pos, ◌<◌, not-false, not-true, leb, nat_abs}
+use Rattle.integers.proofs.Kit.{rules, ℕ, ◌+◌, ◌*◌, ◌≤◌, ◌-◌, ◌≡◌, refl, sym, ◌∙◌, arith, List, length, get_or, ℤ, pos, ◌<◌, not-false, not-true, leb, nat_abs}
 use Rattle.tables.proofs.Fitting.{row-stored, rows-stored}
 use Rattle.integers.proofs.Words.{back}
 use Rattle.tables.specs.declared.Verdict.{Verdict}
@@ -90,5 +90,5 @@ returns-2 c =
 
 pub rows-within-spec : {M : Type 1} → statement M
 rows-within-spec =
-    tie.close (tie.spec invariant-loop decreases-loop invariant-rows decreases-rows rows-holds loop-holds (λ c κs. search needs) (λ c. search needs) stored within-requires
+    tie.close (tie.spec invariant-loop decreases-loop invariant-rows decreases-rows rows-holds loop-holds (λ c κs. search rules) (λ c. search rules) stored within-requires
     (λ c. omega arith) (λ c. omega arith) loop-again (λ c. omega arith) (λ c. omega arith) rows-again returns returns-2)

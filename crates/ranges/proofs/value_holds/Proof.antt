@@ -1,4 +1,4 @@
-use Rattle.integers.proofs.Kit.{◌*◌, ◌≤◌, ◌≡◌, sym, ◌∙◌, arith, needs, true, mul-le-mul, leb-true, not-false, not-true, leb, to_z-of_z}
+use Rattle.integers.proofs.Kit.{◌*◌, ◌≤◌, ◌≡◌, sym, ◌∙◌, arith, rules, true, mul-le-mul, leb-true, not-false, not-true, leb, to_z-of_z}
 use Rattle.integers.proofs.Searches.{and-true}
 use Rattle.tables.specs.Limits.{max_entry}
 use Rattle.plans.specs.Limits.{max_total}
@@ -31,4 +31,4 @@ returns-2 : tie.Need-returns-2
 returns-2 c = rw (held c.before) (c.within.ensures ∙ rw (to_z-of_z c.before.before.before.fits.value))
 
 pub value-holds-spec : {M : Type 1} → statement M
-value-holds-spec = tie.close (tie.spec (λ c κs. search needs) returns mul-within within-requires returns-2)
+value-holds-spec = tie.close (tie.spec (λ c κs. search rules) returns mul-within within-requires returns-2)

@@ -1,4 +1,4 @@
-use Rattle.integers.proofs.Kit.{needs, ℕ, ◌≤◌, ◌<◌, ◌-◌, ◌≡◌, ◌∙◌, sym, Bool, true, List, arith, length, get_or, not-true, not-false}
+use Rattle.integers.proofs.Kit.{rules, ℕ, ◌≤◌, ◌<◌, ◌-◌, ◌≡◌, ◌∙◌, sym, Bool, true, List, arith, length, get_or, not-true, not-false}
 use Rattle.integers.specs.Search.{every}
 use Rattle.integers.proofs.Searches.{every-none, every_more, every-not}
 use Rattle.tables.specs.Storage.{row_place, choice_in}
@@ -57,6 +57,6 @@ returns-2 c =
 
 pub chosen-cover-spec : {M : Type 1} → statement M
 chosen-cover-spec =
-    tie.close (tie.spec invariant-loop decreases-loop (λ c κs. search needs) (λ c. (omega arith, every-none _)) (λ c κs. search needs)
+    tie.close (tie.spec invariant-loop decreases-loop (λ c κs. search rules) (λ c. (omega arith, every-none _)) (λ c κs. search rules)
     (λ c. omega (arith, c.choice-at.ensures, (turn c).before.before.shared-slice-known2.given (place c)))
-    (λ c. chosen-stored c.before) (λ c κs. search needs) returns (λ c. search needs) (λ c. search needs) loop-again returns-2)
+    (λ c. chosen-stored c.before) (λ c κs. search rules) returns (λ c. search rules) (λ c. search rules) loop-again returns-2)

@@ -1,4 +1,4 @@
-use Rattle.integers.proofs.Kit.{needs, ℕ, ◌≤◌, ◌<◌, ◌-◌, ◌≡◌, ◌∙◌, sym, ap, Bool, List, arith, get_or, not-true, not-false}
+use Rattle.integers.proofs.Kit.{rules, ℕ, ◌≤◌, ◌<◌, ◌-◌, ◌≡◌, ◌∙◌, sym, ap, Bool, List, arith, get_or, not-true, not-false}
 use Rattle.tables.specs.declared.Counts.{Counts}
 use Rattle.tables.specs.declared.Verdict.{Verdict}
 use Rattle.tables.specs.declared.Verdict.TheVariants.{Fine}
@@ -88,4 +88,4 @@ masks-hold-spec =
     (λ c. omega (arith, c.before.loop-test.true, (start c.before.before).pre.0.actions_long)) (λ c κs. tt)
     (λ c. omega (arith, ((start (turn c).before).pre.0.chooses (turn c).before.loop.v (turn c).loop-test.true).row))
     (λ c. omega (arith, (turn c.before).loop-test.taken, (start (turn c.before).before).pre.0.covering_long))
-    reached-covered-requires returns (λ c. search needs) (λ c. search needs) loop-again returns-2)
+    reached-covered-requires returns (λ c. search rules) (λ c. search rules) loop-again returns-2)

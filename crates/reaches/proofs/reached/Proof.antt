@@ -1,4 +1,4 @@
-use Rattle.integers.proofs.Kit.{needs, ℕ, ◌≤◌, ◌-◌, ◌≡◌, ◌∙◌, refl, sym, Bool, ◌&&◌, false, List, arith, add-one, ltb, lt-ltb, le-ltb, ⊎_elim}
+use Rattle.integers.proofs.Kit.{rules, ℕ, ◌≤◌, ◌-◌, ◌≡◌, ◌∙◌, refl, sym, Bool, ◌&&◌, false, List, arith, add-one, ltb, lt-ltb, le-ltb, ⊎_elim}
 use Rattle.integers.specs.Search.{some}
 use Rattle.integers.proofs.Searches.{some_at, and_is, and-false}
 use Rattle.tables.specs.Storage.{transition_in}
@@ -48,5 +48,5 @@ returns-2 c = let e : c.before.loop.s ≡ c.before.before.before.args.n = omega 
 
 pub reached-spec : {M : Type 1} → statement M
 reached-spec =
-    tie.close (tie.spec invariant-loop decreases-loop loop-holds (λ c κs. search needs) (λ c κs. search needs) returns (λ c. search needs) (λ c. search needs) loop-again
+    tie.close (tie.spec invariant-loop decreases-loop loop-holds (λ c κs. search rules) (λ c κs. search rules) returns (λ c. search rules) (λ c. search rules) loop-again
     returns-2)

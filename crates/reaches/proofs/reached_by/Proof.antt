@@ -1,4 +1,4 @@
-use Rattle.integers.proofs.Kit.{◌∙◌, ap, arith, needs, ℕ, ◌&&◌, ltb}
+use Rattle.integers.proofs.Kit.{◌∙◌, ap, arith, rules, ℕ, ◌&&◌, ltb}
 use Rattle.integers.proofs.Searches.{some-cong}
 use Rattle.masks.specs.Masks.{covered}
 use Rattle.columns.specs.Steps.{Says}
@@ -23,4 +23,4 @@ returns-2 c =
     (λ s l. ap (λ (k : ℕ). covered a.mask s && ltb 0 k) ((says c.before).turned s l a.to.0 start.pre.0.1.1))
 
 pub reached-by-spec : {M : Type 1} → statement M
-reached-by-spec = tie.close (tie.spec (λ c κs. search needs) (λ c. search needs) reached-requires-2 returns-2)
+reached-by-spec = tie.close (tie.spec (λ c κs. search rules) (λ c. search rules) reached-requires-2 returns-2)

@@ -1,4 +1,4 @@
-use Rattle.integers.proofs.Kit.{needs, ℕ, ◌≤◌, ◌-◌, ◌≡◌, ◌∙◌, refl, sym, Bool, ◌&&◌, ◌||◌, true, false, List, arith, eqb, ltb, ⊎_elim, not-true, not-false}
+use Rattle.integers.proofs.Kit.{rules, ℕ, ◌≤◌, ◌-◌, ◌≡◌, ◌∙◌, refl, sym, Bool, ◌&&◌, ◌||◌, true, false, List, arith, eqb, ltb, ⊎_elim, not-true, not-false}
 use mathlib.Core.Bool.{not, or-true}
 use Rattle.integers.specs.Search.{every, some}
 use Rattle.integers.proofs.Searches.{every-none, every_more, every-not}
@@ -98,4 +98,4 @@ returns-3 c =
 pub reached-covered-spec : {M : Type 1} → statement M
 reached-covered-spec =
     tie.close (tie.spec invariant-loop decreases-loop chosen-cover-requires returns (λ c. (omega arith, every-none _)) reached-by-requires seen-covered-requires returns-2
-    (λ c. search needs) (λ c. search needs) loop-again returns-3)
+    (λ c. search rules) (λ c. search rules) loop-again returns-3)

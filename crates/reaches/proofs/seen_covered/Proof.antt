@@ -1,4 +1,4 @@
-use Rattle.integers.proofs.Kit.{needs, ℕ, ◌≤◌, ◌<◌, ◌-◌, ◌≡◌, ◌∙◌, refl, sym, ap, Bool, ◌||◌, true, false, List, arith, eqb, eq-eqb, ne_eqb, length, ⊎_elim}
+use Rattle.integers.proofs.Kit.{rules, ℕ, ◌≤◌, ◌<◌, ◌-◌, ◌≡◌, ◌∙◌, refl, sym, ap, Bool, ◌||◌, true, false, List, arith, eqb, eq-eqb, ne_eqb, length, ⊎_elim}
 use Rattle.integers.proofs.Kit.{not-true, not-false, or-true}
 use Rattle.integers.specs.Search.{every}
 use Rattle.integers.proofs.Searches.{every-none, every_more, every-not}
@@ -76,6 +76,6 @@ returns-2 c =
 
 pub seen-covered-spec : {M : Type 1} → statement M
 seen-covered-spec =
-    tie.close (tie.spec invariant-loop decreases-loop (λ c. (omega arith, every-none _)) (λ c κs. search needs) (λ c κs. search needs)
+    tie.close (tie.spec invariant-loop decreases-loop (λ c. (omega arith, every-none _)) (λ c κs. search rules) (λ c κs. search rules)
     (λ c. omega (arith, c.choice-at.ensures, (turn c).before.shared-slice-known3.given (place c)))
-    (λ c. chosen-stored c.before) (λ c κs. search needs) returns (λ c. search needs) (λ c. search needs) loop-again returns-2)
+    (λ c. chosen-stored c.before) (λ c κs. search rules) returns (λ c. search rules) (λ c. search rules) loop-again returns-2)

@@ -1,4 +1,4 @@
-use Rattle.integers.proofs.Kit.{◌≡◌, ◌∙◌, refl, ap, sym, ℕ, ◌*◌, arith, needs, length, length-replicate, pos}
+use Rattle.integers.proofs.Kit.{◌≡◌, ◌∙◌, refl, ap, sym, ℕ, ◌*◌, arith, rules, length, length-replicate, pos}
 use Rattle.integers.proofs.Lists.{paste-laid}
 use Rattle.tables.specs.declared.Verdict.{Verdict}
 use Rattle.tables.specs.Limits.{max_states, max_actions, max_observations}
@@ -152,8 +152,8 @@ returns-3 c =
 
 pub read_spec : {M : Type 1} → statement M
 read_spec =
-    tie.close (tie.spec (λ c. search needs) (λ c. search needs) (λ c. search needs) (λ c. search needs) (λ c κs. (refl, (refl, (refl, refl))))
-    (λ c. search needs) (λ c. search needs) (λ c κs. search needs) returns (λ c κs. search needs) returns-2 mul-rows
-    (λ c. search needs) mul-paste-u16 paste-u16-requires (λ c. search needs) mul-paste-u16-2 paste-u16-requires-2
-    (λ c. search needs) paste-i64-requires (λ c. search needs) paste-u16-requires-3
-    (λ c. search needs) (λ c. search needs) (λ c. search needs) (λ c. search needs) returns-3)
+    tie.close (tie.spec (λ c. search rules) (λ c. search rules) (λ c. search rules) (λ c. search rules) (λ c κs. (refl, (refl, (refl, refl))))
+    (λ c. search rules) (λ c. search rules) (λ c κs. search rules) returns (λ c κs. search rules) returns-2 mul-rows
+    (λ c. search rules) mul-paste-u16 paste-u16-requires (λ c. search rules) mul-paste-u16-2 paste-u16-requires-2
+    (λ c. search rules) paste-i64-requires (λ c. search rules) paste-u16-requires-3
+    (λ c. search rules) (λ c. search rules) (λ c. search rules) (λ c. search rules) returns-3)

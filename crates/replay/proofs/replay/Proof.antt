@@ -1,4 +1,4 @@
-use Rattle.integers.proofs.Kit.{◌≡◌, needs}
+use Rattle.integers.proofs.Kit.{◌≡◌, rules}
 use Rattle.tables.specs.Tables.{Tables}
 use Rattle.tables.specs.Storage.{tables_in}
 use Rattle.levels.specs.Storage.{Lent, cells, rows, lent}
@@ -71,7 +71,7 @@ returns c =
 
 pub replay-spec : {M : Type 1} → statement M
 replay-spec =
-    tie.close (tie.spec (λ c κs. search needs) (λ c κs. search needs) offer-all-requires (λ c. (acted c).before.before.state.given)
+    tie.close (tie.spec (λ c κs. search rules) (λ c κs. search rules) offer-all-requires (λ c. (acted c).before.before.state.given)
     (λ c. (acted c).actions.given)
     (λ c. (masked c).before.before.choices.given) (λ c. (masked c).masks.given) (λ c. (weighed c).before.before.entries.given)
     (λ c. (weighed c).before.corners.given) (λ c. (weighed c).weights.given) (λ c. c.before.before.values.given) (λ c. c.before.informed.given)

@@ -1,5 +1,5 @@
 use Rattle.tables.specs.Limits.{max_converted}
-use Rattle.rewards.proofs.Prelude.{◌∙◌, needs}
+use Rattle.rewards.proofs.Prelude.{◌∙◌, rules}
 use Rattle.integers.proofs.Kit.{ap, sym, Bool, cond, le-leb, lt-leb, to_z-of_z}
 use Rattle.drafts.specs.Drafts.{outcomed}
 use Rattle.rewards.proofs.keep_outcome.Statement.{statement}
@@ -25,4 +25,4 @@ returns-2 c =
     (lt-leb a.n max_converted c.if1.false))
 
 pub keep-outcome-spec : {M : Type 1} → statement M
-keep-outcome-spec = tie.close (tie.spec state-outcome-requires (λ c. search needs) returns returns-2)
+keep-outcome-spec = tie.close (tie.spec state-outcome-requires (λ c. search rules) returns returns-2)

@@ -1,4 +1,4 @@
-use Rattle.rewards.proofs.Prelude.{ℕ, ℤ, List, needs, value-next, leaves-back, leaves-on}
+use Rattle.rewards.proofs.Prelude.{ℕ, ℤ, List, rules, value-next, leaves-back, leaves-on}
 use Rattle.words.specs.Words.{Words, words_in, between}
 use Rattle.grammar.specs.declared.Read.{Read}
 use Rattle.entries.specs.Entries.{Outcome, upon, indexed}
@@ -145,6 +145,6 @@ returns-5 c =
     c.before.outcome-at.ensures)
 
 pub outcomes-at-spec : {M : Type 1} → statement M
-outcomes-at-spec = tie.close (tie.spec (λ c κs. search needs) (λ c. search needs) (λ c. search needs) returns indexed-at-requires-2 (λ c. search needs)
-    (λ c. search needs) returns-2 indexed-at-requires-3 (λ c. search needs) (λ c. search needs) returns-3 indexed-at-requires-4 (λ c. search needs)
-    (λ c. search needs) returns-4 outcome-at-requires (λ c. search needs) returns-5)
+outcomes-at-spec = tie.close (tie.spec (λ c κs. search rules) (λ c. search rules) (λ c. search rules) returns indexed-at-requires-2 (λ c. search rules)
+    (λ c. search rules) returns-2 indexed-at-requires-3 (λ c. search rules) (λ c. search rules) returns-3 indexed-at-requires-4 (λ c. search rules)
+    (λ c. search rules) returns-4 outcome-at-requires (λ c. search rules) returns-5)

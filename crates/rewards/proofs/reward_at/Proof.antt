@@ -1,4 +1,4 @@
-use Rattle.rewards.proofs.Prelude.{ℤ, ◌∙◌, arith, needs, leaves-back}
+use Rattle.rewards.proofs.Prelude.{ℤ, ◌∙◌, arith, rules, leaves-back}
 use Rattle.integers.proofs.Kit.{ap, List, ◌<◌, ◌^◌, mag}
 use Rattle.integers.proofs.Words.{back}
 use Rattle.drafts.specs.Drafts.{rewarded}
@@ -27,11 +27,11 @@ unfolding reward_by
 returns-2 c =
     let x = (after-x c.before).before.before in let s = x.before.before in
     let g = (after-x c.before).x.given in
-    let fit : mag x.signed-at.result.value < 2 ^ 63 = search (needs, x.signed-at.ok.1.1) in
+    let fit : mag x.signed-at.result.value < 2 ^ 63 = search (rules, x.signed-at.ok.1.1) in
     leaves-done s.args.cells.now (with-reward s) g.0.0 g.0.1.0 x.signed-at.ensures g.1
     (c.before.state-reward.ensures ∙ ap (with-reward s) (back _ fit))
 
 pub reward-at-spec : {M : Type 1} → statement M
 reward-at-spec =
-    tie.close (tie.spec (λ c κs. (c.before.requires.0.0, (omega arith, omega arith))) (λ c. search needs) (λ c. search needs) returns
-    (λ c κs. search needs) (λ c. search needs) returns-2)
+    tie.close (tie.spec (λ c κs. (c.before.requires.0.0, (omega arith, omega arith))) (λ c. search rules) (λ c. search rules) returns
+    (λ c κs. search rules) (λ c. search rules) returns-2)

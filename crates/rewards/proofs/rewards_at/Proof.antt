@@ -1,4 +1,4 @@
-use Rattle.rewards.proofs.Prelude.{ℕ, ℤ, List, needs, value-next, leaves-back, leaves-on}
+use Rattle.rewards.proofs.Prelude.{ℕ, ℤ, List, rules, value-next, leaves-back, leaves-on}
 use Rattle.words.specs.Words.{Words}
 use Rattle.entries.specs.Entries.{Outcome, upon, indexed}
 use Rattle.rewards.specs.Rewards.{starred, reward, rewards_by}
@@ -115,7 +115,7 @@ returns-5 c =
     c.before.reward-at.ensures)))
 
 pub rewards-at-spec : {M : Type 1} → statement M
-rewards-at-spec = tie.close (tie.spec (λ c κs. search needs) (λ c. search needs) (λ c. search needs) returns indexed-at-requires-2 (λ c. search needs)
-    (λ c. search needs) returns-2 (λ c. search needs) (λ c. search needs) keys-at-requires (λ c. search needs) (λ c. search needs) returns-3
-    (λ c. search needs) (λ c. search needs) keys-at-requires-2 (λ c. search needs) (λ c. search needs) returns-4 reward-at-requires
-    (λ c. search needs) returns-5)
+rewards-at-spec = tie.close (tie.spec (λ c κs. search rules) (λ c. search rules) (λ c. search rules) returns indexed-at-requires-2 (λ c. search rules)
+    (λ c. search rules) returns-2 (λ c. search rules) (λ c. search rules) keys-at-requires (λ c. search rules) (λ c. search rules) returns-3
+    (λ c. search rules) (λ c. search rules) keys-at-requires-2 (λ c. search rules) (λ c. search rules) returns-4 reward-at-requires
+    (λ c. search rules) returns-5)

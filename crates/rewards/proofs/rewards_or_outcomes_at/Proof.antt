@@ -1,4 +1,4 @@
-use Rattle.rewards.proofs.Prelude.{ℕ, ℤ, List, needs}
+use Rattle.rewards.proofs.Prelude.{ℕ, ℤ, List, rules}
 use Rattle.integers.proofs.Kit.{◌≡◌, subst⁻¹, Bool}
 use Rattle.words.specs.Words.{Words, words_in, between}
 use Rattle.grammar.specs.declared.Read.{Read}
@@ -24,5 +24,5 @@ returns-2 c =
 
 pub rewards-or-outcomes-at-spec : {M : Type 1} → statement M
 rewards-or-outcomes-at-spec =
-    tie.close (tie.spec (λ c κs. let p = c.before.before.before.requires in (p.0, p.1.in_full c.before.if1.true)) (λ c. search needs) returns
-    (λ c κs. let p = c.before.before.before.requires in (p.0, p.1.by_state c.before.if1.false)) (λ c. search needs) returns-2)
+    tie.close (tie.spec (λ c κs. let p = c.before.before.before.requires in (p.0, p.1.in_full c.before.if1.true)) (λ c. search rules) returns
+    (λ c κs. let p = c.before.before.before.requires in (p.0, p.1.by_state c.before.if1.false)) (λ c. search rules) returns-2)

@@ -1,4 +1,4 @@
-use Rattle.roofing.proofs.Prelude.{needs}
+use Rattle.roofing.proofs.Prelude.{rules}
 use Rattle.backups.proofs.Roofs.{corners_fit, points_fit, values-fit, roof-is, roof-holds}
 use Rattle.roofing.proofs.build_roof.Statement.{statement}
 use Rattle.roofing.proofs.build_roof.Tie as tie
@@ -34,5 +34,5 @@ returns c =
 
 pub build-roof-spec : {M : Type 1} → statement M
 build-roof-spec =
-    tie.close (tie.spec gains-requires (λ c. search needs) build-corners-requires (λ c. search needs) build-values-requires (λ c. search needs)
-    (λ c. search needs) returns)
+    tie.close (tie.spec gains-requires (λ c. search rules) build-corners-requires (λ c. search rules) build-values-requires (λ c. search rules)
+    (λ c. search rules) returns)

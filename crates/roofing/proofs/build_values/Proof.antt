@@ -1,4 +1,4 @@
-use Rattle.roofing.proofs.Prelude.{◌-◌, ◌≤◌, ◌<◌, ◌≡◌, refl, sym, arith, needs, pos, length, laid, laid_none, laid-turn, model_in, least_value}
+use Rattle.roofing.proofs.Prelude.{◌-◌, ◌≤◌, ◌<◌, ◌≡◌, refl, sym, arith, rules, pos, length, laid, laid_none, laid-turn, model_in, least_value}
 use Rattle.roofing.proofs.Prelude.{Level, ceiling_in, CeilingOf, least-said}
 use Rattle.tables.proofs.Fitting.{rows-stored}
 use Rattle.plans.specs.Limits.{max_built}
@@ -46,7 +46,7 @@ loop-again c =
     let k = turn c in let (_, (long, so_far)) = k.before.loop.inv in (
       omega (arith, k.loop-test.taken),
       (
-        search (needs, long),
+        search (rules, long),
         λ L is. laid-turn _ _ _ (pos 0) (so_far L is)
             (least-said c.before.before.at-point.ensures (start k.before).pre.0.valid.some_actions L is c.least-of.type-inv c.least-of.ensures)
             (room k),
@@ -61,6 +61,6 @@ returns c L is =
 
 pub build-values-spec : {M : Type 1} → statement M
 build-values-spec =
-    tie.close (tie.spec invariant-loop decreases-loop (λ c. (omega arith, (refl, λ L is. sym (laid_none _ _)))) at-point-requires (λ c. search needs) least-of-requires
+    tie.close (tie.spec invariant-loop decreases-loop (λ c. (omega arith, (refl, λ L is. sym (laid_none _ _)))) at-point-requires (λ c. search rules) least-of-requires
     (λ c. omega (arith, below (turn c))) (λ c. omega (arith, (turn c).before.loop.invariant.1.0, room (turn c))) (λ c. omega (arith, below (turn c)))
     (λ c. omega (arith, (turn c).loop-test.true)) loop-again (λ c. c.before.loop.invariant.1.0) returns)

@@ -1,4 +1,4 @@
-use Rattle.roofing.proofs.Prelude.{◌-◌, ◌≤◌, ◌≡◌, sym, arith, needs}
+use Rattle.roofing.proofs.Prelude.{◌-◌, ◌≤◌, ◌≡◌, sym, arith, rules}
 use Rattle.integers.proofs.Kit.{◌∙◌, lit<, ℤ, of_z, ⊎_elim, ap, w64, to_z}
 use Rattle.integers.specs.Whole.{ceil_div}
 use Rattle.integers.specs.Search.{first_largest}
@@ -52,5 +52,5 @@ returns c = let e : c.before.loop.a ≡ (start c.before).args.actions = omega ar
 
 pub least-of-spec : {M : Type 1} → statement M
 least-of-spec =
-    tie.close (tie.spec invariant-loop decreases-loop (λ c. search needs) (λ c κs. (lit< tt, lit< tt)) loop-holds (λ c. search needs) (λ c. search needs)
-    (λ c κs. (lit< tt, lit< tt)) (λ c. search needs) (λ c. search needs) loop-again returns)
+    tie.close (tie.spec invariant-loop decreases-loop (λ c. search rules) (λ c κs. (lit< tt, lit< tt)) loop-holds (λ c. search rules) (λ c. search rules)
+    (λ c κs. (lit< tt, lit< tt)) (λ c. search rules) (λ c. search rules) loop-again returns)

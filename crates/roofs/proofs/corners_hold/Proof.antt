@@ -1,6 +1,6 @@
 use Rattle.roofs.proofs.Prelude.{ℕ, ◌≤◌, ◌<◌, ◌-◌, ◌≡◌, sym, ◌∙◌, List, arith, not-true, not-false, ℤ, pos, get_or, back, Counts, Verdict, Fine, max_states}
 use Rattle.roofs.proofs.Prelude.{model_in, unless, first_of, first-none, first_more, first-here, covers_backups, passed, failed, covers-said}
-use Rattle.roofs.proofs.Prelude.{needs, Level, ceiling_in, CeilingOf}
+use Rattle.roofs.proofs.Prelude.{rules, Level, ceiling_in, CeilingOf}
 use Rattle.plans.specs.Level.{corner_weight}
 use Rattle.levels.specs.Storage.{corner_in}
 use Rattle.levels.specs.Judged.{corners_verdict}
@@ -74,6 +74,6 @@ returns-2 c L is =
 
 pub corners-hold-spec : {M : Type 1} → statement M
 corners-hold-spec =
-    tie.close (tie.spec invariant-loop decreases-loop (λ c. (omega arith, λ L is. first-none _)) at-corner-requires (λ c. search needs)
+    tie.close (tie.spec invariant-loop decreases-loop (λ c. (omega arith, λ L is. first-none _)) at-corner-requires (λ c. search rules)
     (λ c. omega (arith, below c.before.before)) stored covers-requires returns (λ c. omega (arith, below (turn c.before.before)))
     (λ c. omega (arith, (turn c.before.before).loop-test.taken)) loop-again returns-2)

@@ -1,4 +1,4 @@
-use Rattle.roofs.proofs.Prelude.{◌≤◌, ◌-◌, ◌≡◌, refl, sym, ◌∙◌, arith, needs, lit<, w64, to_z, of_z, to_z-of_z, get_or, pos, ◌·◌, answer, back, K}
+use Rattle.roofs.proofs.Prelude.{◌≤◌, ◌-◌, ◌≡◌, refl, sym, ◌∙◌, arith, rules, lit<, w64, to_z, of_z, to_z-of_z, get_or, pos, ◌·◌, answer, back, K}
 use Rattle.integers.proofs.Kit.{true, le_z}
 use Rattle.integers.specs.Search.{every}
 use Rattle.integers.proofs.Searches.{every-none, every_more, every-not}
@@ -45,4 +45,4 @@ returns-2 c =
 pub covers-spec : {M : Type 1} → statement M
 covers-spec =
     tie.close (tie.spec invariant-loop decreases-loop (λ c κs. (lit< tt, rw (to_z-of_z c.ranges.w) (omega (arith, c.requires.1)))) (λ c. (omega arith, every-none _))
-    (λ c. search needs) (λ c. search needs) returns (λ c. search needs) (λ c. search needs) loop-again returns-2)
+    (λ c. search rules) (λ c. search rules) returns (λ c. search rules) (λ c. search rules) loop-again returns-2)

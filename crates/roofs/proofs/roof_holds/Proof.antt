@@ -1,4 +1,4 @@
-use Rattle.roofs.proofs.Prelude.{◌≡◌, needs, model_in}
+use Rattle.roofs.proofs.Prelude.{◌≡◌, rules, model_in}
 use Rattle.tables.proofs.Refusals.{stops, goes}
 use Rattle.levels.specs.Storage.{roof_in}
 use Rattle.levels.specs.Judged.{corners_verdict, points_verdict}
@@ -46,5 +46,5 @@ returns-2 c =
 
 pub roof-holds-spec : {M : Type 1} → statement M
 roof-holds-spec =
-    tie.close (tie.spec gains-requires (λ c. search needs) corners-hold-requires (λ c. search needs) (λ c. search needs) returns
-    (λ c. search needs) points-hold-requires returns-2)
+    tie.close (tie.spec gains-requires (λ c. search rules) corners-hold-requires (λ c. search rules) (λ c. search rules) returns
+    (λ c. search rules) points-hold-requires returns-2)

@@ -1,4 +1,4 @@
-use Rattle.rows.proofs.Prelude.{◌≤◌, ◌-◌, ◌≡◌, sym, ◌∙◌, arith, needs, w64, to_z, of_z, answer}
+use Rattle.rows.proofs.Prelude.{◌≤◌, ◌-◌, ◌≡◌, sym, ◌∙◌, arith, rules, w64, to_z, of_z, answer}
 use Rattle.integers.specs.Whole.{sum_to}
 use Rattle.integers.proofs.Lists.{padded-length}
 use Rattle.integers.proofs.Sums.{sum-none, sum_step}
@@ -22,7 +22,7 @@ abbrev in-loop : tie.After-largest-product invariant-loop decreases-loop → tie
 in-loop c = c.before.before.before
 
 loop-holds : tie.Need-loop-init invariant-loop decreases-loop
-loop-holds c = (search needs, sym (sum-none _))
+loop-holds c = (search rules, sym (sum-none _))
 
 successors-requires : tie.Need-successors-requires invariant-loop decreases-loop
 successors-requires c κs =
@@ -54,12 +54,12 @@ plus-requires c κs =
 
 loop-again : tie.Need-loop-preserved invariant-loop decreases-loop
 loop-again c =
-    (search needs, answer c.plus.type-inv (c.plus.ensures ∙ rw (met c.before) (sum_step _ _ (in-loop c.before).before.loop.inv.1)))
+    (search rules, answer c.plus.type-inv (c.plus.ensures ∙ rw (met c.before) (sum_step _ _ (in-loop c.before).before.loop.inv.1)))
 
 returns : tie.Need-returns invariant-loop decreases-loop
 returns c = let e : c.before.loop.o ≡ (start c.before).args.k = omega arith in rw e at c.before.loop.invariant.1
 
 pub ahead-spec : {M : Type 1} → statement M
 ahead-spec =
-    tie.close (tie.spec invariant-loop decreases-loop loop-holds successors-requires weights_long largest-product-requires plus-requires (λ c. search needs)
-    (λ c. search needs) loop-again returns)
+    tie.close (tie.spec invariant-loop decreases-loop loop-holds successors-requires weights_long largest-product-requires plus-requires (λ c. search rules)
+    (λ c. search rules) loop-again returns)

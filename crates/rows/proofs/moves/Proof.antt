@@ -1,4 +1,4 @@
-use Rattle.rows.proofs.Prelude.{◌≤◌, ◌-◌, ◌≡◌, sym, arith, needs}
+use Rattle.rows.proofs.Prelude.{◌≤◌, ◌-◌, ◌≡◌, sym, arith, rules}
 use Rattle.integers.specs.Cells.{padded}
 use Rattle.integers.proofs.Lists.{padded-none, padded-turn}
 use Rattle.tables.specs.Limits.{max_states}
@@ -13,15 +13,15 @@ abbrev decreases-loop : tie.decreases-loop
 decreases-loop transition n s a u₀ to₀ u to = n - to
 
 loop-holds : tie.Need-loop-init invariant-loop decreases-loop
-loop-holds c = (search needs, sym (padded-none _ _ _))
+loop-holds c = (search rules, sym (padded-none _ _ _))
 
 loop-again : tie.Need-loop-preserved invariant-loop decreases-loop
-loop-again c = (search needs, padded-turn _ _ _ _ c.before.before.loop.invariant.1 c.transition-at.ensures (omega arith))
+loop-again c = (search rules, padded-turn _ _ _ _ c.before.before.loop.invariant.1 c.transition-at.ensures (omega arith))
 
 returns : tie.Need-returns invariant-loop decreases-loop
 returns c = let e : c.before.loop.to ≡ c.before.before.before.args.n = omega arith in rw e at c.before.loop.invariant.1
 
 pub moves-spec : {M : Type 1} → statement M
 moves-spec =
-    tie.close (tie.spec invariant-loop decreases-loop loop-holds (λ c κs. search needs) (λ c. search needs) (λ c. search needs) (λ c. search needs)
-    (λ c. search needs) loop-again returns)
+    tie.close (tie.spec invariant-loop decreases-loop loop-holds (λ c κs. search rules) (λ c. search rules) (λ c. search rules) (λ c. search rules)
+    (λ c. search rules) loop-again returns)

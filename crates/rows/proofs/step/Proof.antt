@@ -1,4 +1,4 @@
-use Rattle.rows.proofs.Prelude.{◌*◌, ◌≤◌, pos, ◌∙◌, arith, needs}
+use Rattle.rows.proofs.Prelude.{◌*◌, ◌≤◌, pos, ◌∙◌, arith, rules}
 use lib.ListN.{replicate}
 use Rattle.tables.specs.Limits.{max_states, max_actions}
 use Rattle.rows.proofs.Stepped.{cells-few, rows-pasted}
@@ -55,5 +55,5 @@ returns c =
 
 pub step_spec : {M : Type 1} → statement M
 step_spec =
-    tie.close (tie.spec (λ c. search needs) (λ c. search needs) step-informed-requires (λ c. search needs) paste-i64-requires (λ c. search needs)
-    step-qmdp-requires (λ c. search needs) paste-i64-requires-2 (λ c. search needs) (λ c. search needs) returns)
+    tie.close (tie.spec (λ c. search rules) (λ c. search rules) step-informed-requires (λ c. search rules) paste-i64-requires (λ c. search rules)
+    step-qmdp-requires (λ c. search rules) paste-i64-requires-2 (λ c. search rules) (λ c. search rules) returns)

@@ -1,4 +1,4 @@
-use Rattle.rows.proofs.Prelude.{◌≤◌, ◌-◌, ◌≡◌, sym, ◌∙◌, arith, needs, pos, answer, w64, to_z, of_z}
+use Rattle.rows.proofs.Prelude.{◌≤◌, ◌-◌, ◌≡◌, sym, ◌∙◌, arith, rules, pos, answer, w64, to_z, of_z}
 use lib.Dec.{lit<}
 use Rattle.integers.specs.Cells.{padded}
 use Rattle.integers.proofs.Lists.{padded-none, padded-turn}
@@ -17,7 +17,7 @@ abbrev decreases-loop : tie.decreases-loop
 decreases-loop rows n m f₀ s₀ f s = n - s
 
 loop-holds : tie.Need-loop-init invariant-loop decreases-loop
-loop-holds c = (search needs, sym (padded-none _ _ _))
+loop-holds c = (search rules, sym (padded-none _ _ _))
 
 -- the largest entry at the turn's state
 met : (c : tie.After-highest-at invariant-loop decreases-loop)
@@ -32,7 +32,7 @@ scaled-requires c κs =
 
 loop-again : tie.Need-loop-preserved invariant-loop decreases-loop
 loop-again c = (
-  search needs,
+  search rules,
   padded-turn _ _ _ _ c.before.before.before.loop.invariant.1 (answer c.scaled.type-inv (c.scaled.ensures ∙ rw (met c.before)))
       (omega arith),
 )
@@ -44,5 +44,5 @@ returns c =
 
 pub tops-spec : {M : Type 1} → statement M
 tops-spec =
-    tie.close (tie.spec invariant-loop decreases-loop loop-holds (λ c κs. search needs) scaled-requires (λ c. search needs) (λ c. search needs) (λ c. search needs)
-    (λ c. search needs) loop-again returns)
+    tie.close (tie.spec invariant-loop decreases-loop loop-holds (λ c κs. search rules) scaled-requires (λ c. search rules) (λ c. search rules) (λ c. search rules)
+    (λ c. search rules) loop-again returns)

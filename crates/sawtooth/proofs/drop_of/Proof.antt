@@ -1,4 +1,4 @@
-use Rattle.sawtooth.proofs.Prelude.{◌+◌, ◌-◌, ◌≤◌, ◌≡◌, sym, ◌∙◌, ⊎_elim, arith, needs, get_or, weight_in, max_reached}
+use Rattle.sawtooth.proofs.Prelude.{◌+◌, ◌-◌, ◌≤◌, ◌≡◌, sym, ◌∙◌, ⊎_elim, arith, rules, get_or, weight_in, max_reached}
 use lib.Dec.{lit≤}
 use Rattle.plans.specs.Limits.{max_total}
 use Rattle.sawtooth.proofs.Laws.{Least, least_start, least-taken, least-left, least-limits, least-none, least-drop}
@@ -53,6 +53,6 @@ returns-2 c =
 
 pub drop-of-spec : {M : Type 1} → statement M
 drop-of-spec =
-    tie.close (tie.spec invariant-loop decreases-loop (λ c. (omega arith, least_start _ _)) (λ c. search needs) (λ c. search needs) (λ c. search needs)
-    (λ c κs. search needs) (λ c. search needs) (λ c. search needs) cross-requires cross-requires-2 (λ c. search needs) (λ c. search needs) loop-again
+    tie.close (tie.spec invariant-loop decreases-loop (λ c. (omega arith, least_start _ _)) (λ c. search rules) (λ c. search rules) (λ c. search rules)
+    (λ c κs. search rules) (λ c. search rules) (λ c. search rules) cross-requires cross-requires-2 (λ c. search rules) (λ c. search rules) loop-again
     returns (λ c κs. ((limits c.before.before).0, (start c.before.before).pre.0.1.1)) (λ c. omega arith) returns-2)

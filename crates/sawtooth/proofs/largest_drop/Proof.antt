@@ -1,4 +1,4 @@
-use Rattle.sawtooth.proofs.Prelude.{◌-◌, ◌≤◌, ◌≡◌, sym, ⊎_elim, arith, needs}
+use Rattle.sawtooth.proofs.Prelude.{◌-◌, ◌≤◌, ◌≡◌, sym, ⊎_elim, arith, rules}
 use mathlib.Core.Bool.{false}
 use Rattle.integers.specs.Whole.{largest_to}
 use Rattle.integers.proofs.Sums.{largest-none}
@@ -50,7 +50,7 @@ loop-again : tie.Need-loop-preserved invariant-loop decreases-loop
 loop-again c =
     let l = (after-start c.before).before.before in
     let a = (start l).args in (
-      search needs,
+      search rules,
       ⊎_elim
           (λ w. largest-new _ _ l.loop.inv.1 w.3
           (drop-said a.n a.weights.now a.gains.now a.q.now l.loop.i (after-start c.before).start.ensures w.1.ensures)
@@ -68,5 +68,5 @@ returns c = let e : c.before.loop.i ≡ (start c.before).args.points = omega ari
 
 pub largest-drop-spec : {M : Type 1} → statement M
 largest-drop-spec =
-    tie.close (tie.spec invariant-loop decreases-loop (λ c. (search needs, sym (largest-none _))) (λ c κs. search needs) (λ c. search needs) (λ c. search needs)
-    (λ c κs. search needs) reaches-requires drop-of-requires (λ c. search needs) (λ c. search needs) loop-again returns)
+    tie.close (tie.spec invariant-loop decreases-loop (λ c. (search rules, sym (largest-none _))) (λ c κs. search rules) (λ c. search rules) (λ c. search rules)
+    (λ c κs. search rules) reaches-requires drop-of-requires (λ c. search rules) (λ c. search rules) loop-again returns)

@@ -1,4 +1,4 @@
-use Rattle.sawtooth.proofs.Prelude.{◌+◌, ◌*◌, ◌-◌, ◌≤◌, ◌≡◌, sym, arith, needs, get_or}
+use Rattle.sawtooth.proofs.Prelude.{◌+◌, ◌*◌, ◌-◌, ◌≤◌, ◌≡◌, sym, arith, rules, get_or}
 use Rattle.integers.proofs.Kit.{true, le-leb, lt-leb, leb}
 use Rattle.integers.specs.Search.{every}
 use Rattle.integers.proofs.Searches.{every-none, every_more, every-not}
@@ -43,6 +43,6 @@ returns-2 : tie.Need-returns-2 invariant-loop decreases-loop
 returns-2 c = let e : c.before.loop.s ≡ (start c.before).args.n = omega arith in sym (rw e at c.before.loop.invariant.1)
 
 pub reaches-spec : {M : Type 1} → statement M
-reaches-spec = tie.close (tie.spec invariant-loop decreases-loop (λ c. (omega arith, every-none _)) (λ c. search needs) (λ c. search needs) (λ c. search needs)
-    (λ c κs. search needs) (λ c. search needs) (λ c. search needs) reach-requires wanted-requires returns (λ c. search needs) (λ c. search needs)
+reaches-spec = tie.close (tie.spec invariant-loop decreases-loop (λ c. (omega arith, every-none _)) (λ c. search rules) (λ c. search rules) (λ c. search rules)
+    (λ c κs. search rules) (λ c. search rules) (λ c. search rules) reach-requires wanted-requires returns (λ c. search rules) (λ c. search rules)
     loop-again returns-2)

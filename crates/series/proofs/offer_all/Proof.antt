@@ -1,4 +1,4 @@
-use Rattle.integers.proofs.Kit.{◌≡◌, ◌∙◌, ap, ◌≤◌, ◌<◌, ◌+◌, ◌*◌, ◌-◌, ◌^◌, arith, mul-le-mul, needs, get_or, w64}
+use Rattle.integers.proofs.Kit.{◌≡◌, ◌∙◌, ap, ◌≤◌, ◌<◌, ◌+◌, ◌*◌, ◌-◌, ◌^◌, arith, mul-le-mul, rules, get_or, w64}
 use mir.Val.{Fits}
 use Rattle.tables.specs.Tables.{Tables}
 use Rattle.tables.specs.Storage.{tables_in}
@@ -177,9 +177,9 @@ offer-all-spec =
     tie.close (tie.spec invariant-loop decreases-loop loop-holds (λ c κs. (in_block c).actions) (λ c. choices-few (of-actions c)) (λ c κs. (in_block (of-actions c)).choices)
     (λ c κs. (in_block (of-choices c)).masks) (λ c. entries-few (of-masks c)) (λ c κs. (in_block (of-masks c)).entries)
     (λ c κs. (in_block (of-entries c)).corners) (λ c. weights-few (of-corners c)) (λ c κs. (in_block (of-corners c)).weights)
-    (λ c κs. (in_block (of-weights c)).values) (λ c. search needs) (λ c. counts-fit (of-rows (of-slices c)))
+    (λ c κs. (in_block (of-weights c)).values) (λ c. search rules) (λ c. counts-fit (of-rows (of-slices c)))
     (λ c. omega (arith, (in_block (of-rows (of-slices c.before))).vectors)) (λ c. counts-fit (of-rows (of-slices c.before)))
-    (λ c. omega (arith, (in_block (of-rows (of-slices c.before.before))).points)) (λ c κs. search needs) (λ c κs. search needs) add-accepted
+    (λ c. omega (arith, (in_block (of-rows (of-slices c.before.before))).points)) (λ c κs. search rules) (λ c κs. search rules) add-accepted
     (λ c. omega (arith, few-left (of-rows (of-offer (of-turn c.before))))) (λ c. omega (arith, few-left (of-rows (of-offer (of-turn c.before)))))
     loop-again
     (λ c. c.before.loop.invariant.1.0.state) (λ c. c.before.loop.invariant.1.0.cells.actions) (λ c. c.before.loop.invariant.1.0.cells.choices)

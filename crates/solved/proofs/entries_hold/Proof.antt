@@ -1,4 +1,4 @@
-use Rattle.solved.proofs.Prelude.{needs, arith, ◌-◌, ◌≤◌, ◌≡◌, sym, ap, ◌∙◌, pos, get_or, Verdict, padded-length, max_states}
+use Rattle.solved.proofs.Prelude.{rules, arith, ◌-◌, ◌≤◌, ◌≡◌, sym, ap, ◌∙◌, pos, get_or, Verdict, padded-length, max_states}
 use Rattle.integers.proofs.Kit.{ℕ, ◌+◌, leb, nat_abs}
 use Rattle.tables.specs.declared.Verdict.TheVariants.{Fine}
 use Rattle.tables.specs.Verdicts.{first_of, unless}
@@ -102,5 +102,5 @@ returns-2 c =
 pub entries-hold-spec : {M : Type 1} → statement M
 entries-hold-spec =
     tie.close (tie.spec invariant-loop decreases-loop (λ c. omega (arith, (at-start c).requires.below)) (λ c κs. omega (arith, (at-start c).requires.below)) loop-holds
-    row-at-requires row-long rows-within-requires (λ c. search needs) (λ c. search needs) returns (λ c. omega (arith, (in-loop c).loop-test.true))
+    row-at-requires row-long rows-within-requires (λ c. search rules) (λ c. search rules) returns (λ c. omega (arith, (in-loop c).loop-test.true))
     (λ c. omega (arith, (in-loop c).loop-test.true)) loop-again returns-2)

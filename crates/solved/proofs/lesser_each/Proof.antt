@@ -1,4 +1,4 @@
-use Rattle.solved.proofs.Prelude.{needs, arith, ◌-◌, ◌≤◌, ◌≡◌, sym, ◌∙◌, get_or, pos, max_states}
+use Rattle.solved.proofs.Prelude.{rules, arith, ◌-◌, ◌≤◌, ◌≡◌, sym, ◌∙◌, get_or, pos, max_states}
 use Rattle.integers.specs.Cells.{padded}
 use Rattle.integers.proofs.Lists.{padded-none, padded-turn}
 use Rattle.integers.specs.Whole.{lesser}
@@ -30,5 +30,5 @@ returns c = let e : c.before.loop.s ≡ c.before.before.args.n = omega arith in 
 
 pub lesser-each-spec : {M : Type 1} → statement M
 lesser-each-spec =
-    tie.close (tie.spec invariant-loop decreases-loop loop-holds (λ c. omega arith) (λ c. omega arith) (λ c. omega arith) (λ c. omega arith) (λ c κs. search needs)
+    tie.close (tie.spec invariant-loop decreases-loop loop-holds (λ c. omega arith) (λ c. omega arith) (λ c. omega arith) (λ c. omega arith) (λ c κs. search rules)
     (λ c. omega arith) (λ c. omega arith) (λ c. omega arith) (λ c. omega arith) loop-again returns)

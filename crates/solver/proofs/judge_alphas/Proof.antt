@@ -1,4 +1,4 @@
-use Rattle.integers.proofs.Kit.{◌<◌, ◌+◌, ◌-◌, arith, needs, length}
+use Rattle.integers.proofs.Kit.{◌<◌, ◌+◌, ◌-◌, arith, rules, length}
 use Rattle.words.specs.Steps.{Worded}
 use Rattle.alphas.specs.Alphas.{alpha}
 use Rattle.alphas.specs.Steps.{alpha_of}
@@ -44,6 +44,6 @@ on c =
 
 pub judge-alphas-spec : {M : Type 1} → statement M
 judge-alphas-spec =
-    tie.close (tie.spec invariant-loop decreases-loop (λ c. left-start _ _) (λ c κs. search needs) (λ c. search needs) (λ c. search needs) returns
-    (λ c κs. ((at-loop c).loop.invariant.inside, (at-loop c).before.before.requires)) (λ c. search needs) (λ c. search needs) returns-2
+    tie.close (tie.spec invariant-loop decreases-loop (λ c. left-start _ _) (λ c κs. search rules) (λ c. search rules) (λ c. search rules) returns
+    (λ c κs. ((at-loop c).loop.invariant.inside, (at-loop c).before.before.requires)) (λ c. search rules) (λ c. search rules) returns-2
     (λ c. omega (arith, (on c).1.few, (on c).1.inside, (start c).ranges)) (λ c. omega (arith, (on c).0, (on c).1.inside)) (λ c. (on c).1))

@@ -1,4 +1,4 @@
-use Rattle.integers.proofs.Kit.{sym, ◌∙◌, needs, not-true, not-false}
+use Rattle.integers.proofs.Kit.{sym, ◌∙◌, rules, not-true, not-false}
 use Rattle.solver.proofs.Files.{first-refuses, second-refuses, unlike-counts, both-files, unlike-actions, all_alike}
 use Rattle.solver.proofs.judge_files.Statement.{statement}
 use Rattle.solver.proofs.judge_files.Tie as tie
@@ -44,5 +44,5 @@ returns-5 c =
 
 pub judge-files-spec : {M : Type 1} → statement M
 judge-files-spec =
-    tie.close (tie.spec (λ c κs. search needs) (λ c. search needs) (λ c. search needs) returns (λ c κs. search needs) (λ c. search needs)
-    (λ c. search needs) returns-2 returns-3 same-actions-requires returns-4 returns-5)
+    tie.close (tie.spec (λ c κs. search rules) (λ c. search rules) (λ c. search rules) returns (λ c κs. search rules) (λ c. search rules)
+    (λ c. search rules) returns-2 returns-3 same-actions-requires returns-4 returns-5)

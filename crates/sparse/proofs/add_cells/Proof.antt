@@ -1,4 +1,4 @@
-use Rattle.integers.proofs.Kit.{◌≤◌, ◌<◌, ◌-◌, ◌≡◌, ◌∙◌, sym, arith, needs, length, to_z, of_z, w64, to_z-of_z}
+use Rattle.integers.proofs.Kit.{◌≤◌, ◌<◌, ◌-◌, ◌≡◌, ◌∙◌, sym, arith, rules, length, to_z, of_z, w64, to_z-of_z}
 use Rattle.integers.specs.Cells.{laid}
 use Rattle.integers.proofs.Lists.{laid-long}
 use Rattle.integers.proofs.Words.{answer, back}
@@ -79,7 +79,7 @@ returns c =
 
 pub add-cells-spec : {M : Type 1} → statement M
 add-cells-spec =
-    tie.close (tie.spec invariant-loop decreases-loop loop-holds (λ c. search needs) (λ c. search needs) word-stored (λ c κs. search needs)
-    (λ c. omega (arith, state_in c, (start (turn c)).pre.0)) (λ c. sum-stored c) (λ c κs. search needs) add-scaled-requires
-    (λ c. let s = after-state-of c in omega (arith, state_in s, (start (turn s)).pre.0)) (λ c. sum-stored (after-state-of c)) (λ c. search needs)
-    (λ c. search needs) loop-again (λ c. sums-long c.before) returns)
+    tie.close (tie.spec invariant-loop decreases-loop loop-holds (λ c. search rules) (λ c. search rules) word-stored (λ c κs. search rules)
+    (λ c. omega (arith, state_in c, (start (turn c)).pre.0)) (λ c. sum-stored c) (λ c κs. search rules) add-scaled-requires
+    (λ c. let s = after-state-of c in omega (arith, state_in s, (start (turn s)).pre.0)) (λ c. sum-stored (after-state-of c)) (λ c. search rules)
+    (λ c. search rules) loop-again (λ c. sums-long c.before) returns)

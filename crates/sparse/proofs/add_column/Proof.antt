@@ -1,4 +1,4 @@
-use Rattle.integers.proofs.Kit.{◌≡◌, ◌∙◌, ap, needs, get_or, ℕ, ℤ, pos, ◌+ℤ◌, to_z, of_z, w64, to_z-of_z}
+use Rattle.integers.proofs.Kit.{◌≡◌, ◌∙◌, ap, rules, get_or, ℕ, ℤ, pos, ◌+ℤ◌, to_z, of_z, w64, to_z-of_z}
 use Rattle.integers.specs.Whole.{◌·◌}
 use Rattle.integers.proofs.Lists.{laid-cong}
 use Rattle.columns.specs.Columns.{said_for, turned_back}
@@ -34,4 +34,4 @@ returns c =
     ∙ ap (λ (z : ℤ). get_or a.sums.now s (pos 0) +ℤ turned_back a.n a.list.now s a.a.0 a.to.0 · z) (to_z-of_z start.fits.x))
 
 pub add-column-spec : {M : Type 1} → statement M
-add-column-spec = tie.close (tie.spec (λ c κs. search needs) (λ c κs. search needs) add-cells-requires (λ c. search needs) returns)
+add-column-spec = tie.close (tie.spec (λ c κs. search rules) (λ c κs. search rules) add-cells-requires (λ c. search rules) returns)

@@ -1,4 +1,4 @@
-use Rattle.integers.proofs.Kit.{◌≡◌, ◌∙◌, ◌≤◌, ◌-◌, sym, arith, needs, get_or, pos, w64, to_z, of_z}
+use Rattle.integers.proofs.Kit.{◌≡◌, ◌∙◌, ◌≤◌, ◌-◌, sym, arith, rules, get_or, pos, w64, to_z, of_z}
 use Rattle.integers.specs.Cells.{padded}
 use Rattle.integers.proofs.Lists.{padded-at, padded-none, padded-turn}
 use Rattle.integers.proofs.Words.{answer, back}
@@ -35,7 +35,7 @@ backup-from-requires c κs =
 loop-again : tie.Need-loop-preserved invariant-loop decreases-loop
 unfolding backup_said
 loop-again c = (
-  search needs,
+  search rules,
   padded-turn _ _ _ _ c.before.before.before.loop.invariant.1
       (answer c.backup-from.type-inv (c.backup-from.ensures ∙ rw (later c.before))) (omega arith),
 )
@@ -45,6 +45,6 @@ returns c = let e : c.before.loop.s ≡ (start c.before).args.n = omega arith in
 
 pub backups-spec : {M : Type 1} → statement M
 backups-spec =
-    tie.close (tie.spec invariant-loop decreases-loop (λ c κs. search needs) (λ c. (search needs, sym (padded-none _ _ _))) (λ c. search needs)
-    (λ c. omega (arith, c.loop-test.true, (start c.before).pre.0.0)) backup-from-requires (λ c. search needs) (λ c. search needs)
-    (λ c. search needs) (λ c. search needs) loop-again returns)
+    tie.close (tie.spec invariant-loop decreases-loop (λ c κs. search rules) (λ c. (search rules, sym (padded-none _ _ _))) (λ c. search rules)
+    (λ c. omega (arith, c.loop-test.true, (start c.before).pre.0.0)) backup-from-requires (λ c. search rules) (λ c. search rules)
+    (λ c. search rules) (λ c. search rules) loop-again returns)

@@ -1,4 +1,4 @@
-use Rattle.integers.proofs.Kit.{◌≡◌, ◌∙◌, ◌+◌, ap, arith, needs, get_or, ℕ}
+use Rattle.integers.proofs.Kit.{◌≡◌, ◌∙◌, ◌+◌, ap, arith, rules, get_or, ℕ}
 use Rattle.tables.specs.Storage.{row_place}
 use Rattle.sparse.proofs.count_of.Statement.{statement}
 use Rattle.sparse.proofs.count_of.Tie as tie
@@ -28,6 +28,6 @@ returns c = omega (arith, end c.before.before, first c)
 
 pub count-of-spec : {M : Type 1} → statement M
 count-of-spec =
-    tie.close (tie.spec (λ c κs. search needs) (λ c. search needs) (λ c. search needs)
-    (λ c. omega (arith, c.before.row.ensures.0, c.before.before.before.requires.1.named)) (λ c κs. search needs) (λ c. search needs)
-    (λ c. let r = c.before.before.before in omega (arith, r.row.ensures.0, (start r).requires.1.named)) (λ c κs. search needs) sub-result returns)
+    tie.close (tie.spec (λ c κs. search rules) (λ c. search rules) (λ c. search rules)
+    (λ c. omega (arith, c.before.row.ensures.0, c.before.before.before.requires.1.named)) (λ c κs. search rules) (λ c. search rules)
+    (λ c. let r = c.before.before.before in omega (arith, r.row.ensures.0, (start r).requires.1.named)) (λ c κs. search rules) sub-result returns)

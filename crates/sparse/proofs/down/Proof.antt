@@ -1,4 +1,4 @@
-use Rattle.integers.proofs.Kit.{ℕ, ◌≤◌, ◌<◌, ◌*◌, ◌-◌, ◌≡◌, ◌∙◌, sym, arith, needs, mul-le-mul}
+use Rattle.integers.proofs.Kit.{ℕ, ◌≤◌, ◌<◌, ◌*◌, ◌-◌, ◌≡◌, ◌∙◌, sym, arith, rules, mul-le-mul}
 use Rattle.integers.proofs.Sums.{total-none, total-step, total-bound}
 use Rattle.tables.specs.Limits.{max_weight, one}
 use Rattle.sparse.proofs.Cells.{down_to, down-by-states}
@@ -65,6 +65,6 @@ returns c =
 
 pub down-spec : {M : Type 1} → statement M
 down-spec =
-    tie.close (tie.spec invariant-loop decreases-loop (λ c. (omega arith, sym (total-none _))) (λ c. search needs) (λ c. search needs) word-stored (λ c κs. search needs)
-    (λ c. omega (arith, state_in c, (start (turn c)).pre.0)) weight-stored (λ c κs. search needs) add-moved-requires (λ c. search needs)
-    (λ c. search needs) loop-again returns)
+    tie.close (tie.spec invariant-loop decreases-loop (λ c. (omega arith, sym (total-none _))) (λ c. search rules) (λ c. search rules) word-stored (λ c κs. search rules)
+    (λ c. omega (arith, state_in c, (start (turn c)).pre.0)) weight-stored (λ c κs. search rules) add-moved-requires (λ c. search rules)
+    (λ c. search rules) loop-again returns)

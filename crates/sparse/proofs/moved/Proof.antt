@@ -1,4 +1,4 @@
-use Rattle.integers.proofs.Kit.{◌≤◌, ◌-◌, ◌≡◌, sym, arith, needs}
+use Rattle.integers.proofs.Kit.{◌≤◌, ◌-◌, ◌≡◌, sym, arith, rules}
 use Rattle.integers.specs.Cells.{padded}
 use Rattle.integers.proofs.Lists.{padded-none, padded-turn}
 use Rattle.tables.specs.Limits.{max_states}
@@ -22,12 +22,12 @@ moved-to-requires c κs =
     ((pre.0.0, (pre.0.1, l)), (pre.1.0, pre.1.1.column c.before.loop.to l))
 
 loop-again : tie.Need-loop-preserved invariant-loop decreases-loop
-loop-again c = (search needs, padded-turn _ _ _ _ c.before.before.loop.invariant.1 c.moved_to.ensures (omega arith))
+loop-again c = (search rules, padded-turn _ _ _ _ c.before.before.loop.invariant.1 c.moved_to.ensures (omega arith))
 
 returns : tie.Need-returns invariant-loop decreases-loop
 returns c = let e : c.before.loop.to ≡ (start c.before).args.n = omega arith in rw e at c.before.loop.invariant.1
 
 pub moved-spec : {M : Type 1} → statement M
 moved-spec =
-    tie.close (tie.spec invariant-loop decreases-loop (λ c. (search needs, sym (padded-none _ _ _))) moved-to-requires (λ c. search needs) (λ c. search needs)
-    (λ c. search needs) (λ c. search needs) loop-again returns)
+    tie.close (tie.spec invariant-loop decreases-loop (λ c. (search rules, sym (padded-none _ _ _))) moved-to-requires (λ c. search rules) (λ c. search rules)
+    (λ c. search rules) (λ c. search rules) loop-again returns)

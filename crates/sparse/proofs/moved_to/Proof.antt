@@ -1,4 +1,4 @@
-use Rattle.integers.proofs.Kit.{◌∙◌, ◌*◌, ap, needs, ℕ}
+use Rattle.integers.proofs.Kit.{◌∙◌, ◌*◌, ap, rules, ℕ}
 use Rattle.integers.proofs.Sums.{total-cong}
 use Rattle.tables.specs.Storage.{weight_in}
 use Rattle.sparse.specs.Steps.{moved_said}
@@ -23,4 +23,4 @@ returns c =
     c.down.ensures ∙ total-cong a.n _ _ (λ s l. ap (λ (k : ℕ). weight_in a.p.now s * k) (said s))
 
 pub moved-to-spec : {M : Type 1} → statement M
-moved-to-spec = tie.close (tie.spec (λ c κs. search needs) (λ c κs. search needs) down-requires returns)
+moved-to-spec = tie.close (tie.spec (λ c κs. search rules) (λ c κs. search rules) down-requires returns)

@@ -1,4 +1,4 @@
-use Rattle.integers.proofs.Kit.{◌≡◌, ◌∙◌, ◌≤◌, ◌-◌, sym, arith, needs, pos, length}
+use Rattle.integers.proofs.Kit.{◌≡◌, ◌∙◌, ◌≤◌, ◌-◌, sym, arith, rules, pos, length}
 use Rattle.integers.specs.Cells.{padded}
 use Rattle.integers.proofs.Lists.{padded-at, padded-cong, padded-length, padded-same}
 use Rattle.integers.proofs.Sums.{sum-none}
@@ -70,5 +70,5 @@ returns c =
 
 pub onward-spec : {M : Type 1} → statement M
 onward-spec =
-    tie.close (tie.spec invariant-loop decreases-loop loop-holds (λ c. search needs) (λ c. search needs) slice-aggregate add-column-requires (λ c. search needs)
-    (λ c. search needs) loop-again returns)
+    tie.close (tie.spec invariant-loop decreases-loop loop-holds (λ c. search rules) (λ c. search rules) slice-aggregate add-column-requires (λ c. search rules)
+    (λ c. search rules) loop-again returns)

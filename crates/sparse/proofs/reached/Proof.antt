@@ -1,4 +1,4 @@
-use Rattle.integers.proofs.Kit.{◌∙◌, ap, needs, ℕ, ◌&&◌, ltb}
+use Rattle.integers.proofs.Kit.{◌∙◌, ap, rules, ℕ, ◌&&◌, ltb}
 use Rattle.integers.proofs.Searches.{some-cong}
 use Rattle.masks.specs.Masks.{covered}
 use Rattle.sparse.proofs.Cells.{cells_fit, said-turned}
@@ -17,4 +17,4 @@ returns c =
     c.some-covered.ensures ∙ some-cong a.n _ _ (λ s l. ap (λ (k : ℕ). covered a.mask s && ltb 0 k) (said s))
 
 pub reached-spec : {M : Type 1} → statement M
-reached-spec = tie.close (tie.spec (λ c κs. search needs) (λ c κs. search needs) some-covered-requires returns)
+reached-spec = tie.close (tie.spec (λ c κs. search rules) (λ c κs. search rules) some-covered-requires returns)

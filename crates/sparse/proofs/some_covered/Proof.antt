@@ -1,4 +1,4 @@
-use Rattle.integers.proofs.Kit.{ℕ, ◌+◌, ◌≤◌, ◌<◌, ◌-◌, ◌≡◌, ◌∙◌, ap, sym, false, arith, needs, get_or, dec_lt}
+use Rattle.integers.proofs.Kit.{ℕ, ◌+◌, ◌≤◌, ◌<◌, ◌-◌, ◌≡◌, ◌∙◌, ap, sym, false, arith, rules, get_or, dec_lt}
 use Rattle.masks.specs.Masks.{covered}
 use Rattle.columns.specs.Columns.{state_of}
 use Rattle.sparse.proofs.Cells.{covered-here, none-covered}
@@ -59,5 +59,5 @@ returns-2 c =
 
 pub some-covered-spec : {M : Type 1} → statement M
 some-covered-spec =
-    tie.close (tie.spec invariant-loop decreases-loop (λ c. (omega arith, λ k l. absurd (omega arith))) (λ c. search needs) (λ c. search needs) word-stored
-    (λ c κs. search needs) covers-requires returns (λ c. search needs) (λ c. search needs) loop-again returns-2)
+    tie.close (tie.spec invariant-loop decreases-loop (λ c. (omega arith, λ k l. absurd (omega arith))) (λ c. search rules) (λ c. search rules) word-stored
+    (λ c κs. search rules) covers-requires returns (λ c. search rules) (λ c. search rules) loop-again returns-2)

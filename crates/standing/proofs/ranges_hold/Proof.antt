@@ -1,4 +1,4 @@
-use Rattle.integers.proofs.Kit.{◌≤◌, arith, needs}
+use Rattle.integers.proofs.Kit.{◌≤◌, arith, rules}
 use Rattle.tables.specs.Limits.{max_entry}
 use Rattle.plans.proofs.Built.{range-limit}
 use Rattle.standing.proofs.Stages.{entries-refused, corners-refused, values-left}
@@ -61,5 +61,5 @@ returns-3 c =
 
 pub ranges-hold-spec : {M : Type 1} → statement M
 ranges-hold-spec =
-    tie.close (tie.spec (λ c κs. search needs) entries-within-requires (λ c. search needs) (λ c. search needs) returns rows-within-requires
-    (λ c. search needs) (λ c. search needs) returns-2 values-within-requires returns-3)
+    tie.close (tie.spec (λ c κs. search rules) entries-within-requires (λ c. search rules) (λ c. search rules) returns rows-within-requires
+    (λ c. search rules) (λ c. search rules) returns-2 values-within-requires returns-3)

@@ -1,4 +1,4 @@
-use Rattle.integers.proofs.Kit.{◌≡◌, ◌∙◌, sym, ◌≤◌, arith, mul-le-mul, needs, le-leb, lt-leb}
+use Rattle.integers.proofs.Kit.{◌≡◌, ◌∙◌, sym, ◌≤◌, arith, mul-le-mul, rules, le-leb, lt-leb}
 use Rattle.tables.specs.Limits.{max_entry}
 use Rattle.tables.specs.Storage.{entry_in}
 use Rattle.tables.proofs.Refusals.{fine-is}
@@ -35,4 +35,4 @@ returns-3 c =
 pub rows-hold-spec : {M : Type 1} → statement M
 rows-hold-spec =
     tie.close (tie.spec (λ c. omega (arith, mul-le-mul c.requires.0 c.requires.1.0)) (λ c. fails _ (lt-leb _ _ c.if1.true))
-    (λ c κs. search needs) rows-within-requires (λ c. search needs) (λ c. search needs) returns-2 returns-3)
+    (λ c κs. search rules) rows-within-requires (λ c. search rules) (λ c. search rules) returns-2 returns-3)

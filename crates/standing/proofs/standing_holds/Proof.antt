@@ -1,4 +1,4 @@
-use Rattle.integers.proofs.Kit.{◌≡◌, ◌∙◌, ap, sym, true, Bool, ◌&&◌, List, [], ℕ, ◌≤◌, needs, le-leb, lt-leb, leb-true, not-false, not-true, leb, length}
+use Rattle.integers.proofs.Kit.{◌≡◌, ◌∙◌, ap, sym, true, Bool, ◌&&◌, List, [], ℕ, ◌≤◌, rules, le-leb, lt-leb, leb-true, not-false, not-true, leb, length}
 use Rattle.integers.proofs.Kit.{get_or, ℤ}
 use Rattle.tables.specs.Tables.{Tables}
 use Rattle.tables.specs.declared.Verdict.{Verdict}
@@ -271,7 +271,7 @@ returns-10 c choices =
 
 pub standing-holds-spec : {M : Type 1} → statement M
 standing-holds-spec =
-    tie.close (tie.spec (λ c κs. search needs) (λ c. search needs) (λ c. search needs) returns returns-2 (λ c κs. search needs) returns-3
-    (λ c κs. search needs) returns-4 readable-requires returns-5 actions-exist-requires returns-6 ranges-hold-requires (λ c. search needs)
-    (λ c. search needs) returns-7 weights-hold-requires (λ c. search needs) (λ c. search needs) returns-8
+    tie.close (tie.spec (λ c κs. search rules) (λ c. search rules) (λ c. search rules) returns returns-2 (λ c κs. search rules) returns-3
+    (λ c κs. search rules) returns-4 readable-requires returns-5 actions-exist-requires returns-6 ranges-hold-requires (λ c. search rules)
+    (λ c. search rules) returns-7 weights-hold-requires (λ c. search rules) (λ c. search rules) returns-8
     rows-hold-requires returns-9 rows-hold-requires-2 returns-10)

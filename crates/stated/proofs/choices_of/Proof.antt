@@ -1,4 +1,4 @@
-use Rattle.stated.proofs.Prelude.{needs, arith, ◌-◌, ◌≤◌, ◌≡◌, sym, get_or, max_observations}
+use Rattle.stated.proofs.Prelude.{rules, arith, ◌-◌, ◌≤◌, ◌≡◌, sym, get_or, max_observations}
 use Rattle.integers.specs.Cells.{padded}
 use Rattle.integers.proofs.Lists.{padded-none, padded-turn}
 use Rattle.stated.specs.Stated.{chosen_over}
@@ -22,5 +22,5 @@ returns c = let e : c.before.loop.o ≡ c.before.before.args.k = omega arith in 
 
 pub choices-of-spec : {M : Type 1} → statement M
 choices-of-spec =
-    tie.close (tie.spec invariant-loop decreases-loop loop-holds (λ c. omega arith) (λ c. omega arith) (λ c κs. search needs) (λ c. omega arith) (λ c. omega arith)
+    tie.close (tie.spec invariant-loop decreases-loop loop-holds (λ c. omega arith) (λ c. omega arith) (λ c κs. search rules) (λ c. omega arith) (λ c. omega arith)
     (λ c. omega arith) (λ c. omega arith) loop-again returns)

@@ -1,4 +1,4 @@
-use Rattle.stated.proofs.Prelude.{needs, sym, ◌∙◌}
+use Rattle.stated.proofs.Prelude.{rules, sym, ◌∙◌}
 use Rattle.stated.proofs.Choices.{over-later, over-hyphen, over_first}
 use Rattle.stated.proofs.chosen_over.Statement.{statement}
 use Rattle.stated.proofs.chosen_over.Tie as tie
@@ -17,4 +17,4 @@ returns-3 c =
     over_first a.t a.next c.before.before.if1.false (λ e. c.if2.false (c.before.wide.ensures ∙ e))
 
 pub chosen-over-spec : {M : Type 1} → statement M
-chosen-over-spec = tie.close (tie.spec returns (λ c κs. search needs) returns-2 returns-3)
+chosen-over-spec = tie.close (tie.spec returns (λ c κs. search rules) returns-2 returns-3)

@@ -1,4 +1,4 @@
-use Rattle.stated.proofs.Prelude.{needs, arith, ℕ, ◌-◌, ◌≤◌, ◌≡◌, sym, ◌∙◌, List, ltb, Verdict, Fine, first_of, unless}
+use Rattle.stated.proofs.Prelude.{rules, arith, ℕ, ◌-◌, ◌≤◌, ◌≡◌, sym, ◌∙◌, List, ltb, Verdict, Fine, first_of, unless}
 use Rattle.stated.proofs.Prelude.{first-none, first_more, first-here}
 use Rattle.tables.specs.declared.Counts.{Counts}
 use Rattle.tables.specs.Verdicts.{◌before◌}
@@ -78,5 +78,5 @@ returns-2 c =
 
 pub numbers-hold-spec : {M : Type 1} → statement M
 numbers-hold-spec =
-    tie.close (tie.spec invariant-loop decreases-loop loop-holds said-at-requires chosen-long vector-exists-requires (λ c. search needs) (λ c. search needs) returns
+    tie.close (tie.spec invariant-loop decreases-loop loop-holds said-at-requires chosen-long vector-exists-requires (λ c. search rules) (λ c. search rules) returns
     (λ c. omega (arith, (in-loop c).loop-test.true)) (λ c. omega (arith, (in-loop c).loop-test.true)) loop-again returns-2)

@@ -1,4 +1,4 @@
-use Rattle.stated.proofs.Prelude.{needs, arith, ℕ, ◌-◌, ◌≤◌, ◌≡◌, ◌∙◌, sym, List, get_or, ltb, Verdict, Fine, first_of, unless}
+use Rattle.stated.proofs.Prelude.{rules, arith, ℕ, ◌-◌, ◌≤◌, ◌≡◌, ◌∙◌, sym, List, get_or, ltb, Verdict, Fine, first_of, unless}
 use Rattle.stated.proofs.Prelude.{first-none, first_more, first-here}
 use Rattle.integers.proofs.Kit.{◌+◌, ◌*◌, ap, lt-ltb, le-ltb}
 use Rattle.tables.specs.Storage.{choice_in}

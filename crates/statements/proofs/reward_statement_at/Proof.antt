@@ -1,4 +1,4 @@
-use Rattle.statements.proofs.Prelude.{needs, value-next, draft, within, leaves-back, leaves-on, leaves-within, takes_begin}
+use Rattle.statements.proofs.Prelude.{rules, value-next, draft, within, leaves-back, leaves-on, leaves-within, takes_begin}
 use Rattle.rewards.specs.Rewards.{rewards_or_outcomes}
 use Rattle.statements.specs.Statements.{reward_statement_by}
 use Rattle.statements.proofs.reward_statement_at.Statement.{statement}
@@ -31,5 +31,5 @@ returns-2 c =
 
 pub reward-statement-at-spec : {M : Type 1} → statement M
 reward-statement-at-spec =
-    tie.close (tie.spec (λ c. search needs) (λ c κs. search needs) (λ c. search needs) (λ c. search needs) returns rewards-or-outcomes-at-requires
-    (λ c. search needs) returns-2)
+    tie.close (tie.spec (λ c. search rules) (λ c κs. search rules) (λ c. search rules) (λ c. search rules) returns rewards-or-outcomes-at-requires
+    (λ c. search rules) returns-2)

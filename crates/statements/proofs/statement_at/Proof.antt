@@ -1,4 +1,4 @@
-use Rattle.statements.proofs.Prelude.{needs, told, value-next, table, draft, within, chooses-back, chooses-on, leaves-within, takes_begin}
+use Rattle.statements.proofs.Prelude.{rules, told, value-next, table, draft, within, chooses-back, chooses-on, leaves-within, takes_begin}
 use Rattle.statements.specs.Statements.{observation_or_reward, one_statement_by}
 use Rattle.statements.proofs.statement_at.Statement.{statement}
 use Rattle.statements.proofs.statement_at.Tie as tie
@@ -35,5 +35,5 @@ returns-2 c =
 
 pub statement-at-spec : {M : Type 1} → statement M
 statement-at-spec =
-    tie.close (tie.spec (λ c. search needs) (λ c κs. search needs) (λ c. search needs) (λ c. search needs) (λ c κs. search needs) (λ c. search needs)
-    (λ c. search needs) returns table-at-requires (λ c. search needs) returns-2)
+    tie.close (tie.spec (λ c. search rules) (λ c κs. search rules) (λ c. search rules) (λ c. search rules) (λ c κs. search rules) (λ c. search rules)
+    (λ c. search rules) returns table-at-requires (λ c. search rules) returns-2)

@@ -1,4 +1,4 @@
-use Rattle.statements.proofs.Prelude.{ℕ, ◌∙◌, List, arith, needs, ℤ, draft, inside}
+use Rattle.statements.proofs.Prelude.{ℕ, ◌∙◌, List, arith, rules, ℤ, draft, inside}
 use Rattle.integers.proofs.Kit.{◌≡◌, refl, Bool, ◌-◌, length}
 use Rattle.entries.specs.Steps.{CellsFit}
 use Rattle.rewards.specs.Steps.{RewardCells}
@@ -123,6 +123,6 @@ loop-again c =
 
 pub statements-at-spec : {M : Type 1} → statement M
 statements-at-spec =
-    tie.close (tie.spec invariant-loop decreases-loop loop-holds (λ c κs. search needs) (λ c. search needs) (λ c. search needs)
+    tie.close (tie.spec invariant-loop decreases-loop loop-holds (λ c κs. search rules) (λ c. search rules) (λ c. search rules)
     (λ c. (at-loop c).loop.invariant.transition-long) (λ c. (at-loop c).loop.invariant.observation-long) (λ c. (at-loop c).loop.invariant.reward-long) returns
-    statement-at-requires (λ c. search needs) (λ c. search needs) same-length-4 same-length-5 same-length-6 returns-2 loop-less loop-again)
+    statement-at-requires (λ c. search rules) (λ c. search rules) same-length-4 same-length-5 same-length-6 returns-2 loop-less loop-again)

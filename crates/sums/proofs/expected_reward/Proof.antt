@@ -1,4 +1,4 @@
-use Rattle.sums.proofs.Prelude.{◌≤◌, ◌-◌, ◌≡◌, refl, sym, arith, needs, lit<, w64, to_z, ◌·◌, sum_to, sum-none, max_weight, weight_in, reward_in}
+use Rattle.sums.proofs.Prelude.{◌≤◌, ◌-◌, ◌≡◌, refl, sym, arith, rules, lit<, w64, to_z, ◌·◌, sum_to, sum-none, max_weight, weight_in, reward_in}
 use Rattle.sums.proofs.Prelude.{Terms, term_fits, term-added, answer}
 use Rattle.tables.specs.Limits.{max_reward}
 use Rattle.sums.specs.Steps.{expected_in}
@@ -24,7 +24,7 @@ add-scaled-requires c κs =
 loop-again : tie.Need-loop-preserved invariant-loop decreases-loop
 loop-again c =
     let l = c.before.before.before.before in (
-      search needs,
+      search rules,
       term-added (terms l.before.before) _ l.loop.invariant.1 refl
           (answer c.before.before.reward-at.type-inv c.before.before.reward-at.ensures) (answer c.add-scaled.type-inv c.add-scaled.ensures),
     )
@@ -35,5 +35,5 @@ returns c = let e : c.before.loop.s ≡ c.before.before.before.args.n = omega ar
 
 pub expected-reward-spec : {M : Type 1} → statement M
 expected-reward-spec =
-    tie.close (tie.spec invariant-loop decreases-loop (λ c. (search needs, sym (sum-none _))) (λ c κs. search needs) (λ c. search needs) (λ c. search needs)
-    add-scaled-requires (λ c. search needs) (λ c. search needs) loop-again returns)
+    tie.close (tie.spec invariant-loop decreases-loop (λ c. (search rules, sym (sum-none _))) (λ c κs. search rules) (λ c. search rules) (λ c. search rules)
+    add-scaled-requires (λ c. search rules) (λ c. search rules) loop-again returns)

@@ -1,4 +1,4 @@
-use Rattle.sums.proofs.Prelude.{◌*◌, ◌≤◌, ◌-◌, ◌≡◌, sym, ◌∙◌, arith, needs, total_to, total-none, total-step, weight_in, transition_in, moved_in}
+use Rattle.sums.proofs.Prelude.{◌*◌, ◌≤◌, ◌-◌, ◌≡◌, sym, ◌∙◌, arith, rules, total_to, total-none, total-step, weight_in, transition_in, moved_in}
 use Rattle.sums.proofs.Regroup.{moved-part}
 use Rattle.sums.proofs.moved_to.Statement.{statement}
 use Rattle.sums.proofs.moved_to.Tie as tie
@@ -27,7 +27,7 @@ add-moved-requires c κs =
 loop-again : tie.Need-loop-preserved invariant-loop decreases-loop
 loop-again c =
     let l = c.before.before.before.before in
-    (search needs, c.add-moved.ensures ∙ rw c.before.before.transition-at.ensures (total-step _ _ l.loop.invariant.1))
+    (search rules, c.add-moved.ensures ∙ rw c.before.before.transition-at.ensures (total-step _ _ l.loop.invariant.1))
 
 returns : tie.Need-returns invariant-loop decreases-loop
 unfolding moved_in
@@ -35,5 +35,5 @@ returns c = let e : c.before.loop.s ≡ (start c.before).args.n = omega arith in
 
 pub moved-to-spec : {M : Type 1} → statement M
 moved-to-spec =
-    tie.close (tie.spec invariant-loop decreases-loop (λ c. (search needs, sym (total-none _))) (λ c κs. search needs) (λ c. search needs) (λ c. search needs)
-    add-moved-requires (λ c. search needs) (λ c. search needs) loop-again returns)
+    tie.close (tie.spec invariant-loop decreases-loop (λ c. (search rules, sym (total-none _))) (λ c κs. search rules) (λ c. search rules) (λ c. search rules)
+    add-moved-requires (λ c. search rules) (λ c. search rules) loop-again returns)

@@ -1,4 +1,4 @@
-use Rattle.sums.proofs.Prelude.{◌≤◌, ◌-◌, ◌≡◌, sym, ◌∙◌, arith, needs, padded, padded-none, padded-turn, max_states}
+use Rattle.sums.proofs.Prelude.{◌≤◌, ◌-◌, ◌≡◌, sym, ◌∙◌, arith, rules, padded, padded-none, padded-turn, max_states}
 use Rattle.sums.specs.Steps.{seen_in}
 use Rattle.sums.proofs.successors.Statement.{statement}
 use Rattle.sums.proofs.successors.Tie as tie
@@ -24,12 +24,12 @@ share-requires c κs =
 loop-again : tie.Need-loop-preserved invariant-loop decreases-loop
 loop-again c =
     let l = c.before.before.before.before in
-    (search needs, padded-turn _ _ _ _ l.loop.invariant.1 (c.share.ensures ∙ rw c.before.observation-at.ensures) (omega arith))
+    (search rules, padded-turn _ _ _ _ l.loop.invariant.1 (c.share.ensures ∙ rw c.before.observation-at.ensures) (omega arith))
 
 returns : tie.Need-returns invariant-loop decreases-loop
 returns c = let e : c.before.loop.to ≡ (start c.before).args.n = omega arith in rw e at c.before.loop.invariant.1
 
 pub successors-spec : {M : Type 1} → statement M
 successors-spec =
-    tie.close (tie.spec invariant-loop decreases-loop (λ c. (search needs, sym (padded-none _ _ _))) (λ c. search needs) (λ c. search needs) (λ c κs. search needs)
-    share-requires (λ c. search needs) (λ c. search needs) (λ c. search needs) (λ c. search needs) loop-again returns)
+    tie.close (tie.spec invariant-loop decreases-loop (λ c. (search rules, sym (padded-none _ _ _))) (λ c. search rules) (λ c. search rules) (λ c κs. search rules)
+    share-requires (λ c. search rules) (λ c. search rules) (λ c. search rules) (λ c. search rules) loop-again returns)

@@ -1,4 +1,4 @@
-use Rattle.validity.proofs.Prelude.{ℕ, ◌*◌, ◌≤◌, ◌∙◌, ap, arith, needs, leb, get_or, mul-le-mul, one, max_states, max_actions}
+use Rattle.validity.proofs.Prelude.{ℕ, ◌*◌, ◌≤◌, ◌∙◌, ap, arith, rules, leb, get_or, mul-le-mul, one, max_states, max_actions}
 use Rattle.validity.proofs.Packed.{largest-every, every-cells}
 use Rattle.validity.proofs.cells_within.Statement.{statement}
 use Rattle.validity.proofs.cells_within.Tie as tie
@@ -18,5 +18,5 @@ returns c =
 
 pub cells-within-spec : {M : Type 1} → statement M
 cells-within-spec =
-    tie.close (tie.spec (λ c. omega (arith, rows_few c.before)) (λ c. omega (arith, cells-few c.before)) (λ c κs. search needs)
-    (λ c κs. search needs) returns)
+    tie.close (tie.spec (λ c. omega (arith, rows_few c.before)) (λ c. omega (arith, cells-few c.before)) (λ c κs. search rules)
+    (λ c κs. search rules) returns)

@@ -1,4 +1,4 @@
-use Rattle.validity.proofs.Prelude.{sym, ◌∙◌, not-true, not-false, needs}
+use Rattle.validity.proofs.Prelude.{sym, ◌∙◌, not-true, not-false, rules}
 use Rattle.validity.proofs.counts_within.Statement.{statement}
 use Rattle.validity.proofs.counts_within.Tie as tie
 
@@ -21,5 +21,5 @@ returns-3 c =
 
 pub counts-within-spec : {M : Type 1} → statement M
 counts-within-spec =
-    tie.close (tie.spec (λ c κs. search needs) (λ c. rw (sym c.before.count-within.ensures ∙ not-true _ c.if1.true)) (λ c κs. search needs)
-    returns-2 (λ c κs. search needs) returns-3)
+    tie.close (tie.spec (λ c κs. search rules) (λ c. rw (sym c.before.count-within.ensures ∙ not-true _ c.if1.true)) (λ c κs. search rules)
+    returns-2 (λ c κs. search rules) returns-3)

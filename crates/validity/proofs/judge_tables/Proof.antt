@@ -1,4 +1,4 @@
-use Rattle.validity.proofs.Prelude.{◌≡◌, sym, ◌∙◌, true, arith, not-true, not-false, limits_hold, model_of, Few, needs}
+use Rattle.validity.proofs.Prelude.{◌≡◌, sym, ◌∙◌, true, arith, not-true, not-false, limits_hold, model_of, Few, rules}
 use mathlib.Core.Bool.{◌&&◌}
 use Rattle.integers.proofs.Searches.{and-true}
 use Rattle.tables.specs.Tables.{Tables}
@@ -48,5 +48,5 @@ returns-3 c =
 
 pub judge-tables-spec : {M : Type 1} → statement M
 judge-tables-spec =
-    tie.close (tie.spec (λ c κs. search needs) returns rows-total-requires (λ c. search needs) (λ c. search needs) returns-2 rows-total-requires-2
+    tie.close (tie.spec (λ c κs. search rules) returns rows-total-requires (λ c. search rules) (λ c. search rules) returns-2 rows-total-requires-2
     returns-3)

@@ -1,4 +1,4 @@
-use Rattle.validity.proofs.Prelude.{ℕ, ◌≤◌, ◌-◌, ◌≡◌, ◌∙◌, sym, ap, arith, needs, get_or}
+use Rattle.validity.proofs.Prelude.{ℕ, ◌≤◌, ◌-◌, ◌≡◌, ◌∙◌, sym, ap, arith, rules, get_or}
 use Rattle.integers.specs.Whole.{largest_to}
 use Rattle.integers.proofs.Sums.{largest-none, largest-more}
 use Prim.Native.Nat.{max}
@@ -21,5 +21,5 @@ returns c = let e : c.before.loop.x ≡ c.before.before.before.args.count = omeg
 
 pub largest-spec : {M : Type 1} → statement M
 largest-spec =
-    tie.close (tie.spec invariant-loop decreases-loop (λ c. (omega arith, sym (largest-none _))) (λ c. search needs) (λ c. search needs) (λ c κs. search needs)
-    (λ c. search needs) (λ c. search needs) loop-again returns)
+    tie.close (tie.spec invariant-loop decreases-loop (λ c. (omega arith, sym (largest-none _))) (λ c. search rules) (λ c. search rules) (λ c κs. search rules)
+    (λ c. search rules) (λ c. search rules) loop-again returns)

@@ -1,4 +1,4 @@
-use Rattle.validity.proofs.Prelude.{◌≡◌, sym, ◌∙◌, true, le-leb, lt-leb, not-true, not-false, limits_hold, model_of, Few, one, arith, needs}
+use Rattle.validity.proofs.Prelude.{◌≡◌, sym, ◌∙◌, true, le-leb, lt-leb, not-true, not-false, limits_hold, model_of, Few, one, arith, rules}
 use Rattle.integers.proofs.Searches.{and-false, and-true-right}
 use Rattle.tables.specs.Tables.{Tables}
 use Rattle.tables.specs.Steps.{Stored}
@@ -102,5 +102,5 @@ returns-6 c =
 
 pub limits-hold-spec : {M : Type 1} → statement M
 limits-hold-spec =
-    tie.close (tie.spec (λ c κs. search needs) returns has-room-requires returns-2 returns-3 cells-within-requires returns-4
+    tie.close (tie.spec (λ c κs. search rules) returns has-room-requires returns-2 returns-3 cells-within-requires returns-4
     cells-within-requires-2 returns-5 rewards-within-requires returns-6)

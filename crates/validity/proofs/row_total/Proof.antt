@@ -1,4 +1,4 @@
-use Rattle.validity.proofs.Prelude.{◌+◌, ◌*◌, ◌≤◌, ◌-◌, ◌≡◌, sym, arith, needs, get_or, total_to, total-none, total-step}
+use Rattle.validity.proofs.Prelude.{◌+◌, ◌*◌, ◌≤◌, ◌-◌, ◌≡◌, sym, arith, rules, get_or, total_to, total-none, total-step}
 use Rattle.validity.proofs.row_total.Statement.{statement}
 use Rattle.validity.proofs.row_total.Tie as tie
 
@@ -21,5 +21,5 @@ returns : tie.Need-returns invariant-loop decreases-loop
 returns c = let e : c.before.loop.x ≡ c.before.before.before.args.w = omega arith in rw e at c.before.loop.invariant.1.0
 
 pub row-total-spec : {M : Type 1} → statement M
-row-total-spec = tie.close (tie.spec invariant-loop decreases-loop (λ c. (omega arith, (sym (total-none _), omega arith))) (λ c. search needs) (λ c. search needs)
-    (λ c. search needs) (λ c κs. search needs) (λ c. omega (arith, narrow c)) (λ c. search needs) (λ c. search needs) loop-again returns)
+row-total-spec = tie.close (tie.spec invariant-loop decreases-loop (λ c. (omega arith, (sym (total-none _), omega arith))) (λ c. search rules) (λ c. search rules)
+    (λ c. search rules) (λ c κs. search rules) (λ c. omega (arith, narrow c)) (λ c. search rules) (λ c. search rules) loop-again returns)

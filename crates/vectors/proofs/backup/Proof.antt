@@ -1,4 +1,4 @@
-use Rattle.vectors.proofs.Prelude.{◌≡◌, ◌∙◌, needs, w64, to_z, of_z, onward_in, answer}
+use Rattle.vectors.proofs.Prelude.{◌≡◌, ◌∙◌, rules, w64, to_z, of_z, onward_in, answer}
 use Rattle.sums.specs.Steps.{backup_in}
 use Rattle.sums.proofs.Regroup.{onward-limit}
 use Rattle.vectors.proofs.backup.Statement.{statement}
@@ -19,4 +19,4 @@ unfolding backup_in
 returns c = answer c.backup-from.type-inv (c.backup-from.ensures ∙ rw (later c.before))
 
 pub backup-spec : {M : Type 1} → statement M
-backup-spec = tie.close (tie.spec (λ c κs. search needs) backup-from-requires returns)
+backup-spec = tie.close (tie.spec (λ c κs. search rules) backup-from-requires returns)

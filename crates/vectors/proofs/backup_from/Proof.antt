@@ -1,4 +1,4 @@
-use Rattle.vectors.proofs.Prelude.{◌≡◌, ◌∙◌, arith, needs, lit<, w64, to_z, of_z, to_z-of_z, ◌·◌, K, reward_in, answer}
+use Rattle.vectors.proofs.Prelude.{◌≡◌, ◌∙◌, arith, rules, lit<, w64, to_z, of_z, to_z-of_z, ◌·◌, K, reward_in, answer}
 use Rattle.sums.proofs.Regroup.{backup-fits}
 use Rattle.vectors.proofs.backup_from.Statement.{statement}
 use Rattle.vectors.proofs.backup_from.Tie as tie
@@ -31,4 +31,4 @@ returns : tie.Need-returns
 returns c = answer c.add-scaled.type-inv (c.add-scaled.ensures ∙ rw (now c.before, later c.before.before.before))
 
 pub backup-from-spec : {M : Type 1} → statement M
-backup-from-spec = tie.close (tie.spec (λ c κs. search needs) scaled-requires add-scaled-requires returns)
+backup-from-spec = tie.close (tie.spec (λ c κs. search rules) scaled-requires add-scaled-requires returns)

@@ -1,4 +1,4 @@
-use Rattle.vectors.proofs.Prelude.{◌-◌, ◌≤◌, ◌≡◌, sym, arith, needs, pos, padded, padded-none, padded-turn, answer, max_states}
+use Rattle.vectors.proofs.Prelude.{◌-◌, ◌≤◌, ◌≡◌, sym, arith, rules, pos, padded, padded-none, padded-turn, answer, max_states}
 use Rattle.sums.specs.Steps.{backup_in}
 use Rattle.vectors.proofs.backups.Statement.{statement}
 use Rattle.vectors.proofs.backups.Tie as tie
@@ -12,7 +12,7 @@ decreases-loop transition reward f n g a e₀ s₀ e s = n - s
 
 loop-again : tie.Need-loop-preserved invariant-loop decreases-loop
 loop-again c = (
-  search needs,
+  search rules,
   padded-turn _ _ _ _ c.before.before.loop.invariant.1 (answer c.backup.type-inv c.backup.ensures) (omega arith),
 )
 
@@ -21,5 +21,5 @@ returns c = let e : c.before.loop.s ≡ c.before.before.before.args.n = omega ar
 
 pub backups-spec : {M : Type 1} → statement M
 backups-spec =
-    tie.close (tie.spec invariant-loop decreases-loop (λ c. (search needs, sym (padded-none _ _ _))) (λ c κs. search needs) (λ c. search needs) (λ c. search needs)
-    (λ c. search needs) (λ c. search needs) loop-again returns)
+    tie.close (tie.spec invariant-loop decreases-loop (λ c. (search rules, sym (padded-none _ _ _))) (λ c κs. search rules) (λ c. search rules) (λ c. search rules)
+    (λ c. search rules) (λ c. search rules) loop-again returns)

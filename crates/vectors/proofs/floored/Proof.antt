@@ -1,4 +1,4 @@
-use Rattle.vectors.proofs.Prelude.{◌-◌, ◌≤◌, ◌≡◌, ◌∙◌, sym, ap, arith, needs, lit<, get_or, pos, padded}
+use Rattle.vectors.proofs.Prelude.{◌-◌, ◌≤◌, ◌≡◌, ◌∙◌, sym, ap, arith, rules, lit<, get_or, pos, padded}
 use Rattle.vectors.proofs.Prelude.{padded-none, padded-turn, answer, back, max_states, K}
 use Rattle.integers.proofs.Kit.{ℤ}
 use Rattle.integers.specs.Whole.{floor_div}
@@ -14,7 +14,7 @@ decreases-loop b n e₀ s₀ e s = n - s
 loop-again : tie.Need-loop-preserved invariant-loop decreases-loop
 unfolding K
 loop-again c = (
-  search needs,
+  search rules,
   padded-turn _ _ _ _ c.before.before.before.loop.invariant.1
       (answer c.floor-div.type-inv (c.floor-div.ensures ∙ ap (λ (z : ℤ). floor_div z K) (back _ c.before.floor-div-arg.given))) (omega arith),
 )
@@ -24,5 +24,5 @@ returns c = let e : c.before.loop.s ≡ c.before.before.args.n = omega arith in 
 
 pub floored-spec : {M : Type 1} → statement M
 floored-spec =
-    tie.close (tie.spec invariant-loop decreases-loop (λ c. (search needs, sym (padded-none _ _ _))) (λ c. search needs) (λ c. search needs) (λ c κs. (lit< tt, lit< tt))
-    (λ c. search needs) (λ c. search needs) (λ c. search needs) (λ c. search needs) loop-again returns)
+    tie.close (tie.spec invariant-loop decreases-loop (λ c. (search rules, sym (padded-none _ _ _))) (λ c. search rules) (λ c. search rules) (λ c κs. (lit< tt, lit< tt))
+    (λ c. search rules) (λ c. search rules) (λ c. search rules) (λ c. search rules) loop-again returns)

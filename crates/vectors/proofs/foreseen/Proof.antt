@@ -1,4 +1,4 @@
-use Rattle.vectors.proofs.Prelude.{◌≤◌, ◌-◌, ◌≡◌, sym, arith, needs, pos, padded, padded-none, padded-turn, max_states, foreseen_in, answer}
+use Rattle.vectors.proofs.Prelude.{◌≤◌, ◌-◌, ◌≡◌, sym, arith, rules, pos, padded, padded-none, padded-turn, max_states, foreseen_in, answer}
 use Rattle.vectors.proofs.foreseen.Statement.{statement}
 use Rattle.vectors.proofs.foreseen.Tie as tie
 
@@ -15,7 +15,7 @@ start c = c.before.before.before.before
 
 loop-again : tie.Need-loop-preserved invariant-loop decreases-loop
 loop-again c = (
-  search needs,
+  search rules,
   padded-turn _ _ _ _ c.before.before.loop.invariant.1 (answer c.foreseen-at.type-inv c.foreseen-at.ensures) (omega arith),
 )
 
@@ -24,5 +24,5 @@ returns c = let e : c.before.loop.to ≡ (start c.before).args.n = omega arith i
 
 pub foreseen-spec : {M : Type 1} → statement M
 foreseen-spec =
-    tie.close (tie.spec invariant-loop decreases-loop (λ c. (search needs, sym (padded-none _ _ _))) (λ c κs. search needs) (λ c. search needs) (λ c. search needs)
-    (λ c. search needs) (λ c. search needs) loop-again returns)
+    tie.close (tie.spec invariant-loop decreases-loop (λ c. (search rules, sym (padded-none _ _ _))) (λ c κs. search rules) (λ c. search rules) (λ c. search rules)
+    (λ c. search rules) (λ c. search rules) loop-again returns)

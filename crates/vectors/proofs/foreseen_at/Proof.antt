@@ -1,4 +1,4 @@
-use Rattle.vectors.proofs.Prelude.{◌≤◌, ◌<◌, ◌-◌, ◌≡◌, sym, ◌∙◌, arith, needs, lit<, w64, to_z, of_z, ◌·◌, sum_to, sum-none, one, foreseen_in, Terms}
+use Rattle.vectors.proofs.Prelude.{◌≤◌, ◌<◌, ◌-◌, ◌≡◌, sym, ◌∙◌, arith, rules, lit<, w64, to_z, of_z, ◌·◌, sum_to, sum-none, one, foreseen_in, Terms}
 use Rattle.vectors.proofs.Prelude.{rows-stored, term_fits, term-added, answer}
 use Rattle.tables.specs.Limits.{max_entry}
 use Rattle.tables.specs.Storage.{observation_in}
@@ -52,7 +52,7 @@ add-scaled-requires c κs =
 loop-again : tie.Need-loop-preserved invariant-loop decreases-loop
 loop-again c =
     let observed = c.before.before.before in let l = turn observed in (
-      search needs,
+      search rules,
       term-added (terms (start l)) _ l.loop.inv.1 observed.observation-at.ensures (value c.before)
           (answer c.add-scaled.type-inv c.add-scaled.ensures),
     )
@@ -65,5 +65,5 @@ returns c =
 
 pub foreseen-at-spec : {M : Type 1} → statement M
 foreseen-at-spec =
-    tie.close (tie.spec invariant-loop decreases-loop (λ c. (search needs, sym (sum-none _))) (λ c κs. search needs) choice-at-requires entry-at-requires
-    add-scaled-requires (λ c. search needs) (λ c. search needs) loop-again returns)
+    tie.close (tie.spec invariant-loop decreases-loop (λ c. (search rules, sym (sum-none _))) (λ c κs. search rules) choice-at-requires entry-at-requires
+    add-scaled-requires (λ c. search rules) (λ c. search rules) loop-again returns)

@@ -1,4 +1,4 @@
-use Rattle.vectors.proofs.Prelude.{◌≤◌, ◌-◌, ◌≡◌, sym, arith, needs, lit<, get_or, pos, w64, to_z, ◌·◌, sum_to, sum-none, back, answer, one}
+use Rattle.vectors.proofs.Prelude.{◌≤◌, ◌-◌, ◌≡◌, sym, arith, rules, lit<, get_or, pos, w64, to_z, ◌·◌, sum_to, sum-none, back, answer, one}
 use Rattle.vectors.proofs.Prelude.{transition_in, onward_in, Terms, term_fits, term-added}
 use Rattle.sums.specs.Steps.{foreseen_limit}
 use Rattle.sums.proofs.Regroup.{onward-terms}
@@ -25,7 +25,7 @@ add-scaled-requires c κs =
 loop-again : tie.Need-loop-preserved invariant-loop decreases-loop
 loop-again c =
     let l = c.before.before.before.before in (
-      search needs,
+      search rules,
       term-added (terms l.before.before) _ l.loop.invariant.1 c.before.before.transition-at.ensures
           (back _ c.before.add-scaled-arg.given) (answer c.add-scaled.type-inv c.add-scaled.ensures),
     )
@@ -36,5 +36,5 @@ returns c = let e : c.before.loop.to ≡ c.before.before.before.args.n = omega a
 
 pub onward-spec : {M : Type 1} → statement M
 onward-spec =
-    tie.close (tie.spec invariant-loop decreases-loop (λ c. (search needs, sym (sum-none _))) (λ c κs. search needs) (λ c. search needs) (λ c. search needs)
-    add-scaled-requires (λ c. search needs) (λ c. search needs) loop-again returns)
+    tie.close (tie.spec invariant-loop decreases-loop (λ c. (search rules, sym (sum-none _))) (λ c κs. search rules) (λ c. search rules) (λ c. search rules)
+    add-scaled-requires (λ c. search rules) (λ c. search rules) loop-again returns)

@@ -1,4 +1,4 @@
-use Rattle.vectors.proofs.Prelude.{◌∙◌, sym, ap, needs, pos, max_states, K}
+use Rattle.vectors.proofs.Prelude.{◌∙◌, sym, ap, rules, pos, max_states, K}
 use Rattle.integers.proofs.Kit.{ℤ}
 use Rattle.integers.specs.Whole.{floor_div}
 use Rattle.integers.proofs.Lists.{padded-at, padded-length, padded-cong}
@@ -19,4 +19,4 @@ returns c =
     (λ s l. ap (λ (z : ℤ). floor_div z K) (rw c.before.before.backups.ensures (padded-at (pos 0) max_states _ _ s (pos 0) l)))
 
 pub rounded-spec : {M : Type 1} → statement M
-rounded-spec = tie.close (tie.spec (λ c κs. search needs) backups-long floored-requires returns)
+rounded-spec = tie.close (tie.spec (λ c κs. search rules) backups-long floored-requires returns)

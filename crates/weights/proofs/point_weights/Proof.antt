@@ -1,4 +1,4 @@
-use Rattle.integers.proofs.Kit.{◌-◌, ◌≤◌, ◌≡◌, sym, arith, needs, ◌∙◌}
+use Rattle.integers.proofs.Kit.{◌-◌, ◌≤◌, ◌≡◌, sym, arith, rules, ◌∙◌}
 use Rattle.tables.proofs.Fitting.{row-stored}
 use Rattle.integers.specs.Cells.{padded}
 use Rattle.integers.proofs.Lists.{padded-none, padded-turn}
@@ -14,7 +14,7 @@ abbrev decreases-loop : tie.decreases-loop
 decreases-loop weights n i p₀ s₀ p s = n - s
 
 loop-holds : tie.Need-loop-init invariant-loop decreases-loop
-loop-holds c = (search needs, sym (padded-none _ _ _))
+loop-holds c = (search rules, sym (padded-none _ _ _))
 
 stored : tie.Need-shared-slice-read-weight invariant-loop decreases-loop
 stored c =
@@ -24,12 +24,12 @@ stored c =
 loop-again : tie.Need-loop-preserved invariant-loop decreases-loop
 loop-again c =
     let l = c.before.before.before.before in
-    (search needs, padded-turn _ _ _ _ l.loop.invariant.1 (c.weight.ensures ∙ rw c.before.before.row.ensures.0) (omega arith))
+    (search rules, padded-turn _ _ _ _ l.loop.invariant.1 (c.weight.ensures ∙ rw c.before.before.row.ensures.0) (omega arith))
 
 returns : tie.Need-returns invariant-loop decreases-loop
 returns c = let e : c.before.loop.s ≡ c.before.before.before.args.n = omega arith in rw e at c.before.loop.invariant.1
 
 pub point-weights-spec : {M : Type 1} → statement M
 point-weights-spec =
-    tie.close (tie.spec invariant-loop decreases-loop loop-holds (λ c κs. search needs) (λ c. search needs) stored (λ c κs. search needs) (λ c. search needs)
-    (λ c. search needs) (λ c. search needs) (λ c. search needs) loop-again returns)
+    tie.close (tie.spec invariant-loop decreases-loop loop-holds (λ c κs. search rules) (λ c. search rules) stored (λ c κs. search rules) (λ c. search rules)
+    (λ c. search rules) (λ c. search rules) (λ c. search rules) loop-again returns)

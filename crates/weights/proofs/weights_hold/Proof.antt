@@ -1,4 +1,4 @@
-use Rattle.integers.proofs.Kit.{ℕ, ◌+◌, ◌*◌, ◌≤◌, ◌-◌, ◌≡◌, sym, ◌∙◌, arith, List, length, get_or, needs, ap, not-false, not-true}
+use Rattle.integers.proofs.Kit.{ℕ, ◌+◌, ◌*◌, ◌≤◌, ◌-◌, ◌≡◌, sym, ◌∙◌, arith, List, length, get_or, rules, ap, not-false, not-true}
 use Rattle.integers.specs.Whole.{total_to}
 use Rattle.integers.proofs.Lists.{row_below}
 use Rattle.tables.specs.declared.Verdict.{Verdict}
@@ -63,5 +63,5 @@ returns-2 c = let e : c.before.loop.i ≡ c.before.before.before.args.points = o
 
 pub weights-hold-spec : {M : Type 1} → statement M
 weights-hold-spec =
-    tie.close (tie.spec invariant-loop decreases-loop loop-holds (λ c κs. omega arith) weights-total-requires (λ c κs. search needs) returns (λ c. omega arith)
+    tie.close (tie.spec invariant-loop decreases-loop loop-holds (λ c κs. omega arith) weights-total-requires (λ c κs. search rules) returns (λ c. omega arith)
     (λ c. omega arith) loop-again returns-2)

@@ -1,4 +1,4 @@
-use Rattle.integers.proofs.Kit.{◌+◌, ◌*◌, ◌≤◌, ◌-◌, ◌≡◌, sym, arith, needs, get_or}
+use Rattle.integers.proofs.Kit.{◌+◌, ◌*◌, ◌≤◌, ◌-◌, ◌≡◌, sym, arith, rules, get_or}
 use Rattle.integers.specs.Whole.{total_to}
 use Rattle.integers.proofs.Sums.{total-none, total-step}
 use Rattle.weights.proofs.weights_total.Statement.{statement}
@@ -30,5 +30,5 @@ returns c = let e : c.before.loop.s ≡ c.before.before.before.args.n = omega ar
 
 pub weights-total-spec : {M : Type 1} → statement M
 weights-total-spec =
-    tie.close (tie.spec invariant-loop decreases-loop loop-holds (λ c. search needs) (λ c. search needs) (λ c. search needs) (λ c κs. search needs) add-sum
-    (λ c. search needs) (λ c. search needs) loop-again returns)
+    tie.close (tie.spec invariant-loop decreases-loop loop-holds (λ c. search rules) (λ c. search rules) (λ c. search rules) (λ c κs. search rules) add-sum
+    (λ c. search rules) (λ c. search rules) loop-again returns)

@@ -1,4 +1,4 @@
-use Rattle.words.proofs.Prelude.{ℕ, ◌<◌, ◌≡◌, refl, sym, ◌∙◌, arith, needs, role_of}
+use Rattle.words.proofs.Prelude.{ℕ, ◌<◌, ◌≡◌, refl, sym, ◌∙◌, arith, rules, role_of}
 use mathlib.Core.Bool.{true, false}
 use mathlib.Core.List.{[], ◌∷◌}
 use native.Mathlib.Decide.{ℕ_discrete}
@@ -21,11 +21,11 @@ above b h =
 
 returns-2 : tie.Need-returns-2
 returns-2 c =
-    sym (by-keys (λ (k : Class). is_end (role_of k) ≡ true) (0 ∷ 1 ∷ 2 ∷ []) c.before.class_of.ensures (search needs) c.match.keys1)
+    sym (by-keys (λ (k : Class). is_end (role_of k) ≡ true) (0 ∷ 1 ∷ 2 ∷ []) c.before.class_of.ensures (search rules) c.match.keys1)
 
 returns-3 : tie.Need-returns-3
 returns-3 c =
-    sym (by-keys (λ (k : Class). is_end (role_of k) ≡ false) (3 ∷ 4 ∷ 5 ∷ 6 ∷ 7 ∷ []) c.before.class_of.ensures (search needs) c.match.keys2)
+    sym (by-keys (λ (k : Class). is_end (role_of k) ≡ false) (3 ∷ 4 ∷ 5 ∷ 6 ∷ 7 ∷ []) c.before.class_of.ensures (search rules) c.match.keys2)
 
 pub is-end-spec : {M : Type 1} → statement M
-is-end-spec = tie.close (tie.spec (λ c. above c.before.args.b (omega arith)) (λ c κs. search needs) returns-2 returns-3)
+is-end-spec = tie.close (tie.spec (λ c. above c.before.args.b (omega arith)) (λ c κs. search rules) returns-2 returns-3)

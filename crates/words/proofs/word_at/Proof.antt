@@ -1,4 +1,4 @@
-use Rattle.words.proofs.Prelude.{ℕ, ◌≤◌, ◌<◌, ◌-◌, ◌≡◌, refl, sym, ◌∙◌, arith, needs, length, role_of, between, words_in, at-end}
+use Rattle.words.proofs.Prelude.{ℕ, ◌≤◌, ◌<◌, ◌-◌, ◌≡◌, refl, sym, ◌∙◌, arith, rules, length, role_of, between, words_in, at-end}
 use mathlib.Core.Path.{ap}
 use mathlib.Core.Bool.{true, true≢false}
 use mathlib.Core.List.{List, [], ◌∷◌}
@@ -99,6 +99,6 @@ returns-3 c =
 
 pub word-at-spec : {M : Type 1} → statement M
 word-at-spec =
-    tie.close (tie.spec invariant-loop decreases-loop (λ c. record { up = omega arith; low = λ h. h; same = λ h. refl }) (λ c. omega arith) (λ c κs. search needs)
-    (λ c. omega arith) (λ c κs. omega arith) returns (λ c κs. search needs) (λ c. search needs) (λ c. omega arith) (λ c κs. omega arith) (λ c. omega arith)
-    loop-again (λ c. search needs) (λ c. omega arith) returns-2 (λ c. omega arith) (λ c. omega arith) loop-again-2 returns-3)
+    tie.close (tie.spec invariant-loop decreases-loop (λ c. record { up = omega arith; low = λ h. h; same = λ h. refl }) (λ c. omega arith) (λ c κs. search rules)
+    (λ c. omega arith) (λ c κs. omega arith) returns (λ c κs. search rules) (λ c. search rules) (λ c. omega arith) (λ c κs. omega arith) (λ c. omega arith)
+    loop-again (λ c. search rules) (λ c. omega arith) returns-2 (λ c. omega arith) (λ c. omega arith) loop-again-2 returns-3)

@@ -1,4 +1,4 @@
-use Rattle.words.proofs.Prelude.{ℕ, ◌-◌, ◌≤◌, sym, ◌∙◌, arith, needs, length}
+use Rattle.words.proofs.Prelude.{ℕ, ◌-◌, ◌≤◌, sym, ◌∙◌, arith, rules, length}
 use Rattle.words.specs.Steps.{Run}
 use Rattle.words.proofs.Laws.{role_in, no_end, end-run, run_more, run_ends}
 use Rattle.words.proofs.word_end.Statement.{statement}
@@ -31,5 +31,5 @@ returns-2 c = let l = c.before.loop in l.invariant.1 l.at (end-run c.before.befo
 
 pub word-end-spec : {M : Type 1} → statement M
 word-end-spec =
-    tie.close (tie.spec invariant-loop decreases-loop (λ c. (omega arith, λ r w. w)) (λ c. omega arith) (λ c κs. search needs) returns (λ c. omega arith)
+    tie.close (tie.spec invariant-loop decreases-loop (λ c. (omega arith, λ r w. w)) (λ c. omega arith) (λ c κs. search rules) returns (λ c. omega arith)
     (λ c. omega arith) loop-again returns-2)

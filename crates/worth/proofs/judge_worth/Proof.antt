@@ -1,4 +1,4 @@
-use Rattle.worth.proofs.Prelude.{◌≡◌, sym, ◌∙◌, needs, max_nodes, model_of, worth_verdict}
+use Rattle.worth.proofs.Prelude.{◌≡◌, sym, ◌∙◌, rules, max_nodes, model_of, worth_verdict}
 use Rattle.integers.proofs.Kit.{arith, true, Bool, ◌&&◌, not-false, not-true}
 use Rattle.integers.proofs.Searches.{and-true}
 use Rattle.tables.specs.declared.Verdict.TheVariants.{Fine}
@@ -88,5 +88,5 @@ returns-5 c =
 
 pub judge-worth-spec : {M : Type 1} → statement M
 judge-worth-spec =
-    tie.close (tie.spec (λ c κs. search needs) (λ c. search needs) (λ c. search needs) returns (λ c κs. (valid-tables c).few_observations) returns-2
-    numbers-exist-requires (λ c. search needs) (λ c. search needs) returns-3 (λ c κs. search needs) returns-4 returns-5)
+    tie.close (tie.spec (λ c κs. search rules) (λ c. search rules) (λ c. search rules) returns (λ c κs. (valid-tables c).few_observations) returns-2
+    numbers-exist-requires (λ c. search rules) (λ c. search rules) returns-3 (λ c κs. search rules) returns-4 returns-5)

@@ -1,4 +1,4 @@
-use Rattle.worth.proofs.Prelude.{◌≤◌, ◌≡◌, sym, ◌∙◌, arith, needs, max_nodes}
+use Rattle.worth.proofs.Prelude.{◌≤◌, ◌≡◌, sym, ◌∙◌, arith, rules, max_nodes}
 use Rattle.integers.proofs.Kit.{true, mul-le-mul, le-leb, lt-leb, not-false, not-true}
 use Rattle.tables.specs.Judged.{count_within}
 use Rattle.tables.proofs.Accepted.{count-true}
@@ -18,5 +18,5 @@ mul-result c =
     omega (arith, mul-le-mul few s.pre)
 
 pub nodes-within-spec : {M : Type 1} → statement M
-nodes-within-spec = tie.close (tie.spec (λ c κs. search needs) (λ c. rw (sym c.before.count-within.ensures ∙ not-true _ c.if1.true))
+nodes-within-spec = tie.close (tie.spec (λ c κs. search rules) (λ c. rw (sym c.before.count-within.ensures ∙ not-true _ c.if1.true))
     (λ c. rw (count c.before, lt-leb _ _ c.if2.true)) mul-result (λ c. rw (count c.before, le-leb _ _ c.if2.false)))

@@ -1,4 +1,4 @@
-use Rattle.worth.proofs.Prelude.{◌≡◌, sym, ◌∙◌, arith, needs, model_of, worth_verdict}
+use Rattle.worth.proofs.Prelude.{◌≡◌, sym, ◌∙◌, arith, rules, model_of, worth_verdict}
 use Rattle.integers.proofs.Words.{answer}
 use Rattle.tables.specs.Tables.{Tables}
 use Rattle.tables.specs.declared.Verdict.TheVariants.{Fine}
@@ -70,5 +70,5 @@ returns-2 c = rw (sym c.before.before.before.judge-worth.ensures ∙ c.before.ve
 
 pub worth-spec : {M : Type 1} → statement M
 worth-spec =
-    tie.close (tie.spec (λ c κs. search needs) (λ c. search needs) (λ c κs. (lent-here c, (taken c).steps)) worths-slice entry-at-requires
-    (λ c. search needs) returns returns-2)
+    tie.close (tie.spec (λ c κs. search rules) (λ c. search rules) (λ c κs. (lent-here c, (taken c).steps)) worths-slice entry-at-requires
+    (λ c. search rules) returns returns-2)

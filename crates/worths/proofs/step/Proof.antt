@@ -1,4 +1,4 @@
-use Rattle.integers.proofs.Kit.{◌≡◌, sym, ◌≤◌, ◌-◌, arith, needs, length, pos}
+use Rattle.integers.proofs.Kit.{◌≡◌, sym, ◌≤◌, ◌-◌, arith, rules, length, pos}
 use Rattle.integers.proofs.Lists.{padded-length, row_below}
 use Rattle.tables.specs.Limits.{max_states}
 use Rattle.worths.specs.Steps.{backed_up_of, worths_by}
@@ -80,6 +80,6 @@ returns c =
 
 pub step_spec : {M : Type 1} → statement M
 step_spec =
-    tie.close (tie.spec invariant-loop decreases-loop (λ c. (search needs, worths-none-yet _ _)) (λ c. search (needs, (begun c.before).good)) worths-of-requires
+    tie.close (tie.spec invariant-loop decreases-loop (λ c. (search rules, worths-none-yet _ _)) (λ c. search (rules, (begun c.before).good)) worths-of-requires
     worths-slice start-requires (λ c. sym (row-long (after-worths-of c))) paste-requires add-v
     (λ c. omega (arith, (turn (after-worths-of c.before.before)).loop-test.taken)) loop-again returns)

@@ -1,4 +1,4 @@
-use Rattle.integers.proofs.Kit.{◌≡◌, ◌≤◌, ◌-◌, arith, needs}
+use Rattle.integers.proofs.Kit.{◌≡◌, ◌≤◌, ◌-◌, arith, rules}
 use Rattle.tables.specs.Storage.{model_in}
 use Rattle.worths.specs.Graph.{worth_of}
 use Rattle.worths.specs.Storage.{graph_in}
@@ -28,7 +28,7 @@ step-requires c κs =
 loop-again : tie.Need-loop-preserved invariant-loop decreases-loop
 loop-again c =
     let t = c.before in
-    (search needs, worths-step (begun t).requires.0 t.before.loop.counter t.before.loop.invariant.1 c.step.ensures)
+    (search rules, worths-step (begun t).requires.0 t.before.loop.counter t.before.loop.invariant.1 c.step.ensures)
 
 returns : tie.Need-returns invariant-loop decreases-loop
 returns c =
@@ -37,5 +37,5 @@ returns c =
 
 pub worths-spec : {M : Type 1} → statement M
 worths-spec =
-    tie.close (tie.spec invariant-loop decreases-loop (λ c. (search needs, worths-none (start c).requires.0)) step-requires (λ c. search needs) (λ c. search needs)
+    tie.close (tie.spec invariant-loop decreases-loop (λ c. (search rules, worths-none (start c).requires.0)) step-requires (λ c. search rules) (λ c. search rules)
     loop-again returns)

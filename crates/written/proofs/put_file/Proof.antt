@@ -1,4 +1,4 @@
-use Rattle.written.proofs.Prelude.{List, ℕ, ◌++◌, arith, needs, cell_in, reward_in, header_text, start_text, table_text, rewards_text, file_text}
+use Rattle.written.proofs.Prelude.{List, ℕ, ◌++◌, arith, rules, cell_in, reward_in, header_text, start_text, table_text, rewards_text, file_text}
 use Rattle.written.proofs.Prelude.{HasRoom, room-first, room-then, wrote_then}
 use Rattle.written.proofs.Sizes.{file-length}
 use Rattle.written.proofs.put_file.Statement.{statement}
@@ -103,4 +103,4 @@ returns c =
 pub put-file-spec : {M : Type 1} → statement M
 put-file-spec =
     tie.close (tie.spec (λ c κs. let s = from-header c in room-first (begun s) (room s)) put-start-requires put-table-requires
-    put-table-requires-2 put-rewards-requires (λ c. search needs) returns)
+    put-table-requires-2 put-rewards-requires (λ c. search rules) returns)

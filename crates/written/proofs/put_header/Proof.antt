@@ -1,4 +1,4 @@
-use Rattle.written.proofs.Prelude.{refl, List, ℕ, ◌++◌, needs, line, header_text, HasRoom, room-first, room-then, wrote_then}
+use Rattle.written.proofs.Prelude.{refl, List, ℕ, ◌++◌, rules, line, header_text, HasRoom, room-first, room-then, wrote_then}
 use Rattle.tables.specs.declared.Counts.{Counts}
 use Rattle.written.proofs.Lines.{values_line, states_line, actions_line, observations_line}
 use Rattle.written.proofs.put_header.Statement.{statement}
@@ -73,7 +73,7 @@ returns c =
 
 pub put-header-spec : {M : Type 1} → statement M
 put-header-spec =
-    tie.close (tie.spec (λ c. search needs) put-fixed-line-requires (λ c. search needs) put-requires (λ c. search needs)
-    (λ c κs. let v = (after-out2 c).before in room-first (acted (start (first v)).args.c) (room-states v)) (λ c. search needs)
-    (λ c κs. let n = (after-out3 c).before in room-first (observations_line (start (first (second n))).args.c) (room-actions n)) (λ c. search needs)
-    (λ c κs. room-observations (after-put-whole-line2 c)) (λ c. search needs) returns)
+    tie.close (tie.spec (λ c. search rules) put-fixed-line-requires (λ c. search rules) put-requires (λ c. search rules)
+    (λ c κs. let v = (after-out2 c).before in room-first (acted (start (first v)).args.c) (room-states v)) (λ c. search rules)
+    (λ c κs. let n = (after-out3 c).before in room-first (observations_line (start (first (second n))).args.c) (room-actions n)) (λ c. search rules)
+    (λ c κs. room-observations (after-put-whole-line2 c)) (λ c. search rules) returns)

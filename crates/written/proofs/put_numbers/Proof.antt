@@ -1,4 +1,4 @@
-use Rattle.written.proofs.Prelude.{subst, subst⁻¹, List, ℕ, ◌≤◌, ◌+◌, ◌-◌, arith, needs, get_or, spaced, fixed, numbers}
+use Rattle.written.proofs.Prelude.{subst, subst⁻¹, List, ℕ, ◌≤◌, ◌+◌, ◌-◌, arith, rules, get_or, spaced, fixed, numbers}
 use Rattle.written.proofs.Prelude.{HasRoom, Wrote, wrote-long, parts_none, parts-room, parts_more, parts-end}
 use Rattle.written.proofs.put_numbers.Statement.{statement}
 use Rattle.written.proofs.put_numbers.Tie as tie
@@ -57,5 +57,5 @@ returns c =
 pub put-numbers-spec : {M : Type 1} → statement M
 put-numbers-spec =
     tie.close (tie.spec invariant-loop decreases-loop (λ c. (omega arith, parts_none (part c.before.before))) (λ c. omega arith) (λ c. omega arith) (λ c. omega arith)
-    (λ c κs. search needs) put-number-requires (λ c. omega arith) (λ c. omega arith) loop-again
+    (λ c κs. search rules) put-number-requires (λ c. omega arith) (λ c. omega arith) loop-again
     (λ c. wrote-long (start c.before).pre.1 (returns c)) returns)

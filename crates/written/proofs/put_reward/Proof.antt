@@ -1,4 +1,4 @@
-use Rattle.written.proofs.Prelude.{refl, subst, subst⁻¹, List, ℕ, ◌++◌, needs, newline, spaced, signed_fixed, opening, reward_text}
+use Rattle.written.proofs.Prelude.{refl, subst, subst⁻¹, List, ℕ, ◌++◌, rules, newline, spaced, signed_fixed, opening, reward_text}
 use Rattle.written.proofs.Prelude.{HasRoom, Wrote, room-first, room-then, wrote_then}
 use Rattle.integers.proofs.Kit.{ℤ, to_z, of_z, to_z-of_z, w64}
 use Rattle.written.specs.Text.{any_outcome}
@@ -56,7 +56,7 @@ returns c =
 
 pub put-reward-spec : {M : Type 1} → statement M
 put-reward-spec =
-    tie.close (tie.spec (λ c κs. let s = c.before.before in room-first (any_outcome ++ spaced (amount (value s))) (room s)) (λ c. search needs)
+    tie.close (tie.spec (λ c κs. let s = c.before.before in room-first (any_outcome ++ spaced (amount (value s))) (room s)) (λ c. search rules)
     (λ c κs. let o = (after-out c).before in room-first (amount (value (start o))) (room-outcome o))
-    (λ c κs. (refl, room-first newline (room-amount c.before.before.before))) (λ c. search needs) (λ c κs. room-end (after-put-signed-fixed c))
-    (λ c. search needs) returns)
+    (λ c κs. (refl, room-first newline (room-amount c.before.before.before))) (λ c. search rules) (λ c κs. room-end (after-put-signed-fixed c))
+    (λ c. search rules) returns)

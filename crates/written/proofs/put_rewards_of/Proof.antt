@@ -1,4 +1,4 @@
-use Rattle.written.proofs.Prelude.{◌≡◌, subst, subst⁻¹, List, ℕ, ◌≤◌, ◌-◌, arith, needs, parts_to, reward_text, reward_in}
+use Rattle.written.proofs.Prelude.{◌≡◌, subst, subst⁻¹, List, ℕ, ◌≤◌, ◌-◌, arith, rules, parts_to, reward_text, reward_in}
 use Rattle.written.proofs.Prelude.{HasRoom, Wrote, wrote-long, parts_none, parts-room, parts_more, parts-end}
 use Rattle.integers.proofs.Kit.{ℤ, to_z, of_z, w64}
 use Rattle.integers.proofs.Words.{answer}
@@ -58,5 +58,5 @@ returns c =
 
 pub put-rewards-of-spec : {M : Type 1} → statement M
 put-rewards-of-spec =
-    tie.close (tie.spec invariant-loop decreases-loop (λ c. (omega arith, parts_none (part c.before))) (λ c κs. search needs) put-reward-requires (λ c. omega arith)
+    tie.close (tie.spec invariant-loop decreases-loop (λ c. (omega arith, parts_none (part c.before))) (λ c κs. search rules) put-reward-requires (λ c. omega arith)
     (λ c. omega arith) loop-again (λ c. wrote-long (start c.before).pre.1.1 (returns c)) returns)

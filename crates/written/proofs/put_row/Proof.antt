@@ -1,4 +1,4 @@
-use Rattle.written.proofs.Prelude.{refl, List, ℕ, ◌++◌, needs, newline, numbers, opening, row_text, HasRoom, room-first, room-then, wrote_then}
+use Rattle.written.proofs.Prelude.{refl, List, ℕ, ◌++◌, rules, newline, numbers, opening, row_text, HasRoom, room-first, room-then, wrote_then}
 use Rattle.written.proofs.put_row.Statement.{statement}
 use Rattle.written.proofs.put_row.Tie as tie
 
@@ -40,5 +40,5 @@ returns c =
 pub put-row-spec : {M : Type 1} → statement M
 put-row-spec =
     tie.close (tie.spec (λ c κs. let s = c.before.before.before in room-first (rest s) (room s))
-    (λ c κs. let o = c.before.before.before in ((refl, (start o).requires.0), room-first newline (room-numbers o))) (λ c. search needs)
-    (λ c κs. room-end (after-put-numbers c)) (λ c. search needs) returns)
+    (λ c κs. let o = c.before.before.before in ((refl, (start o).requires.0), room-first newline (room-numbers o))) (λ c. search rules)
+    (λ c κs. room-end (after-put-numbers c)) (λ c. search rules) returns)

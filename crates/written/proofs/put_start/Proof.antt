@@ -1,4 +1,4 @@
-use Rattle.written.proofs.Prelude.{◌≡◌, refl, ap, sym, subst, subst⁻¹, List, [], ◌∷◌, ℕ, ◌++◌, arith, needs, get_or}
+use Rattle.written.proofs.Prelude.{◌≡◌, refl, ap, sym, subst, subst⁻¹, List, [], ◌∷◌, ℕ, ◌++◌, arith, rules, get_or}
 use Rattle.written.proofs.Prelude.{newline, spaced, fixed, numbers, start_text, HasRoom, Wrote, room-first, room-then, wrote_then}
 use Rattle.integers.proofs.Kit.{zero-add}
 use Rattle.digits.proofs.Over.{parts-cong}
@@ -51,6 +51,6 @@ returns c =
 
 pub put-start-spec : {M : Type 1} → statement M
 put-start-spec =
-    tie.close (tie.spec (λ c. search needs) (λ c κs. let s = c.before.before.before.before in room-first (rest s) (room s))
-    (λ c κs. let p = c.before.before.before in ((refl, omega (arith, (start p).requires.0)), room-first newline (room-numbers p))) (λ c. search needs)
-    (λ c κs. room-end (after-put-numbers c)) (λ c. search needs) returns)
+    tie.close (tie.spec (λ c. search rules) (λ c κs. let s = c.before.before.before.before in room-first (rest s) (room s))
+    (λ c κs. let p = c.before.before.before in ((refl, omega (arith, (start p).requires.0)), room-first newline (room-numbers p))) (λ c. search rules)
+    (λ c κs. room-end (after-put-numbers c)) (λ c. search rules) returns)

@@ -1,4 +1,4 @@
-use Rattle.levels.proofs.Prelude.{◌≤◌, ◌-◌, ◌≡◌, sym, arith, needs, lt-ltb, le-ltb, true, ltb, get_or}
+use Rattle.levels.proofs.Prelude.{◌≤◌, ◌-◌, ◌≡◌, sym, arith, rules, lt-ltb, le-ltb, true, ltb, get_or}
 use Rattle.integers.specs.Search.{every}
 use Rattle.integers.proofs.Searches.{every-none, every_more, every-not}
 use Rattle.levels.proofs.shape.actions_exist.Statement.{statement}
@@ -28,5 +28,5 @@ returns-2 c = let e : c.before.loop.v ≡ c.before.before.before.args.vectors = 
 
 pub actions-exist-spec : {M : Type 1} → statement M
 actions-exist-spec =
-    tie.close (tie.spec invariant-loop decreases-loop loop-holds (λ c. search needs) (λ c κs. search needs) returns (λ c. search needs) (λ c. search needs) loop-again
+    tie.close (tie.spec invariant-loop decreases-loop loop-holds (λ c. search rules) (λ c κs. search rules) returns (λ c. search rules) (λ c. search rules) loop-again
     returns-2)

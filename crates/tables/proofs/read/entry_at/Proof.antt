@@ -1,4 +1,4 @@
-use Rattle.tables.proofs.Prelude.{needs, back, row-stored}
+use Rattle.tables.proofs.Prelude.{rules, back, row-stored}
 use Rattle.tables.proofs.read.entry_at.Statement.{statement}
 use Rattle.tables.proofs.read.entry_at.Tie as tie
 
@@ -9,4 +9,4 @@ stored c =
 
 pub entry-at-spec : {M : Type 1} → statement M
 entry-at-spec =
-    tie.close (tie.spec (λ c κs. search needs) (λ c. search needs) stored (λ c. rw (back _ c.result.given, c.before.row.ensures.0)))
+    tie.close (tie.spec (λ c κs. search rules) (λ c. search rules) stored (λ c. rw (back _ c.result.given, c.before.row.ensures.0)))

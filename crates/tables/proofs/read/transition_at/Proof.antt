@@ -1,4 +1,4 @@
-use Rattle.tables.proofs.Prelude.{needs, cell-stored}
+use Rattle.tables.proofs.Prelude.{rules, cell-stored}
 use Rattle.tables.proofs.read.transition_at.Statement.{statement}
 use Rattle.tables.proofs.read.transition_at.Tie as tie
 
@@ -12,4 +12,4 @@ returns : tie.Need-returns
 returns c = rw (c.wide.ensures, c.before.before.cell.ensures.0, c.before.before.before.row.ensures.0)
 
 pub transition-at-spec : {M : Type 1} → statement M
-transition-at-spec = tie.close (tie.spec (λ c κs. search needs) (λ c κs. search needs) (λ c. search needs) stored (λ c κs. search needs) returns)
+transition-at-spec = tie.close (tie.spec (λ c κs. search rules) (λ c κs. search rules) (λ c. search rules) stored (λ c κs. search rules) returns)
