@@ -1,5 +1,6 @@
 // The model: its tables, their limits, and how a cell is read.
 #![tactic(auto)]
+
 pub mod read; // one cell of a table
 
 ghost use Rattle.std.specs.Prelude.{◌≡◌};

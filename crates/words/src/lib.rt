@@ -1,5 +1,6 @@
 // The words of a text file: byte classes, and the next word from an offset.
 #![tactic(auto)]
+
 ghost use Rattle.std.specs.Prelude.{◌≡◌, ◌≤◌, length};
 ghost use Rattle.words.specs.Class.{class_of};
 ghost use Rattle.words.specs.Words.{role_of, words_in, between, comment};
