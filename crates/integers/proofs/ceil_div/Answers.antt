@@ -1,5 +1,4 @@
-use Rattle.integers.proofs.Prelude.{◌≡◌, pos, ◌+ℤ◌, quot_z, w64, SFits, to_z-of_z, sfits_le, quotient, remainder}
-use Rattle.integers.specs.Whole.{ceil_div}
+use Rattle.integers.proofs.Prelude.{to_z-of_z, sfits_le, quotient, remainder}
 use Rattle.integers.proofs.Quotients.{ceil-more, ceil-same, ceil-small}
 use Rattle.integers.proofs.ceil_div.Goals as goal
 
