@@ -1,5 +1,6 @@
 // Masks of vectors: the states that they cover, as the bits of a number; and entries where they are covered.
 #![tactic(auto)]
+
 ghost use Rattle.std.specs.Prelude.{◌≡◌, true, ◌≤◌, ◌<◌, ◌^◌, ltb, length};
 ghost use Rattle.tables.specs.Limits.{max_states, max_vectors};
 ghost use Rattle.tables.specs.Storage.{weight_in};
@@ -10,6 +11,7 @@ ghost use Rattle.masks.specs.Steps.{includes, some_includes};
 use tables::{State, Vector, read};
 
 // Whether a state is in the mask.
+#[tactic(auto, unfolding(crate::specs::Masks::covered))]
 pub fn covers(mask: u64, s: State) -> bool
     requires { s.0 < max_states }
     ensures { result ≡ covered mask s.0 }
@@ -83,7 +85,7 @@ pub fn entry_at(masks: &[u64], entries: &[i64], n: usize, v: Vector, s: State) -
     ensures { result ≡ masked_in n masks.now entries.now v.0 s.0 }
 {
     let i = v.0;
-    if !covers(masks[i], s) {
+    if !covers(masks[i], State(s.0)) {
         return 0;
     }
     read::entry_at(entries, n, v, s)
