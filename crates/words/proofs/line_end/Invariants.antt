@@ -1,7 +1,5 @@
-use Rattle.std.proofs.Common.{length, ◌-◌, ◌≡◌, ◌≤◌, ℕ, ◌+◌, ◌*◌, ◌<◌}
-use Rattle.words.specs.Class.{class_of}
-use Rattle.words.specs.Words.{role_of, words_in, between, comment}
-use Rattle.words.specs.Steps.{is_end, Run, Next}
+use Rattle.std.proofs.Common.{length, ◌-◌, ◌≡◌, ◌≤◌}
+use Rattle.words.specs.Words.{words_in, comment}
 use Rattle.words.proofs.line_end.Given as goal
 
 abbrev pub invariant-loop-at : goal.invariant-loop-at
