@@ -1,5 +1,6 @@
 // Rows of slices: the first cells of one, or zeros, written over those of a slice; and one of those that lie packed in a slice.
 #![tactic(auto)]
+
 ghost use Rattle.std.specs.Prelude.{◌≡◌, ◌+◌, ◌*◌, ◌≤◌, length, pos};
 ghost use Rattle.std.proofs.Math.Seq.{paste};
 ghost use Rattle.integers.specs.Cells.{laid};
