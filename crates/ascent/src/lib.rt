@@ -67,6 +67,7 @@ fn height(h: Climber) -> usize
 
 // The lines of the levels; false where one could not be written.
 pub fn levels_of<'a>(
+    rt: &impl Print,
     transition: &'a [u16],
     observation: &'a [u16],
     reward: &'a [i64],
@@ -83,7 +84,7 @@ pub fn levels_of<'a>(
         let w = climbing::made(transition, observation, reward, c, h, point);
         h = raising::raised(transition, observation, reward, c, h, w);
         let r = asked(transition, observation, reward, c, h, point);
-        if !streams::print_totals(height(h), r) {
+        if !streams::print_totals(rt, height(h), r) {
             return false;
         }
     }

@@ -8,7 +8,7 @@ const TRANSITIONS: usize = ROWS * Tables::STATES;
 const OBSERVATIONS: usize = ROWS * Tables::OBSERVATIONS;
 
 // What is printed of a file; false where it could not be written.
-pub fn answer(file: &[u8]) -> bool {
+pub fn answer(rt: &impl Print, file: &[u8]) -> bool {
     let mut transition = [0u16; TRANSITIONS];
     let mut observation = [0u16; OBSERVATIONS];
     let mut reward = [0i64; ROWS];
@@ -25,7 +25,7 @@ pub fn answer(file: &[u8]) -> bool {
     );
     let verdict = read.verdict;
     match verdict {
-        Verdict::Fine => ascent::levels_of(&transition, &observation, &reward, read.counts, start),
-        Verdict::Refused(number, place) => streams::print_refusal(number, place),
+        Verdict::Fine => ascent::levels_of(rt, &transition, &observation, &reward, read.counts, start),
+        Verdict::Refused(number, place) => streams::print_refusal(rt, number, place),
     }
 }
