@@ -1,5 +1,6 @@
 // Numbers as a word writes them: their forms, their digits and their sign.
 #![tactic(auto)]
+
 ghost use Rattle.std.specs.Prelude.{◌≡◌, ◌+◌, ◌^◌, ◌≤◌, ◌<◌, length};
 ghost use Rattle.numerals.specs.Numeral.{negative, signed};
 ghost use Rattle.numerals.specs.Steps.{most_read, WrittenDigits};
