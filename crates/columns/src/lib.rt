@@ -1,5 +1,6 @@
 // Transitions kept as lists: making one, and testing one that is handed in.
 #![tactic(auto)]
+
 ghost use Rattle.std.specs.Prelude.{◌≡◌, ℕ, ◌+◌, ◌*◌, ◌≤◌, ◌<◌, ◌^◌, eqb, length, get_or};
 ghost use Rattle.std.proofs.Math.Seq.{paste};
 ghost use Rattle.integers.specs.Search.{every};
@@ -44,7 +45,7 @@ fn count(cells: &[u16], n: usize, a: Action, to: State) -> usize
 {
     let mut found: usize = 0;
     for s in 0..n {
-        if 0 < read::transition_at(cells, n, State(s), a, to) {
+        if 0 < read::transition_at(cells, n, State(s), Action(a.0), State(to.0)) {
             found += 1;
         }
     }
@@ -93,7 +94,7 @@ fn put_column(cells: &[u16], n: usize, a: Action, to: State, at: usize, list: &m
 {
     let mut next = at;
     for s in 0..n {
-        let p = read::transition_at(cells, n, State(s), a, to);
+        let p = read::transition_at(cells, n, State(s), Action(a.0), State(to.0));
         if 0 < p {
             list[next] = cell(State(s), p);
             next += 1;
@@ -157,7 +158,7 @@ fn column_holds(cells: &[u16], list: &[u32], n: usize, a: Action, to: State, at:
 {
     let mut next = at;
     for s in 0..n {
-        let p = read::transition_at(cells, n, State(s), a, to);
+        let p = read::transition_at(cells, n, State(s), Action(a.0), State(to.0));
         if 0 < p {
             if list[next] != cell(State(s), p) {
                 return false;
@@ -180,7 +181,7 @@ fn cells_hold(cells: &[u16], list: &[u32], n: usize, m: usize) -> bool
     for c in 0..columns {
         let a = Action(c / n);
         let to = State(c % n);
-        if !column_holds(cells, list, n, a, to, at) {
+        if !column_holds(cells, list, n, Action(a.0), State(to.0), at) {
             return false;
         }
         at += count(cells, n, a, to);
