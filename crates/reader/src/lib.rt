@@ -1,12 +1,13 @@
 // A file and an offset in it, carried from word to word.
 #![tactic(auto)]
+
 ghost use Rattle.std.specs.Prelude.{◌≡◌};
 ghost use Rattle.words.specs.Steps.{Next};
 ghost use Rattle.reader.specs.Pair.{past_word, Paired};
 
 use words::Word;
 
-#[derive(Drop)]
+#[derive(Clone, Copy)]
 pub struct Reader<'a> {
     pub file: &'a [u8],
     pub at: usize,
@@ -35,7 +36,14 @@ pub fn moved<'a>(r: Reader<'a>, at: usize) -> Reader<'a>
 pub fn past(w: Word, at: usize) -> usize
     ensures { result ≡ past_word w at }
 {
-    let Word::At(_, stop) = w else {
+    after(&w, at)
+}
+
+// The same of a word that is kept.
+fn after(w: &Word, at: usize) -> usize
+    ensures { result ≡ past_word w.now at }
+{
+    let Word::At(_, stop) = *w else {
         return at;
     };
     stop
@@ -70,6 +78,6 @@ pub fn pair_from(file: &[u8], at: usize) -> Pair
 {
     let r = start(file, at);
     let w = next(r);
-    let q = moved(r, past(w, at));
+    let q = moved(r, after(&w, at));
     both(w, next(q))
 }
