@@ -60,8 +60,8 @@ record Table : Type 0 where
 
 table : Table
 unfolding still level alone over level_verdict numbers_in ranges_verdict rows_within values_within weights_verdict backups_verdict masks_verdict floors_verdict
-    corners_verdict points_verdict first_of every total_to sum_to largest_to range product joined smallest or_none drop gain ceiling backup_at corner_weight follows
-    successor expected_reward backup ◌·◌ K
+    corners_verdict points_verdict first_of every total_to sum_to largest_to range product joined smallest or_none drop gain ceiling backup_at corner_weight
+    follows successor expected_reward backup ◌·◌ K
 table = record {
   ten = refl;
   eleven = refl;

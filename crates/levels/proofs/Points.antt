@@ -100,8 +100,8 @@ record Table : Type 0 where
   rows_short : holds forms (rowed (1 ∷ 1 ∷ 1 ∷ []) (pos 0) (replicate 3 (pos 0)) (replicate 2 (pos 0))) ≡ false
 
 table : Table
-unfolding forms rowed standing with_rows three two level told alone level_verdict holds_up_to tables_verdict limits_hold rows_total numbers_in ranges_verdict rows_within
-    values_within weights_verdict first_of every total_to range covered
+unfolding forms rowed standing with_rows three two level told alone level_verdict holds_up_to tables_verdict limits_hold rows_total numbers_in ranges_verdict
+    rows_within values_within weights_verdict first_of every total_to range covered
 table = record {
   thirds = refl;
   thirds-low = refl;

@@ -1,6 +1,7 @@
 // A level: alpha vectors with their masks, corner values and point values, in slices packed by the counts: actions and masks by vector, choices by vector
 // and observation, entries by vector and state, corners by state, weights by point and state, values by point.
 #![tactic(auto)]
+
 pub mod shape; // 9 and 10, and lengths of slices
 
 ghost use Rattle.std.specs.Prelude.{◌≡◌, ◌∷◌, ◌+◌, ◌≤◌, ◌<◌, length, drop};
