@@ -1,5 +1,6 @@
 // Successor weights and expected rewards. The sums are regrouped so that each partial sum is worked out once: Σ_s p(s) × T(s,a,s') for an action.
 #![tactic(auto)]
+
 ghost use Rattle.std.specs.Prelude.{◌≡◌, ◌+◌, ◌*◌, ◌≤◌, ◌<◌};
 ghost use Rattle.integers.specs.Whole.{Below};
 ghost use Rattle.integers.specs.Cells.{padded};
@@ -25,7 +26,7 @@ fn moved_to(cells: &[u16], n: usize, p: &[u64], a: Action, to: State) -> u64
 {
     let mut sum: u64 = 0;
     for s in 0..n {
-        let t = read::transition_at(cells, n, State(s), a, to);
+        let t = read::transition_at(cells, n, State(s), Action(a.0), State(to.0));
         sum = add_moved(sum, p[s], t);
     }
     sum
@@ -40,7 +41,7 @@ pub fn moved(cells: &[u16], n: usize, p: &[u64], a: Action) -> Weights
 {
     let mut u = [0u64; Tables::STATES];
     for to in 0..n {
-        u[to] = moved_to(cells, n, p, a, State(to));
+        u[to] = moved_to(cells, n, p, Action(a.0), State(to));
     }
     u
 }
@@ -68,7 +69,10 @@ pub fn successors(
 {
     let mut q = [0u64; Tables::STATES];
     for to in 0..n {
-        q[to] = share(u[to], read::observation_at(cells, n, k, a, State(to), o));
+        q[to] = share(
+            u[to],
+            read::observation_at(cells, n, k, Action(a.0), State(to), Observation(o.0)),
+        );
     }
     q
 }
@@ -82,7 +86,7 @@ pub fn expected_reward(cells: &[i64], n: usize, p: &[u64], a: Action) -> i64
 {
     let mut sum: i64 = 0;
     for s in 0..n {
-        let r = read::reward_at(cells, n, State(s), a);
+        let r = read::reward_at(cells, n, State(s), Action(a.0));
         sum = integers::add_scaled(sum, p[s], r);
     }
     sum
