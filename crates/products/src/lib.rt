@@ -1,5 +1,6 @@
 // Products of weights with vectors, the first vector with the largest of those whose masks have some states, and the largest product of rows.
 #![tactic(auto)]
+
 ghost use Rattle.std.specs.Prelude.{◌≡◌, true, ℕ, ◌+◌, ◌≤◌, ◌<◌, length, get_or, pos, nat_abs};
 ghost use Rattle.integers.specs.Whole.{Below};
 ghost use Rattle.integers.specs.Search.{first_largest_of};
