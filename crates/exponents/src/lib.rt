@@ -1,5 +1,6 @@
 // A number's exponent: after its `e`, an optional minus and a power of ten.
 #![tactic(auto)]
+
 ghost use Rattle.std.specs.Prelude.{◌≡◌, true, ◌≤◌, ◌<◌, length, drop};
 ghost use Rattle.numerals.specs.Numeral.{most_power, scaled, powered, exponent};
 ghost use Rattle.numerals.specs.Steps.{most_units};
