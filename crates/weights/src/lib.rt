@@ -1,5 +1,6 @@
 // The weights of a point or of a mixture, and refusal 12: what those of a point total.
 #![tactic(auto)]
+
 ghost use Rattle.std.specs.Prelude.{◌≡◌, ◌+◌, ◌*◌, ◌≤◌, ◌<◌, length, get_or};
 ghost use Rattle.integers.specs.Whole.{total_to};
 ghost use Rattle.integers.specs.Cells.{padded};
