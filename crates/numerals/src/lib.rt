@@ -9,7 +9,7 @@ use words::Class;
 
 // How a number is written: up to `digits` digits, then optionally a point and up to `places` digits. It counts in units of which
 // 10 to the power of `places` make 1. In a loose form one of the two parts may be missing, and an exponent may follow.
-#[derive(Drop)]
+#[derive(Clone, Copy)]
 pub struct Form {
     pub digits: usize,
     pub places: usize,
@@ -59,14 +59,14 @@ impl Form {
 }
 
 // A number in the units asked for, or a word that does not fit the form.
-#[derive(Drop)]
+#[derive(Clone, Copy)]
 pub enum Amount {
     Is(u64),
     Not,
 }
 
 // Where digits end, and the number that they write.
-#[derive(Drop)]
+#[derive(Clone, Copy)]
 pub struct Digits {
     pub end: usize,
     pub value: u64,

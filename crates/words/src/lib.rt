@@ -6,7 +6,7 @@ ghost use Rattle.words.specs.Class.{class_of};
 ghost use Rattle.words.specs.Words.{role_of, words_in, between, comment};
 ghost use Rattle.words.specs.Steps.{is_end, Run, Next};
 
-#[derive(Drop)]
+#[derive(Clone, Copy)]
 pub enum Class {
     Space,
     Colon,
@@ -51,7 +51,7 @@ fn is_end(b: u8) -> bool
 }
 
 // Where the next word starts and stops, or that none is left.
-#[derive(Drop)]
+#[derive(Clone, Copy)]
 pub enum Word {
     At(usize, usize),
     End,
