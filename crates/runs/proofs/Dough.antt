@@ -25,7 +25,8 @@ use Rattle.plans.specs.Rows.{highest, best_row, informed_backup, informed_next, 
 use Rattle.plans.specs.Totals.{best, lower, upper, advice}
 use Rattle.plans.specs.Build.{chosen, entry_for, best_action, least_for, least_value, seed, built}
 use Rattle.levels.specs.Storage.{Cells, LentLevel, Rows, rows, Lent, level_of, corner_in, over}
-use Rattle.levels.specs.Judged.{rows_within, values_within, ranges_verdict, weights_verdict, holds_up_to, numbers_in, floors_verdict, corners_verdict, points_verdict}
+use Rattle.levels.specs.Judged.{rows_within, values_within, ranges_verdict, weights_verdict, holds_up_to, numbers_in, floors_verdict, corners_verdict}
+use Rattle.levels.specs.Judged.{points_verdict}
 use Rattle.levels.specs.Judged.{masks_verdict, level_verdict, shape_up_to, backups_verdict, offer_up_to, offer_verdict}
 use Rattle.runs.specs.declared.Bounds.{Bounds}
 use Rattle.runs.specs.State.{open_verdict, opened, offered, standing_verdict, totals_verdict, totals_of, build_verdict, built_of}
@@ -266,11 +267,11 @@ record Table : Type 0 where
 
 table : Table
 unfolding dough slices rows_at blank fresh half one two three level standing alone changed mixture pair open_verdict opened offered offer_up_to shape_up_to
-    level_verdict backups_verdict masks_verdict floors_verdict corners_verdict points_verdict numbers_in holds_up_to over level0 totals_of totals_verdict standing_verdict
-    best lower upper advice built_of build_verdict tables_verdict limits_hold rows_total first_of every total_to ranges_verdict rows_within values_within weights_verdict
-    range built seed best_action chosen entry_for least_value least_for first_largest_of product successor sum_to backed_up backup follows floor_div ceil_div backup_at
-    expected_reward ceiling largest_to drop gain smallest joined or_none covers_all counts some covered mask_of corner_weight laid laid_rows listed lesser highest
-    best_row informed_backup informed_next qmdp_backup qmdp_next ◌·◌ K
+    level_verdict backups_verdict masks_verdict floors_verdict corners_verdict points_verdict numbers_in holds_up_to over level0 totals_of totals_verdict
+    standing_verdict best lower upper advice built_of build_verdict tables_verdict limits_hold rows_total first_of every total_to ranges_verdict rows_within
+    values_within weights_verdict range built seed best_action chosen entry_for least_value least_for first_largest_of product successor sum_to backed_up backup
+    follows floor_div ceil_div backup_at expected_reward ceiling largest_to drop gain smallest joined or_none covers_all counts some covered mask_of
+    corner_weight laid laid_rows listed lesser highest best_row informed_backup informed_next qmdp_backup qmdp_next ◌·◌ K
 table = record {
   opens = (refl, refl);
   one-built = (refl, refl);

@@ -15,7 +15,8 @@ use Rattle.plans.specs.Level.{covers_all, counts, product, joined, smallest, or_
 use Rattle.plans.specs.Rows.{highest, best_row, informed_backup, informed_next, qmdp_backup, qmdp_next}
 use Rattle.plans.specs.Totals.{best, lower, upper, advice}
 use Rattle.levels.specs.Storage.{LentLevel, Lent, lent_for, over}
-use Rattle.levels.specs.Judged.{rows_within, values_within, ranges_verdict, weights_verdict, holds_up_to, numbers_in, floors_verdict, corners_verdict, points_verdict}
+use Rattle.levels.specs.Judged.{rows_within, values_within, ranges_verdict, weights_verdict, holds_up_to, numbers_in, floors_verdict, corners_verdict}
+use Rattle.levels.specs.Judged.{points_verdict}
 use Rattle.levels.specs.Judged.{masks_verdict, level_verdict, shape_up_to, backups_verdict, offer_up_to, offer_verdict}
 use Rattle.runs.specs.State.{offered, standing_verdict, totals_verdict, totals_of, build_verdict}
 use Rattle.runs.proofs.Dough.{dough, slices, rows_at, fresh, given, half}
@@ -91,10 +92,10 @@ record Table : Type 0 where
 
 table : Table
 unfolding dough slices rows_at fresh half offer baked stands next offered offer_up_to shape_up_to level_verdict backups_verdict masks_verdict floors_verdict
-    corners_verdict points_verdict numbers_in holds_up_to over totals_of totals_verdict standing_verdict best lower upper advice build_verdict tables_verdict limits_hold
-    rows_total first_of every total_to ranges_verdict rows_within values_within weights_verdict range first_largest_of product successor sum_to backup follows floor_div
-    ceil_div backup_at expected_reward ceiling largest_to drop gain smallest joined or_none covers_all counts some covered mask_of corner_weight laid laid_rows listed
-    lesser highest best_row informed_backup informed_next qmdp_backup qmdp_next ◌·◌ K
+    corners_verdict points_verdict numbers_in holds_up_to over totals_of totals_verdict standing_verdict best lower upper advice build_verdict tables_verdict
+    limits_hold rows_total first_of every total_to ranges_verdict rows_within values_within weights_verdict range first_largest_of product successor sum_to
+    backup follows floor_div ceil_div backup_at expected_reward ceiling largest_to drop gain smallest joined or_none covers_all counts some covered mask_of
+    corner_weight laid laid_rows listed lesser highest best_row informed_backup informed_next qmdp_backup qmdp_next ◌·◌ K
 table = record {
   accepted = (refl, refl);
   covered-range = refl;

@@ -33,7 +33,7 @@ use Rattle.levels.proofs.Over.{read-elsewhere, covers-elsewhere, Complete, AsLon
 use Rattle.levels.proofs.Over.{over-same, informed-over, qmdp-over, informed-long, qmdp-long}
 use Rattle.tables.specs.Verdicts.{◌before◌, left}
 use Rattle.columns.specs.Columns.{handed_list}
-use Rattle.runs.specs.State.{at, open_verdict, opened, verdict_on, raised, offered, mixture_holds, standing_verdict, totals_verdict}
+use Rattle.runs.specs.State.{open_verdict, opened, verdict_on, raised, offered, mixture_holds, standing_verdict, totals_verdict}
 use Rattle.runs.specs.State.{answer_for, build_verdict, built_from}
 use Rattle.runs.specs.Prices.{prices_verdict, moved, priced_of}
 use Rattle.runs.specs.Demand3.{ModelAccepted, Event, offer, prices, certifier, handed, tally, counted, Claim, stepped, shifted, claimed_by, claim0}

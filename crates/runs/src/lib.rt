@@ -1,6 +1,7 @@
 // What the calls answer, and demand 3: what holds after any list of offers and new prices. The calls themselves are in `opening`, `offering`, `building` and
 // `pricing`.
 #![tactic(auto)]
+
 use tables::{Action, Verdict};
 
 // The totals at a mixture, the action of the first vector with the largest product, and the two ceilings of which the upper total is the lower one.
