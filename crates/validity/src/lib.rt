@@ -1,5 +1,6 @@
 // Refusals 3, 5 and 6 of tables of any content.
 #![tactic(auto)]
+
 ghost use Rattle.std.specs.Prelude.{◌≡◌, ◌&&◌, ◌+◌, ◌*◌, ◌≤◌, max, length, get_or};
 ghost use Rattle.integers.specs.Whole.{total_to, largest_to};
 ghost use Rattle.tables.specs.Limits.{max_states, max_actions, max_observations};
@@ -85,6 +86,7 @@ pub fn has_room(c: Counts, transitions: usize, observations: usize, rewards: usi
 }
 
 // 3: the counts come first, since the cells lie by them.
+#[tactic(auto, unfolding(tables::specs::Judged::limits_hold))]
 fn limits_hold<'a>(
     transition: &'a [u16],
     observation: &'a [u16],
@@ -97,7 +99,12 @@ fn limits_hold<'a>(
     if !counts_within(c.states, c.actions, c.observations) {
         return false;
     }
-    if !has_room(c, transition.len(), observation.len(), reward.len()) {
+    if !has_room(
+        Counts { ..c },
+        transition.len(),
+        observation.len(),
+        reward.len(),
+    ) {
         return false;
     }
     if Tables::ONE < c.discount {
@@ -125,6 +132,7 @@ pub fn row_total(cells: &[u16], at: usize, w: usize) -> u64
 }
 
 // 5 and 6: the first row, by action and then by state, that does not total 1.
+#[tactic(auto, unfolding(tables::specs::Judged::rows_total))]
 pub fn rows_total(cells: &[u16], m: usize, n: usize, w: usize, number: u8) -> Verdict
     requires m_le_max_actions { (m ≤ max_actions) × ((n ≤ max_states) × (w ≤ max_states)) }
     requires w_in_bounds { m * n * w ≤ length cells.now }
@@ -144,6 +152,7 @@ pub fn rows_total(cells: &[u16], m: usize, n: usize, w: usize, number: u8) -> Ve
 }
 
 // 3, then 5, then 6, of tables of any content.
+#[tactic(auto, unfolding(tables::specs::Judged::tables_verdict))]
 pub fn judge_tables<'a>(
     transition: &'a [u16],
     observation: &'a [u16],
@@ -152,7 +161,7 @@ pub fn judge_tables<'a>(
 ) -> Verdict
     ensures { result ≡ tables_verdict (tables_in c transition.now observation.now reward.now) }
 {
-    if !limits_hold(transition, observation, reward, c) {
+    if !limits_hold(transition, observation, reward, Counts { ..c }) {
         return Verdict::Refused(3, 0);
     }
     let transitions = rows_total(transition, c.actions, c.states, c.states, 5);
