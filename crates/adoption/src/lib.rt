@@ -3,7 +3,7 @@
 use tables::Verdict;
 
 // What the files are refused for, and how many vectors the level has that was made of them; with a refusal 0.
-#[derive(Drop)]
+#[derive(Clone, Copy)]
 pub struct Adopted {
     pub verdict: Verdict,
     pub vectors: usize,

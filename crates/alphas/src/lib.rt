@@ -12,7 +12,7 @@ use numerals::Form;
 use tables::{ByState, Tables, Verdict};
 
 // A vector and the offset after it.
-#[derive(Drop)]
+#[derive(Clone, Copy)]
 pub struct AlphaAt {
     pub verdict: Verdict,
     pub end: usize,
@@ -21,7 +21,7 @@ pub struct AlphaAt {
 }
 
 // A node likewise.
-#[derive(Drop)]
+#[derive(Clone, Copy)]
 pub struct NodeAt {
     pub verdict: Verdict,
     pub end: usize,
@@ -48,13 +48,13 @@ impl NodeAt {
 // ---- several words
 
 // The cells that were read, and where reading goes on or what is refused.
-#[derive(Drop)]
+#[derive(Clone, Copy)]
 struct TicksAt {
     read: Read,
     ticks: ByState,
 }
 
-#[derive(Drop)]
+#[derive(Clone, Copy)]
 struct NextAt {
     read: Read,
     next: NextNodes,

@@ -7,7 +7,7 @@ use tables::Verdict;
 
 // Document 01's number and place; 0 and 0 where a call is served.
 #[repr(C)]
-#[derive(Drop)]
+#[derive(Clone, Copy)]
 pub struct Refusal {
     pub number: u64,
     pub place: usize,

@@ -15,7 +15,7 @@ use headers::Headed;
 use tables::{Counts, Verdict};
 
 // What a file is refused for, and the counts of its tables; with a refusal all of them are 0.
-#[derive(Drop)]
+#[derive(Clone, Copy)]
 pub struct TablesRead {
     pub verdict: Verdict,
     pub counts: Counts,

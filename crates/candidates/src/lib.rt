@@ -19,14 +19,14 @@ ghost use Rattle.candidates.specs.Steps.{whole_in, candidate_in, best_of, upon_i
 use tables::{Action, ByState, Chosen, Counts, Observation, Tables, Vector, read};
 
 // One action's vector at some weights.
-#[derive(Drop)]
+#[derive(Clone, Copy)]
 pub struct Candidate {
     pub chosen: Chosen,
     pub entries: ByState,
 }
 
 // The first action whose vector has the largest product, with its vector.
-#[derive(Drop)]
+#[derive(Clone, Copy)]
 pub struct Best {
     pub action: Action,
     pub candidate: Candidate,

@@ -20,7 +20,7 @@ pub const ROWS: usize = Tables::ACTIONS * Tables::STATES;
 pub type Point = [u32; POINTS * Tables::STATES];
 
 // What a certifier is lent, for levels of one point.
-#[derive(Drop)]
+#[derive(Clone, Copy)]
 pub struct Climber {
     pub state: [usize; Standing::SIZE],
     pub actions: [u8; VECTORS],
@@ -35,7 +35,7 @@ pub struct Climber {
 }
 
 // A level that was built, to be offered.
-#[derive(Drop)]
+#[derive(Clone, Copy)]
 pub struct Rung {
     pub actions: [u8; VECTORS],
     pub choices: [u16; VECTORS * Tables::OBSERVATIONS],

@@ -14,7 +14,7 @@ ghost use Rattle.columns.specs.Steps.{TableFits};
 use tables::{Action, State, read};
 
 // The list of a table of T: how its words are made.
-#[derive(Drop)]
+#[derive(Clone, Copy)]
 pub struct List {}
 
 impl List {
@@ -45,7 +45,7 @@ fn count(cells: &[u16], n: usize, a: Action, to: State) -> usize
 {
     let mut found: usize = 0;
     for s in 0..n {
-        if 0 < read::transition_at(cells, n, State(s), Action(a.0), State(to.0)) {
+        if 0 < read::transition_at(cells, n, State(s), a, to) {
             found += 1;
         }
     }
@@ -94,7 +94,7 @@ fn put_column(cells: &[u16], n: usize, a: Action, to: State, at: usize, list: &m
 {
     let mut next = at;
     for s in 0..n {
-        let p = read::transition_at(cells, n, State(s), Action(a.0), State(to.0));
+        let p = read::transition_at(cells, n, State(s), a, to);
         if 0 < p {
             list[next] = cell(State(s), p);
             next += 1;
@@ -158,7 +158,7 @@ fn column_holds(cells: &[u16], list: &[u32], n: usize, a: Action, to: State, at:
 {
     let mut next = at;
     for s in 0..n {
-        let p = read::transition_at(cells, n, State(s), Action(a.0), State(to.0));
+        let p = read::transition_at(cells, n, State(s), a, to);
         if 0 < p {
             if list[next] != cell(State(s), p) {
                 return false;
@@ -181,7 +181,7 @@ fn cells_hold(cells: &[u16], list: &[u32], n: usize, m: usize) -> bool
     for c in 0..columns {
         let a = Action(c / n);
         let to = State(c % n);
-        if !column_holds(cells, list, n, Action(a.0), State(to.0), at) {
+        if !column_holds(cells, list, n, a, to, at) {
             return false;
         }
         at += count(cells, n, a, to);

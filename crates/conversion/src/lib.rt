@@ -3,7 +3,7 @@
 use tables::Verdict;
 
 // What a file is refused for, and the bytes written; with a refusal 0.
-#[derive(Drop)]
+#[derive(Clone, Copy)]
 pub struct Converted {
     pub verdict: Verdict,
     pub length: usize,

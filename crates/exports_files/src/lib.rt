@@ -10,7 +10,7 @@ ghost use Rattle.exports_files.specs.Calls.{reading_by, conversion_by};
 
 // What a model file has, with its refusal: every count 0 where it is refused.
 #[repr(C)]
-#[derive(Drop)]
+#[derive(Clone, Copy)]
 pub struct Reading {
     pub number: u64,
     pub place: usize,
@@ -21,7 +21,7 @@ pub struct Reading {
 }
 
 #[repr(C)]
-#[derive(Drop)]
+#[derive(Clone, Copy)]
 pub struct Conversion {
     pub number: u64,
     pub place: usize,

@@ -14,7 +14,7 @@ ghost use Rattle.exports_replay.specs.Calls.{replay_by};
 use tables::Counts;
 
 #[repr(C)]
-#[derive(Drop)]
+#[derive(Clone, Copy)]
 pub struct Replay {
     pub number: u64,
     pub place: usize,

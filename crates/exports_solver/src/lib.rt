@@ -12,7 +12,7 @@ ghost use Rattle.exports_solver.specs.Calls.{adoption_by};
 use tables::Counts;
 
 #[repr(C)]
-#[derive(Drop)]
+#[derive(Clone, Copy)]
 pub struct Adoption {
     pub number: u64,
     pub place: usize,

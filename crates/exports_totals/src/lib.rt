@@ -18,7 +18,7 @@ use tables::{Counts, State};
 use worths::Node;
 
 #[repr(C)]
-#[derive(Drop)]
+#[derive(Clone, Copy)]
 pub struct Totals {
     pub number: u64,
     pub place: usize,
@@ -31,7 +31,7 @@ pub struct Totals {
 }
 
 #[repr(C)]
-#[derive(Drop)]
+#[derive(Clone, Copy)]
 pub struct TotalsWithin {
     pub number: u64,
     pub place: usize,
@@ -40,7 +40,7 @@ pub struct TotalsWithin {
 }
 
 #[repr(C)]
-#[derive(Drop)]
+#[derive(Clone, Copy)]
 pub struct Worth {
     pub number: u64,
     pub place: usize,

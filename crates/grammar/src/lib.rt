@@ -12,14 +12,14 @@ use numerals::{Amount, Form};
 use words::Word;
 
 // A value and the offset after it, or a refusal's number and place.
-#[derive(Drop)]
+#[derive(Clone, Copy)]
 pub enum Read {
     Value(u64, usize),
     Refused(u8, usize),
 }
 
 // What was read of a number without its sign, and the number with it.
-#[derive(Drop)]
+#[derive(Clone, Copy)]
 pub struct SignedRead {
     pub read: Read,
     pub value: i64,

@@ -12,7 +12,7 @@ use numerals::Form;
 use tables::Tables;
 
 // States, actions, observations, the discount and where reading goes on; or a refusal's number and place.
-#[derive(Drop)]
+#[derive(Clone, Copy)]
 pub enum Headed {
     Counts(usize, usize, usize, u64, usize),
     Refused(u8, usize),

@@ -17,7 +17,7 @@ ghost use Rattle.intervals.specs.Steps.{weight_for, Ranged, lower_in_ranges, tot
 use tables::{Counts, Verdict, read};
 
 // The totals over all mixtures inside the ranges.
-#[derive(Drop)]
+#[derive(Clone, Copy)]
 pub struct Enclosing {
     pub verdict: Verdict,
     pub lower: i64,

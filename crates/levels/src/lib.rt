@@ -8,7 +8,7 @@ ghost use Rattle.std.specs.Prelude.{◌≡◌, ◌∷◌, ◌+◌, ◌≤◌, �
 ghost use Rattle.tables.specs.Limits.{max_levels};
 ghost use Rattle.levels.specs.Storage.{state_size, standing_at, fresh_standing};
 
-#[derive(Drop)]
+#[derive(Clone, Copy)]
 pub struct Level {}
 
 impl Level {
@@ -24,7 +24,7 @@ impl Level {
 }
 
 // What stands: how many levels were accepted, and the vectors and points of the last of them.
-#[derive(Drop)]
+#[derive(Clone, Copy)]
 pub struct Standing {
     pub number: usize,
     pub vectors: usize,

@@ -85,7 +85,7 @@ pub fn entry_at(masks: &[u64], entries: &[i64], n: usize, v: Vector, s: State) -
     ensures { result ≡ masked_in n masks.now entries.now v.0 s.0 }
 {
     let i = v.0;
-    if !covers(masks[i], State(s.0)) {
+    if !covers(masks[i], s) {
         return 0;
     }
     read::entry_at(entries, n, v, s)

@@ -14,7 +14,7 @@ use headers::Headed;
 use tables::{Counts, Verdict};
 
 // The limit of a file.
-#[derive(Drop)]
+#[derive(Clone, Copy)]
 pub struct ModelFile {}
 
 impl ModelFile {

@@ -36,14 +36,7 @@ pub fn moved<'a>(r: Reader<'a>, at: usize) -> Reader<'a>
 pub fn past(w: Word, at: usize) -> usize
     ensures { result ≡ past_word w at }
 {
-    after(&w, at)
-}
-
-// The same of a word that is kept.
-fn after(w: &Word, at: usize) -> usize
-    ensures { result ≡ past_word w.now at }
-{
-    let Word::At(_, stop) = *w else {
+    let Word::At(_, stop) = w else {
         return at;
     };
     stop
@@ -57,7 +50,7 @@ pub fn word_from(file: &[u8], at: usize) -> Word
 }
 
 // A word and the one after it.
-#[derive(Drop)]
+#[derive(Clone, Copy)]
 pub struct Pair {
     pub first: Word,
     pub second: Word,
@@ -78,6 +71,6 @@ pub fn pair_from(file: &[u8], at: usize) -> Pair
 {
     let r = start(file, at);
     let w = next(r);
-    let q = moved(r, after(&w, at));
+    let q = moved(r, past(w, at));
     both(w, next(q))
 }

@@ -13,7 +13,7 @@ ghost use Rattle.replay.specs.Replay.{replay_answer, replayed, ReplayHolds};
 use tables::{Counts, Verdict};
 
 // How many offers were accepted; 0 with a refusal.
-#[derive(Drop)]
+#[derive(Clone, Copy)]
 pub struct Replayed {
     pub verdict: Verdict,
     pub accepted: usize,

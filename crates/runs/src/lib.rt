@@ -5,7 +5,7 @@
 use tables::{Action, Verdict};
 
 // The totals at a mixture, the action of the first vector with the largest product, and the two ceilings of which the upper total is the lower one.
-#[derive(Drop)]
+#[derive(Clone, Copy)]
 pub struct Bounds {
     pub verdict: Verdict,
     pub lower: i64,

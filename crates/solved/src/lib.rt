@@ -19,7 +19,7 @@ use levels::shape;
 use tables::{Action, ByState, Chosen, Counts, Tables, Vector, Verdict, read};
 
 // A vector of the level, and where the files go on after it.
-#[derive(Drop)]
+#[derive(Clone, Copy)]
 pub struct Row {
     pub alpha: usize,
     pub graph: usize,

@@ -11,7 +11,7 @@ use tables::Verdict;
 use words::Word;
 
 // Whether the two files, or one of them, are refused, and how many vectors they have; 0 with a refusal.
-#[derive(Drop)]
+#[derive(Clone, Copy)]
 pub struct Judged {
     pub verdict: Verdict,
     pub vectors: usize,

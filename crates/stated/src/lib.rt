@@ -13,7 +13,7 @@ use alphas::{NextNodes, NodeAt};
 use tables::{Action, ByState, Chosen, Counts, Observation, Tables, Vector, Verdict, read};
 
 // What both files say of a vector, and where they go on after it.
-#[derive(Drop)]
+#[derive(Clone, Copy)]
 pub struct Said {
     pub alpha: usize,
     pub graph: usize,

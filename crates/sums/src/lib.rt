@@ -26,7 +26,7 @@ fn moved_to(cells: &[u16], n: usize, p: &[u64], a: Action, to: State) -> u64
 {
     let mut sum: u64 = 0;
     for s in 0..n {
-        let t = read::transition_at(cells, n, State(s), Action(a.0), State(to.0));
+        let t = read::transition_at(cells, n, State(s), a, to);
         sum = add_moved(sum, p[s], t);
     }
     sum
@@ -41,7 +41,7 @@ pub fn moved(cells: &[u16], n: usize, p: &[u64], a: Action) -> Weights
 {
     let mut u = [0u64; Tables::STATES];
     for to in 0..n {
-        u[to] = moved_to(cells, n, p, Action(a.0), State(to));
+        u[to] = moved_to(cells, n, p, a, State(to));
     }
     u
 }
@@ -69,10 +69,7 @@ pub fn successors(
 {
     let mut q = [0u64; Tables::STATES];
     for to in 0..n {
-        q[to] = share(
-            u[to],
-            read::observation_at(cells, n, k, Action(a.0), State(to), Observation(o.0)),
-        );
+        q[to] = share(u[to], read::observation_at(cells, n, k, a, State(to), o));
     }
     q
 }
@@ -86,7 +83,7 @@ pub fn expected_reward(cells: &[i64], n: usize, p: &[u64], a: Action) -> i64
 {
     let mut sum: i64 = 0;
     for s in 0..n {
-        let r = read::reward_at(cells, n, State(s), Action(a.0));
+        let r = read::reward_at(cells, n, State(s), a);
         sum = integers::add_scaled(sum, p[s], r);
     }
     sum

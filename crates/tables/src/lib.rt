@@ -7,16 +7,16 @@ ghost use Rattle.std.specs.Prelude.{◌≡◌};
 ghost use Rattle.tables.specs.Judged.{count_within};
 
 // Numbers of four kinds, all from 0, side by side: none passes for another.
-#[derive(Drop)]
+#[derive(Clone, Copy)]
 pub struct State(pub usize);
 
-#[derive(Drop)]
+#[derive(Clone, Copy)]
 pub struct Action(pub usize);
 
-#[derive(Drop)]
+#[derive(Clone, Copy)]
 pub struct Observation(pub usize);
 
-#[derive(Drop)]
+#[derive(Clone, Copy)]
 pub struct Vector(pub usize);
 
 // Numbers by state that are worked out on the way.
@@ -28,7 +28,7 @@ pub type ByState = [i64; Tables::STATES]; // entries, backups, what is foreseen
 pub type Chosen = [u16; Tables::OBSERVATIONS];
 
 // The counts by which lent tables are read, and the discount.
-#[derive(Drop)]
+#[derive(Clone, Copy)]
 pub struct Counts {
     pub states: usize,
     pub actions: usize,
@@ -37,11 +37,11 @@ pub struct Counts {
 }
 
 // The limits of tables, which lie in slices that are lent: T(s,a,s') by a, s, s'; O(a,s',o) by a, s', o; R(s,a) by a, s, the last index fastest.
-#[derive(Drop)]
+#[derive(Clone, Copy)]
 pub struct Tables {}
 
 // What a test answers: nothing to refuse, or document 01's number and place.
-#[derive(Drop)]
+#[derive(Clone, Copy)]
 pub enum Verdict {
     Fine,
     Refused(u8, usize),

@@ -13,7 +13,7 @@ use tables::{Counts, State, Vector, Verdict, read};
 use worths::{Graph, Node};
 
 // The verdict on what is asked, with the worth.
-#[derive(Drop)]
+#[derive(Clone, Copy)]
 pub struct Valued {
     pub verdict: Verdict,
     pub ticks: i64,

@@ -13,14 +13,14 @@ ghost use Rattle.worths.specs.Steps.{GraphHeld, backed_up_of, worths_by};
 use levels::shape;
 use tables::{Action, ByState, Counts, Tables, Vector, read};
 
-#[derive(Drop)]
+#[derive(Clone, Copy)]
 pub struct Node(pub usize);
 
 // By node and state, packed by the number of states.
 type Worths = [i64; Graph::NODES * Tables::STATES];
 
 // A plan graph, in slices packed by the counts: actions by node, next nodes by node and observation.
-#[derive(Drop)]
+#[derive(Clone, Copy)]
 pub struct Graph {}
 
 impl Graph {

@@ -12,7 +12,7 @@ use digits::{put, put_fixed_line, put_number, put_opening, put_signed_fixed, put
 use tables::{Action, Counts, State, Tables, read};
 
 // What is written.
-#[derive(Drop)]
+#[derive(Clone, Copy)]
 pub struct Written {}
 
 impl Written {
