@@ -1,6 +1,7 @@
 // The sawtooth: the largest drop of a point. Nearly all of an offer's time is spent here, so a point's smallest ratio is found by cross-multiplication
 // with one division, and only where the point can beat the largest drop so far.
 #![tactic(auto)]
+
 ghost use Rattle.std.specs.Prelude.{◌≡◌, ℕ, ◌+◌, ◌*◌, ◌≤◌, ◌<◌, leb, length, get_or};
 ghost use Rattle.integers.specs.Whole.{largest_to, Below};
 ghost use Rattle.integers.specs.Search.{every};
