@@ -1,5 +1,6 @@
 // A word as a number of a form: a whole part, a point and decimals, an exponent.
 #![tactic(auto)]
+
 ghost use Rattle.std.specs.Prelude.{◌≡◌, ◌≤◌, length, drop};
 ghost use Rattle.numerals.specs.Numeral.{pointed, enough, after_point, fraction, amount_of};
 ghost use Rattle.numerals.specs.Steps.{most_whole, Short};
