@@ -1,5 +1,5 @@
 -- What more than one proof of this crate names.
-pub use Rattle.integers.proofs.Kit.{◌≡◌, ◌∙◌, ap, sym, ◌≤◌, ◌<◌, ◌-◌, arith, rules, lit<, get_or, pos, w64, to_z, of_z, to_z-of_z}
+pub use Rattle.integers.proofs.Kit.{◌≡◌, ◌∙◌, refl, ap, sym, ◌≤◌, ◌<◌, ◌-◌, arith, rules, lit<, get_or, pos, w64, to_z, of_z, to_z-of_z}
 pub use Rattle.integers.proofs.Lists.{padded-none, padded-turn}
 pub use Rattle.integers.proofs.Sums.{sum-none}
 pub use Rattle.integers.proofs.Terms.{Terms, term-added, term_fits}

@@ -1,5 +1,6 @@
 // What follows a vector: what its choices foresee at a state reached, and vector backups.
 #![tactic(auto)]
+
 ghost use Rattle.std.specs.Prelude.{◌≡◌, ◌≤◌, ◌<◌, length, get_or, pos, nat_abs, ◌+ℤ◌};
 ghost use Rattle.integers.specs.Whole.{◌·◌, floor_div, Within};
 ghost use Rattle.integers.specs.Cells.{padded};
@@ -29,13 +30,13 @@ fn foreseen_at(
 {
     let mut sum: i64 = 0;
     for o in 0..k {
-        let w = read::observation_at(cells, n, k, a, to, Observation(o));
+        let w = read::observation_at(cells, n, k, Action(a.0), State(to.0), Observation(o));
         let e = masks::entry_at(
             masks,
             entries,
             n,
-            read::choice_at(choices, k, v, Observation(o)),
-            to,
+            read::choice_at(choices, k, Vector(v.0), Observation(o)),
+            State(to.0),
         );
         sum = integers::add_scaled(sum, w, e);
     }
@@ -61,7 +62,17 @@ pub fn foreseen(
 {
     let mut f = [0i64; Tables::STATES];
     for to in 0..n {
-        f[to] = foreseen_at(cells, n, k, masks, entries, choices, v, a, State(to));
+        f[to] = foreseen_at(
+            cells,
+            n,
+            k,
+            masks,
+            entries,
+            choices,
+            Vector(v.0),
+            Action(a.0),
+            State(to),
+        );
     }
     f
 }
@@ -75,7 +86,7 @@ fn onward(cells: &[u16], n: usize, f: &[i64], s: State, a: Action) -> i64
 {
     let mut sum: i64 = 0;
     for to in 0..n {
-        let t = read::transition_at(cells, n, s, a, State(to));
+        let t = read::transition_at(cells, n, State(s.0), Action(a.0), State(to));
         sum = integers::add_scaled(sum, t, f[to]);
     }
     sum
@@ -108,7 +119,7 @@ pub fn backup<'a>(
     requires within { Within foreseen_limit n f.now }
     ensures { result ≡ backup_in n g transition.now reward.now f.now a.0 s.0 }
 {
-    let later = onward(transition, n, f, s, a);
+    let later = onward(transition, n, f, State(s.0), Action(a.0));
     backup_from(reward, n, g, later, s, a)
 }
 
@@ -129,7 +140,7 @@ pub fn backups<'a>(
 {
     let mut e = [0i64; Tables::STATES];
     for s in 0..n {
-        e[s] = backup(transition, reward, n, g, f, State(s), a);
+        e[s] = backup(transition, reward, n, g, f, State(s), Action(a.0));
     }
     e
 }
