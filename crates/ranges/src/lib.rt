@@ -1,5 +1,6 @@
 // Refusal 11 of a level by itself: the ranges of entries, corners and values.
 #![tactic(auto)]
+
 ghost use Rattle.std.specs.Prelude.{◌≡◌, ◌*◌, ◌≤◌, ◌<◌, ◌^◌, length, get_or, pos};
 ghost use Rattle.tables.specs.Limits.{max_states, max_vectors, max_entry};
 ghost use Rattle.plans.specs.Limits.{max_points};
