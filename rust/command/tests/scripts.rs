@@ -55,14 +55,14 @@ fn the_exit_status_of_ladder() {
     );
     let path = format!("{}:{}", folder.join("bin").display(), PLAIN);
     let ladder = |text: &str| {
-        program(&folder.join("target/bin/ladder"), text);
+        program(&folder.join("crates/ladder/out/ladder"), text);
         run(&folder, &path, "scripts/ladder scripts/ladder")
     };
     let told = "rt: two proved (3 s)\n".to_string();
     assert_eq!(ladder("echo 1 2 3; echo 2 3 4"), ("1 2 3\n2 3 4\n".to_string(), told.clone(), 0));
     assert_eq!(ladder("echo refused 5 at 7"), ("refused 5 at 7\n".to_string(), told.clone(), 1));
     assert_eq!(ladder("echo unreadable >&2"), (String::new(), told + "unreadable\n", 3));
-    program(&folder.join("target/bin/ladder"), "echo 1 2 3");
+    program(&folder.join("crates/ladder/out/ladder"), "echo 1 2 3");
     assert_eq!(run(&folder, &path, "scripts/ladder scripts/ladder >/dev/full").2, 3);
 }
 

@@ -28,7 +28,7 @@
 //!   is read back by the reference, used likewise,
 //! - `solved`: the steps that a float solver finds, each adopted and accepted, and what their entries lose.
 //!
-//! From the root of the repository: `rust/target/release/compare target/bin/ladder`; with the feature `library`,
+//! From the root of the repository: `rust/target/release/compare crates/ladder/out/ladder`; with the feature `library`,
 //! `rust/target/release/compare --library`. How often the informed ceiling is lower than the sawtooth on the examples, and by how
 //! much: `rust/target/release/compare --self --ceilings`.
 //!
