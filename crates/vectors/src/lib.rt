@@ -30,13 +30,13 @@ fn foreseen_at(
 {
     let mut sum: i64 = 0;
     for o in 0..k {
-        let w = read::observation_at(cells, n, k, Action(a.0), State(to.0), Observation(o));
+        let w = read::observation_at(cells, n, k, a, to, Observation(o));
         let e = masks::entry_at(
             masks,
             entries,
             n,
-            read::choice_at(choices, k, Vector(v.0), Observation(o)),
-            State(to.0),
+            read::choice_at(choices, k, v, Observation(o)),
+            to,
         );
         sum = integers::add_scaled(sum, w, e);
     }
@@ -62,17 +62,7 @@ pub fn foreseen(
 {
     let mut f = [0i64; Tables::STATES];
     for to in 0..n {
-        f[to] = foreseen_at(
-            cells,
-            n,
-            k,
-            masks,
-            entries,
-            choices,
-            Vector(v.0),
-            Action(a.0),
-            State(to),
-        );
+        f[to] = foreseen_at(cells, n, k, masks, entries, choices, v, a, State(to));
     }
     f
 }
@@ -86,7 +76,7 @@ fn onward(cells: &[u16], n: usize, f: &[i64], s: State, a: Action) -> i64
 {
     let mut sum: i64 = 0;
     for to in 0..n {
-        let t = read::transition_at(cells, n, State(s.0), Action(a.0), State(to));
+        let t = read::transition_at(cells, n, s, a, State(to));
         sum = integers::add_scaled(sum, t, f[to]);
     }
     sum
@@ -119,7 +109,7 @@ pub fn backup<'a>(
     requires within { Within foreseen_limit n f.now }
     ensures { result ≡ backup_in n g transition.now reward.now f.now a.0 s.0 }
 {
-    let later = onward(transition, n, f, State(s.0), Action(a.0));
+    let later = onward(transition, n, f, s, a);
     backup_from(reward, n, g, later, s, a)
 }
 
@@ -140,7 +130,7 @@ pub fn backups<'a>(
 {
     let mut e = [0i64; Tables::STATES];
     for s in 0..n {
-        e[s] = backup(transition, reward, n, g, f, State(s), Action(a.0));
+        e[s] = backup(transition, reward, n, g, f, State(s), a);
     }
     e
 }
