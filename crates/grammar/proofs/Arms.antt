@@ -15,6 +15,13 @@ use Rattle.grammar.specs.Grammar.{Answer, ◌then◌}
 use Rattle.grammar.specs.Steps.{answer_of, Onward, Tells}
 use Rattle.grammar.specs.contracts.Read as read-type
 
+-- no word is the other variant than a word, and a refusal the other than a value
+pub ended : {w : Word} → w ≡ End → tag_of word-type.the_type w ≡ 1
+ended e = ap (tag_of word-type.the_type) e
+
+pub refusing : {r : Read} {n p : ℕ} → r ≡ Refused n p → tag_of read-type.the_type r ≡ 1
+refusing e = ap (tag_of read-type.the_type) e
+
 pub no_word : (s : List ℕ) (at : ℕ) (w : Word) → tag_of word-type.the_type w ≡ 1 → Worded s at w → words_in between s at ≡ end (length s)
 no_word s at (At a b) e h = absurd (omega arith)
 no_word s at End e h = h.is

@@ -1,5 +1,6 @@
 // The next word of a file as a number, a key or an index: its form, then its limit.
 #![tactic(auto)]
+
 ghost use Rattle.std.specs.Prelude.{◌≡◌, ◌+◌, ◌^◌, ◌≤◌, ◌<◌, length, drop};
 ghost use Rattle.words.specs.Words.{words_in, between, told};
 ghost use Rattle.words.specs.Steps.{WordInside};
