@@ -1,5 +1,6 @@
 // The ceiling at some weights, and the gains of a level's points, worked out once for it.
 #![tactic(auto)]
+
 ghost use Rattle.std.specs.Prelude.{◌≡◌, ◌*◌, ◌≤◌, nat_abs, ◌-ℤ◌};
 ghost use Rattle.integers.specs.Whole.{Below};
 ghost use Rattle.integers.specs.Cells.{padded};
