@@ -18,7 +18,8 @@ use Rattle.plans.specs.Level.{Level, backup_at, corner_weight, follows}
 use Rattle.plans.proofs.Agreement.{ceiling-weights}
 use Rattle.levels.specs.Storage.{LentLevel, Lent, level_of, standing_in, number_in}
 use Rattle.levels.specs.Judged.{numbers_verdict, holds_up_to, fits, offer_over}
-use Rattle.levels.specs.Judged.{covers_backups, masks_verdict, floors_verdict, corners_verdict, points_verdict, backups_verdict, level_verdict, shape_up_to, offer_up_to}
+use Rattle.levels.specs.Judged.{covers_backups, masks_verdict, floors_verdict, corners_verdict, points_verdict, backups_verdict, level_verdict}
+use Rattle.levels.specs.Judged.{shape_up_to, offer_up_to}
 use Rattle.levels.proofs.Laws.{numbers-in}
 use Rattle.lists.specs.Engines.{model_by}
 

@@ -1,5 +1,6 @@
 // The list of a model's transitions: made over a slice, and tested where it is handed in.
 #![tactic(auto)]
+
 ghost use Rattle.std.specs.Prelude.{◌≡◌};
 ghost use Rattle.tables.specs.Storage.{tables_in};
 ghost use Rattle.columns.specs.Columns.{list_verdict, listed_of, list_holds};
