@@ -58,7 +58,8 @@ module _ (list : List ℕ) (first : ℕ) where
   down-by-states n p (suc i) h =
       let w = get_or list (first + i) 0 in
       ap (λ (k : ℕ). k + weight_in p (state_of w) * chance_of w) (down-by-states n p i (λ k l. h k (omega arith)))
-      ∙ ap (λ (k : ℕ). total_to n (λ s. weight_in p s * said_for list first i s) + k) (sym (one-term n (state_of w) (chance_of w) (weight_in p) (h i (omega arith))))
+      ∙ ap (λ (k : ℕ). total_to n (λ s. weight_in p s * said_for list first i s) + k)
+      (sym (one-term n (state_of w) (chance_of w) (weight_in p) (h i (omega arith))))
       ∙ sym (total-add n (λ s. weight_in p s * said_for list first i s) (λ s. weight_in p s * chance_at s i))
       ∙ total-cong n _ _ (λ s l. sym (NatL.mul-add (weight_in p s) (said_for list first i s) (chance_at s i)))
 

@@ -1,5 +1,6 @@
 // Successor weights, vector backups and what is reached, from a list of transitions: a sum or a search down a column, or the column added to its states.
 #![tactic(auto)]
+
 ghost use Rattle.std.specs.Prelude.{◌≡◌, ℕ, ◌+◌, ◌*◌, ◌-◌, ◌≤◌, ◌<◌, ◌^◌, ◌&&◌, ltb, length, get_or, pos, nat_abs, ◌+ℤ◌};
 ghost use Rattle.integers.specs.Whole.{◌·◌, total_to, Below, Within};
 ghost use Rattle.integers.specs.Search.{some};
