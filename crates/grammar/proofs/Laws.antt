@@ -183,8 +183,8 @@ other-is s (Value v next) k o e h = absurd (omega arith)
 other-is s (Refused n p) k o e h = ap (λ (a : Answer ℕ). choose a k o) h
 
 -- one word that is taken two ways: the second where the first is refused
-pub takes-choose : {s : List ℕ} {w : Word} {l most : ℕ} {r r' : Read} {a o : Answer ℕ} (k : Words → Answer ℕ) → Takes s w l r a → tag_of read-type.the_type r ≡ 1
-    → Takes s w most r' o → Takes s w most r' (choose a k o)
+pub takes-choose : {s : List ℕ} {w : Word} {l most : ℕ} {r r' : Read} {a o : Answer ℕ} (k : Words → Answer ℕ) → Takes s w l r a
+    → tag_of read-type.the_type r ≡ 1 → Takes s w most r' o → Takes s w most r' (choose a k o)
 takes-choose {s} {r = r} {o = o} k h e t = record { is = t.is ∙ other-is s r k o e h.is; follows = t.follows }
 
 follows-most : (w : Word) (less most : ℕ) (r : Read) → less ≤ most → Follows w less r → Follows w most r

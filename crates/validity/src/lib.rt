@@ -99,12 +99,7 @@ fn limits_hold<'a>(
     if !counts_within(c.states, c.actions, c.observations) {
         return false;
     }
-    if !has_room(
-        Counts { ..c },
-        transition.len(),
-        observation.len(),
-        reward.len(),
-    ) {
+    if !has_room(c, transition.len(), observation.len(), reward.len()) {
         return false;
     }
     if Tables::ONE < c.discount {
@@ -161,7 +156,7 @@ pub fn judge_tables<'a>(
 ) -> Verdict
     ensures { result ≡ tables_verdict (tables_in c transition.now observation.now reward.now) }
 {
-    if !limits_hold(transition, observation, reward, Counts { ..c }) {
+    if !limits_hold(transition, observation, reward, c) {
         return Verdict::Refused(3, 0);
     }
     let transitions = rows_total(transition, c.actions, c.states, c.states, 5);
