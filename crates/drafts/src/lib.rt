@@ -1,5 +1,6 @@
 // What a statement of a model file does to the cells of a table: an index stands for itself, a star for all.
 #![tactic(auto)]
+
 ghost use Rattle.std.specs.Prelude.{◌≡◌, ◌+◌, ◌*◌, ◌≤◌, ◌<◌, eqb, length, set};
 ghost use Rattle.integers.specs.Search.{some};
 ghost use Rattle.tables.specs.Limits.{max_states, max_converted, max_actions, max_observations};
