@@ -1,5 +1,6 @@
 // Two engines of the sums over transitions: from the table, or from its list where one is lent. Both give the same.
 #![tactic(auto)]
+
 ghost use Rattle.std.specs.Prelude.{◌≡◌, ◌≤◌, ◌<◌, pos};
 ghost use Rattle.integers.specs.Whole.{Below, Within};
 ghost use Rattle.integers.specs.Cells.{padded};
