@@ -71,7 +71,8 @@ module _ {A : Type 0} where
   marked-each P z at test v (x ∷ l) p h (suc i) = marked-each P z (suc at) test v l p (λ j. h (suc j)) i
 
   -- what holds of every cell and of the value holds of every cell that it leaves
-  pub marked_all : (P : A → Type 0) (z : A) (test : ℕ → Bool) (v : A) (l : List A) → P v → ((i : ℕ) → P (get_or l i z)) → (i : ℕ) → P (get_or (marked test v l) i z)
+  pub marked_all : (P : A → Type 0) (z : A) (test : ℕ → Bool) (v : A) (l : List A) → P v → ((i : ℕ) → P (get_or l i z))
+      → (i : ℕ) → P (get_or (marked test v l) i z)
   marked_all P z test v l p h i = marked-each P z 0 test v l p h i
 
   -- the tests p 0, .., p (k - 1) are marked, one after the other
