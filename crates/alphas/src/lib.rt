@@ -1,5 +1,6 @@
 // One vector of a solver's alpha file, and one node of its policy graph file, read from an offset on.
 #![tactic(auto)]
+
 ghost use Rattle.std.specs.Prelude.{◌≡◌, ◌≤◌, length, take};
 ghost use Rattle.tables.specs.Limits.{max_states, max_observations};
 ghost use Rattle.words.specs.Words.{words_in, between};
