@@ -71,7 +71,8 @@ module _ {n k m a : ℕ} {observation u : List ℕ} {rows : List ℤ} (few : n �
   pub best-limit : 0 < m → (o : ℕ) → o < k → nat_abs (best_row_in n k m observation u rows a o) ≤ best_limit
   unfolding best_row_in product
   best-limit some o lo =
-      highest-ind (λ z. nat_abs z ≤ best_limit) m _ some (λ v lv. omega (arith, sum_bound n (one * one * max_entry) (λ s. q s · entry_in n rows v s) (term v lv)))
+      highest-ind (λ z. nat_abs z ≤ best_limit) m _ some
+      (λ v lv. omega (arith, sum_bound n (one * one * max_entry) (λ s. q s · entry_in n rows v s) (term v lv)))
     where
       q : ℕ → ℕ
       q s = get_or (padded 0 max_states n (seen_in n k observation u a o)) s 0
@@ -92,7 +93,8 @@ module _ {n k m a : ℕ} {observation u : List ℕ} {rows : List ℤ} (few : n �
 
   -- the two parts of a backup
   pub parts-fit : 0 < m → k ≤ max_observations → {g s : ℕ} {reward : List ℤ} → RewardsFit n reward a → s < n → g ≤ one
-      → {now later : ℤ} → now ≡ K · reward_in n reward s a → later ≡ sum_to k (best_row_in n k m observation u rows a) → nat_abs now + g * nat_abs later < 2 ^ 63
+      → {now later : ℤ} → now ≡ K · reward_in n reward s a → later ≡ sum_to k (best_row_in n k m observation u rows a)
+      → nat_abs now + g * nat_abs later < 2 ^ 63
   unfolding K
   parts-fit some less {g} {s} {reward} small l g-limit e h =
       rw (e, h) (omega (

@@ -1,5 +1,6 @@
 // Upper bounds by rows, one for each action: a step of the fast informed bound and of QMDP. Rows lie as R does, by action and state.
 #![tactic(auto)]
+
 ghost use Rattle.std.specs.Prelude.{◌≡◌, List, ℕ, ◌*◌, ◌≤◌, ◌<◌, length, pos};
 ghost use Rattle.integers.specs.Whole.{sum_to, Below};
 ghost use Rattle.integers.specs.Cells.{padded, laid_rows};
