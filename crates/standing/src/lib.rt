@@ -1,6 +1,7 @@
 // 7: whether what a certifier holds is within its limits: tables, the level that stands, rows. And 11, which an offered level is asked too.
 // Nothing is written.
 #![tactic(auto)]
+
 ghost use Rattle.std.specs.Prelude.{◌≡◌, List, [], ℕ, ◌*◌, ◌≤◌, length};
 ghost use Rattle.tables.specs.Limits.{max_states, max_actions, max_vectors, max_levels};
 ghost use Rattle.tables.specs.Storage.{tables_in};
