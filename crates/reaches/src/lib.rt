@@ -1,5 +1,6 @@
 // 21: from a state that an offered vector covers, the vector chosen for each observation covers every state that is reached with it.
 #![tactic(auto)]
+
 ghost use Rattle.std.specs.Prelude.{◌≡◌, ◌&&◌, ◌||◌, [], ℕ, ◌≤◌, ◌<◌, ltb, eqb, length, get_or};
 ghost use Rattle.integers.specs.Search.{every, some};
 ghost use Rattle.tables.specs.Limits.{max_states, max_actions, max_observations};
