@@ -1,14 +1,16 @@
 // What the program `ladder` reads and writes, line by line, and where its input ends. A line says whether it could be written.
 #![tactic(auto)]
-ghost use Rattle.std.specs.Prelude.{◌≡◌};
+
+ghost use Rattle.std.specs.Prelude.{◌≡◌, ◌≤◌, length};
 ghost use Rattle.tables.specs.declared.Verdict.TheVariants.{Fine};
 
+use runs::Bounds;
 use std::io::Read;
 
-use runs::Bounds;
-
 // Fills the slice from the input, until nothing more comes or a read fails: how many bytes.
-pub fn read_full<R: Read>(from: &mut R, to: &mut [u8]) -> usize {
+pub fn read_full<R: Read>(from: &mut R, to: &mut [u8]) -> usize
+    ensures { result ≤ length to.old }
+{
     let mut n: usize = 0;
     while n < to.len() {
         match from.read(&mut to[n..]) {
