@@ -1,5 +1,6 @@
 // Rows and entries of a model file, read into the cells of their table: what T and O statements state, and the start numbers.
 #![tactic(auto)]
+
 ghost use Rattle.std.specs.Prelude.{◌≤◌, length};
 ghost use Rattle.words.specs.Words.{words_in, between};
 ghost use Rattle.tables.specs.Limits.{one};
