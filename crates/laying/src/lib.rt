@@ -1,5 +1,6 @@
 // Writing a level over the slices of another.
 #![tactic(auto)]
+
 ghost use Rattle.std.specs.Prelude.{◌≡◌, ◌*◌, ◌≤◌, ◌<◌, length};
 ghost use Rattle.integers.specs.Cells.{laid, laid_rows};
 ghost use Rattle.tables.specs.Limits.{max_states, max_vectors};
