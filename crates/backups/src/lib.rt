@@ -1,5 +1,6 @@
 // What each action allows at some weights, from a standing level.
 #![tactic(auto)]
+
 ghost use Rattle.std.specs.Prelude.{◌≡◌, ◌≤◌, ◌<◌, length, set, replicate, pos};
 ghost use Rattle.integers.specs.Whole.{sum_to, Below};
 ghost use Rattle.integers.specs.Cells.{padded};
