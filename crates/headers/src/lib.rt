@@ -1,5 +1,6 @@
 // The first words of a model file: discount and counts, then the start numbers.
 #![tactic(auto)]
+
 ghost use Rattle.std.specs.Prelude.{◌≡◌, ◌≤◌, length, replicate};
 ghost use Rattle.words.specs.Words.{words_in, between};
 ghost use Rattle.tables.specs.Limits.{max_states, one};
