@@ -1,5 +1,6 @@
 // The backup inequalities of an offered level's vectors (13).
 #![tactic(auto)]
+
 ghost use Rattle.std.specs.Prelude.{◌≡◌, [], ◌≤◌, nat_abs};
 ghost use Rattle.std.specs.Int.Signed.{le_z};
 ghost use Rattle.integers.specs.Whole.{◌·◌};
