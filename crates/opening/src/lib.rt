@@ -1,5 +1,6 @@
 // Opening a certifier: level 0 and its rows over what is lent, or a refusal, which writes nothing.
 #![tactic(auto)]
+
 ghost use Rattle.std.specs.Prelude.{◌≡◌, true, ◌&&◌, ◌*◌, ◌≤◌, ◌<◌, leb, length, pos};
 ghost use Rattle.integers.specs.Cells.{laid};
 ghost use Rattle.tables.specs.Limits.{max_states, max_observations};
