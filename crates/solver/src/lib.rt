@@ -1,5 +1,6 @@
 // A solver's alpha file and policy graph file, judged: 19 and 20.
 #![tactic(auto)]
+
 ghost use Rattle.std.specs.Prelude.{◌≡◌, ◌≤◌, eqb, length};
 ghost use Rattle.integers.specs.Search.{every};
 ghost use Rattle.tables.specs.Limits.{max_states, max_observations};
