@@ -1,5 +1,6 @@
 // The rewards of a model file: what follows `R`, read into the cells of its table, by state or in full.
 #![tactic(auto)]
+
 ghost use Rattle.std.specs.Prelude.{◌≡◌, ◌≤◌, length};
 ghost use Rattle.words.specs.Words.{words_in, between};
 ghost use Rattle.entries.specs.Steps.{CellsFit, Leaves};
