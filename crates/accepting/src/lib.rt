@@ -1,5 +1,6 @@
 // What an offer leaves once it is judged: an accepted level over the one that stands, its numbers, and the rows a step further; or all as it was.
 #![tactic(auto)]
+
 ghost use Rattle.std.specs.Prelude.{◌≡◌};
 ghost use Rattle.tables.specs.declared.Verdict.TheVariants.{Fine};
 ghost use Rattle.tables.specs.Storage.{tables_in};
