@@ -1,5 +1,6 @@
 // The least corners and point values that meet their inequalities, over a standing level.
 #![tactic(auto)]
+
 ghost use Rattle.std.specs.Prelude.{◌≡◌, ℕ, ◌*◌, ◌≤◌, ◌<◌, length};
 ghost use Rattle.integers.specs.Cells.{laid};
 ghost use Rattle.tables.specs.Storage.{model_in};
