@@ -1,5 +1,6 @@
 // Numbers and lines, written as bytes over those of a slice: each function answers the place behind what it wrote.
 #![tactic(auto)]
+
 ghost use Rattle.std.specs.Prelude.{◌≡◌, ◌+◌, ◌^◌, ◌%◌};
 ghost use Rattle.digits.specs.Digits.{digits_for, last_digits, whole, fixed, signed_fixed, spaced, line, opening};
 ghost use Rattle.digits.specs.Steps.{HasRoom, Wrote};
