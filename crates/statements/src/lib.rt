@@ -1,5 +1,6 @@
 // The statements of a model file: T, O and R, read into the cells of their tables.
 #![tactic(auto)]
+
 ghost use Rattle.std.specs.Prelude.{List, ◌≡◌, ℕ, ◌+◌, ◌≤◌, length};
 ghost use Rattle.words.specs.Words.{words_in, between, told};
 ghost use Rattle.words.specs.Steps.{WordInside};
