@@ -1,5 +1,5 @@
 -- What more than one proof of this crate names.
-pub use Rattle.integers.proofs.Kit.{◌≡◌, ◌∙◌, refl, sym, List, ℕ, ◌≤◌, ◌<◌, ◌-◌, arith, rules, not-false, not-true, lit<, get_or, ℤ, pos, w64, to_z, of_z, to_z-of_z}
+pub use Rattle.integers.proofs.Kit.{◌≡◌, ◌∙◌, refl, sym, List, ℕ, ◌≤◌, ◌<◌, ◌-◌, arith, rules, ◌^◌, mag, get_or, ℤ, pos, w64, to_z, of_z, to_z-of_z}
 pub use Rattle.roofs.proofs.Covering.{covers-said}
 pub use Rattle.integers.proofs.Words.{answer, back}
 pub use Rattle.integers.specs.Whole.{◌·◌}
