@@ -1,5 +1,6 @@
 // What totals ask of a certifier and of a mixture: refusals 7, 16 and 17.
 #![tactic(auto)]
+
 ghost use Rattle.std.specs.Prelude.{◌≡◌, List, ℕ, ◌≤◌};
 ghost use Rattle.tables.specs.Limits.{max_states};
 ghost use Rattle.tables.specs.Storage.{tables_in};

@@ -1,0 +1,14 @@
+use Rattle.std.proofs.Common.{◌≡◌, ◌≤◌, ◌*◌}
+use Rattle.integers.proofs.Kit.{true, leb}
+use Rattle.tables.specs.Storage.{weight_in}
+use Rattle.integers.specs.Whole.{total_to}
+use Rattle.tables.specs.Limits.{max_weight}
+use Rattle.integers.specs.Search.{every}
+use Rattle.asking.proofs.mixture_holds.Given as goal
+
+abbrev pub invariant-loop-s : goal.invariant-loop-s
+invariant-loop-s l = record {
+  low : every l.s (λ x. leb (weight_in l.mixture x) max_weight) ≡ true;
+  so_far : l.total ≡ total_to l.s (weight_in l.mixture);
+  small : l.total ≤ l.s * max_weight;
+}
