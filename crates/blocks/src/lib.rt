@@ -1,5 +1,6 @@
 // Offers that lie packed in slices, in blocks of one size: whether the slices have so many, and what a list of them is refused for.
 #![tactic(auto)]
+
 ghost use Rattle.std.specs.Prelude.{◌≡◌, List, ℕ, ◌*◌, ◌≤◌, leb};
 ghost use Rattle.tables.specs.Limits.{max_states, max_observations};
 ghost use Rattle.tables.specs.Verdicts.{left};
