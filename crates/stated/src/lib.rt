@@ -1,5 +1,6 @@
 // What a solver's alpha file and policy graph file say of each vector of a level, over the level that stands, and whether it exists: 10 and 21.
 #![tactic(auto)]
+
 ghost use Rattle.std.specs.Prelude.{◌≡◌, ◌≤◌, ◌<◌, ltb, length, get_or};
 ghost use Rattle.integers.specs.Cells.{padded};
 ghost use Rattle.tables.specs.Limits.{max_states, max_observations};
