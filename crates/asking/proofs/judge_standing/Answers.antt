@@ -25,9 +25,11 @@ standing_in-s-requires c = (standing-true max_vectors _ _ (sym (c.standing_holds
 pub returns-then-s-eq0 : goal.returns-then-s-eq0
 unfolding standing_verdict
 returns-then-s-eq0 c choices =
-    passes 7 0 (sym (c.standing_holds.ensures choices) ∙ c.if-not-standing_holds.false) (rw (none_stands c.args.state.now c.standing_in-s.ensures c.if-s-eq0.true))
+    passes 7 0 (sym (c.standing_holds.ensures choices) ∙ c.if-not-standing_holds.false)
+    (rw (none_stands c.args.state.now c.standing_in-s.ensures c.if-s-eq0.true))
 
 pub returns : goal.returns
 unfolding standing_verdict
 returns c choices =
-    passes 7 0 (sym (c.standing_holds.ensures choices) ∙ c.if-not-standing_holds.false) (rw (some_stands c.args.state.now c.standing_in-s.ensures c.if-s-eq0.false))
+    passes 7 0 (sym (c.standing_holds.ensures choices) ∙ c.if-not-standing_holds.false)
+    (rw (some_stands c.args.state.now c.standing_in-s.ensures c.if-s-eq0.false))
