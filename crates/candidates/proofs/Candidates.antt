@@ -66,7 +66,8 @@ module _ (c : Counts) (T O : List ℕ) (R : List ℤ) (masks : List ℕ) (entrie
 -- the vector chosen for an observation, from what moved to each state
 abbrev pub picked : ℕ → ℕ → List ℕ → List ℕ → List ℕ → List ℤ → ℕ → ℕ → ℕ → ℕ
 picked n k observation moved masks entries count a o =
-    first_largest_of count (whole_in n masks) (λ v. product n (weight_in (padded 0 max_states n (seen_in n k observation moved a o))) (masked_in n masks entries v))
+    first_largest_of count (whole_in n masks)
+    (λ v. product n (weight_in (padded 0 max_states n (seen_in n k observation moved a o))) (masked_in n masks entries v))
 
 -- the same, from the successor weights and the mask of all states that it is found with
 pub picked-from : (n k : ℕ) (observation moved masks : List ℕ) (entries : List ℤ) (count a o : ℕ) {q : List ℕ} {all v : ℕ}

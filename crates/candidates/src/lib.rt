@@ -1,5 +1,6 @@
 // The best action's vector at some weights, from a standing level's vectors.
 #![tactic(auto)]
+
 ghost use Rattle.std.specs.Prelude.{◌≡◌, ℕ, ◌≤◌, ◌<◌};
 ghost use Rattle.integers.specs.Whole.{Below};
 ghost use Rattle.integers.specs.Search.{first_largest_of};
