@@ -1,5 +1,6 @@
 // What follows the counts of a model file: the start numbers, the statements and the totals; and the answer on a file.
 #![tactic(auto)]
+
 ghost use Rattle.std.specs.Prelude.{◌≡◌, List, ℕ, ◌+◌, ◌*◌, ◌≤◌, length, replicate, ℤ, pos};
 ghost use Rattle.words.specs.Words.{words_in, between};
 ghost use Rattle.tables.specs.Limits.{max_states, max_actions, max_observations};
