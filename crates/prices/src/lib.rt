@@ -1,5 +1,6 @@
 // Whether tables differ in their prices alone: 7, then 3, 5 and 6 of the new tables, then 23.
 #![tactic(auto)]
+
 ghost use Rattle.std.specs.Prelude.{◌≡◌, List, [], ℕ, ◌≤◌, eqb, length, get_or};
 ghost use Rattle.integers.specs.Search.{every};
 ghost use Rattle.tables.specs.Storage.{model_in, tables_in};
@@ -10,7 +11,7 @@ ghost use Rattle.prices.specs.Steps.{Chances};
 use tables::{Counts, Verdict};
 
 // Whether the first cells of two tables are the same.
-fn same_cells(cells: &[u16], new: &[u16], count: usize) -> bool
+fn cells_same(cells: &[u16], new: &[u16], count: usize) -> bool
     requires { (count ≤ length cells.now) × (count ≤ length new.now) }
     ensures { result ≡ every count (λ i. eqb (get_or new.now i 0) (get_or cells.now i 0)) }
 {
@@ -55,10 +56,10 @@ fn plans_same<'a, 'n>(
         return false;
     }
     let rows = c.actions * c.states;
-    if !same_cells(transition, newtransition, rows * c.states) {
+    if !cells_same(transition, newtransition, rows * c.states) {
         return false;
     }
-    same_cells(observation, newobservation, rows * c.observations)
+    cells_same(observation, newobservation, rows * c.observations)
 }
 
 // 7, then 3, 5 and 6 of the new tables, then 23. The level's choices are not read.
