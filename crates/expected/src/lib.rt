@@ -1,5 +1,6 @@
 // Rewards stated by action, state, state reached and observation, as the one expected of each state and action: judged, then laid.
 #![tactic(auto)]
+
 ghost use Rattle.std.specs.Prelude.{◌≡◌, ◌*◌, ◌≤◌, ◌<◌, length};
 ghost use Rattle.tables.specs.Limits.{max_converted, max_actions, max_observations};
 ghost use Rattle.tables.specs.Verdicts.{left};

@@ -1,0 +1,19 @@
+use Rattle.expected.proofs.Prelude.{◌≡◌, ℕ}
+use Rattle.integers.proofs.Kit.{List, ℤ}
+use Rattle.tables.specs.declared.Counts.{Counts}
+use Rattle.tables.specs.declared.Verdict.{Verdict}
+use Rattle.tables.specs.declared.Verdict.TheVariants.{Fine}
+use Rattle.tables.specs.Storage.{row_place}
+use Rattle.tables.specs.Verdicts.{unless, first_of}
+use Rattle.expected.specs.Expected.{expected_millionths, is_whole}
+use Rattle.expected.proofs.judge.Given as goal
+
+-- the verdict on an action and a state
+abbrev pub here : Counts → List ℕ → List ℕ → List ℤ → ℕ → ℕ → Verdict
+here c T O cells a s = unless (is_whole (expected_millionths c T O cells s a)) 26 (row_place c.states a s)
+
+abbrev pub invariant-loop-s : goal.invariant-loop-s
+invariant-loop-s l = (l.found ≡ Fine) × (first_of l.s (here l.c l.transition l.observation l.outcomes l.a) ≡ Fine)
+
+abbrev pub invariant-rows : goal.invariant-rows
+invariant-rows l = (l.found ≡ Fine) × (first_of l.a (λ b. first_of l.c.states (here l.c l.transition l.observation l.outcomes b)) ≡ Fine)
