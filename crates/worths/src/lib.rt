@@ -1,5 +1,6 @@
 // The worths of a plan graph's nodes at all states: with one step left, then with two, up to the steps asked for.
 #![tactic(auto)]
+
 ghost use Rattle.std.specs.Prelude.{◌≡◌, ◌≤◌, ◌<◌, length, get_or, pos};
 ghost use Rattle.integers.specs.Cells.{padded};
 ghost use Rattle.tables.specs.Limits.{max_states};
