@@ -1,5 +1,6 @@
 // A model and its start numbers, written as a model file.
 #![tactic(auto)]
+
 ghost use Rattle.std.specs.Prelude.{◌≡◌, ◌+◌, ◌*◌, ◌≤◌, ◌<◌, ◌^◌, length, get_or};
 ghost use Rattle.tables.specs.Limits.{max_states, max_actions};
 ghost use Rattle.tables.specs.Storage.{cell_in, reward_in};

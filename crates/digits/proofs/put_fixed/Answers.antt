@@ -20,7 +20,8 @@ pub put_whole-x-requires : goal.put_whole-x-requires
 put_whole-x-requires c = room-first _ (room c.args.places c.args.v c.requires.0 c.requires.1)
 
 pub put-y-requires : goal.put-y-requires
-put-y-requires c = room-first (last_digits c.args.places (c.args.v % c.args.unit)) (room-then (room c.args.places c.args.v c.requires.0 c.requires.1) c.put_whole-x.ensures)
+put-y-requires c =
+    room-first (last_digits c.args.places (c.args.v % c.args.unit)) (room-then (room c.args.places c.args.v c.requires.0 c.requires.1) c.put_whole-x.ensures)
 
 pub nonzero_rem-v : goal.nonzero_rem-v
 nonzero_rem-v c = some-unit c.args.places c.requires.0
@@ -31,5 +32,6 @@ put_last_digits-requires c = room-then (room-then (room c.args.places c.args.v c
 pub returns : goal.returns
 returns c =
     let r = room c.args.places c.args.v c.requires.0 c.requires.1 in
-    subst⁻¹ (λ (t : List ℕ). Wrote c.args.at t c.args.out.now c.put_last_digits.result c.put_last_digits.new.out) (same_parts c.args.places c.args.v c.requires.0)
+    subst⁻¹ (λ (t : List ℕ). Wrote c.args.at t c.args.out.now c.put_last_digits.result c.put_last_digits.new.out)
+    (same_parts c.args.places c.args.v c.requires.0)
     (wrote_then r c.put_whole-x.ensures (wrote_then (room-then r c.put_whole-x.ensures) c.put-y.ensures c.put_last_digits.ensures))
