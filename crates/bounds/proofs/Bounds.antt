@@ -52,6 +52,9 @@ product-range n r q e h = sum-weighed n r q _ (λ s l. times-bound (q s) (e s) (
 
 -- ---- the answer over storage
 -- states with a weight above 0 are those of the support
+-- the first of the largest is among those below
+pub ruleset among = (of-in)
+
 pub support-covers : (n : ℕ) (q : List ℕ) (s : ℕ) → s < n → 0 < weight_in q s → covered (support_in n q) s ≡ true
 support-covers n q s l above = mask-covers n (λ s. ltb 0 (weight_in q s)) s l ∙ lt-ltb 0 (weight_in q s) above
 

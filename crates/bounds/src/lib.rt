@@ -1,5 +1,6 @@
 // Totals at a mixture: the floor, the lower of two ceilings, and the action to open with. Tables, the standing level and its rows are lent.
 #![tactic(auto)]
+
 ghost use Rattle.std.specs.Prelude.{◌≡◌, true, List, ℕ, ◌<◌};
 ghost use Rattle.integers.specs.Whole.{Below};
 ghost use Rattle.tables.specs.Limits.{max_weight};
@@ -31,6 +32,7 @@ fn no_bounds(v: Verdict) -> Bounds
 }
 
 // The totals at weights within the limits, which lie on some states, where a vector counts.
+#[tactic(auto, using(crate::proofs::Bounds::among))]
 fn bounds_at<'b>(
     actions: &'b [u8],
     masks: &'b [u64],
