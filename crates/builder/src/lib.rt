@@ -1,5 +1,6 @@
 // The builder: from a standing level and the weights of some points, a level that is always accepted.
 #![tactic(auto)]
+
 ghost use Rattle.std.specs.Prelude.{◌≡◌, true, [], ℕ, ◌+◌, ◌*◌, ◌-◌, ◌≤◌, ◌<◌, length};
 ghost use Rattle.tables.specs.Limits.{max_states};
 ghost use Rattle.tables.specs.Storage.{weight_in, model_in, tables_in};
