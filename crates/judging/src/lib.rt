@@ -1,5 +1,6 @@
 // What an offer to a certifier is refused for, 7 to 15 and 21. Tables, the standing level and the offered one are lent; nothing is written.
 #![tactic(auto)]
+
 ghost use Rattle.std.specs.Prelude.{◌≡◌, true, ◌*◌, ◌≤◌, length};
 ghost use Rattle.tables.specs.declared.Verdict.TheVariants.{Fine};
 ghost use Rattle.tables.specs.Limits.{max_states, max_observations, max_vectors, max_levels};
@@ -28,7 +29,8 @@ fn judge_level<'a>(
     standing: usize,
     t: usize,
 ) -> Verdict
-    requires states_le_max_states { (c.states ≤ max_states) × ((c.observations ≤ max_observations) × ((vectors ≤ max_vectors) × ((points ≤ max_points) × (t ≤ max_levels)))) }
+    requires states_le_max_states { (c.states ≤ max_states) × ((c.observations ≤ max_observations) × ((vectors ≤ max_vectors) ×
+        ((points ≤ max_points) × (t ≤ max_levels)))) }
     requires vectors_in_bounds { (vectors ≤ length actions.now) × ((vectors * c.observations ≤ length choices.now) × ((vectors ≤ length masks.now) ×
         (vectors * c.states ≤ length entries.now))) }
     requires states_in_bounds { (c.states ≤ length corners.now) × ((points * c.states ≤ length weights.now) × (points ≤ length values.now)) }
