@@ -1,5 +1,6 @@
 // A model file: its counts, with its tables and start numbers in slices, or the refusal of its first offending word or total.
 #![tactic(auto)]
+
 ghost use Rattle.std.specs.Prelude.{◌≡◌, ◌+◌, ◌*◌, ◌≤◌, length, replicate, pos};
 ghost use Rattle.words.specs.Words.{words_in, between};
 ghost use Rattle.tables.specs.Limits.{max_states, max_actions, max_observations};
