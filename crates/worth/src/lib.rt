@@ -1,5 +1,6 @@
 // A plan graph's worth: refused by 3, 5 and 6 of the tables or by 18, else the worth of a node at a state with the steps asked for.
 #![tactic(auto)]
+
 ghost use Rattle.std.specs.Prelude.{◌≡◌, ◌&&◌, ◌≤◌};
 ghost use Rattle.tables.specs.Limits.{max_observations};
 ghost use Rattle.tables.specs.Storage.{tables_in};
