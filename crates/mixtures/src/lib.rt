@@ -1,5 +1,6 @@
 // Totals at many mixtures in one call. Tables and the standing level are lent.
 #![tactic(auto)]
+
 ghost use Rattle.std.specs.Prelude.{◌≡◌, List, ℕ, ◌*◌, ◌≤◌, length};
 ghost use Rattle.tables.specs.Storage.{tables_in, row_in};
 ghost use Rattle.levels.specs.Storage.{cells, rows, lent};
