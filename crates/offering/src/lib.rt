@@ -1,5 +1,6 @@
 // Offering a level: where it is accepted it is written over what is lent and the certifier stands one level higher; a refusal writes nothing.
 #![tactic(auto)]
+
 ghost use Rattle.std.specs.Prelude.{◌≡◌};
 ghost use Rattle.tables.specs.Storage.{tables_in};
 ghost use Rattle.tables.specs.Verdicts.{◌before◌, left};
