@@ -1,5 +1,6 @@
 // Weights known within ranges: a low and a high for each state, and totals between which every mixture inside has its best plan.
 #![tactic(auto)]
+
 ghost use Rattle.std.specs.Prelude.{◌≡◌, true, List, ℕ, ◌+◌, ◌≤◌, ◌<◌, length, get_or, pos, nat_abs};
 ghost use Rattle.integers.specs.Whole.{Below};
 ghost use Rattle.tables.specs.Limits.{max_states, max_weight, max_entry};
