@@ -1,5 +1,6 @@
 // What every exported call answers: document 01's number and place.
 #![tactic(auto)]
+
 ghost use Rattle.std.specs.Prelude.{◌≡◌};
 ghost use Rattle.answers.specs.Calls.{refusal_of};
 
