@@ -2,11 +2,12 @@
 --
 --   change-is               the largest change, cell by cell
 --   rows-laid               rows that are moved cell by cell
-use Rattle.integers.proofs.Kit.{◌≡◌, ◌∙◌, ap, sym, List, ℕ, ◌≤◌, ◌<◌, ◌+◌, ◌*◌, ◌/◌, ◌%◌, arith, nat_abs, ◌-ℤ◌}
+--   still-here              the cell that is moved next
+use Rattle.integers.proofs.Kit.{◌≡◌, ◌∙◌, ap, sym, List, ℕ, ◌≤◌, ◌<◌, ◌+◌, ◌*◌, ◌/◌, ◌%◌, arith, get_or, ℤ, pos, nat_abs, ◌-ℤ◌}
 use native.Mathlib.Nat as NatL
 use Rattle.integers.specs.Whole.{largest_to}
 use Rattle.integers.specs.Cells.{laid, laid_rows}
-use Rattle.integers.proofs.Lists.{cell_below, laid-cong}
+use Rattle.integers.proofs.Lists.{cell_below, laid-cong, laid-past}
 use Rattle.integers.proofs.Sums.{largest-ind, largest-part}
 use Rattle.tables.specs.Tables.{Tables}
 use Rattle.tables.specs.Storage.{reward_in, model_of}
@@ -43,3 +44,7 @@ change-is m m' some e =
 pub rows-laid : {A : Type 0} (r w : ℕ) (f : ℕ → A) (xs : List A) → laid_rows r w (λ i x. f (i * w + x)) xs ≡ laid (r * w) f xs
 unfolding laid_rows
 rows-laid {A} r w f xs = laid-cong (r * w) _ _ xs (λ i l. ap f (NatL.div-add-mod' i w))
+
+-- where the first are moved, the next is as it was
+pub still-here : (i : ℕ) (f : ℕ → ℤ) (xs : List ℤ) {cells : List ℤ} → cells ≡ laid i f xs → get_or cells i (pos 0) ≡ get_or xs i (pos 0)
+still-here i f xs e = ap (λ (l : List ℤ). get_or l i (pos 0)) e ∙ laid-past i f xs i (pos 0) (NatL.le_refl i)

@@ -4,7 +4,8 @@
 --   rewards-within, change-few    rewards, and the largest change of them
 --   move-few, vectors-ask, ..     how far numbers are moved, and what is known of them
 --   priced-refused, priced-fine   what is left is what is defined
-use Rattle.integers.proofs.Kit.{◌≡◌, ◌∙◌, refl, ap, sym, subst, true, false, Bool, cond, List, ℕ, ◌≤◌, ◌<◌, ◌+◌, ◌*◌, ◌/◌, ◌%◌, arith, mul-le-mul, length, get_or}
+use Rattle.integers.proofs.Kit.{◌≡◌, ◌∙◌, refl, ap, sym, subst, true, false, Bool, cond, List, ℕ, ◌≤◌, ◌<◌, ◌+◌, ◌*◌, ◌/◌, ◌%◌, arith, mul-le-mul, length}
+use Rattle.integers.proofs.Kit.{get_or}
 use Rattle.integers.proofs.Kit.{ℤ, pos, nat_abs}
 use native.Mathlib.Nat as NatL
 use Rattle.integers.specs.Whole.{largest_to, Within}

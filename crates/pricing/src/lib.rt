@@ -1,6 +1,7 @@
 // New prices in mid-plan: the certifier's numbers are moved by the largest change of a reward, times the level, and it goes on under the new tables. A
 // refusal writes nothing.
 #![tactic(auto)]
+
 ghost use Rattle.std.specs.Prelude.{◌≡◌, cond, List, ℕ, ◌≤◌, ◌<◌, ◌^◌, max, pos, nat_abs, ◌-ℤ◌};
 ghost use Rattle.integers.specs.Whole.{largest_to, Within};
 ghost use Rattle.integers.specs.Cells.{laid, laid_rows};
