@@ -65,4 +65,5 @@ pub start-same : (n : ℕ) (start : List ℕ) → n ≤ max_states → (s : ℕ)
 start-same n start few s l =
     let e : s ≡ cell_place 1 n 0 0 s = omega arith in
     ap (λ (i : ℕ). get_or (start_done n start) i 0) e
-    ∙ row-set 1 1 n (λ a r x. get_or start x 0) 0 0 s (omega arith) (omega arith) l (replicate max_states 0) (omega (arith, length-replicate {A = ℕ} max_states 0))
+    ∙ row-set 1 1 n (λ a r x. get_or start x 0) 0 0 s (omega arith) (omega arith) l (replicate max_states 0)
+    (omega (arith, length-replicate {A = ℕ} max_states 0))

@@ -109,7 +109,8 @@ module _ (c : Counts) (transition observation : List ℕ) (reward : List ℤ) (s
 pub models-read-back : ModelsReadBack
 models-read-back c transition observation reward start room v total enough short =
     let r = reads-back c transition observation reward start none (limits c transition observation reward v)
-    (λ s l. subst (λ (i : ℕ). get_or start s 0 ≤ i) total (total-part c.states (λ s. get_or start s 0) s l)) (no_cells-stored c transition observation reward v) in
+    (λ s l. subst (λ (i : ℕ). get_or start s 0 ≤ i) total (total-part c.states (λ s. get_or start s 0) s l))
+    (no_cells-stored c transition observation reward v) in
     read_back c transition observation reward start room r (file-read c transition observation reward start room enough short r
     (sums-fine (length (file_text c transition observation reward start)) c r.begin r.cells
     (same-valid c transition r.cells.transition observation r.cells.observation reward r.cells.reward r.same v)
