@@ -1,5 +1,6 @@
 // A certifier that climbs, in arrays of its own: at level 0, and the next level, which is built of one point. None of the calls refuses.
 #![tactic(auto)]
+
 ghost use Rattle.std.specs.Prelude.{◌≡◌};
 ghost use Rattle.tables.specs.declared.Verdict.TheVariants.{Fine};
 ghost use Rattle.tables.specs.Storage.{tables_in};
