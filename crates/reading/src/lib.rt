@@ -1,5 +1,6 @@
 // A model file, read into tables and start numbers in slices that the caller lends. A refusal writes nothing.
 #![tactic(auto)]
+
 ghost use Rattle.std.specs.Prelude.{◌≡◌};
 ghost use Rattle.tables.specs.Verdicts.{left};
 ghost use Rattle.reading.specs.Reading.{file_for, read_verdict, read_of, laid_transitions, laid_observations, laid_rewards, laid_start};
