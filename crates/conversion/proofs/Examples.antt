@@ -100,10 +100,11 @@ pub record Examples : Type 0 where
   pub rows-first : convert_verdict 32_768 (many_states ++ too_little) ≡ Refused 6 157
 
 pub examples : Examples
-unfolding ◌·◌ sum_to total_to floor_div some listed laid laid_rows first_of rows_total word_run words_of words_in digits value powered amount_of fraction after_point
-    exponent marked_from stated outcomed number magnitude signed_number same key keys field index indexed row entry_by table_by outcome_by outcomes_by
-    reward_statement_by observation_or_reward_by one_statement_by statements_by header_by start_by body_by sums_verdict expected_millionths expected_verdict parts_to
-    last_digits whole fixed signed_fixed line opening row_text table_text reward_text rewards_text header_text start_text file_text expect_verdict convert_verdict
+unfolding ◌·◌ sum_to total_to floor_div some listed laid laid_rows first_of rows_total word_run words_of words_in digits value powered amount_of
+    fraction after_point exponent marked_from stated outcomed number magnitude signed_number same key keys field index indexed row entry_by table_by
+    outcome_by outcomes_by reward_statement_by observation_or_reward_by one_statement_by statements_by header_by start_by body_by sums_verdict
+    expected_millionths expected_verdict parts_to last_digits whole fixed signed_fixed line opening row_text table_text reward_text rewards_text
+    header_text start_text file_text expect_verdict convert_verdict
 examples = record {
   served = refl;
   text = refl;

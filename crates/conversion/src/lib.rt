@@ -1,5 +1,6 @@
 // What the converter answers. The converter itself is in `converting`.
 #![tactic(auto)]
+
 use tables::Verdict;
 
 // What a file is refused for, and the bytes written; with a refusal 0.
