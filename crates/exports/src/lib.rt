@@ -1,6 +1,7 @@
 // The interface for C and Rust: its version, and a level offered, over slices that programs lend. Whatever is handed in, a call ends without fault, and
 // one that refuses leaves every lent slice as it was.
 #![tactic(auto)]
+
 ghost use Rattle.std.specs.Prelude.{◌≡◌};
 ghost use Rattle.tables.specs.Verdicts.{◌before◌, left};
 ghost use Rattle.columns.specs.Columns.{handed_list};
