@@ -1,6 +1,7 @@
 // The vectors that a solver's alpha file and policy graph file say, over the level that stands: their entries, 11 of these, and the vectors written over lent
 // slices.
 #![tactic(auto)]
+
 ghost use Rattle.std.specs.Prelude.{◌≡◌, ℕ, ◌+◌, ◌≤◌, ◌<◌, length, get_or, pos};
 ghost use Rattle.integers.specs.Whole.{lesser};
 ghost use Rattle.integers.specs.Cells.{padded};
