@@ -1,5 +1,6 @@
 // Offers that lie packed in slices, made one after the other.
 #![tactic(auto)]
+
 ghost use Rattle.std.specs.Prelude.{◌≡◌, ◌<◌};
 ghost use Rattle.tables.specs.Storage.{tables_in};
 ghost use Rattle.levels.specs.Storage.{cells, rows, lent};
