@@ -1,5 +1,6 @@
 // The interface for C and Rust: a certifier opened on tables, the list of a model's transitions, and new prices. Nothing is kept.
 #![tactic(auto)]
+
 ghost use Rattle.std.specs.Prelude.{◌≡◌, List, ℕ};
 ghost use Rattle.columns.specs.Columns.{list_verdict, listed_of};
 ghost use Rattle.levels.specs.Storage.{cells, rows, lent};
