@@ -1,5 +1,6 @@
 // The interface for C and Rust: the next level of a certifier, built from points.
 #![tactic(auto)]
+
 ghost use Rattle.std.specs.Prelude.{◌≡◌, true, List, ℕ, ◌<◌};
 ghost use Rattle.tables.specs.Tables.{Tables};
 ghost use Rattle.tables.specs.Limits.{max_levels};
