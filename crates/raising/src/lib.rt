@@ -1,5 +1,6 @@
 // A certifier that climbs, one level higher: the level that was built is offered and accepted.
 #![tactic(auto)]
+
 ghost use Rattle.std.specs.Prelude.{◌≡◌};
 ghost use Rattle.tables.specs.declared.Verdict.TheVariants.{Fine};
 ghost use Rattle.tables.specs.Storage.{tables_in};
