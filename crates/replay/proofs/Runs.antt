@@ -65,7 +65,8 @@ module _ (m : Tables) (x : Lent) (b : Packed) (count : ℕ) where
       )
 
   pub given : (v : Verdict) {made accepted : ℕ} {y : Lent} → v ≡ replay_verdict m x b count → made ≡ left v count 0
-      → accepted ≡ accepted_of m x (offers_in m b made) → y ≡ offered_all m x (offers_in m b made) → Said m x b count record { verdict = v; accepted = accepted } y
+      → accepted ≡ accepted_of m x (offers_in m b made) → y ≡ offered_all m x (offers_in m b made)
+      → Said m x b count record { verdict = v; accepted = accepted } y
   unfolding offers_in run acceptances offers
   given Fine e l f g = offered e (f ∙ rw l) (g ∙ rw l)
   given (Refused k i) e l f g = refused e (f ∙ rw l) (g ∙ rw l)

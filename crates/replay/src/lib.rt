@@ -1,5 +1,6 @@
 // A list of offers that lies packed in slices, run through the calls one after the other.
 #![tactic(auto)]
+
 ghost use Rattle.std.specs.Prelude.{◌≡◌, List};
 ghost use Rattle.tables.specs.Tables.{Tables};
 ghost use Rattle.tables.specs.declared.Verdict.TheVariants.{Fine};
