@@ -1,5 +1,6 @@
 // The interface for C and Rust: totals at one mixture, at many and within ranges of weights, and the worth of a plan graph. Nothing is kept.
 #![tactic(auto)]
+
 ghost use Rattle.std.specs.Prelude.{◌≡◌, List, ℕ, ◌<◌};
 ghost use Rattle.tables.specs.Tables.{Tables};
 ghost use Rattle.levels.specs.Storage.{Lent, cells, rows, lent};
