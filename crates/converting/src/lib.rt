@@ -1,6 +1,7 @@
 // The converter: reads a file whose rewards depend on what follows, and writes the same model as a model file of ours, with expected rewards. A refusal
 // writes nothing.
 #![tactic(auto)]
+
 ghost use Rattle.std.specs.Prelude.{◌≡◌, ◌+◌, ◌≤◌, true, length};
 ghost use Rattle.tables.specs.declared.Verdict.TheVariants.{Fine};
 ghost use Rattle.words.specs.Words.{words_in, between};
