@@ -1,5 +1,6 @@
 // The interface for C and Rust: a list of offers in one call.
 #![tactic(auto)]
+
 ghost use Rattle.std.specs.Prelude.{◌≡◌, List};
 ghost use Rattle.tables.specs.Tables.{Tables};
 ghost use Rattle.tables.specs.declared.Verdict.TheVariants.{Fine};
