@@ -1,5 +1,6 @@
 // What a solver's files are refused for before a level is made of them: 1, 7, 19, 20, 8 to 12 and 21, in this order.
 #![tactic(auto)]
+
 ghost use Rattle.std.specs.Prelude.{◌≡◌, ◌&&◌, List, ℕ, ◌+◌, ◌*◌, ◌≤◌, ◌<◌, leb, ltb, length};
 ghost use Rattle.tables.specs.Limits.{max_states, max_observations, max_vectors, max_levels};
 ghost use Rattle.tables.specs.Storage.{tables_in};
