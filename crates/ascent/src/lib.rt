@@ -1,5 +1,6 @@
 // The levels of a model, one after the other: each is built of its start numbers, accepted, asked there, and printed.
 #![tactic(auto)]
+
 ghost use Rattle.std.specs.Prelude.{◌≡◌};
 ghost use Rattle.tables.specs.Model.{Valid};
 ghost use Rattle.tables.specs.Steps.{Stored};
