@@ -1,5 +1,6 @@
 // The interface for C and Rust: a model file read into slices that programs lend, and a file of another form converted to one.
 #![tactic(auto)]
+
 ghost use Rattle.std.specs.Prelude.{◌≡◌, length};
 ghost use Rattle.tables.specs.Verdicts.{left};
 ghost use Rattle.tables.specs.declared.Verdict.TheVariants.{Fine};
