@@ -1,5 +1,6 @@
 // The call that makes the level of a solver's files over the level that stands: judged, and written over lent slices.
 #![tactic(auto)]
+
 ghost use Rattle.std.specs.Prelude.{◌≡◌, List, ℕ};
 ghost use Rattle.tables.specs.declared.Verdict.TheVariants.{Fine};
 ghost use Rattle.tables.specs.Storage.{tables_in};
