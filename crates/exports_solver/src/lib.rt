@@ -1,5 +1,6 @@
 // The interface for C and Rust: the next level of a certifier, made of a solver's files.
 #![tactic(auto)]
+
 ghost use Rattle.std.specs.Prelude.{◌≡◌, List, ℕ};
 ghost use Rattle.tables.specs.declared.Verdict.TheVariants.{Fine};
 ghost use Rattle.levels.specs.Storage.{cells, rows, lent};
