@@ -1,5 +1,6 @@
 // What the program `ladder` prints of a model file: its levels, or its refusal.
 #![tactic(auto)]
+
 use climbing::ROWS;
 use tables::{Tables, Verdict};
 
@@ -25,7 +26,14 @@ pub fn answer(rt: &impl Print, file: &[u8]) -> bool {
     );
     let verdict = read.verdict;
     match verdict {
-        Verdict::Fine => ascent::levels_of(rt, &transition, &observation, &reward, read.counts, start),
+        Verdict::Fine => ascent::levels_of(
+            rt,
+            &transition,
+            &observation,
+            &reward,
+            read.counts,
+            start,
+        ),
         Verdict::Refused(number, place) => streams::print_refusal(rt, number, place),
     }
 }
