@@ -138,11 +138,11 @@ record Table : Type 0 where
   levels-then : adopt_verdict dough hundredth one_step hyphens 1 half ≡ Refused 8 0
 
 table : Table
-unfolding dough slices rows_at fresh half one standing solved adopt_verdict adopted numbers_in masks_verdict holds_up_to over tables_verdict limits_hold rows_total
-    first_of every total_to ranges_verdict rows_within values_within weights_verdict range least_value least_for first_largest_of product successor sum_to backed_up backup
-    follows floor_div ceil_div backup_at expected_reward ceiling largest_to drop gain smallest joined or_none corner_weight covered mask_of laid laid_rows listed lesser
-    ◌·◌ K word_run words_of words_in digits value amount_of fraction after_point exponent number magnitude signed_number same key action decimal next_node several
-    alpha node all_from all_in alike files_verdict
+unfolding dough slices rows_at fresh half one standing solved adopt_verdict adopted numbers_in masks_verdict holds_up_to over tables_verdict limits_hold
+    rows_total first_of every total_to ranges_verdict rows_within values_within weights_verdict range least_value least_for first_largest_of product
+    successor sum_to backed_up backup follows floor_div ceil_div backup_at expected_reward ceiling largest_to drop gain smallest joined or_none
+    corner_weight covered mask_of laid laid_rows listed lesser ◌·◌ K word_run words_of words_in digits value amount_of fraction after_point exponent number
+    magnitude signed_number same key action decimal next_node several alpha node all_from all_in alike files_verdict
 table = record {
   first-verdict = refl;
   first = refl;
