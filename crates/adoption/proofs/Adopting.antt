@@ -198,7 +198,7 @@ module _ (m : Tables) (x : Lent) (alphaFile graphFile : List ℕ) (count : ℕ) 
             let s = standing_at x.state in
             let vectors = vectors_in m.states alphaFile in
             let numbers = before-fine (numbers_tested s vectors)
-                (masks_tested s vectors before entries_tested s vectors before points_tested) (end_is ∙ fine) in
+            (masks_tested s vectors before entries_tested s vectors before points_tested) (end_is ∙ fine) in
             let masks = before-fine (masks_tested s vectors) (entries_tested s vectors before points_tested) numbers.1 in
             (numbers.0, (before-fine (entries_tested s vectors) points_tested masks.1).1)
 

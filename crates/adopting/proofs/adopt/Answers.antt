@@ -31,7 +31,7 @@ returns-in_default c choices =
     (rows a.informed.now a.qmdp.now) in
     let y = cells a.newactions.now a.newchoices.now a.newmasks.now a.newentries.now a.newcorners.now a.given.now a.newvalues.now in
     let v = adopt-first m x a.alpha.now a.graph.now a.count y
-        (first_said m x a.alpha.now a.graph.now a.count y (c.judge_files-files.ensures choices)) c.in_default.is in
+    (first_said m x a.alpha.now a.graph.now a.count y (c.judge_files-files.ensures choices)) c.in_default.is in
     let same = adopted-refused m x a.alpha.now a.graph.now a.count y v c.in_default.is in
     (answered-back _ v c.in_default.is, (same, adopt-demand m x a.alpha.now a.graph.now a.count y v same))
 
@@ -52,7 +52,7 @@ judge_level-level-requires-clause-upon c =
     (rows a.informed.now a.qmdp.now) in
     let y = cells a.newactions.now a.newchoices.now a.newmasks.now a.newentries.now a.newcorners.now a.given.now a.newvalues.now in
     (level-asks m x a.alpha.now a.graph.now a.count y
-        (known m x a.alpha.now a.graph.now a.count y (c.judge_files-files.ensures []) c.in-Fine.is) c.standing_in-s.ensures
+    (known m x a.alpha.now a.graph.now a.count y (c.judge_files-files.ensures []) c.in-Fine.is) c.standing_in-s.ensures
     (vectors-are m x a.alpha.now a.graph.now a.count y (c.judge_files-files.ensures []) c.in-Fine.is)).0
 
 pub judge_level-level-requires-clause-files : goal.judge_level-level-requires-clause-files
@@ -63,7 +63,7 @@ judge_level-level-requires-clause-files c =
     (rows a.informed.now a.qmdp.now) in
     let y = cells a.newactions.now a.newchoices.now a.newmasks.now a.newentries.now a.newcorners.now a.given.now a.newvalues.now in
     (level-asks m x a.alpha.now a.graph.now a.count y
-        (known m x a.alpha.now a.graph.now a.count y (c.judge_files-files.ensures []) c.in-Fine.is) c.standing_in-s.ensures
+    (known m x a.alpha.now a.graph.now a.count y (c.judge_files-files.ensures []) c.in-Fine.is) c.standing_in-s.ensures
     (vectors-are m x a.alpha.now a.graph.now a.count y (c.judge_files-files.ensures []) c.in-Fine.is)).1.0
 
 pub judge_level-level-requires-clause-points_le_max_built : goal.judge_level-level-requires-clause-points_le_max_built
@@ -74,7 +74,7 @@ judge_level-level-requires-clause-points_le_max_built c =
     (rows a.informed.now a.qmdp.now) in
     let y = cells a.newactions.now a.newchoices.now a.newmasks.now a.newentries.now a.newcorners.now a.given.now a.newvalues.now in
     (level-asks m x a.alpha.now a.graph.now a.count y
-        (known m x a.alpha.now a.graph.now a.count y (c.judge_files-files.ensures []) c.in-Fine.is) c.standing_in-s.ensures
+    (known m x a.alpha.now a.graph.now a.count y (c.judge_files-files.ensures []) c.in-Fine.is) c.standing_in-s.ensures
     (vectors-are m x a.alpha.now a.graph.now a.count y (c.judge_files-files.ensures []) c.in-Fine.is)).1.1
 
 pub returns-in_default-level : goal.returns-in_default-level

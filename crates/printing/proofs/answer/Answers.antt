@@ -16,6 +16,6 @@ levels_of-requires g c =
       reward = r.auto.reward ∙ length-replicate (max_actions * max_states) (pos 0);
     } in
     let given = read-given drafted
-        (room (max_actions * max_states * max_states) (max_actions * max_states * max_observations) (max_actions * max_states))
-        c.args.file.now (r.ensures.start_after c.in-Fine.is) c.in-Fine.is long in
+    (room (max_actions * max_states * max_states) (max_actions * max_states * max_observations) (max_actions * max_states))
+    c.args.file.now (r.ensures.start_after c.in-Fine.is) c.in-Fine.is long in
     record { valid = given.0; stored = given.1.0; point = given.1.1 }

@@ -21,14 +21,14 @@ unfolding values_within
 returns-then-not-value_holds c =
     let value = get_or c.args.values.now c.loop-i.i (pos 0) in
     let t = said c.args.n c.loop-i.i _ _ c.args.limit value c.args.weights.now _ (c.value_holds.ensures ∙ rw (back value (search rules)))
-        c.weights_total-total.ensures c.start.ensures in
+    c.weights_total-total.ensures c.start.ensures in
     sym (first-here _ _ c.loop-i.i (omega arith) c.loop-i.invariant (failed _ _ (t ∙ c.if-not-value_holds.true)))
 
 pub loop-i-preserved : goal.loop-i-preserved
 loop-i-preserved c =
     let value = get_or c.args.values.now c.loop-i.i (pos 0) in
     let t = said c.args.n c.loop-i.i _ _ c.args.limit value c.args.weights.now _ (c.value_holds.ensures ∙ rw (back value (search rules)))
-        c.weights_total-total.ensures c.start.ensures in
+    c.weights_total-total.ensures c.start.ensures in
     first_more _ _ c.loop-i.invariant (passed _ _ (t ∙ c.if-not-value_holds.false))
 
 pub returns : goal.returns
