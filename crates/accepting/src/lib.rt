@@ -2,14 +2,14 @@
 #![tactic(auto)]
 
 ghost use Rattle.std.specs.Prelude.{◌≡◌};
-ghost use Rattle.tables.specs.declared.Verdict.TheVariants.{Fine};
+ghost use Rattle.refusals.specs.Verdicts.{Fine, left};
 ghost use Rattle.tables.specs.Storage.{tables_in};
-ghost use Rattle.tables.specs.Verdicts.{left};
 ghost use Rattle.levels.specs.Storage.{cells, rows, lent, lent_for, level_of};
 ghost use Rattle.levels.specs.Judged.{offer_verdict};
 ghost use Rattle.runs.specs.State.{raised};
 
-use tables::{Counts, Verdict};
+use refusals::Verdict;
+use tables::Counts;
 
 // The verdict on an offer; where it is accepted, the certifier is one level higher with it.
 pub fn settle<'a, 'b>(
@@ -53,9 +53,7 @@ pub fn settle<'a, 'b>(
         weights.new values.new) (rows informed.new qmdp.new)
         ≡ left verdict (raised m x (level_of m l)) x }
 {
-    let Verdict::Fine = verdict else {
-        return verdict;
-    };
+    verdict?;
     levels::raise_standing(state, vectors, points);
     laying::lay_level(
         c.states,
@@ -78,5 +76,5 @@ pub fn settle<'a, 'b>(
         newvalues,
     );
     rows::step(transition, observation, reward, c, informed, qmdp);
-    Verdict::Fine
+    Ok(())
 }

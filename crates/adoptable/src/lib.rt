@@ -4,7 +4,7 @@
 ghost use Rattle.std.specs.Prelude.{◌≡◌, ◌&&◌, List, ℕ, ◌+◌, ◌*◌, ◌≤◌, ◌<◌, leb, ltb, length};
 ghost use Rattle.tables.specs.Limits.{max_states, max_observations, max_vectors, max_levels};
 ghost use Rattle.tables.specs.Storage.{tables_in};
-ghost use Rattle.tables.specs.Verdicts.{◌before◌, unless};
+ghost use Rattle.refusals.specs.Verdicts.{◌before◌, unless};
 ghost use Rattle.tables.specs.Judged.{count_within};
 ghost use Rattle.plans.specs.Limits.{max_built, range};
 ghost use Rattle.levels.specs.Storage.{cells, rows, lent, standing_at, long_enough, point_in};
@@ -14,10 +14,9 @@ ghost use Rattle.solver.specs.Files.{max_file, vectors_in, files_verdict, with_c
 ghost use Rattle.stated.specs.Steps.{Files, masks_over};
 ghost use Rattle.solved.specs.Steps.{vectors_over};
 
-use adoption::Adopted;
 use levels::{Level, shape};
-use solver::Judged;
-use tables::{Counts, Tables, Verdict};
+use refusals::{Refusal, Verdict};
+use tables::{Counts, Tables};
 
 // ---- 1 to 9
 
@@ -41,29 +40,20 @@ fn judge_room(
         && (leb points max_built && (leb (vectors * k) choices && long_enough n vectors points actions masks entries corners weights values))) 9 0) }
 {
     if Level::LEVELS <= number {
-        return Verdict::Refused(8, 0);
+        return Err(Refusal(8, 0));
     }
     if !tables::count_within(Tables::VECTORS, vectors) {
-        return Verdict::Refused(9, 0);
+        return Err(Refusal(9, 0));
     }
     if Level::BUILT < points {
-        return Verdict::Refused(9, 0);
+        return Err(Refusal(9, 0));
     }
     if !shape::complete(
         n, k, vectors, points, actions, choices, masks, entries, corners, weights, values,
     ) {
-        return Verdict::Refused(9, 0);
+        return Err(Refusal(9, 0));
     }
-    Verdict::Fine
-}
-
-fn refused(verdict: Verdict) -> Judged
-    ensures { (result.verdict ≡ verdict) × (result.vectors ≡ 0) }
-{
-    Judged {
-        verdict: verdict,
-        vectors: 0,
-    }
+    Ok(())
 }
 
 // 1 of either file, 7 of the certifier, 19 and 20 of the files, then 8 and 9.
@@ -91,7 +81,7 @@ pub fn judge_files<'a, 'b, 'c>(
     newcorners: usize,
     given: usize,
     newvalues: usize,
-) -> Judged
+) -> Result<usize, Refusal>
     ensures { (choices : List ℕ) →
         let m = tables_in c transition.now observation.now reward.now in
         let standing = lent state.now (cells actions.now choices masks.now entries.now corners.now
@@ -104,11 +94,11 @@ pub fn judge_files<'a, 'b, 'c>(
         before unless (count_within max_vectors vectors && (leb count max_built && (leb (vectors * c.observations) newchoices
         && long_enough c.states vectors count newactions newmasks newentries newcorners given newvalues))) 9 0) vectors }
 {
-    if Adopted::FILE < alpha.len() {
-        return refused(Verdict::Refused(1, 0));
+    if adoption::FILE < alpha.len() {
+        return Err(Refusal(1, 0));
     }
-    if Adopted::FILE < graph.len() {
-        return refused(Verdict::Refused(1, 0));
+    if adoption::FILE < graph.len() {
+        return Err(Refusal(1, 0));
     }
     if !standing::standing_holds(
         transition,
@@ -125,19 +115,15 @@ pub fn judge_files<'a, 'b, 'c>(
         informed,
         qmdp,
     ) {
-        return refused(Verdict::Refused(7, 0));
+        return Err(Refusal(7, 0));
     }
-    let files = solver::judge_files(alpha, graph, c.states, c.observations);
-    let first = files.verdict;
-    let Verdict::Fine = first else {
-        return refused(first);
-    };
+    let vectors = solver::judge_files(alpha, graph, c.states, c.observations)?;
     let s = levels::standing_in(state);
-    let room = judge_room(
+    judge_room(
         s.number,
         c.states,
         c.observations,
-        files.vectors,
+        vectors,
         count,
         newactions,
         newchoices,
@@ -146,14 +132,8 @@ pub fn judge_files<'a, 'b, 'c>(
         newcorners,
         given,
         newvalues,
-    );
-    let Verdict::Fine = room else {
-        return refused(room);
-    };
-    Judged {
-        verdict: Verdict::Fine,
-        vectors: files.vectors,
-    }
+    )?;
+    Ok(vectors)
 }
 
 // ---- 10, 21, 11 and 12
@@ -184,15 +164,9 @@ pub fn judge_level<'a, 'c>(
         before rows_within 11 count c.states (range (t + 1)) W.entry
         before weights_verdict c.states points (point_in c.states given.now)) }
 {
-    let numbers = stated::numbers_hold(alpha, graph, c, standing, t, count);
-    let Verdict::Fine = numbers else {
-        return numbers;
-    };
-    let reached = stated::masks_hold(transition, observation, masks, c, t, alpha, graph, count);
-    let Verdict::Fine = reached else {
-        return reached;
-    };
-    let ranges = solved::entries_hold(
+    stated::numbers_hold(alpha, graph, c, standing, t, count)?;
+    stated::masks_hold(transition, observation, masks, c, t, alpha, graph, count)?;
+    solved::entries_hold(
         transition,
         observation,
         reward,
@@ -204,9 +178,6 @@ pub fn judge_level<'a, 'c>(
         alpha,
         graph,
         count,
-    );
-    let Verdict::Fine = ranges else {
-        return ranges;
-    };
+    )?;
     weights::weights_hold(given, c.states, points)
 }

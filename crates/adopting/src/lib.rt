@@ -2,15 +2,15 @@
 #![tactic(auto)]
 
 ghost use Rattle.std.specs.Prelude.{◌≡◌, List, ℕ};
-ghost use Rattle.tables.specs.declared.Verdict.TheVariants.{Fine};
+ghost use Rattle.refusals.specs.Verdicts.{Fine};
 ghost use Rattle.tables.specs.Storage.{tables_in};
 ghost use Rattle.levels.specs.Storage.{cells, rows, lent};
 ghost use Rattle.solver.specs.Files.{vectors_in};
 ghost use Rattle.adoption.specs.Adopt.{adopt_verdict, adopted, adopt_answer};
 ghost use Rattle.adoption.specs.Claim.{AdoptHolds};
 
-use adoption::Adopted;
-use tables::{Counts, Verdict};
+use refusals::Refusal;
+use tables::Counts;
 
 // Makes the level of a solver's files over the level that stands, with the builder's corners and its values at a count of points of any content: it is
 // accepted where it is offered to the same certifier; or refused by 1, 7, 19, 20, 8 to 12 or 21.
@@ -38,7 +38,7 @@ pub fn adopt<'a, 'b, 'c>(
     newentries: &mut [i64],
     newcorners: &mut [i64],
     newvalues: &mut [i64],
-) -> Adopted
+) -> Result<usize, Refusal>
     ensures { (choices : List ℕ) →
         let m = tables_in c transition.now observation.now reward.now in
         let standing = lent state.now (cells actions.now choices masks.now entries.now corners.now
@@ -50,9 +50,9 @@ pub fn adopt<'a, 'b, 'c>(
         let v = adopt_verdict m standing alpha.now graph.now count y in
         (result ≡ adopt_answer v (vectors_in c.states alpha.now))
         × ((made ≡ adopted m standing alpha.now graph.now count y)
-        × (result.verdict ≡ Fine → AdoptHolds m standing alpha.now graph.now count y made)) }
+        × (v ≡ Fine → AdoptHolds m standing alpha.now graph.now count y made)) }
 {
-    let files = adoptable::judge_files(
+    let vectors = adoptable::judge_files(
         transition,
         observation,
         reward,
@@ -76,17 +76,9 @@ pub fn adopt<'a, 'b, 'c>(
         newcorners.len(),
         given.len(),
         newvalues.len(),
-    );
-    let first = files.verdict;
-    let Verdict::Fine = first else {
-        return Adopted {
-            verdict: first,
-            vectors: 0,
-        };
-    };
-    let vectors = files.vectors;
+    )?;
     let s = levels::standing_in(state);
-    let level = adoptable::judge_level(
+    adoptable::judge_level(
         transition,
         observation,
         reward,
@@ -100,13 +92,7 @@ pub fn adopt<'a, 'b, 'c>(
         vectors,
         given,
         count,
-    );
-    let Verdict::Fine = level else {
-        return Adopted {
-            verdict: level,
-            vectors: 0,
-        };
-    };
+    )?;
     solved::write_vectors(
         transition,
         observation,
@@ -140,8 +126,5 @@ pub fn adopt<'a, 'b, 'c>(
         newcorners,
         newvalues,
     );
-    Adopted {
-        verdict: Verdict::Fine,
-        vectors: vectors,
-    }
+    Ok(vectors)
 }

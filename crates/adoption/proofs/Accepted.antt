@@ -11,13 +11,12 @@ use Rattle.integers.proofs.Order.{≤_trans, ·-mono, lesser-right, lesser-is}
 use Rattle.integers.proofs.Rounding.{floor-≤}
 use Rattle.integers.proofs.Searches.{and-true, and_is, at_every}
 use Rattle.tables.specs.Tables.{Tables}
-use Rattle.tables.specs.declared.Verdict.TheVariants.{Fine, Refused}
+use Rattle.refusals.specs.Verdicts.{Fine, Refused, ◌before◌, unless}
 use Rattle.tables.specs.Limits.{K, max_vectors, max_levels}
 use Rattle.tables.specs.Model.{Model, Valid, backed_up}
 use Rattle.tables.specs.Storage.{model_of}
-use Rattle.tables.specs.Verdicts.{◌before◌, unless}
 use Rattle.tables.specs.Judged.{count_within}
-use Rattle.tables.proofs.Refusals.{before-fine, unless-fine}
+use Rattle.refusals.proofs.Refusals.{before-fine, unless-fine}
 use Rattle.plans.specs.Limits.{max_points, max_built, range}
 use Rattle.plans.specs.Level.{Level, corner_weight, Meets, Shaped}
 use Rattle.plans.specs.Build.{least_value}

@@ -1,23 +1,22 @@
 -- The call from its stages. Assumes nothing.
 --
---   counted_back, answered-back, answered-fine    a verdict with a count
 --   start_verdict, end_verdict                      1 to 9, and the rest: adopt-first, adopt-then join them
 --   started                                       what 1 to 9 leave known
 --   level-asks, roof-asks, vectors-ask            what the steps ask for is known then
 --   level-said                                    10, 21, 11 and 12, as the steps test them
 --   level-laid                                    the level over the slices, from its parts
---   adopted-refused, adopted-fine, adopt-demand   what is left, and what is claimed of it
+--   answered-back, answered-fine                  what is answered, what is left, and what is claimed of it
+use Rattle.std.specs.Prelude.{Result, Ok, Err}
 use Rattle.integers.proofs.Kit.{◌≡◌, ◌∙◌, refl, ap, sym, subst, ◌&&◌, List, ℕ, ◌≤◌, ◌<◌, ◌+◌, ◌*◌, arith, leb-true, ltb-true, leb, ltb, length, ℤ}
 use Rattle.integers.specs.Cells.{laid}
 use Rattle.integers.proofs.Lists.{laid_rows-flat, laid-self}
 use Rattle.integers.proofs.Searches.{and-true}
 use Rattle.tables.specs.Tables.{Tables}
-use Rattle.tables.specs.declared.Verdict.{Verdict}
-use Rattle.tables.specs.declared.Verdict.TheVariants.{Fine, Refused}
+use Rattle.refusals.specs.declared.Refusal.{Refusal}
+use Rattle.refusals.specs.Verdicts.{Verdict, Fine, ◌before◌, unless}
 use Rattle.tables.specs.Limits.{max_vectors, max_levels}
 use Rattle.tables.specs.Storage.{counts_of, model_of}
-use Rattle.tables.specs.Verdicts.{◌before◌, unless}
-use Rattle.tables.proofs.Refusals.{before-fine, unless-fine, refused-before}
+use Rattle.refusals.proofs.Refusals.{before-fine, unless-fine, refused-before}
 use Rattle.plans.specs.Limits.{max_built, range}
 use Rattle.plans.specs.Level.{Level, gain, ceiling, backup_at, corner_weight, follows, Shaped, IsPoint}
 use Rattle.plans.specs.Build.{least_for, least_value}
@@ -32,8 +31,7 @@ use Rattle.backups.specs.Steps.{Roofed}
 use Rattle.candidates.specs.Steps.{top_built, Upon}
 use Rattle.builder.specs.Steps.{RowsFit, Filled}
 use Rattle.builder.proofs.Levels.{upon-lent, roofed-lent}
-use Rattle.solver.specs.declared.Judged.{Judged}
-use Rattle.solver.specs.Files.{max_file, vectors_in, files_verdict, with_count}
+use Rattle.solver.specs.Files.{max_file, vectors_in, files_verdict}
 use Rattle.solver.proofs.Files.{FilesRead, files-read}
 use Rattle.stated.specs.Steps.{Files, masks_over}
 use Rattle.solved.specs.Solved.{solved}
@@ -42,37 +40,19 @@ use Rattle.adoption.specs.Adopt.{solved_from, adopted_level, adopt_fits, solved_
 use Rattle.adoption.specs.Claim.{AdoptHolds}
 use Rattle.adoption.proofs.Accepted.{roof-fine, adopt-holds}
 
--- ---- a verdict with a count
-
--- a refusal, counted
-pub counted_back : {r : Judged} {v w : Verdict} {number place : ℕ} (n : ℕ) → (r.verdict ≡ v) × (r.vectors ≡ 0) → v ≡ Refused number place → v ≡ w
-    → r ≡ with_count w n
-counted_back {r} {number = number} {place} n h e f =
-    ap (λ (x : Verdict). record { verdict = x; vectors = r.vectors }) (h.0 ∙ e)
-    ∙ ap (λ (m : ℕ). record { verdict = Refused number place; vectors = m }) h.1
-    ∙ ap (λ (x : Verdict). with_count x n) (sym e ∙ f)
-
--- and answered
-pub answered-back : {v w : Verdict} {number place : ℕ} (n : ℕ) → v ≡ w → v ≡ Refused number place → record { verdict = v; vectors = 0 } ≡ adopt_answer w n
-answered-back n e f =
-    ap (λ (x : Verdict). record { verdict = x; vectors = 0 }) f ∙ ap (λ (x : Verdict). adopt_answer x n) (sym f ∙ e)
-
-pub answered-fine : {w : Verdict} {n m : ℕ} → w ≡ Fine → m ≡ n → record { verdict = Fine; vectors = m } ≡ adopt_answer w n
-answered-fine {n = n} e f = ap (λ (m : ℕ). record { verdict = Fine; vectors = m }) f ∙ ap (λ (x : Verdict). adopt_answer x n) (sym e)
-
 -- ---- stages, one after the other
 
 apart : (a b c d e w : Verdict) → (a before b before c before d before e before w) ≡ ((a before b before c before d before e) before w)
-apart (Refused k i) b c d e w = refl
-apart Fine (Refused k i) c d e w = refl
-apart Fine Fine (Refused k i) d e w = refl
-apart Fine Fine Fine (Refused k i) e w = refl
-apart Fine Fine Fine Fine e w = refl
+apart (Err r) b c d e w = refl
+apart (Ok u) (Err r) c d e w = refl
+apart (Ok u) (Ok v) (Err r) d e w = refl
+apart (Ok u) (Ok v) (Ok x) (Err r) e w = refl
+apart (Ok u) (Ok v) (Ok x) (Ok y) e w = refl
 
 -- a stage that is fine is passed over
 passed_over : (a b w : Verdict) → b ≡ Fine → ((a before b) before w) ≡ (a before w)
-passed_over Fine b w e = rw e
-passed_over (Refused k i) b w e = refl
+passed_over (Ok u) b w e = rw e
+passed_over (Err r) b w e = refl
 
 module _ (m : Tables) (x : Lent) (alphaFile graphFile : List ℕ) (count : ℕ) (y : Cells) where
   abbrev W : Level
@@ -118,11 +98,11 @@ module _ (m : Tables) (x : Lent) (alphaFile graphFile : List ℕ) (count : ℕ) 
       (files_verdict m.states m.observations alphaFile graphFile) (unless (ltb (number_in x) max_levels) 8 0)
       (unless (adopt_fits m alphaFile count y) 9 0) end_verdict
 
-  pub adopt-first : {v : Verdict} {number place : ℕ} → v ≡ start_verdict → v ≡ Refused number place → v ≡ adopt_verdict m x alphaFile graphFile count y
-  adopt-first e f = f ∙ sym (adopt-apart ∙ refused-before end_verdict (sym e ∙ f))
+  pub adopt-first : {e : Refusal} → start_verdict ≡ Err e → adopt_verdict m x alphaFile graphFile count y ≡ Err e
+  adopt-first h = adopt-apart ∙ refused-before end_verdict h
 
-  pub adopt-then : {v : Verdict} → start_verdict ≡ Fine → v ≡ end_verdict → v ≡ adopt_verdict m x alphaFile graphFile count y
-  adopt-then e f = f ∙ sym (adopt-apart ∙ ap (λ (u : Verdict). u before end_verdict) e)
+  pub adopt-then : start_verdict ≡ Fine → adopt_verdict m x alphaFile graphFile count y ≡ end_verdict
+  adopt-then h = adopt-apart ∙ ap (λ (v : Verdict). v before end_verdict) h
 
   -- what 1 to 9 leave known
   pub record Started : Type 0 where
@@ -250,17 +230,23 @@ module _ (m : Tables) (x : Lent) (alphaFile graphFile : List ℕ) (count : ℕ) 
             ∙ laid-self (count * m.states) y.weights 0 known.whole.read.weights in
             rw (f.actions_are, f.choices_are, f.masks_are, f.entries_are, g, h, w, es, ev)
 
-  -- ---- what is left in the slices
-  pub adopted-refused : {v : Verdict} {number place : ℕ} → v ≡ adopt_verdict m x alphaFile graphFile count y → v ≡ Refused number place
-      → y ≡ adopted m x alphaFile graphFile count y
-  unfolding adopted
-  adopted-refused e f = rw (sym e ∙ f)
+  -- ---- what is answered, what is left in the slices, and what is claimed of it
+  abbrev Answered : Result ℕ Refusal → Cells → Type 0
+  Answered r z =
+      (r ≡ adopt_answer (adopt_verdict m x alphaFile graphFile count y) (vectors_in m.states alphaFile))
+      × ((z ≡ adopted m x alphaFile graphFile count y)
+      × (adopt_verdict m x alphaFile graphFile count y ≡ Fine → AdoptHolds m x alphaFile graphFile count y z))
 
-  pub adopted-fine : {v : Verdict} → v ≡ adopt_verdict m x alphaFile graphFile count y → v ≡ Fine → {z : Cells} → z ≡ over m W y
-      → z ≡ adopted m x alphaFile graphFile count y
-  unfolding adopted
-  adopted-fine e f g = rw (sym e ∙ f) g
+  answered : {r : Result ℕ Refusal} {z : Cells} → r ≡ adopt_answer (adopt_verdict m x alphaFile graphFile count y) (vectors_in m.states alphaFile)
+      → z ≡ adopted m x alphaFile graphFile count y → Answered r z
+  answered h e =
+      (h, (e, λ f. subst (λ (c : Cells). AdoptHolds m x alphaFile graphFile count y c) (sym e) (adopt-holds m x alphaFile graphFile count y f)))
 
-  pub adopt-demand : {v : Verdict} {z : Cells} → v ≡ adopt_verdict m x alphaFile graphFile count y → z ≡ adopted m x alphaFile graphFile count y → v ≡ Fine
-      → AdoptHolds m x alphaFile graphFile count y z
-  adopt-demand e f g = subst (λ (c : Cells). AdoptHolds m x alphaFile graphFile count y c) (sym f) (adopt-holds m x alphaFile graphFile count y (sym e ∙ g))
+  pub answered-back : (r : Result ℕ Refusal) {e : Refusal} → r ≡ Err e → adopt_verdict m x alphaFile graphFile count y ≡ Err e → Answered r y
+  unfolding adopted
+  answered-back r e h = answered (e ∙ rw h) (rw h)
+
+  pub answered-fine : {vectors : ℕ} {z : Cells} → adopt_verdict m x alphaFile graphFile count y ≡ Fine → vectors ≡ vectors_in m.states alphaFile
+      → z ≡ over m W y → Answered (Ok vectors) z
+  unfolding adopted
+  answered-fine h v e = answered (rw (h, v)) (rw h e)

@@ -6,10 +6,9 @@ use Rattle.integers.proofs.Kit.{◌≡◌, refl, List, [], ◌∷◌, ℕ, repli
 use Rattle.integers.specs.Whole.{◌·◌, sum_to, total_to, largest_to, lesser, floor_div, ceil_div}
 use Rattle.integers.specs.Search.{every, first_largest_of}
 use Rattle.integers.specs.Cells.{listed, laid, laid_rows}
-use Rattle.tables.specs.declared.Verdict.TheVariants.{Fine, Refused}
+use Rattle.refusals.specs.Verdicts.{Fine, Refused, first_of}
 use Rattle.tables.specs.Limits.{K}
 use Rattle.tables.specs.Model.{successor, expected_reward, backup, backed_up}
-use Rattle.tables.specs.Verdicts.{first_of}
 use Rattle.tables.specs.Judged.{limits_hold, rows_total, tables_verdict}
 use Rattle.masks.specs.Masks.{covered, mask_of}
 use Rattle.plans.specs.Limits.{range}

@@ -2,22 +2,21 @@
 --
 --   adopt_verdict       1, 7, 19, 20, then 8 to 10, 21, 11 and 12
 --   adopted            the level laid over the slices, or these as they were
---   adopt_answer           the verdict, with the number of vectors
-use Rattle.std.specs.Prelude.{ℕ, ◌+◌, Bool, ◌&&◌, List, leb, ltb, length}
+--   adopt_answer           the number of vectors, or the refusal
+use Rattle.std.specs.Prelude.{ℕ, ◌+◌, Bool, ◌&&◌, List, leb, ltb, length, Result}
 use Rattle.tables.specs.Tables.{Tables}
-use Rattle.tables.specs.declared.Verdict.{Verdict}
+use Rattle.refusals.specs.declared.Refusal.{Refusal}
+use Rattle.refusals.specs.Verdicts.{Verdict, ◌before◌, unless, left}
 use Rattle.tables.specs.Limits.{max_vectors, max_levels}
 use Rattle.tables.specs.Model.{Model}
 use Rattle.tables.specs.Storage.{model_of}
-use Rattle.tables.specs.Verdicts.{◌before◌, unless, left}
 use Rattle.tables.specs.Judged.{count_within}
 use Rattle.plans.specs.Limits.{max_built}
 use Rattle.plans.specs.Level.{Level}
 use Rattle.levels.specs.Storage.{Cells, LentLevel, Lent, level_of, point_in, complete, over, number_in, standing_in, lent_for}
 use Rattle.levels.specs.Judged.{holds, numbers_verdict, masks_verdict, ranges_verdict, weights_verdict}
-use Rattle.solver.specs.Files.{max_file, vectors_in, files_verdict}
+use Rattle.solver.specs.Files.{max_file, vectors_in, files_verdict, with_count}
 use Rattle.solved.specs.Solved.{solved}
-use Rattle.adoption.specs.declared.Adopted.{Adopted}
 
 -- the level of the files over what stands, with the weights of a count of points
 abbrev pub solved_from : Tables → Lent → List ℕ → List ℕ → ℕ → Cells → Level
@@ -55,6 +54,6 @@ unfoldable pub adopted : Tables → Lent → List ℕ → List ℕ → ℕ → C
 adopted m x alphaFile graphFile count y =
     left (adopt_verdict m x alphaFile graphFile count y) (over m (solved_from m x alphaFile graphFile count y) y) y
 
--- what the call answers: the number of vectors is 0 with a refusal
-abbrev pub adopt_answer : Verdict → ℕ → Adopted
-adopt_answer v vectors = record { verdict = v; vectors = left v vectors 0 }
+-- what the call answers
+abbrev pub adopt_answer : Verdict → ℕ → Result ℕ Refusal
+adopt_answer v vectors = with_count v vectors

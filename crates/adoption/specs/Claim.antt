@@ -1,7 +1,7 @@
 -- What holds of a level that was adopted from a solver's files.
 use Rattle.std.specs.Prelude.{ℕ, ◌<◌, ◌≡◌, true, List, ◌≤ℤ◌}
 use Rattle.tables.specs.Tables.{Tables}
-use Rattle.tables.specs.declared.Verdict.TheVariants.{Fine}
+use Rattle.refusals.specs.Verdicts.{Fine}
 use Rattle.tables.specs.Model.{backed_up}
 use Rattle.tables.specs.Storage.{model_of}
 use Rattle.plans.specs.Level.{follows}

@@ -2,8 +2,7 @@
 --
 -- A number of a form has fewer than 10 ^ digits × 10 ^ places units (`amount-below` in `numerals`), and the limits are one less or more. Qed.
 use Rattle.integers.proofs.Kit.{◌≡◌, refl, false, List, ℕ, ◌≤◌, ◌<◌, ◌+◌, ◌*◌, ◌-◌, ◌^◌, arith}
-use Rattle.numerals.specs.declared.Amount.{Amount}
-use Rattle.numerals.specs.declared.Amount.TheVariants.{Is, Not}
+use Rattle.std.specs.Prelude.{Option, Some, None}
 use Rattle.numerals.specs.declared.Form.{Form}
 use Rattle.numerals.specs.Numeral.{count_form, decimal_form, node_form, amount_of}
 use Rattle.numerals.proofs.Sizes.{OfNumber, amount-below}
@@ -12,14 +11,14 @@ use Rattle.grammar.proofs.Laws.{limit-in}
 use Rattle.alphas.specs.Alphas.{most_action, most_decimal, no_node}
 
 -- a number, if it is one
-abbrev pub unlimited : Amount → Finding
-unlimited (Is v) = fits v
-unlimited Not = unfit
+abbrev pub unlimited : Option ℕ → Finding
+unlimited (Some v) = fits v
+unlimited None = unfit
 
 module _ (form : Form) (most : ℕ) (plain : form.loose ≡ false) (h : 10 ^ form.digits * 10 ^ form.places ≤ most + 1) where
-  by_size : (a : Amount) → OfNumber (λ v. v < 10 ^ form.digits * 10 ^ form.places) a → limited 0 most a ≡ unlimited a
-  by_size (Is v) l = limit-in 0 most v (omega arith) (omega arith)
-  by_size Not l = refl
+  by_size : (a : Option ℕ) → OfNumber (λ v. v < 10 ^ form.digits * 10 ^ form.places) a → limited 0 most a ≡ unlimited a
+  by_size (Some v) l = limit-in 0 most v (omega arith) (omega arith)
+  by_size None l = refl
 
   none-outside : (w : List ℕ) → limited 0 most (amount_of form w) ≡ unlimited (amount_of form w)
   none-outside w = by_size (amount_of form w) (amount-below form plain w)

@@ -1,26 +1,23 @@
 -- Several words after each other, and what is handed back of a word that is refused. Assumes nothing.
 --
---   Filled        the first i of several are read into the first cells: filled_none, filled_more, filled-back, filled-end
---   decimal-tells a decimal, rounded down to ticks
---   gave-back     a vector or node whose word is refused
-use Rattle.integers.proofs.Kit.{◌≡◌, ◌∙◌, refl, ap, sym, subst, subst⁻¹, List, [], ◌∷◌, ℕ, ◌≤◌, ◌<◌, ◌+◌, suc, zero, arith, add-one, dec_lt, length}
+--   Filled          the first i of several are read into the first cells: filled_none, filled_more, filled-back
+--   decimal-tells   a decimal, rounded down to ticks
+--   Unread          a word whose refusal becomes 19: still-read, gave-back
+use Rattle.std.specs.Prelude.{Result, Ok, Err, MatchResult, IsErrAnd}
+use Rattle.integers.proofs.Kit.{◌≡◌, ◌∙◌, refl, ap, sym, subst, List, [], ◌∷◌, ℕ, ◌≤◌, ◌<◌, ◌+◌, suc, zero, arith, add-one, dec_lt, length}
 use Rattle.integers.proofs.Kit.{set, take, ℤ}
 use mathlib.Core.List.{◌++◌}
-use denote.Enum.Declared.{tag_of}
 use lib.ListN.{length-set}
 use lib.Seq.{take-suc-set}
 use Rattle.integers.specs.Whole.{floor_div}
-use Rattle.tables.specs.declared.Verdict.{Verdict}
+use Rattle.refusals.specs.declared.Refusal.{Refusal}
 use Rattle.words.specs.Words.{Words, words_in, between}
 use Rattle.numerals.specs.Numeral.{decimal_form}
 use Rattle.grammar.specs.declared.Read.{Read}
-use Rattle.grammar.specs.declared.Read.TheVariants.{Value, Refused}
 use Rattle.grammar.specs.Grammar.{Answer, got, refused, ◌then◌, signed_number}
-use Rattle.grammar.specs.Steps.{answer_of, Tells}
-use Rattle.grammar.specs.contracts.Read as read-type
-use Rattle.grammar.proofs.Laws.{value-is, value-next}
+use Rattle.grammar.specs.Steps.{answer_of, Told}
 use Rattle.alphas.specs.Alphas.{most_decimal, per_tick, decimal, several, words_verdict}
-use Rattle.alphas.specs.Steps.{Since, GivesList, handed_verdict, Gave}
+use Rattle.alphas.specs.Steps.{GivesList, unread, Gave}
 
 -- ---- several words
 
@@ -56,64 +53,63 @@ module _ {A : Type 0} (one : Words → Answer A) where
       unfolding several
       next_one = rw add-one (ap (λ (a : Answer (List A)). a then λ xs ws. one ws then λ x ws. got (xs ++ (x ∷ [])) ws) filled.so_far)
 
-      module _ {f : ℕ → A} {l : ℕ} {r : Read} (t : Tells f file at l r (one (words_in between file at))) where
+      module _ {X : Type 0} {P : X → Type 0} {f : X → A} {next : X → ℕ} where
         -- the next is read, or refused
-        pub filled_more : (v next : ℕ) {x : A} → r ≡ Value v next → x ≡ f v → i < count → Filled (set cells i x) next (i + 1)
-        filled_more v next {x} e q h = record {
+        pub filled_more : {x : X} {y : A} → Told P f next file at (Ok x) (one (words_in between file at)) → y ≡ f x → i < count
+            → Filled (set cells i y) (next x) (i + 1)
+        filled_more {x} {y} t e h = record {
           low = omega arith;
           few = filled.few;
-          long = length-set cells i x ∙ filled.long;
-          inside = (value-next v next t e).1.1;
-          since = omega (arith, filled.since, value-next v next t e);
-          so_far = next_one ∙ sym (ap (λ (a : Answer A). a then λ x ws. got (take i cells ++ (x ∷ [])) ws) (value-is v next t e))
-              ∙ ap (λ (y : A). got (take i cells ++ (y ∷ [])) (words_in between file next)) (sym q)
-              ∙ sym (ap (λ (xs : List A). got xs (words_in between file next)) (rw add-one (take-suc-set cells i x (omega (arith, filled.few, filled.long)))));
+          long = length-set cells i y ∙ filled.long;
+          inside = t.onward.1.1;
+          since = omega (arith, filled.since, t.onward.1);
+          so_far = next_one ∙ sym (ap (λ (a : Answer A). a then λ x ws. got (take i cells ++ (x ∷ [])) ws) t.is)
+              ∙ ap (λ (z : A). got (take i cells ++ (z ∷ [])) (words_in between file (next x))) (sym e)
+              ∙ sym (ap (λ (xs : List A). got xs (words_in between file (next x)))
+              (rw add-one (take-suc-set cells i y (omega (arith, filled.few, filled.long)))));
         }
 
-        pub filled-back : tag_of read-type.the_type r ≡ 1 → i < count
-            → GivesList file from r (take count cells) (several one count (words_in between file from))
-        filled-back e h = by r e t.is
-          where
-            by : (r : Read) → tag_of read-type.the_type r ≡ 1 → answer_of f file r ≡ one (words_in between file at)
-                → GivesList file from r (take count cells) (several one count (words_in between file from))
-            by (Value v next) e q = absurd (omega arith)
-            by (Refused number place) e q = record {
-              is = sym (several-refused count (i + 1) number place (words_in between file from) (omega arith)
-                  (next_one ∙ sym (ap (λ (a : Answer A). a then λ x ws. got (take i cells ++ (x ∷ [])) ws) q)));
+        pub filled-back : {e : Refusal} {r : Result (Read (List A)) Refusal} → Told P f next file at (Err e) (one (words_in between file at)) → r ≡ Err e
+            → i < count → GivesList count file from r (several one count (words_in between file from))
+        filled-back {e} t q h =
+            rw q (record {
+              is = sym (several-refused count (i + 1) e.0 e.1 (words_in between file from) (omega arith)
+                  (next_one ∙ sym (ap (λ (a : Answer A). a then λ x ws. got (take i cells ++ (x ∷ [])) ws) t.is)));
               since = tt;
-            }
-
-      pub filled-end : i ≡ count → GivesList file from (Value 0 at) (take count cells) (several one count (words_in between file from))
-      filled-end e = record {
-        is = sym (subst (λ (k : ℕ). several one k (words_in between file from) ≡ got (take k cells) (words_in between file at)) e filled.so_far);
-        since = (filled.since, filled.inside);
-      }
-
--- what was read, and where reading goes on
-pub lists-value : {A : Type 0} {s : List ℕ} {from : ℕ} {r : Read} {xs : List A} {a : Answer (List A)} (v next : ℕ) → GivesList s from r xs a → r ≡ Value v next
-    → (got xs (words_in between s next) ≡ a) × ((from ≤ next) × (next ≤ length s))
-lists-value {s = s} {from} {xs = xs} v next l e = (sym (ap (answer_of (λ _. xs) s) e) ∙ l.is, subst (Since s from) e l.since)
+            })
 
 -- ---- a decimal
 
-pub decimal-tells : {z : ℤ} {s : List ℕ} {at : ℕ} {r : Read}
-    → Tells (λ _. z) s at most_decimal r (signed_number decimal_form most_decimal (words_in between s at))
-    → Tells (λ _. floor_div z per_tick) s at most_decimal r (decimal (words_in between s at))
+pub decimal-tells : {P : Read ℤ → Type 0} {s : List ℕ} {at : ℕ} {r : Result (Read ℤ) Refusal}
+    → Told P (λ x. x.value) (λ x. x.next) s at r (signed_number decimal_form most_decimal (words_in between s at))
+    → Told P (λ x. floor_div x.value per_tick) (λ x. x.next) s at r (decimal (words_in between s at))
 unfolding decimal
-decimal-tells {z} {s} {r = r} t = record {
+decimal-tells {s = s} {r = r} t = record {
   is = by r ∙ ap (λ (a : Answer ℤ). a then λ z ws. got (floor_div z per_tick) ws) t.is;
   onward = t.onward;
 }
   where
-    by : (r : Read) → answer_of (λ _. floor_div z per_tick) s r ≡ (answer_of (λ _. z) s r then λ z ws. got (floor_div z per_tick) ws)
-    by (Value v next) = refl
-    by (Refused number place) = refl
+    by : (r : Result (Read ℤ) Refusal) → answer_of (λ (x : Read ℤ). floor_div x.value per_tick) (λ x. x.next) s r
+        ≡ (answer_of (λ (x : Read ℤ). x.value) (λ x. x.next) s r then λ z ws. got (floor_div z per_tick) ws)
+    by (Ok x) = refl
+    by (Err e) = refl
 
 -- ---- a vector, a node
 
+-- r', where the refusal of r becomes 19
+abbrev pub Unread : {X : Type 0} → Result X Refusal → Result X Refusal → Type 0
+Unread r r' = MatchResult r (λ x. r' ≡ Ok x) (λ e. IsErrAnd r' (λ d. d ≡ unread e))
+
+pub still-read : {X : Type 0} (r : Result X Refusal) {x : X} → Unread r (Ok x) → r ≡ Ok x
+still-read (Ok y) m = sym m
+still-read (Err d) m = absurd m
+
 -- a word that is refused is the answer of the whole
-pub gave-back : {A B : Type 0} (f : ℕ → A) (s : List ℕ) (at : ℕ) {verdict : Verdict} (end : ℕ) (x : B) (r : Read) {a : Answer A} {b : Answer B}
-    (k : A → Words → Answer B) → verdict ≡ handed_verdict r → tag_of read-type.the_type r ≡ 1 → answer_of f s r ≡ a → (a then k) ≡ b → Gave s at verdict end x b
-gave-back f s at end x (Value v next) k q e h g = absurd (omega arith)
-gave-back {A} f s at end x (Refused number place) {b = b} k q e h g =
-    subst⁻¹ (λ (v : Verdict). Gave s at v end x b) q (ap words_verdict (ap (λ (a : Answer A). a then k) h ∙ g))
+pub gave-back : {X Y A B : Type 0} (f : X → A) (next : X → ℕ) (g : Y → B) (s : List ℕ) (at : ℕ) (r : Result X Refusal) {e : Refusal}
+    (whole : Result (Read Y) Refusal) {a : Answer A} {b : Answer B} (k : A → Words → Answer B) → Unread r (Err e) → whole ≡ Err e
+    → answer_of f next s r ≡ a → (a then k) ≡ b → Gave g s at whole b
+gave-back {X} {A = A} f next g s at r {e} whole {b = b} k m back h q = rw back (by r m (ap (λ (a : Answer A). a then k) h ∙ q))
+  where
+    by : (r : Result X Refusal) → Unread r (Err e) → (answer_of f next s r then k) ≡ b → Err e ≡ words_verdict b
+    by (Ok x) m h = cc
+    by (Err d) m h = ap (λ (e : Refusal). Err e) m ∙ ap words_verdict h

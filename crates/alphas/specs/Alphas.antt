@@ -2,8 +2,7 @@
 -- A word that does not fit, or is missing, gets 19.
 use Rattle.std.specs.Prelude.{ℕ, zero, suc, ◌-◌, List, [], ◌∷◌, ◌++◌, ℤ}
 use Rattle.integers.specs.Whole.{floor_div}
-use Rattle.tables.specs.declared.Verdict.{Verdict}
-use Rattle.tables.specs.declared.Verdict.TheVariants.{Fine, Refused}
+use Rattle.refusals.specs.Verdicts.{Verdict, Fine, Refused}
 use Rattle.words.specs.Words.{Words}
 use Rattle.numerals.specs.Numeral.{count_form, decimal_form, node_form}
 use Rattle.grammar.specs.Grammar.{Answer, got, refused, ◌then◌, choose, number, signed_number, key}

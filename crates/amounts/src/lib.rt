@@ -5,7 +5,7 @@ ghost use Rattle.std.specs.Prelude.{◌≡◌, ◌≤◌, length, drop};
 ghost use Rattle.numerals.specs.Numeral.{pointed, enough, after_point, fraction, amount_of};
 ghost use Rattle.numerals.specs.Steps.{most_whole, Short};
 
-use numerals::{Amount, Form};
+use numerals::Form;
 use words::Class;
 
 // Whether n digits before a point and k after it make a number.
@@ -22,14 +22,14 @@ fn is_enough(loose: bool, n: usize, k: usize) -> bool
 }
 
 // What follows a point.
-fn decimal_of(w: &[u8], from: usize, form: Form, n: usize, whole: u64) -> Amount
+fn decimal_of(w: &[u8], from: usize, form: Form, n: usize, whole: u64) -> Option<u64>
     requires { (from ≤ length w.now) × ((Short form) × (whole ≤ most_whole form.loose)) }
     ensures { result ≡ after_point form n whole (drop from w.now) }
 {
     let d = numerals::digits_from(w, from, form.places);
     let k = d.end - from;
     if !is_enough(form.loose, n, k) {
-        return Amount::Not;
+        return None;
     }
     exponents::exponent_of(
         w,
@@ -55,7 +55,7 @@ fn is_pointed(w: &[u8], from: usize) -> bool
 }
 
 // What follows a whole part of n digits.
-fn fraction_of(w: &[u8], from: usize, form: Form, n: usize, whole: u64) -> Amount
+fn fraction_of(w: &[u8], from: usize, form: Form, n: usize, whole: u64) -> Option<u64>
     requires { (from ≤ length w.now) × ((Short form) × (whole ≤ most_whole form.loose)) }
     ensures { result ≡ fraction form n whole (drop from w.now) }
 {
@@ -63,13 +63,13 @@ fn fraction_of(w: &[u8], from: usize, form: Form, n: usize, whole: u64) -> Amoun
         return decimal_of(w, from + 1, form, n, whole);
     }
     if n == 0 {
-        return Amount::Not;
+        return None;
     }
     exponents::exponent_of(w, from, form.loose, whole)
 }
 
 // The number of a word from an offset on.
-pub fn amount_of(w: &[u8], from: usize, form: Form) -> Amount
+pub fn amount_of(w: &[u8], from: usize, form: Form) -> Option<u64>
     requires { (from ≤ length w.now) × (Short form) }
     ensures { result ≡ amount_of form (drop from w.now) }
 {

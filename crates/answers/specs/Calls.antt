@@ -1,9 +1,8 @@
 -- What the exported calls share: the version of the layout, tables as they are handed in, a verdict as number and place.
-use Rattle.std.specs.Prelude.{ℕ, List, ℤ}
+use Rattle.std.specs.Prelude.{ℕ, List, ℤ, Ok, Err}
 use Rattle.tables.specs.Tables.{Tables}
 use Rattle.tables.specs.Storage.{tables_in}
-use Rattle.tables.specs.declared.Verdict.{Verdict}
-use Rattle.tables.specs.declared.Verdict.TheVariants.{Fine, Refused}
+use Rattle.refusals.specs.Verdicts.{Verdict}
 use Rattle.answers.specs.declared.Refusal.{Refusal}
 
 -- the version of the calls' names, parameters and answers
@@ -16,5 +15,5 @@ tables_by n m k g = tables_in record { states = n; actions = m; observations = k
 
 -- a verdict as number and place, both 0 where nothing is refused
 abbrev pub refusal_of : Verdict → Refusal
-refusal_of Fine = record { number = 0; place = 0 }
-refusal_of (Refused number place) = record { number = number; place = place }
+refusal_of (Ok u) = record { number = 0; place = 0 }
+refusal_of (Err e) = record { number = e.0; place = e.1 }

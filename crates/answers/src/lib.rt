@@ -4,7 +4,7 @@
 ghost use Rattle.std.specs.Prelude.{◌≡◌};
 ghost use Rattle.answers.specs.Calls.{refusal_of};
 
-use tables::Verdict;
+use refusals::Verdict;
 
 // Document 01's number and place; 0 and 0 where a call is served.
 #[repr(C)]
@@ -18,13 +18,13 @@ pub fn refusal_of(v: Verdict) -> Refusal
     ensures { result ≡ refusal_of v }
 {
     match v {
-        Verdict::Fine => Refusal {
+        Ok(()) => Refusal {
             number: 0,
             place: 0,
         },
-        Verdict::Refused(number, place) => Refusal {
+        Err(refusals::Refusal(number, place)) => Refusal {
             number: number as u64,
-            place: place,
+            place,
         },
     }
 }

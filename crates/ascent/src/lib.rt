@@ -11,7 +11,9 @@ ghost use Rattle.runs.specs.State.{totals_of};
 ghost use Rattle.climbing.specs.Climb.{lent_of};
 
 use climbing::{Climber, Point};
+use refusals::Refusal;
 use runs::Bounds;
+use std::io;
 use tables::{Counts, Tables};
 
 const LEVELS: usize = 3;
@@ -37,7 +39,7 @@ fn asked<'a>(
     c: Counts,
     h: Climber,
     point: Point,
-) -> Bounds
+) -> Result<Bounds, Refusal>
     ensures { result ≡ totals_of (tables_in c transition.now observation.now reward.now) (lent_of h) point }
 {
     bounds::totals(
@@ -66,7 +68,7 @@ fn height(h: Climber) -> usize
     standing.number
 }
 
-// The lines of the levels; false where one could not be written.
+// The lines of the levels.
 pub fn levels_of<'a>(
     rt: &impl Print,
     transition: &'a [u16],
@@ -74,7 +76,7 @@ pub fn levels_of<'a>(
     reward: &'a [i64],
     c: Counts,
     start: Start,
-) -> bool
+) -> io::Result<()>
     requires valid { Valid (model_in c transition.now observation.now reward.now) }
     requires stored { Stored c transition.now observation.now reward.now }
     requires point { IsPoint c.states (weight_in start) }
@@ -84,10 +86,8 @@ pub fn levels_of<'a>(
     for t in 0..LEVELS {
         let w = climbing::made(transition, observation, reward, c, h, point);
         h = raising::raised(transition, observation, reward, c, h, w);
-        let r = asked(transition, observation, reward, c, h, point);
-        if !streams::print_totals(rt, height(h), r) {
-            return false;
-        }
+        let r = asked(transition, observation, reward, c, h, point).unwrap();
+        streams::print_totals(rt, height(h), r)?;
     }
-    true
+    Ok(())
 }

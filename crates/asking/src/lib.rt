@@ -8,7 +8,8 @@ ghost use Rattle.levels.specs.Storage.{cells, rows, lent};
 ghost use Rattle.runs.specs.State.{mixture_holds, standing_verdict};
 
 use levels::Level;
-use tables::{Counts, Verdict};
+use refusals::{Refusal, Verdict};
+use tables::Counts;
 
 // 17: whether there is a weight for each state, none exceeds 1,000,000 and some is above 0.
 pub fn mixture_holds(mixture: &[u32], n: usize) -> bool
@@ -19,8 +20,8 @@ pub fn mixture_holds(mixture: &[u32], n: usize) -> bool
         return false;
     }
     let mut total: u64 = 0;
-    for s in 0..n {
-        let w = weights::weight(mixture[s]);
+    for cell in &mixture[..n] {
+        let w = u64::from(*cell);
         if Level::WEIGHT < w {
             return false;
         }
@@ -64,11 +65,11 @@ pub fn judge_standing<'a, 'b>(
         informed,
         qmdp,
     ) {
-        return Verdict::Refused(7, 0);
+        return Err(Refusal(7, 0));
     }
     let s = levels::standing_in(state);
     if s.number == 0 {
-        return Verdict::Refused(16, 0);
+        return Err(Refusal(16, 0));
     }
-    Verdict::Fine
+    Ok(())
 }

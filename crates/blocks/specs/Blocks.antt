@@ -5,10 +5,9 @@
 --   replay_verdict   what a list of them is refused for
 use Rattle.std.specs.Prelude.{ℕ, ◌*◌, Bool, ◌&&◌, List, leb, length, get_or}
 use Rattle.tables.specs.Tables.{Tables}
-use Rattle.tables.specs.declared.Verdict.{Verdict}
+use Rattle.refusals.specs.Verdicts.{Verdict, ◌before◌, unless}
 use Rattle.tables.specs.Limits.{max_vectors}
 use Rattle.tables.specs.Storage.{row_in}
-use Rattle.tables.specs.Verdicts.{◌before◌, unless}
 use Rattle.plans.specs.Limits.{max_points}
 use Rattle.levels.specs.Storage.{Cells, cells, LentLevel, Lent, lent_for}
 use Rattle.levels.specs.Judged.{holds}

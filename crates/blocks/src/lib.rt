@@ -3,13 +3,13 @@
 
 ghost use Rattle.std.specs.Prelude.{◌≡◌, List, ℕ, ◌*◌, ◌≤◌, leb};
 ghost use Rattle.tables.specs.Limits.{max_states, max_observations};
-ghost use Rattle.tables.specs.Verdicts.{left};
 ghost use Rattle.tables.specs.Storage.{tables_in};
 ghost use Rattle.levels.specs.Storage.{cells, rows, lent};
 ghost use Rattle.blocks.specs.Blocks.{packed, blocks_fit, replay_verdict};
 
 use levels::Level;
-use tables::{Counts, Tables, Verdict};
+use refusals::{Refusal, Verdict};
+use tables::{Counts, Tables};
 
 // Whether so many blocks of a width lie in a slice of such a length.
 fn enough(count: usize, width: usize, long: usize) -> bool
@@ -74,16 +74,6 @@ fn blocks_fit(
     enough(count, p, values)
 }
 
-// So many where a verdict refuses nothing, none where it refuses.
-pub fn passed(v: Verdict, count: usize) -> usize
-    ensures { result ≡ left v count 0 }
-{
-    match v {
-        Verdict::Fine => count,
-        Verdict::Refused(_, _) => 0,
-    }
-}
-
 // Whether a list is offered at all: 7 of the certifier, 9 of the list's slices.
 pub fn judge_list<'a, 'b, 'c>(
     transition: &'a [u16],
@@ -133,7 +123,7 @@ pub fn judge_list<'a, 'b, 'c>(
         informed,
         qmdp,
     ) {
-        return Verdict::Refused(7, 0);
+        return Err(Refusal(7, 0));
     }
     if !blocks_fit(
         c.states,
@@ -151,7 +141,7 @@ pub fn judge_list<'a, 'b, 'c>(
         newweights.len(),
         newvalues.len(),
     ) {
-        return Verdict::Refused(9, 0);
+        return Err(Refusal(9, 0));
     }
-    Verdict::Fine
+    Ok(())
 }

@@ -1,20 +1,18 @@
 -- What a model file is read as, from its counts on: the start numbers, any number of statements, and then the totals.
-use Rattle.std.specs.Prelude.{ℕ, ◌*◌, Bool, cond, List, eqb, get_or, replicate, pos}
+use Rattle.std.specs.Prelude.{ℕ, ◌*◌, Bool, cond, List, eqb, get_or, replicate, pos, Result, Ok, Err}
 use Rattle.integers.specs.Whole.{total_to}
 use Rattle.tables.specs.declared.Counts.{Counts}
 use Rattle.tables.specs.Tables.{Tables}
-use Rattle.tables.specs.declared.Verdict.{Verdict}
-use Rattle.tables.specs.declared.Verdict.TheVariants.{Fine, Refused}
+use Rattle.refusals.specs.declared.Refusal.{Refusal}
+use Rattle.refusals.specs.Verdicts.{Verdict, Fine, Refused, ◌before◌, unless}
 use Rattle.tables.specs.Limits.{max_states, max_converted, max_actions, max_observations, start_total}
 use Rattle.tables.specs.Storage.{cell_in, tables_in}
-use Rattle.tables.specs.Verdicts.{◌before◌, unless}
 use Rattle.tables.specs.Judged.{rows_total, no_tables}
 use Rattle.words.specs.Words.{Words}
 use Rattle.grammar.specs.Grammar.{Answer, got, refused, ◌then◌}
 use Rattle.entries.specs.Entries.{wholly, Forms, forms}
 use Rattle.statements.specs.Statements.{Draft, draft, statements_by}
 use Rattle.headers.specs.Headers.{start_by}
-use Rattle.bodies.specs.declared.TablesRead.{TablesRead}
 
 -- how many rewards a draft has: by action and state, or where they are stated in full by action, state left, state reached and observation
 abbrev pub reward_cells : Bool → ℕ
@@ -48,8 +46,8 @@ body = body_by forms
 
 -- the same refusal, at the end of the file
 abbrev pub placed : ℕ → Verdict → Verdict
-placed size Fine = Fine
-placed size (Refused number place) = Refused number size
+placed size (Ok u) = Fine
+placed size (Err e) = Refused e.0 size
 
 -- 4, then 5, then 6
 unfoldable pub sums_verdict : ℕ → Text → Verdict
@@ -71,14 +69,15 @@ abbrev pub refused_file : ℕ → ℕ → ModelFile
 refused_file number place = record { verdict = Refused number place; tables = no_tables; start = replicate max_states 0 }
 
 abbrev pub judged_file : Verdict → Text → ModelFile
-judged_file Fine t = record { verdict = Fine; tables = t.tables; start = t.start }
-judged_file (Refused number place) t = refused_file number place
+judged_file (Ok u) t = record { verdict = Fine; tables = t.tables; start = t.start }
+judged_file (Err e) t = refused_file e.0 e.1
 
 abbrev pub ended : ℕ → Answer Text → ModelFile
 ended size (got t ws) = judged_file (sums_verdict size t) t
 ended size (refused number place) = refused_file number place
 
--- ---- what is answered of a refused file: its counts are 0
+-- ---- what is answered of a file: its counts, or its refusal
 
-abbrev pub refusing : Verdict → TablesRead
-refusing v = record { verdict = v; counts = record { states = 0; actions = 0; observations = 0; discount = 0 } }
+abbrev pub with_counts : Verdict → Counts → Result Counts Refusal
+with_counts (Ok u) c = Ok c
+with_counts (Err e) c = Err e

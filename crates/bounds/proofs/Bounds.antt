@@ -3,7 +3,8 @@
 --
 -- In order: the answer over storage; the totals read weights of states only; a mixture; an answer: its action exists or is 0, and its totals fit 64 bits;
 -- a certifier that is not refused by 7; each way out of totals.
-use Rattle.integers.proofs.Kit.{◌≡◌, ◌∙◌, refl, ap, sym, true, false, Bool, List, ℕ, ◌≤◌, ◌<◌, ◌+◌, ◌*◌, ◌^◌, arith, leb-true, leb, ltb, length, get_or}
+use Rattle.std.specs.Prelude.{Result, Ok, Err}
+use Rattle.integers.proofs.Kit.{◌≡◌, ◌∙◌, refl, ap, true, false, Bool, List, ℕ, ◌≤◌, ◌<◌, ◌+◌, ◌*◌, ◌^◌, arith, leb-true, leb, ltb, length, get_or}
 use Rattle.integers.proofs.Kit.{◌||◌, suc, zero, eqb, lt-ltb, ne_eqb, ℤ, nat_abs, ◌-ℤ◌}
 use mathlib.Core.Bool.{not}
 use native.Mathlib.Nat as NatL
@@ -16,14 +17,14 @@ use Rattle.integers.proofs.Searches.{and-true, every-at, every-cong, some-cong, 
 use Rattle.integers.proofs.Sizes.{times-bound, sum-weighed}
 use Rattle.integers.proofs.Sums.{total-bound}
 use Rattle.tables.specs.Tables.{Tables}
-use Rattle.tables.specs.declared.Verdict.{Verdict}
-use Rattle.tables.specs.declared.Verdict.TheVariants.{Fine, Refused}
+use Rattle.refusals.specs.declared.Refusal.{Refusal}
+use Rattle.refusals.specs.Verdicts.{Fine}
 use Rattle.tables.specs.Limits.{max_vectors, max_states, max_actions, max_weight, max_entry, max_levels}
 use Rattle.tables.specs.Model.{Model}
 use Rattle.tables.specs.Storage.{weight_in, counts_of, model_of}
 use Rattle.tables.specs.Steps.{EntriesFit}
 use Rattle.tables.proofs.Fitting.{row-alone}
-use Rattle.tables.proofs.Refusals.{before-fine, unless-fine}
+use Rattle.refusals.proofs.Refusals.{before-fine, unless-fine}
 use Rattle.masks.specs.Masks.{covered, covered_in}
 use Rattle.masks.specs.Steps.{includes, some_includes}
 use Rattle.masks.proofs.Bits.{mask-covers, includes-covers, includes-every}
@@ -42,7 +43,7 @@ use Rattle.backups.specs.Steps.{Roofed}
 use Rattle.backups.proofs.Lent.{entries-lent, roof-lent}
 use Rattle.backups.proofs.Roofs.{corners_fit, points_fit, gains-below}
 use Rattle.runs.specs.declared.Bounds.{Bounds}
-use Rattle.runs.specs.State.{mixture_holds, totals_verdict, no_bounds, bounds_by, totals_of, standing_verdict}
+use Rattle.runs.specs.State.{mixture_holds, totals_verdict, bounds_by, numbers_of, totals_of, standing_verdict}
 use Rattle.runs.proofs.Judged.{Held, standing-true}
 use Rattle.bounds.specs.Steps.{support_in, best_in, lower_in, best_informed_in, upper_in, bounds_in, widened, answered_if, answer_in, Asked}
 
@@ -71,7 +72,7 @@ best-covers n vectors masks entries q some e s l above =
 pub bounds-by : (n m vectors points : ℕ) (actions masks : List ℕ) (entries corners : List ℤ) (weights : List ℕ) (informed : List ℤ) (gains q : List ℕ)
     {i a : ℕ} {x y z saw row : ℤ} → i ≡ best_in n vectors masks entries q → x ≡ lower_in n vectors masks entries q
     → saw ≡ ceiling_in n corners weights gains points q → row ≡ best_informed_in n m informed q → y ≡ lesser saw row → z ≡ y -ℤ x → a ≡ get_or actions i 0
-    → ◌≡◌ {A = Bounds} record { verdict = Fine; lower = x; upper = y; gap = z; action = record { 0 = a }; sawtooth = saw; informed = row }
+    → ◌≡◌ {A = Bounds} record { lower = x; upper = y; gap = z; action = record { 0 = a }; sawtooth = saw; informed = row }
     (bounds_in n m vectors points actions masks entries corners weights informed gains q)
 bounds-by n m vectors points actions masks entries corners weights informed gains q e low high best both gap action = rw (action, gap, both, low, high, best, e)
 
@@ -143,14 +144,15 @@ below-reached b = record { long = b.long; below = λ s l. omega (arith, b.below 
 module _ {n m vectors points : ℕ} {actions masks : List ℕ} {entries corners : List ℤ} {weights : List ℕ} {informed : List ℤ} {gains : List ℕ}
     (h : Asked n m vectors points actions masks entries corners weights informed gains) (b : List ℕ) where
   abbrev r : Bounds
-  r = answer_in n m vectors points actions masks entries corners weights informed gains b
+  r = numbers_of (answer_in n m vectors points actions masks entries corners weights informed gains b)
 
   abbrev counted : Bool
   counted = some_includes masks vectors (support_in n (widened n b))
 
   abbrev by-17 : Bool → Bool → Bounds
   by-17 held some =
-      answered_if held 17 (answered_if some 22 (bounds_in n m vectors points actions masks entries corners weights informed gains (widened n b)))
+      numbers_of (answered_if held 17 (answered_if some 22
+      (Ok (bounds_in n m vectors points actions masks entries corners weights informed gains (widened n b)))))
 
   pub acts-within : r.action.0 < max_actions
   acts-within = by (mixture_holds n b) counted
@@ -294,7 +296,7 @@ module _ (m : Tables) (x : Lent) (h : holds m x ≡ true) where
 
     -- the answer is that of the standing level
     bounds-are : (q : List ℕ) → bounds_in m.states m.actions (standing_in x).vectors (standing_in x).points x.cells.actions x.cells.masks
-        x.cells.entries x.cells.corners x.cells.weights x.rows.informed gains q ≡ bounds_by Fine M L F (weight_in q)
+        x.cells.entries x.cells.corners x.cells.weights x.rows.informed gains q ≡ numbers_of (bounds_by Fine M L F (weight_in q))
     unfolding advice
     bounds-are q = rw (upper_is q, sawtooth_is q, row_is q, lower_is q, best-is q)
 
@@ -321,9 +323,9 @@ module _ (m : Tables) (x : Lent) where
     abbrev some-counts : Bool
     some-counts = some_counts (model_of m) (level_of m (standing_in x)) (weight_in b)
 
-    pub refused : {v : Verdict} {k i : ℕ} → v ≡ standing_verdict m x → v ≡ Refused k i → no_bounds v ≡ totals_of m x b
+    pub refused : {e : Refusal} → standing_verdict m x ≡ Err e → totals_of m x b ≡ Err e
     unfolding totals_of totals_verdict
-    refused e f = rw (sym e ∙ f, f)
+    refused e = rw e
 
     -- 17, 22, or the totals
     at-mixture : (held : Bool) → mixture_holds m.states b ≡ held → (some : Bool) → some-counts ≡ some → standing_verdict m x ≡ Fine
@@ -341,6 +343,6 @@ module _ (m : Tables) (x : Lent) where
         let h = standing-holds s in
         let counted = some_is m x h (widened m.states b)
         ∙ some-counts-weights (model_of m) (level_of m (standing_in x)) (weight_in (widened m.states b)) (weight_in b) (widened-at b) in
-        rw counted (ap (λ (a : Bounds). answered_if (mixture_holds m.states b) 17 (answered_if some-counts 22 a))
-        (bounds-are m x h g (widened m.states b) ∙ bounds-widened m x h g b))
+        rw counted (ap (λ (a : Result Bounds Refusal). answered_if (mixture_holds m.states b) 17 (answered_if some-counts 22 a))
+        (ap Ok (bounds-are m x h g (widened m.states b)) ∙ bounds-widened m x h g b))
         ∙ at-mixture (mixture_holds m.states b) refl some-counts refl s

@@ -1,9 +1,9 @@
 -- Totals over storage, from gains that are worked out once for a level; and what keeps them within 64 bits.
-use Rattle.std.specs.Prelude.{ℕ, ◌+◌, ◌≤◌, ◌<◌, ◌^◌, Bool, true, false, List, ltb, length, get_or, ℤ, nat_abs, ◌-ℤ◌}
+use Rattle.std.specs.Prelude.{ℕ, ◌+◌, ◌≤◌, ◌<◌, ◌^◌, Bool, true, false, List, ltb, length, get_or, ℤ, nat_abs, ◌-ℤ◌, Result, Ok, Err}
 use Rattle.integers.specs.Whole.{lesser, Below}
 use Rattle.integers.specs.Search.{first_largest_of}
 use Rattle.integers.specs.Cells.{padded}
-use Rattle.tables.specs.declared.Verdict.TheVariants.{Fine, Refused}
+use Rattle.refusals.specs.declared.Refusal.{Refusal}
 use Rattle.tables.specs.Limits.{max_states, max_actions, max_weight}
 use Rattle.tables.specs.Storage.{weight_in, entry_in}
 use Rattle.tables.specs.Steps.{EntriesFit}
@@ -14,7 +14,7 @@ use Rattle.plans.specs.Rows.{highest}
 use Rattle.levels.specs.Storage.{point_in}
 use Rattle.sawtooth.specs.Steps.{ceiling_in, CornersFit, PointsFit, max_gain}
 use Rattle.runs.specs.declared.Bounds.{Bounds}
-use Rattle.runs.specs.State.{no_bounds, mixture_holds}
+use Rattle.runs.specs.State.{mixture_holds}
 
 -- the states with a weight above 0: a vector counts where its mask has them
 abbrev pub support_in : ℕ → List ℕ → ℕ
@@ -39,7 +39,6 @@ upper_in n m points corners weights informed gains q = lesser (ceiling_in n corn
 -- the answer at weights within the limits
 abbrev pub bounds_in : ℕ → ℕ → ℕ → ℕ → List ℕ → List ℕ → List ℤ → List ℤ → List ℕ → List ℤ → List ℕ → List ℕ → Bounds
 bounds_in n m vectors points actions masks entries corners weights informed gains q = record {
-  verdict = Fine;
   lower = lower_in n vectors masks entries q;
   upper = upper_in n m points corners weights informed gains q;
   gap = upper_in n m points corners weights informed gains q -ℤ lower_in n vectors masks entries q;
@@ -53,15 +52,15 @@ abbrev pub widened : ℕ → List ℕ → List ℕ
 widened n mixture = padded 0 max_states n (point_in n mixture 0)
 
 -- an answer, or a refusal without a place where a test does not hold
-abbrev pub answered_if : Bool → ℕ → Bounds → Bounds
+abbrev pub answered_if : Bool → ℕ → Result Bounds Refusal → Result Bounds Refusal
 answered_if true number r = r
-answered_if false number r = no_bounds (Refused number 0)
+answered_if false number r = Err (record { 0 = number; 1 = 0 })
 
 -- 17 where the mixture does not hold, then 22 where no vector counts there
-abbrev pub answer_in : ℕ → ℕ → ℕ → ℕ → List ℕ → List ℕ → List ℤ → List ℤ → List ℕ → List ℤ → List ℕ → List ℕ → Bounds
+abbrev pub answer_in : ℕ → ℕ → ℕ → ℕ → List ℕ → List ℕ → List ℤ → List ℤ → List ℕ → List ℤ → List ℕ → List ℕ → Result Bounds Refusal
 answer_in n m vectors points actions masks entries corners weights informed gains mixture =
     answered_if (mixture_holds n mixture) 17 (answered_if (some_includes masks vectors (support_in n (widened n mixture))) 22
-    (bounds_in n m vectors points actions masks entries corners weights informed gains (widened n mixture)))
+    (Ok (bounds_in n m vectors points actions masks entries corners weights informed gains (widened n mixture))))
 
 -- a standing level in slices with its informed rows and its gains, within the limits, so that nothing overflows
 pub record Asked (n m vectors points : ℕ) (actions masks : List ℕ) (entries corners : List ℤ) (weights : List ℕ) (informed : List ℤ) (gains : List ℕ) :

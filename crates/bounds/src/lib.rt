@@ -8,28 +8,14 @@ ghost use Rattle.tables.specs.Storage.{tables_in};
 ghost use Rattle.masks.specs.Steps.{some_includes};
 ghost use Rattle.tables.specs.Tables.{Tables};
 ghost use Rattle.levels.specs.Storage.{Lent, cells, rows, lent};
-ghost use Rattle.runs.specs.State.{no_bounds, totals_of};
+ghost use Rattle.runs.specs.State.{totals_of};
 ghost use Rattle.runs.specs.Demand3.{ModelAccepted, Event, certifier, after, steps, claim, MixtureHolds, TotalsHold};
 ghost use Rattle.bounds.specs.Steps.{support_in, bounds_in, answer_in, Asked};
 
 use levels::shape;
+use refusals::Refusal;
 use runs::Bounds;
-use tables::{Action, Counts, Verdict, read};
-
-// A refusal, with every other part 0.
-fn no_bounds(v: Verdict) -> Bounds
-    ensures { result ≡ no_bounds v }
-{
-    Bounds {
-        verdict: v,
-        lower: 0,
-        upper: 0,
-        gap: 0,
-        action: Action(0),
-        sawtooth: 0,
-        informed: 0,
-    }
-}
+use tables::{Action, Counts, read};
 
 // The totals at weights within the limits, which lie on some states, where a vector counts.
 #[tactic(auto, using(crate::proofs::Bounds::among))]
@@ -61,7 +47,6 @@ fn bounds_at<'b>(
     let row = products::largest_product(q, informed, n, m);
     let upper = integers::lesser(saw, row);
     Bounds {
-        verdict: Verdict::Fine,
         lower: lower,
         upper: upper,
         gap: integers::minus(upper, lower),
@@ -85,23 +70,23 @@ pub fn answer<'b>(
     vectors: usize,
     points: usize,
     mixture: &[u32],
-) -> Bounds
+) -> Result<Bounds, Refusal>
     requires { Asked n m vectors points actions.now masks.now entries.now corners.now weights.now informed.now gains.now }
     ensures { result ≡ answer_in n m vectors points actions.now masks.now entries.now corners.now
         weights.now informed.now gains.now mixture.now }
 {
     if !asking::mixture_holds(mixture, n) {
-        return no_bounds(Verdict::Refused(17, 0));
+        return Err(Refusal(17, 0));
     }
     let q = weights::point_weights(mixture, n, 0);
     let states = masks::support(&q, n);
     if !masks::some_has(masks, vectors, states) {
-        return no_bounds(Verdict::Refused(22, 0));
+        return Err(Refusal(22, 0));
     }
-    bounds_at(
+    Ok(bounds_at(
         actions, masks, entries, corners, weights, informed, gains, n, m, vectors, points, &q,
         states,
-    )
+    ))
 }
 
 // The lower and the upper total at a mixture of any content, their gap and the action to open with; or refused by 7, 16, 17 or 22.
@@ -120,7 +105,7 @@ pub fn totals<'a, 'b>(
     informed: &'b [i64],
     qmdp: &'b [i64],
     mixture: &[u32],
-) -> Bounds
+) -> Result<Bounds, Refusal>
     ensures { (choices : List ℕ) →
         let m = tables_in c transition.now observation.now reward.now in
         let standing = lent state.now (cells actions.now choices masks.now entries.now corners.now
@@ -129,7 +114,7 @@ pub fn totals<'a, 'b>(
         × ((m₀ : Tables) (x : Lent) (es : List Event) → ModelAccepted m₀ x → certifier m standing ≡ after m₀ x es → 0 < steps m₀ x es
         → MixtureHolds m (claim m₀ x es) mixture.now → TotalsHold m (steps m₀ x es) (claim m₀ x es) mixture.now result) }
 {
-    let standing = asking::judge_standing(
+    asking::judge_standing(
         transition,
         observation,
         reward,
@@ -143,10 +128,7 @@ pub fn totals<'a, 'b>(
         values,
         informed,
         qmdp,
-    );
-    let Verdict::Fine = standing else {
-        return no_bounds(standing);
-    };
+    )?;
     let s = levels::standing_in(state);
     let gains = ceilings::gains(corners, weights, values, s.points, c.states);
     answer(

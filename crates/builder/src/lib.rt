@@ -79,8 +79,8 @@ fn build_vectors<'a>(
         let row = made.entries;
         actions[v] = shape::number(best.action);
         masks[v] = all;
-        cells::paste_u16(choices, read::start(v, k), &chosen, k);
-        cells::paste_i64(entries, read::start(v, n), &row, n);
+        cells::paste(choices, read::start(v, k), &chosen, k);
+        cells::paste(entries, read::start(v, n), &row, n);
     }
 }
 

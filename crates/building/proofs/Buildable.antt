@@ -2,15 +2,15 @@
 --
 -- In order: room for the points' weights; what 7, 8, 9 and 12 leave known; some vector covers all states; what a test leaves; what is built, refused or
 -- not.
-use Rattle.integers.proofs.Kit.{◌≡◌, ◌∙◌, sym, true, false, Bool, ℕ, ◌≤◌, ◌<◌, ◌*◌, leb-true, ltb-true, leb, get_or}
+use Rattle.integers.proofs.Kit.{◌≡◌, sym, true, false, Bool, ℕ, ◌≤◌, ◌<◌, ◌*◌, leb-true, ltb-true, leb, get_or}
+use Rattle.std.specs.Prelude.{Err}
 use Rattle.integers.proofs.Searches.{and-true, some-cong}
 use Rattle.tables.specs.Tables.{Tables}
-use Rattle.tables.specs.declared.Verdict.{Verdict}
-use Rattle.tables.specs.declared.Verdict.TheVariants.{Fine, Refused}
+use Rattle.refusals.specs.declared.Refusal.{Refusal}
+use Rattle.refusals.specs.Verdicts.{Fine, unless, left}
 use Rattle.tables.specs.Limits.{max_vectors, max_levels}
 use Rattle.tables.specs.Storage.{model_of}
-use Rattle.tables.specs.Verdicts.{unless, left}
-use Rattle.tables.proofs.Refusals.{before-fine, unless-fine}
+use Rattle.refusals.proofs.Refusals.{before-fine, unless-fine}
 use Rattle.masks.specs.Masks.{mask_of}
 use Rattle.masks.specs.Steps.{some_includes}
 use Rattle.masks.proofs.Bits.{includes-every}
@@ -69,11 +69,11 @@ module _ (m : Tables) (x : Lent) (count : ℕ) (y : Cells) where
         total = weights-fine _ _ _ e22.0;
       }
 
-  pub built-refused : {k i : ℕ} {v : Verdict} → v ≡ build_verdict m x count y → v ≡ Refused k i → y ≡ built_of m x count y
+  pub built-refused : {e : Refusal} → Err e ≡ build_verdict m x count y → y ≡ built_of m x count y
   unfolding built_of
-  built-refused e f = rw (sym e ∙ f)
+  built-refused h = rw (sym h)
 
-  pub built-fine : {v : Verdict} → v ≡ build_verdict m x count y → v ≡ Fine → {z : Cells}
+  pub built-fine : Fine ≡ build_verdict m x count y → {z : Cells}
       → z ≡ over m (built_from m (level_of m (standing_in x)) count y) y → z ≡ built_of m x count y
   unfolding built_of
-  built-fine e f g = rw (sym e ∙ f) g
+  built-fine h g = rw (sym h) g

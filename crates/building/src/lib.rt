@@ -5,7 +5,7 @@ ghost use Rattle.std.specs.Prelude.{◌≡◌, true, ◌&&◌, List, ℕ, ◌+�
 ghost use Rattle.tables.specs.Tables.{Tables};
 ghost use Rattle.tables.specs.Limits.{max_levels};
 ghost use Rattle.tables.specs.Storage.{tables_in, model_of};
-ghost use Rattle.tables.specs.Verdicts.{◌before◌, unless, left};
+ghost use Rattle.refusals.specs.Verdicts.{◌before◌, unless, left};
 ghost use Rattle.plans.specs.Limits.{max_built};
 ghost use Rattle.plans.specs.Build.{some_covers_all};
 ghost use Rattle.columns.specs.Columns.{list_holds, handed_list};
@@ -15,7 +15,8 @@ ghost use Rattle.runs.specs.State.{build_verdict, built_of};
 ghost use Rattle.runs.specs.Demand3.{ModelAccepted, Event, certifier, after, steps, claim, PointsHold, BuildHolds};
 
 use levels::{Level, shape};
-use tables::{Counts, Verdict};
+use refusals::{Refusal, Verdict};
+use tables::Counts;
 
 // 7, 8, 9, 12 and 22: the certifier, the points, and slices of such lengths for the level that is built of them.
 fn judge_build<'a, 'b>(
@@ -67,14 +68,14 @@ fn judge_build<'a, 'b>(
         informed,
         qmdp,
     ) {
-        return Verdict::Refused(7, 0);
+        return Err(Refusal(7, 0));
     }
     let s = levels::standing_in(state);
     if Level::LEVELS <= s.number {
-        return Verdict::Refused(8, 0);
+        return Err(Refusal(8, 0));
     }
     if Level::BUILT < count {
-        return Verdict::Refused(9, 0);
+        return Err(Refusal(9, 0));
     }
     if !shape::complete(
         c.states,
@@ -89,16 +90,13 @@ fn judge_build<'a, 'b>(
         given.len(),
         newvalues,
     ) {
-        return Verdict::Refused(9, 0);
+        return Err(Refusal(9, 0));
     }
-    let totals = weights::weights_hold(given, c.states, count);
-    let Verdict::Fine = totals else {
-        return totals;
-    };
+    weights::weights_hold(given, c.states, count)?;
     if !masks::some_has(masks, s.vectors, masks::all(c.states)) {
-        return Verdict::Refused(22, 0);
+        return Err(Refusal(22, 0));
     }
-    Verdict::Fine
+    Ok(())
 }
 
 // Builds the next level from a count of points of any content, whose weights are the level's own: it is accepted where it is offered to the same
@@ -142,9 +140,9 @@ pub fn build<'a, 'b>(
         → BuildHolds m standing (claim m₀ x es) count y result made)) }
 {
     if !lists::holds(transition, list, observation, reward, c) {
-        return Verdict::Refused(7, 0);
+        return Err(Refusal(7, 0));
     }
-    let verdict = judge_build(
+    judge_build(
         transition,
         observation,
         reward,
@@ -166,10 +164,7 @@ pub fn build<'a, 'b>(
         newentries.len(),
         newcorners.len(),
         newvalues.len(),
-    );
-    let Verdict::Fine = verdict else {
-        return verdict;
-    };
+    )?;
     let s = levels::standing_in(state);
     builder::build_level(
         transition,
@@ -193,5 +188,5 @@ pub fn build<'a, 'b>(
         newcorners,
         newvalues,
     );
-    Verdict::Fine
+    Ok(())
 }

@@ -1,6 +1,7 @@
 -- The calls of a certifier that climbs refuse nothing: demand 3 over the list of levels that it was offered. Assumes nothing.
 --
 -- In order: room in its arrays; one event more; a level that can be built upon; a mixture that is a point; climbing.
+use Rattle.std.specs.Result.{IsOk}
 use Rattle.integers.proofs.Kit.{◌≡◌, ◌∙◌, refl, ap, sym, subst, true, List, [], ◌∷◌, ℕ, ◌≤◌, ◌<◌, ◌+◌, ◌*◌, arith}
 use Rattle.integers.proofs.Kit.{mul-le-mul, add-zero, le-leb, lt-ltb, length}
 use mathlib.Core.List.{◌++◌}
@@ -8,9 +9,7 @@ use Rattle.integers.specs.Whole.{total_to}
 use Rattle.integers.proofs.Searches.{and_is, at_every, some_at}
 use Rattle.integers.proofs.Sums.{total-part}
 use Rattle.tables.specs.Tables.{Tables}
-use Rattle.tables.specs.declared.Verdict.{Verdict}
-use Rattle.tables.specs.declared.Verdict.TheVariants.{Fine}
-use Rattle.tables.specs.Verdicts.{left}
+use Rattle.refusals.specs.Verdicts.{Verdict, Fine, left}
 use Rattle.tables.specs.Limits.{max_states, max_actions, max_observations, max_weight, max_levels}
 use Rattle.tables.specs.Model.{Model, Valid}
 use Rattle.tables.specs.Storage.{weight_in, counts_of, model_of}
@@ -126,14 +125,14 @@ climbed-0 {m} o e = record {
 
 module _ {t : ℕ} {m : Tables} {z : Lent} {point : List ℕ} (k : Climbed t m z) (p : PointsHold m blank 1 (blank_cells point)) where
   -- above level 0, it is asked at the point
-  pub totals-given : 0 < t → (totals_of m z point).verdict ≡ Fine
+  pub totals-given : 0 < t → IsOk (totals_of m z point)
   totals-given some =
       let room = complete-true m (answer_for m 1 (blank_cells point)) p.answer_room in
       let total = point-weights m.states (λ s l. sym (first-point m.states point 0 s (let h : 0 < 1 = omega arith in h)))
       (p.total 0 (let h : 0 < 1 = omega arith in h)) in
       let mixture = mixture-holds m.states point (omega (arith, room.read.weights)) total in
       let counts = some-covers-counts (model_of m) (claim m blank k.events).level k.covers (weight_in point) in
-      ((in-force m blank k.events k.opens k.left).totals (rw k.accepted some) point (mixture, counts)).given
+      rw ((in-force m blank k.events k.opens k.left).totals (rw k.accepted some) point (mixture, counts)).given refl
 
   -- below the last level, the next one is built
   module _ (few : t < max_levels) where

@@ -2,13 +2,13 @@
 #![tactic(auto)]
 
 ghost use Rattle.std.specs.Prelude.{◌≡◌};
-ghost use Rattle.tables.specs.declared.Verdict.TheVariants.{Fine};
+ghost use Rattle.refusals.specs.Verdicts.{Fine};
 ghost use Rattle.tables.specs.Storage.{tables_in};
 ghost use Rattle.runs.specs.State.{open_verdict, opened, build_verdict, built_of};
 ghost use Rattle.climbing.specs.Climb.{blank_cells, blank, lent_of, cells_of};
 
 use levels::Standing;
-use tables::{Counts, Tables, Verdict};
+use tables::{Counts, Tables};
 
 // Each level is built of one point: a vector at each corner and at the point.
 pub const POINTS: usize = 1;
@@ -47,11 +47,6 @@ pub struct Rung {
     pub values: [i64; POINTS],
 }
 
-// The answer of a call that cannot refuse: each caller is proved to hand in no refusal.
-pub fn served(v: Verdict)
-    requires { v ≡ Fine }
-{}
-
 // A certifier at level 0.
 pub fn fresh<'a>(
     transition: &'a [u16],
@@ -72,7 +67,7 @@ pub fn fresh<'a>(
     let values = [0i64; POINTS];
     let mut informed = [0i64; ROWS];
     let mut qmdp = [0i64; ROWS];
-    let opened = opening::open(
+    opening::open(
         transition,
         observation,
         reward,
@@ -87,8 +82,8 @@ pub fn fresh<'a>(
         &values,
         &mut informed,
         &mut qmdp,
-    );
-    served(opened);
+    )
+    .unwrap();
     Climber {
         state: state,
         actions: actions,
@@ -123,7 +118,7 @@ pub fn made<'a>(
     let mut entries = [0i64; VECTORS * Tables::STATES];
     let mut corners = [0i64; Tables::STATES];
     let mut values = [0i64; POINTS];
-    let built = building::build(
+    building::build(
         transition,
         &none,
         observation,
@@ -146,8 +141,8 @@ pub fn made<'a>(
         &mut entries,
         &mut corners,
         &mut values,
-    );
-    served(built);
+    )
+    .unwrap();
     Rung {
         actions: actions,
         choices: choices,

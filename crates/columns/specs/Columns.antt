@@ -16,9 +16,8 @@ use Rattle.integers.specs.Whole.{total_to}
 use Rattle.integers.specs.Search.{every}
 use Rattle.integers.specs.Cells.{listed, laid}
 use Rattle.tables.specs.Tables.{Tables}
-use Rattle.tables.specs.declared.Verdict.{Verdict}
+use Rattle.refusals.specs.Verdicts.{Verdict, ◌before◌, unless, is_fine, left}
 use Rattle.tables.specs.Storage.{row_place, transition_in}
-use Rattle.tables.specs.Verdicts.{◌before◌, unless, is_fine, left}
 use Rattle.tables.specs.Judged.{tables_verdict}
 
 -- ---- the cells

@@ -3,19 +3,19 @@
 -- In order: what is written is read back; the claim; what the call answers and leaves, with it.
 use Rattle.integers.proofs.Kit.{◌≡◌, ◌∙◌, ap, true, List, ℕ, ◌*◌, leb-true, leb, length, ℤ}
 use Rattle.integers.specs.Whole.{◌·◌}
+use Rattle.std.specs.Prelude.{Result}
 use Rattle.tables.specs.declared.Counts.{Counts}
-use Rattle.tables.specs.declared.Verdict.TheVariants.{Fine}
+use Rattle.refusals.specs.declared.Refusal.{Refusal}
+use Rattle.refusals.specs.Verdicts.{Fine, ◌before◌, unless}
 use Rattle.tables.specs.Limits.{max_converted, one}
 use Rattle.tables.specs.Storage.{counts_of}
-use Rattle.tables.specs.Verdicts.{◌before◌, unless}
-use Rattle.tables.proofs.Refusals.{before-fine, unless-fine}
+use Rattle.refusals.proofs.Refusals.{before-fine, unless-fine}
 use Rattle.bodies.specs.Body.{ModelFile}
 use Rattle.modelfile.specs.ModelFile.{max_bytes, Room, room_for, model_file}
 use Rattle.expected.proofs.Expected.{expected-whole, expected-exact}
 use Rattle.written.specs.Text.{max_text}
 use Rattle.written.proofs.Sizes.{file-length}
 use Rattle.rereading.proofs.WholeFile.{models-read-back}
-use Rattle.conversion.specs.declared.Converted.{Converted}
 use Rattle.conversion.specs.Convert.{said, expect_verdict, convert_verdict, expected_rewards, expected_text, converted, convert_answer, converted_over}
 use Rattle.conversion.specs.Claim.{SameModel, ConvertHolds}
 use Rattle.conversion.specs.Steps.{SoundFile, AnswersText}
@@ -58,7 +58,7 @@ convert-holds room file e =
     same-model (said file) (said-sound file read.0) read.1
 
 -- what the call answers and leaves, with the claim
-pub convert-answers : (file out : List ℕ) {r : Converted} {after : List ℕ} → AnswersText (convert_verdict (length out) file) (converted file) out r after
+pub convert-answers : (file out : List ℕ) {r : Result ℕ Refusal} {after : List ℕ} → AnswersText (convert_verdict (length out) file) (converted file) out r after
     → (r ≡ convert_answer (convert_verdict (length out) file) (length (converted file)))
     × ((after ≡ converted_over file out) × (convert_verdict (length out) file ≡ Fine → ConvertHolds file))
 convert-answers file out h = (h.is, (h.leaves, convert-holds (length out) file))

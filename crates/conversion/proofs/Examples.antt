@@ -6,8 +6,7 @@ use mathlib.Core.List.{◌++◌}
 use Rattle.integers.specs.Whole.{◌·◌, sum_to, total_to, floor_div}
 use Rattle.integers.specs.Search.{some}
 use Rattle.integers.specs.Cells.{listed, laid, laid_rows}
-use Rattle.tables.specs.declared.Verdict.TheVariants.{Fine, Refused}
-use Rattle.tables.specs.Verdicts.{first_of}
+use Rattle.refusals.specs.Verdicts.{Fine, Refused, first_of}
 use Rattle.tables.specs.Judged.{rows_total}
 use Rattle.words.specs.Words.{word_run, words_of, words_in}
 use Rattle.numerals.specs.Numeral.{digits, value, powered, amount_of, fraction, after_point, exponent}

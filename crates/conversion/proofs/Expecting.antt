@@ -11,12 +11,13 @@ use Rattle.tables.specs.Storage.{counts_of, model_in, reward_in}
 use Rattle.tables.proofs.Fitting.{Sizes, sizes}
 use Rattle.drafts.specs.Drafts.{outcome_place}
 use Rattle.bodies.specs.Body.{ModelFile}
+use Rattle.bodies.specs.Steps.{file_in}
 use Rattle.expected.specs.Expected.{expected_ticks}
 use Rattle.expected.specs.Steps.{ExpectReady}
 use Rattle.expected.proofs.Expected.{expected-within}
 use Rattle.written.specs.Steps.{Writable}
 use Rattle.conversion.specs.Convert.{expected_rewards}
-use Rattle.conversion.specs.Steps.{file_of, SoundFile, Long}
+use Rattle.conversion.specs.Steps.{SoundFile, Long}
 
 -- the model with other rewards within their limits
 with-rewards : (c : Counts) (T O : List ℕ) (r r' : List ℤ) → Valid (model_in c T O r)
@@ -65,7 +66,7 @@ module _ (x : ModelFile) where
 
 -- ---- in slices
 
-module _ (c : Counts) (T O : List ℕ) (cells : List ℤ) (start : List ℕ) (h : SoundFile (file_of c T O cells start)) (l : Long T O cells start)
+module _ (c : Counts) (T O : List ℕ) (cells : List ℤ) (start : List ℕ) (h : SoundFile (file_in c T O cells start)) (l : Long T O cells start)
     (few : c.states ≤ max_converted) where
   pub few-rewards : c.actions * c.states ≤ max_actions * max_converted
   few-rewards = mul-le-mul h.valid.few_actions few
@@ -89,9 +90,9 @@ module _ (c : Counts) (T O : List ℕ) (cells : List ℤ) (start : List ℕ) (h 
         outcome = λ a la s ls s' ls' o lo. h.outcomes (outcome_place c.states c.observations a s s' o);
       }
 
-  pub writable : {R : List ℤ} → R ≡ expected_rewards (file_of c T O cells start) → Writable c T O R start
+  pub writable : {R : List ℤ} → R ≡ expected_rewards (file_in c T O cells start) → Writable c T O R start
   writable e = subst⁻¹ (λ (R : List ℤ). Writable c T O R start) e record {
-    valid = expected-valid (file_of c T O cells start) h;
+    valid = expected-valid (file_in c T O cells start) h;
     stored = record {
       transitions = omega (arith, l.transitions, fit.transitions);
       observed = omega (arith, l.observed, fit.observed);
@@ -104,5 +105,5 @@ module _ (c : Counts) (T O : List ℕ) (cells : List ℤ) (start : List ℕ) (h 
       );
     };
     few = few;
-    begins = record { long = omega (arith, l.begins, h.valid.few_states); below = starts-below (file_of c T O cells start) h };
+    begins = record { long = omega (arith, l.begins, h.valid.few_states); below = starts-below (file_in c T O cells start) h };
   }

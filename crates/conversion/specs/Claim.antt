@@ -1,7 +1,7 @@
 -- What is claimed of a conversion: what it writes is read back as the same model, with exactly the rewards that the file's outcomes give on the average.
 use Rattle.std.specs.Prelude.{ℕ, ◌*◌, ◌<◌, ◌≡◌, true, List, get_or}
 use Rattle.integers.specs.Whole.{◌·◌}
-use Rattle.tables.specs.declared.Verdict.TheVariants.{Fine}
+use Rattle.refusals.specs.Verdicts.{Fine}
 use Rattle.tables.specs.Limits.{one}
 use Rattle.tables.specs.Storage.{counts_of, model_of}
 use Rattle.bodies.specs.Body.{ModelFile}

@@ -1,9 +1,9 @@
 -- A file whose rewards depend on what follows, written in our form: what the call answers, and the bytes that it writes.
-use Rattle.std.specs.Prelude.{ℕ, ◌+◌, ◌*◌, true, List, leb, length, replicate, ℤ, pos}
-use Rattle.tables.specs.declared.Verdict.{Verdict}
+use Rattle.std.specs.Prelude.{ℕ, ◌+◌, ◌*◌, true, List, leb, length, replicate, ℤ, pos, Result, Ok, Err}
+use Rattle.refusals.specs.declared.Refusal.{Refusal}
+use Rattle.refusals.specs.Verdicts.{Verdict, ◌before◌, unless, left}
 use Rattle.tables.specs.Limits.{max_converted, max_actions}
 use Rattle.tables.specs.Storage.{counts_of}
-use Rattle.tables.specs.Verdicts.{◌before◌, unless, left}
 use Rattle.words.specs.Words.{Words, words_in, between}
 use Rattle.grammar.specs.Grammar.{Answer, ◌then◌}
 use Rattle.headers.specs.Headers.{header}
@@ -12,7 +12,6 @@ use Rattle.modelfile.specs.ModelFile.{max_bytes}
 use Rattle.expected.specs.Expected.{laid_expected, expected_verdict}
 use Rattle.digits.specs.Digits.{text_over}
 use Rattle.written.specs.Text.{max_text, file_text}
-use Rattle.conversion.specs.declared.Converted.{Converted}
 
 -- the words of a file in order, its R statements in full
 abbrev pub outcomes_text : ℕ → Words → Answer Text
@@ -49,9 +48,10 @@ expected_text x = let m = x.tables in file_text (counts_of m) m.transition m.obs
 abbrev pub converted : List ℕ → List ℕ
 converted file = expected_text (said file)
 
--- what the call answers: the bytes written are none with a refusal
-abbrev pub convert_answer : Verdict → ℕ → Converted
-convert_answer v size = record { verdict = v; length = left v size 0 }
+-- what the call answers: how many bytes are written, or the refusal
+abbrev pub convert_answer : Verdict → ℕ → Result ℕ Refusal
+convert_answer (Ok u) size = Ok size
+convert_answer (Err e) size = Err e
 
 -- the output as the call leaves it: what lies past the bytes written stays
 abbrev pub converted_over : List ℕ → List ℕ → List ℕ

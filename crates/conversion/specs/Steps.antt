@@ -1,21 +1,14 @@
 -- What the code's steps ask and answer.
-use Rattle.std.specs.Prelude.{ℕ, ◌*◌, ◌≤◌, ◌≡◌, List, length, get_or, ℤ, pos, nat_abs}
+use Rattle.std.specs.Prelude.{ℕ, ◌*◌, ◌≤◌, ◌≡◌, List, length, get_or, ℤ, pos, nat_abs, Result}
 use Rattle.integers.specs.Whole.{total_to}
-use Rattle.tables.specs.declared.Counts.{Counts}
-use Rattle.tables.specs.declared.Verdict.{Verdict}
-use Rattle.tables.specs.declared.Verdict.TheVariants.{Fine}
+use Rattle.refusals.specs.declared.Refusal.{Refusal}
+use Rattle.refusals.specs.Verdicts.{Verdict, ◌before◌, left}
 use Rattle.tables.specs.Limits.{max_states, max_converted, max_actions, max_observations, max_reward, start_total}
 use Rattle.tables.specs.Model.{Valid}
-use Rattle.tables.specs.Storage.{model_of, tables_in}
-use Rattle.tables.specs.Verdicts.{◌before◌, left}
+use Rattle.tables.specs.Storage.{model_of}
 use Rattle.bodies.specs.Body.{ModelFile}
 use Rattle.digits.specs.Digits.{text_over}
-use Rattle.conversion.specs.declared.Converted.{Converted}
 use Rattle.conversion.specs.Convert.{expect_verdict, expected_text, convert_answer}
-
--- a file that was read, in counts and slices
-abbrev pub file_of : Counts → List ℕ → List ℕ → List ℤ → List ℕ → ModelFile
-file_of c transition observation outcomes start = record { verdict = Fine; tables = tables_in c transition observation outcomes; start = start }
 
 -- what a file that is not refused by 2 to 6 says: limits that hold, and totals
 pub record SoundFile (x : ModelFile) : Type 0 where
@@ -32,14 +25,11 @@ pub record Long (transition observation : List ℕ) (outcomes : List ℤ) (start
 
 -- ---- answers
 
-abbrev pub nothing : Verdict → Converted
-nothing v = record { verdict = v; length = 0 }
-
 -- the answer of a verdict and a text, and what they leave of the output
-pub record AnswersText (v : Verdict) (text out : List ℕ) (r : Converted) (after : List ℕ) : Type 0 where
+pub record AnswersText (v : Verdict) (text out : List ℕ) (r : Result ℕ Refusal) (after : List ℕ) : Type 0 where
   pub is : r ≡ convert_answer v (length text)
   pub leaves : after ≡ left v (text_over 0 text out) out
 
 -- the same of a file that was read
-abbrev pub AnswersFile : ModelFile → List ℕ → Converted → List ℕ → Type 0
+abbrev pub AnswersFile : ModelFile → List ℕ → Result ℕ Refusal → List ℕ → Type 0
 AnswersFile x = AnswersText (x.verdict before expect_verdict x) (expected_text x)

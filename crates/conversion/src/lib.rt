@@ -1,11 +1,2 @@
-// What the converter answers. The converter itself is in `converting`.
+// What the converter answers: definitions and laws only, no code. The converter itself is in `converting`.
 #![tactic(auto)]
-
-use tables::Verdict;
-
-// What a file is refused for, and the bytes written; with a refusal 0.
-#[derive(Clone, Copy)]
-pub struct Converted {
-    pub verdict: Verdict,
-    pub length: usize,
-}

@@ -3,29 +3,20 @@
 #![tactic(auto)]
 
 ghost use Rattle.std.specs.Prelude.{◌≡◌, ◌+◌, ◌≤◌, true, length};
-ghost use Rattle.tables.specs.declared.Verdict.TheVariants.{Fine};
+ghost use Rattle.refusals.specs.Verdicts.{Fine};
 ghost use Rattle.words.specs.Words.{words_in, between};
 ghost use Rattle.headers.specs.Steps.{CountsFit};
 ghost use Rattle.bodies.specs.Body.{ended, body};
+ghost use Rattle.bodies.specs.Steps.{file_in};
 ghost use Rattle.written.specs.Text.{max_text};
 ghost use Rattle.conversion.specs.Convert.{convert_verdict, converted, convert_answer, converted_over};
 ghost use Rattle.conversion.specs.Claim.{ConvertHolds};
-ghost use Rattle.conversion.specs.Steps.{file_of, SoundFile, Long, nothing, AnswersFile};
+ghost use Rattle.conversion.specs.Steps.{SoundFile, Long, AnswersFile};
 
-use conversion::Converted;
-use headers::Headed;
 use modelfile::ModelFile;
-use tables::{Counts, Tables, Verdict};
+use refusals::Refusal;
+use tables::{Counts, Tables};
 use written::Written;
-
-fn refusal(v: Verdict) -> Converted
-    ensures { result ≡ nothing v }
-{
-    Converted {
-        verdict: v,
-        length: 0,
-    }
-}
 
 // 25, then 26, then the expected rewards and the file that has them.
 fn write_expected(
@@ -35,30 +26,23 @@ fn write_expected(
     outcomes: &[i64],
     start: &[u16],
     out: &mut [u8],
-) -> Converted
-    requires sound_file { SoundFile (file_of c transition.now observation.now outcomes.now start.now) }
+) -> Result<usize, Refusal>
+    requires sound_file { SoundFile (file_in c transition.now observation.now outcomes.now start.now) }
     requires long { Long transition.now observation.now outcomes.now start.now }
     requires max_text_in_bounds { max_text ≤ length out.old }
-    ensures { AnswersFile (file_of c transition.now observation.now outcomes.now start.now)
+    ensures { AnswersFile (file_in c transition.now observation.now outcomes.now start.now)
         out.old result out.new }
 {
     if Tables::CONVERTED < c.states {
-        return refusal(Verdict::Refused(25, 0));
+        return Err(Refusal(25, 0));
     }
     let mut reward = [0i64; Tables::ACTIONS * Tables::CONVERTED];
-    let v = expected::expect(transition, observation, outcomes, c, &mut reward);
-    let Verdict::Fine = v else {
-        return refusal(v);
-    };
-    let size = written::put_file(out, c, transition, observation, &reward, start);
-    Converted {
-        verdict: Verdict::Fine,
-        length: size,
-    }
+    expected::expect(transition, observation, outcomes, c, &mut reward)?;
+    Ok(written::put_file(out, c, transition, observation, &reward, start))
 }
 
 // What follows the counts: it is read, and written with expected rewards.
-fn from_counts(file: &[u8], at: usize, c: Counts, out: &mut [u8]) -> Converted
+fn from_counts(file: &[u8], at: usize, c: Counts, out: &mut [u8]) -> Result<usize, Refusal>
     requires at_in_bounds { at ≤ length file.now }
     requires counts_fit { CountsFit c.states c.actions c.observations c.discount }
     requires max_text_in_bounds { max_text ≤ length out.old }
@@ -72,7 +56,7 @@ fn from_counts(file: &[u8], at: usize, c: Counts, out: &mut [u8]) -> Converted
         * Tables::CONVERTED
         * Tables::OBSERVATIONS];
     let mut start = [0u16; Tables::STATES];
-    let x = bodies::body_at(
+    let counts = bodies::body_at(
         file,
         at,
         c,
@@ -81,38 +65,22 @@ fn from_counts(file: &[u8], at: usize, c: Counts, out: &mut [u8]) -> Converted
         &mut observation,
         &mut outcomes,
         &mut start,
-    );
-    let v = x.verdict;
-    let Verdict::Fine = v else {
-        return refusal(v);
-    };
-    write_expected(x.counts, &transition, &observation, &outcomes, &start, out)
+    )?;
+    write_expected(counts, &transition, &observation, &outcomes, &start, out)
 }
 
 // Writes a file of any content in our form.
-pub fn convert(file: &[u8], out: &mut [u8]) -> Converted
+pub fn convert(file: &[u8], out: &mut [u8]) -> Result<usize, Refusal>
     ensures value { result ≡ convert_answer (convert_verdict (length out.old) file.now) (length (converted file.now)) }
     ensures out_after { out.new ≡ converted_over file.now out.old }
     ensures convert_holds { convert_verdict (length out.old) file.now ≡ Fine → ConvertHolds file.now }
 {
     if out.len() < Written::LENGTH {
-        return refusal(Verdict::Refused(27, 0));
+        return Err(Refusal(27, 0));
     }
     if ModelFile::BYTES < file.len() {
-        return refusal(Verdict::Refused(1, 0));
+        return Err(Refusal(1, 0));
     }
-    match headers::header_at(file) {
-        Headed::Refused(number, place) => refusal(Verdict::Refused(number, place)),
-        Headed::Counts(n, m, k, discount, next) => from_counts(
-            file,
-            next,
-            Counts {
-                states: n,
-                actions: m,
-                observations: k,
-                discount: discount,
-            },
-            out,
-        ),
-    }
+    let head = headers::header_at(file)?;
+    from_counts(file, head.next, head.value, out)
 }

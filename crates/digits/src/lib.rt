@@ -11,7 +11,7 @@ pub fn put(out: &mut [u8], at: usize, word: &[u8]) -> usize
     ensures { Wrote at word.now out.old result out.new }
 {
     let w = word.len();
-    cells::paste_u8(out, at, word, w);
+    cells::paste(out, at, word, w);
     at + w
 }
 
@@ -28,9 +28,7 @@ fn put_last_digits(out: &mut [u8], at: usize, count: usize, v: u64) -> usize
     ensures { Wrote at (last_digits count v) out.old result out.new }
 {
     let mut rest = v;
-    let mut left = count;
-    while 0 < left {
-        left -= 1;
+    for left in (0..count).rev() {
         out[at + left] = digit(rest);
         rest /= 10;
     }

@@ -30,110 +30,6 @@ fn spread_of(n: usize, i: usize) -> usize
     1
 }
 
-// v in `count` cells of a row, from the place x on.
-fn mark_u16(cells: &mut [u16], row: usize, x: usize, count: usize, v: u16)
-    requires { row + (x + count) ≤ length cells.old }
-    ensures { cells.new ≡ marked (λ i. some count (λ j. eqb i (row + (x + j)))) v cells.old }
-{
-    for j in 0..count {
-        cells[row + (x + j)] = v;
-    }
-}
-
-fn mark_i64(cells: &mut [i64], row: usize, x: usize, count: usize, v: i64)
-    requires { row + (x + count) ≤ length cells.old }
-    ensures { cells.new ≡ marked (λ i. some count (λ j. eqb i (row + (x + j)))) v cells.old }
-{
-    for j in 0..count {
-        cells[row + (x + j)] = v;
-    }
-}
-
-// The same in `rows` rows of width w, from row s of a block on.
-fn mark_rows(
-    cells: &mut [u16],
-    block: usize,
-    s: usize,
-    rows: usize,
-    w: usize,
-    x: usize,
-    count: usize,
-    v: u16,
-)
-    requires rows_bound { (block + (s + rows) ≤ max_actions * max_states) × ((w ≤ max_states) × (x + count ≤ w)) }
-    requires w_in_bounds { (block + (s + rows)) * w ≤ length cells.old }
-    ensures { cells.new ≡ marked (λ i. some rows (λ r. some count (λ j. eqb i (row_place w (block + (s + r)) (x + j)))))
-        v cells.old }
-{
-    for r in 0..rows {
-        mark_u16(cells, read::start(block + (s + r), w), x, count, v);
-    }
-}
-
-// The same in `blocks` blocks of n rows.
-fn mark_blocks(
-    cells: &mut [u16],
-    a: usize,
-    blocks: usize,
-    n: usize,
-    s: usize,
-    rows: usize,
-    w: usize,
-    x: usize,
-    count: usize,
-    v: u16,
-)
-    requires blocks_bound { (a + blocks ≤ max_actions) × ((n ≤ max_states) × (w ≤ max_states)) }
-    requires rows_bound { (s + rows ≤ n) × (x + count ≤ w) }
-    requires w_in_bounds { (a + blocks) * n * w ≤ length cells.old }
-    ensures { cells.new ≡ marked (λ i. some blocks (λ b. some rows (λ r. some count (λ j. eqb i (cell_place n w (a + b) (s + r) (x + j))))))
-        v cells.old }
-{
-    for b in 0..blocks {
-        mark_rows(cells, read::start(a + b, n), s, rows, w, x, count, v);
-    }
-}
-
-// p for all that a, s and x stand for, in a table of m blocks of n rows of width w.
-fn mark_all(cells: &mut [u16], m: usize, n: usize, w: usize, a: usize, s: usize, x: usize, p: u16)
-    requires m_le_max_actions { (m ≤ max_actions) × ((n ≤ max_states) × (w ≤ max_states)) }
-    requires a_le_m { (a ≤ m) × ((s ≤ n) × (x ≤ w)) }
-    requires w_in_bounds { m * n * w ≤ length cells.old }
-    ensures { cells.new ≡ stated m n w a s x p cells.old }
-{
-    let block = lowest_of(m, a);
-    let blocks = spread_of(m, a);
-    let row = lowest_of(n, s);
-    let rows = spread_of(n, s);
-    let place = lowest_of(w, x);
-    let count = spread_of(w, x);
-    mark_blocks(cells, block, blocks, n, row, rows, w, place, count, p);
-}
-
-// p in place x of row s of block a alone.
-fn mark_one(cells: &mut [u16], n: usize, w: usize, a: usize, s: usize, x: usize, p: u16)
-    requires a_lt_max_actions { (a < max_actions) × ((n ≤ max_states) × (w ≤ max_states)) }
-    requires s_lt_n { (s < n) × (x < w) }
-    requires a_in_bounds { cells_to n w a ≤ length cells.old }
-    ensures { cells.new ≡ set cells.old (cell_place n w a s x) p }
-{
-    cells[read::cell(read::row(a, n, s), w, x)] = p;
-}
-
-// p is stated for block a, row s and place x of a table of m blocks of n rows of width w.
-pub fn state(cells: &mut [u16], m: usize, n: usize, w: usize, a: usize, s: usize, x: usize, p: u16)
-    requires m_le_max_actions { (m ≤ max_actions) × ((n ≤ max_states) × (w ≤ max_states)) }
-    requires a_le_m { (a ≤ m) × ((s ≤ n) × (x ≤ w)) }
-    requires w_in_bounds { m * n * w ≤ length cells.old }
-    ensures { cells.new ≡ stated m n w a s x p cells.old }
-{
-    if (a < m) & (s < n) & (x < w) {
-        mark_one(cells, n, w, a, s, x, p);
-    } else {
-        mark_all(cells, m, n, w, a, s, x, p);
-    }
-}
-
 // Where row r of width w starts.
 fn start(r: usize, w: usize) -> usize
     requires { (r ≤ max_outcome_rows) × (w ≤ max_states) }
@@ -142,16 +38,26 @@ fn start(r: usize, w: usize) -> usize
     r * w
 }
 
-// v in `count` cells from x on, of `rows` rows of width w, from row y of a block on.
-fn mark_rewards(
-    cells: &mut [i64],
+// v in `count` cells of a row, from the place x on.
+fn mark<T: Copy>(cells: &mut [T], row: usize, x: usize, count: usize, v: T)
+    requires { row + (x + count) ≤ length cells.old }
+    ensures { cells.new ≡ marked (λ i. some count (λ j. eqb i (row + (x + j)))) v cells.old }
+{
+    for j in 0..count {
+        cells[row + (x + j)] = v;
+    }
+}
+
+// The same in `rows` rows of width w, from row y of a block on.
+fn mark_rows<T: Copy>(
+    cells: &mut [T],
     block: usize,
     y: usize,
     rows: usize,
     w: usize,
     x: usize,
     count: usize,
-    v: i64,
+    v: T,
 )
     requires rows_bound { (block + (y + rows) ≤ max_outcome_rows) × ((w ≤ max_states) × (x + count ≤ w)) }
     requires w_in_bounds { (block + (y + rows)) * w ≤ length cells.old }
@@ -159,15 +65,15 @@ fn mark_rewards(
         v cells.old }
 {
     for r in 0..rows {
-        mark_i64(cells, start(block + (y + r), w), x, count, v);
+        mark(cells, start(block + (y + r), w), x, count, v);
     }
 }
 
-// The same in `blocks` blocks of n rows, from block s of a group on.
-fn mark_reward_blocks(
-    cells: &mut [i64],
+// The same in `blocks` blocks of n rows, from block z of a group on.
+fn mark_blocks<T: Copy>(
+    cells: &mut [T],
     group: usize,
-    s: usize,
+    z: usize,
     blocks: usize,
     n: usize,
     y: usize,
@@ -175,17 +81,18 @@ fn mark_reward_blocks(
     w: usize,
     x: usize,
     count: usize,
-    v: i64,
+    v: T,
 )
-    requires blocks_bound { (group + (s + blocks) ≤ max_actions * max_converted) × ((n ≤ max_converted) × (w ≤ max_states)) }
+    requires blocks_bound { (group + (z + blocks) ≤ max_actions * max_converted) × ((n ≤ max_states) × (w ≤ max_states)) }
+    requires n_bound { (group + (z + blocks)) * n ≤ max_outcome_rows }
     requires rows_bound { (y + rows ≤ n) × (x + count ≤ w) }
-    requires w_in_bounds { (group + (s + blocks)) * n * w ≤ length cells.old }
+    requires w_in_bounds { (group + (z + blocks)) * n * w ≤ length cells.old }
     ensures { cells.new
-        ≡ marked (λ i. some blocks (λ b. some rows (λ r. some count (λ j. eqb i (row_place w (row_place n (group + (s + b)) (y + r)) (x + j))))))
+        ≡ marked (λ i. some blocks (λ b. some rows (λ r. some count (λ j. eqb i (cell_place n w (group + (z + b)) (y + r) (x + j))))))
         v cells.old }
 {
     for b in 0..blocks {
-        mark_rewards(cells, start(group + (s + b), n), y, rows, w, x, count, v);
+        mark_rows(cells, start(group + (z + b), n), y, rows, w, x, count, v);
     }
 }
 
@@ -212,7 +119,7 @@ fn mark_outcomes(
         v cells.old }
 {
     for g in 0..groups {
-        mark_reward_blocks(
+        mark_blocks(
             cells,
             start(a + g, n),
             s,
@@ -228,6 +135,46 @@ fn mark_outcomes(
     }
 }
 
+// p for all that a, s and x stand for, in a table of m blocks of n rows of width w.
+fn mark_all(cells: &mut [u16], m: usize, n: usize, w: usize, a: usize, s: usize, x: usize, p: u16)
+    requires m_le_max_actions { (m ≤ max_actions) × ((n ≤ max_states) × (w ≤ max_states)) }
+    requires a_le_m { (a ≤ m) × ((s ≤ n) × (x ≤ w)) }
+    requires w_in_bounds { m * n * w ≤ length cells.old }
+    ensures { cells.new ≡ stated m n w a s x p cells.old }
+{
+    let block = lowest_of(m, a);
+    let blocks = spread_of(m, a);
+    let row = lowest_of(n, s);
+    let rows = spread_of(n, s);
+    let place = lowest_of(w, x);
+    let count = spread_of(w, x);
+    mark_blocks(cells, 0, block, blocks, n, row, rows, w, place, count, p);
+}
+
+// p in place x of row s of block a alone.
+fn mark_one(cells: &mut [u16], n: usize, w: usize, a: usize, s: usize, x: usize, p: u16)
+    requires a_lt_max_actions { (a < max_actions) × ((n ≤ max_states) × (w ≤ max_states)) }
+    requires s_lt_n { (s < n) × (x < w) }
+    requires a_in_bounds { cells_to n w a ≤ length cells.old }
+    ensures { cells.new ≡ set cells.old (cell_place n w a s x) p }
+{
+    cells[read::cell(read::row(a, n, s), w, x)] = p;
+}
+
+// p is stated for block a, row s and place x of a table of m blocks of n rows of width w.
+pub fn state(cells: &mut [u16], m: usize, n: usize, w: usize, a: usize, s: usize, x: usize, p: u16)
+    requires m_le_max_actions { (m ≤ max_actions) × ((n ≤ max_states) × (w ≤ max_states)) }
+    requires a_le_m { (a ≤ m) × ((s ≤ n) × (x ≤ w)) }
+    requires w_in_bounds { m * n * w ≤ length cells.old }
+    ensures { cells.new ≡ stated m n w a s x p cells.old }
+{
+    if (a < m) & (s < n) & (x < w) {
+        mark_one(cells, n, w, a, s, x, p);
+    } else {
+        mark_all(cells, m, n, w, a, s, x, p);
+    }
+}
+
 // r is stated for action a and state s, of m actions and n states.
 pub fn state_reward(cells: &mut [i64], m: usize, n: usize, a: usize, s: usize, r: i64)
     requires m_le_max_actions { (m ≤ max_actions) × (n ≤ max_states) }
@@ -239,7 +186,7 @@ pub fn state_reward(cells: &mut [i64], m: usize, n: usize, a: usize, s: usize, r
     let rows = spread_of(m, a);
     let place = lowest_of(n, s);
     let count = spread_of(n, s);
-    mark_rewards(cells, 0, row, rows, n, place, count, r);
+    mark_rows(cells, 0, row, rows, n, place, count, r);
 }
 
 // r is stated for action a, state s, state reached `to` and observation o, of m actions, n states and k observations.

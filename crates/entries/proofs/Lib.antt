@@ -1,3 +1,2 @@
 -- Laws for this crate's proofs and those above it.
 pub mod Laws
-pub mod Prelude

@@ -13,24 +13,22 @@ ghost use Rattle.entries.specs.Steps.{CellsFit, Leaves};
 
 use grammar::Read;
 use numerals::Form;
+use refusals::Refusal;
 use tables::Tables;
 
 // `: i`
-pub fn indexed_at(file: &[u8], at: usize, n: usize) -> Read
+#[tactic(auto, unfolding(crate::specs::Entries::indexed))]
+pub fn indexed_at(file: &[u8], at: usize, n: usize) -> Result<Read<u64>, Refusal>
     requires { (at ≤ length file.now) × (1 ≤ n) }
     ensures { Reads file.now at n result (indexed n (words_in between file.now at)) }
 {
-    let p = reader::pair_from(file, at);
-    let w = p.first;
-    let x = grammar::key_of(file, w, b":");
-    let Read::Value(_, _) = x else {
-        return x;
-    };
-    let v = p.second;
-    grammar::index_of(file, v, n)
+    let pair = reader::pair_from(file, at);
+    grammar::key_of(file, pair.first, b":")?;
+    grammar::index_of(file, pair.second, n)
 }
 
 // A number for each place of the rows that a and s stand for.
+#[tactic(auto, unfolding(crate::specs::Entries::row))]
 pub fn row_at(
     file: &[u8],
     from: usize,
@@ -42,7 +40,7 @@ pub fn row_at(
     s: usize,
     form: Form,
     most: u64,
-) -> Read
+) -> Result<usize, Refusal>
     requires from_in_bounds { (from ≤ length file.now) × (CellsFit m n w cells.old) }
     requires a_le_m { (a ≤ m) × ((s ≤ n) × ((Short form) × (most ≤ one))) }
     ensures { Leaves file.now from result cells.new
@@ -50,17 +48,15 @@ pub fn row_at(
 {
     let mut at = from;
     for x in 0..w {
-        let p = grammar::number_at(file, at, form, 0, most);
-        let Read::Value(v, next) = p else {
-            return p;
-        };
-        drafts::state(cells, m, n, w, a, s, x, v as u16);
-        at = next;
+        let p = grammar::number_at(file, at, form, 0, most)?;
+        drafts::state(cells, m, n, w, a, s, x, p.value as u16);
+        at = p.next;
     }
-    Read::Value(0, at)
+    Ok(at)
 }
 
 // `x p`
+#[tactic(auto, unfolding(crate::specs::Entries::entry_by))]
 fn entry_at(
     file: &[u8],
     at: usize,
@@ -70,53 +66,55 @@ fn entry_at(
     w: usize,
     a: usize,
     s: usize,
-) -> Read
+) -> Result<usize, Refusal>
     requires at_in_bounds { (at ≤ length file.now) × (CellsFit m n w cells.old) }
     requires a_le_m { (a ≤ m) × (s ≤ n) }
     ensures { Leaves file.now at result cells.new (entry m n w a s cells.old (words_in between file.now at)) }
 {
-    let both = reader::pair_from(file, at);
-    let first = both.first;
-    let i = grammar::index_of(file, first, w);
-    let Read::Value(x, _) = i else {
-        return i;
-    };
-    let second = both.second;
-    let p = grammar::number_of(file, second, Form::PROBABILITY, 0, Tables::ONE);
-    let Read::Value(v, end) = p else {
-        return p;
-    };
-    drafts::state(cells, m, n, w, a, s, x as usize, v as u16);
-    Read::Value(0, end)
+    let pair = reader::pair_from(file, at);
+    let x = grammar::index_of(file, pair.first, w)?;
+    let p = grammar::number_of(file, pair.second, Form::PROBABILITY, 0, Tables::ONE)?;
+    drafts::state(cells, m, n, w, a, s, x.value as usize, p.value as u16);
+    Ok(p.next)
 }
 
 // After `T` or `O`.
-pub fn table_at(file: &[u8], at: usize, cells: &mut [u16], m: usize, n: usize, w: usize) -> Read
+#[tactic(auto, unfolding(crate::specs::Entries::table_by))]
+pub fn table_at(
+    file: &[u8],
+    at: usize,
+    cells: &mut [u16],
+    m: usize,
+    n: usize,
+    w: usize,
+) -> Result<usize, Refusal>
     requires { (at ≤ length file.now) × (CellsFit m n w cells.old) }
     ensures { Leaves file.now at result cells.new (table m n w cells.old (words_in between file.now at)) }
 {
-    let i = indexed_at(file, at, m);
-    let Read::Value(a, p) = i else {
-        return i;
-    };
-    let j = indexed_at(file, p, n);
-    let Read::Value(s, q) = j else {
-        return j;
-    };
-    let c = grammar::key_at(file, q, b":");
-    let Read::Value(_, next) = c else {
+    let a = indexed_at(file, at, m)?;
+    let s = indexed_at(file, a.next, n)?;
+    let Ok(next) = grammar::key_at(file, s.next, b":") else {
         return row_at(
             file,
-            q,
+            s.next,
             cells,
             m,
             n,
             w,
-            a as usize,
-            s as usize,
+            a.value as usize,
+            s.value as usize,
             Form::PROBABILITY,
             Tables::ONE,
         );
     };
-    entry_at(file, next, cells, m, n, w, a as usize, s as usize)
+    entry_at(
+        file,
+        next,
+        cells,
+        m,
+        n,
+        w,
+        a.value as usize,
+        s.value as usize,
+    )
 }

@@ -14,10 +14,10 @@ use Rattle.integers.proofs.Sizes.{abs-times, sum-weighed}
 use Rattle.integers.proofs.Sums.{sum-cong, sum-spread, total-cong, total-mul, total-mul-right}
 use Rattle.integers.proofs.Terms.{Terms, terms-limit}
 use Rattle.tables.specs.declared.Counts.{Counts}
-use Rattle.tables.specs.declared.Verdict.TheVariants.{Fine}
+use Rattle.refusals.specs.Verdicts.{Fine}
 use Rattle.tables.specs.Limits.{max_converted, max_actions, max_reward, one}
 use Rattle.tables.specs.Storage.{row_place, cell_place, transition_in, observation_in}
-use Rattle.tables.proofs.Refusals.{fine-at, unless-fine}
+use Rattle.refusals.proofs.Refusals.{fine-at, unless-fine}
 use Rattle.expected.specs.Expected.{outcome_in, expected_millionths, is_whole, expected_ticks, expected_verdict}
 use Rattle.expected.specs.Steps.{outcomes_in, seen_limit, SeenFit, ExpectReady}
 

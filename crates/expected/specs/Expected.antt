@@ -9,10 +9,9 @@ use Rattle.std.specs.Prelude.{ℕ, ◌*◌, ◌%◌, Bool, List, eqb, get_or, �
 use Rattle.integers.specs.Whole.{◌·◌, sum_to, floor_div}
 use Rattle.integers.specs.Cells.{laid_rows}
 use Rattle.tables.specs.declared.Counts.{Counts}
-use Rattle.tables.specs.declared.Verdict.{Verdict}
+use Rattle.refusals.specs.Verdicts.{Verdict, unless, first_of}
 use Rattle.tables.specs.Limits.{one}
 use Rattle.tables.specs.Storage.{row_place, transition_in, observation_in}
-use Rattle.tables.specs.Verdicts.{unless, first_of}
 use Rattle.drafts.specs.Drafts.{outcome_place}
 
 abbrev pub outcome_in : ℕ → ℕ → List ℤ → ℕ → ℕ → ℕ → ℕ → ℤ

@@ -3,12 +3,13 @@
 
 ghost use Rattle.std.specs.Prelude.{◌≡◌, ◌*◌, ◌≤◌, ◌<◌, length};
 ghost use Rattle.tables.specs.Limits.{max_converted, max_actions, max_observations};
-ghost use Rattle.tables.specs.Verdicts.{left};
+ghost use Rattle.refusals.specs.Verdicts.{left};
 ghost use Rattle.drafts.specs.Drafts.{outcome_place};
 ghost use Rattle.expected.specs.Expected.{outcome_in, expected_millionths, is_whole, laid_expected, expected_verdict};
 ghost use Rattle.expected.specs.Steps.{outcomes_in, SeenFit, ExpectReady};
 
-use tables::{Action, Counts, Observation, State, Tables, Verdict, read};
+use refusals::{Refusal, Verdict};
+use tables::{Action, Counts, Observation, State, Tables, read};
 
 // Where the reward of a, s, s' and o lies.
 fn place(n: usize, k: usize, a: Action, s: State, to: State, o: Observation) -> usize
@@ -98,17 +99,15 @@ fn judge(transition: &[u16], observation: &[u16], outcomes: &[i64], c: Counts) -
 {
     let n = c.states;
     let m = c.actions;
-    let mut found = Verdict::Fine;
-    'rows: for a in 0..m {
+    for a in 0..m {
         for s in 0..n {
             let x = millionths(transition, observation, outcomes, c, Action(a), State(s));
             if !is_whole(x) {
-                found = Verdict::Refused(26, read::row(a, n, s));
-                break 'rows;
+                return Err(Refusal(26, read::row(a, n, s)));
             }
         }
     }
-    found
+    Ok(())
 }
 
 // The expected rewards, by action and state, over the first cells of `reward`.
@@ -148,10 +147,7 @@ pub fn expect(
         (laid_expected c transition.now observation.now outcomes.now reward.old)
         reward.old }
 {
-    let v = judge(transition, observation, outcomes, c);
-    let Verdict::Fine = v else {
-        return v;
-    };
+    judge(transition, observation, outcomes, c)?;
     lay(transition, observation, outcomes, c, reward);
-    Verdict::Fine
+    Ok(())
 }

@@ -3,7 +3,7 @@
 #![tactic(auto)]
 
 ghost use Rattle.std.specs.Prelude.{◌≡◌};
-ghost use Rattle.tables.specs.Verdicts.{◌before◌, left};
+ghost use Rattle.refusals.specs.Verdicts.{◌before◌, left};
 ghost use Rattle.columns.specs.Columns.{handed_list};
 ghost use Rattle.levels.specs.Storage.{cells, rows, lent, lent_for};
 ghost use Rattle.levels.specs.Judged.{offer_verdict};

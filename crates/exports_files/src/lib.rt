@@ -2,12 +2,13 @@
 #![tactic(auto)]
 
 ghost use Rattle.std.specs.Prelude.{◌≡◌, length};
-ghost use Rattle.tables.specs.Verdicts.{left};
-ghost use Rattle.tables.specs.declared.Verdict.TheVariants.{Fine};
+ghost use Rattle.refusals.specs.Verdicts.{left, Fine};
 ghost use Rattle.reading.specs.Reading.{file_for, read_verdict, read_of, laid_transitions, laid_observations, laid_rewards, laid_start};
 ghost use Rattle.conversion.specs.Convert.{convert_verdict, converted, convert_answer, converted_over};
 ghost use Rattle.conversion.specs.Claim.{ConvertHolds};
 ghost use Rattle.exports_files.specs.Calls.{reading_by, conversion_by};
+
+use refusals::Refusal;
 
 // What a model file has, with its refusal: every count 0 where it is refused.
 #[repr(C)]
@@ -47,16 +48,23 @@ pub extern "C" fn biidhaqun_read(
         × (start.new ≡ left v (laid_start x start.old) start.old)))) }
 {
     let read = reading::read(file, transition, observation, reward, start);
-    let verdict = read.verdict;
-    let refusal = answers::refusal_of(verdict);
-    let c = read.counts;
-    Reading {
-        number: refusal.number,
-        place: refusal.place,
-        states: c.states,
-        actions: c.actions,
-        observations: c.observations,
-        discount: c.discount,
+    match read {
+        Ok(c) => Reading {
+            number: 0,
+            place: 0,
+            states: c.states,
+            actions: c.actions,
+            observations: c.observations,
+            discount: c.discount,
+        },
+        Err(Refusal(number, place)) => Reading {
+            number: number as u64,
+            place: place,
+            states: 0,
+            actions: 0,
+            observations: 0,
+            discount: 0,
+        },
     }
 }
 
@@ -69,11 +77,16 @@ pub extern "C" fn biidhaqun_convert(file: &[u8], out: &mut [u8]) -> Conversion
     ensures convert_holds { convert_verdict (length out.old) file.now ≡ Fine → ConvertHolds file.now }
 {
     let made = converting::convert(file, out);
-    let verdict = made.verdict;
-    let refusal = answers::refusal_of(verdict);
-    Conversion {
-        number: refusal.number,
-        place: refusal.place,
-        length: made.length,
+    match made {
+        Ok(length) => Conversion {
+            number: 0,
+            place: 0,
+            length: length,
+        },
+        Err(Refusal(number, place)) => Conversion {
+            number: number as u64,
+            place: place,
+            length: 0,
+        },
     }
 }

@@ -1,7 +1,7 @@
 -- Demand 3 of a built level, over exported calls: each is handed the slices as the one before left them.
 use Rattle.std.specs.Prelude.{ℕ, ◌≡◌}
 use Rattle.tables.specs.Tables.{Tables}
-use Rattle.tables.specs.declared.Verdict.{Verdict}
+use Rattle.refusals.specs.Verdicts.{Verdict}
 use Rattle.levels.specs.Storage.{Cells, Lent}
 use Rattle.runs.specs.Demand3.{Claim, BuildHolds}
 use Rattle.answers.specs.declared.Refusal.{Refusal}

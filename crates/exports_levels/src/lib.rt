@@ -5,7 +5,7 @@ ghost use Rattle.std.specs.Prelude.{◌≡◌, true, List, ℕ, ◌<◌};
 ghost use Rattle.tables.specs.Tables.{Tables};
 ghost use Rattle.tables.specs.Limits.{max_levels};
 ghost use Rattle.tables.specs.Storage.{model_of};
-ghost use Rattle.tables.specs.Verdicts.{◌before◌, left};
+ghost use Rattle.refusals.specs.Verdicts.{◌before◌, left};
 ghost use Rattle.columns.specs.Columns.{list_holds, handed_list};
 ghost use Rattle.plans.specs.Build.{some_covers_all};
 ghost use Rattle.levels.specs.Storage.{Lent, cells, rows, lent};

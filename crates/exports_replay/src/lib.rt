@@ -3,7 +3,7 @@
 
 ghost use Rattle.std.specs.Prelude.{◌≡◌, List};
 ghost use Rattle.tables.specs.Tables.{Tables};
-ghost use Rattle.tables.specs.declared.Verdict.TheVariants.{Fine};
+ghost use Rattle.refusals.specs.Verdicts.{Fine};
 ghost use Rattle.levels.specs.Storage.{Lent, cells, rows, lent};
 ghost use Rattle.runs.specs.Demand3.{ModelAccepted, Event, certifier, after};
 ghost use Rattle.blocks.specs.Blocks.{packed, replay_verdict};
@@ -12,6 +12,7 @@ ghost use Rattle.replay.specs.Replay.{replay_answer, replayed, ReplayHolds};
 ghost use Rattle.answers.specs.Calls.{tables_by};
 ghost use Rattle.exports_replay.specs.Calls.{replay_by};
 
+use refusals::Refusal;
 use tables::Counts;
 
 #[repr(C)]
@@ -75,7 +76,7 @@ pub extern "C" fn biidhaqun_replay<'a, 'b>(
         observations: k,
         discount: g,
     };
-    let run = replay::replay(
+    match replay::replay(
         transition,
         observation,
         reward,
@@ -102,12 +103,16 @@ pub extern "C" fn biidhaqun_replay<'a, 'b>(
         newcorners,
         newweights,
         newvalues,
-    );
-    let verdict = run.verdict;
-    let refusal = answers::refusal_of(verdict);
-    Replay {
-        number: refusal.number,
-        place: refusal.place,
-        accepted: run.accepted,
+    ) {
+        Ok(accepted) => Replay {
+            number: 0,
+            place: 0,
+            accepted,
+        },
+        Err(Refusal(number, place)) => Replay {
+            number: number as u64,
+            place,
+            accepted: 0,
+        },
     }
 }

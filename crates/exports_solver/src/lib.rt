@@ -2,7 +2,7 @@
 #![tactic(auto)]
 
 ghost use Rattle.std.specs.Prelude.{◌≡◌, List, ℕ};
-ghost use Rattle.tables.specs.declared.Verdict.TheVariants.{Fine};
+ghost use Rattle.refusals.specs.Verdicts.{Fine};
 ghost use Rattle.levels.specs.Storage.{cells, rows, lent};
 ghost use Rattle.solver.specs.Files.{vectors_in};
 ghost use Rattle.adoption.specs.Adopt.{adopt_verdict, adopted, adopt_answer};
@@ -10,6 +10,7 @@ ghost use Rattle.adoption.specs.Claim.{AdoptHolds};
 ghost use Rattle.answers.specs.Calls.{tables_by};
 ghost use Rattle.exports_solver.specs.Calls.{adoption_by};
 
+use refusals::Refusal;
 use tables::Counts;
 
 #[repr(C)]
@@ -69,7 +70,7 @@ pub extern "C" fn biidhaqun_adopt<'a, 'b, 'c>(
         observations: k,
         discount: g,
     };
-    let made = adopting::adopt(
+    match adopting::adopt(
         transition,
         observation,
         reward,
@@ -93,12 +94,16 @@ pub extern "C" fn biidhaqun_adopt<'a, 'b, 'c>(
         newentries,
         newcorners,
         newvalues,
-    );
-    let verdict = made.verdict;
-    let refusal = answers::refusal_of(verdict);
-    Adoption {
-        number: refusal.number,
-        place: refusal.place,
-        vectors: made.vectors,
+    ) {
+        Ok(vectors) => Adoption {
+            number: 0,
+            place: 0,
+            vectors,
+        },
+        Err(Refusal(number, place)) => Adoption {
+            number: number as u64,
+            place,
+            vectors: 0,
+        },
     }
 }

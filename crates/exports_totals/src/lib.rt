@@ -83,7 +83,7 @@ pub extern "C" fn biidhaqun_totals<'a, 'b>(
         observations: k,
         discount: g,
     };
-    let bounds = bounds::totals(
+    match bounds::totals(
         transition,
         observation,
         reward,
@@ -98,19 +98,27 @@ pub extern "C" fn biidhaqun_totals<'a, 'b>(
         informed,
         qmdp,
         mixture,
-    );
-    let verdict = bounds.verdict;
-    let refusal = answers::refusal_of(verdict);
-    let action = bounds.action;
-    Totals {
-        number: refusal.number,
-        place: refusal.place,
-        lower: bounds.lower,
-        upper: bounds.upper,
-        gap: bounds.gap,
-        action: action.0,
-        sawtooth: bounds.sawtooth,
-        informed: bounds.informed,
+    ) {
+        Ok(bounds) => Totals {
+            number: 0,
+            place: 0,
+            lower: bounds.lower,
+            upper: bounds.upper,
+            gap: bounds.gap,
+            action: bounds.action.0,
+            sawtooth: bounds.sawtooth,
+            informed: bounds.informed,
+        },
+        Err(refusals::Refusal(number, place)) => Totals {
+            number: number as u64,
+            place,
+            lower: 0,
+            upper: 0,
+            gap: 0,
+            action: 0,
+            sawtooth: 0,
+            informed: 0,
+        },
     }
 }
 
@@ -216,7 +224,7 @@ pub extern "C" fn biidhaqun_within<'a, 'b, 'c>(
         observations: k,
         discount: g,
     };
-    let within = intervals::totals_within(
+    match intervals::totals_within(
         transition,
         observation,
         reward,
@@ -232,14 +240,19 @@ pub extern "C" fn biidhaqun_within<'a, 'b, 'c>(
         qmdp,
         lows,
         highs,
-    );
-    let verdict = within.verdict;
-    let refusal = answers::refusal_of(verdict);
-    TotalsWithin {
-        number: refusal.number,
-        place: refusal.place,
-        lower: within.lower,
-        upper: within.upper,
+    ) {
+        Ok(within) => TotalsWithin {
+            number: 0,
+            place: 0,
+            lower: within.lower,
+            upper: within.upper,
+        },
+        Err(refusals::Refusal(number, place)) => TotalsWithin {
+            number: number as u64,
+            place,
+            lower: 0,
+            upper: 0,
+        },
     }
 }
 
@@ -269,7 +282,7 @@ pub extern "C" fn biidhaqun_worth<'a, 'b>(
         observations: k,
         discount: g,
     };
-    let valued = worth::worth(
+    match worth::worth(
         transition,
         observation,
         reward,
@@ -280,12 +293,16 @@ pub extern "C" fn biidhaqun_worth<'a, 'b>(
         Node(node),
         State(state),
         steps,
-    );
-    let verdict = valued.verdict;
-    let refusal = answers::refusal_of(verdict);
-    Worth {
-        number: refusal.number,
-        place: refusal.place,
-        ticks: valued.ticks,
+    ) {
+        Ok(ticks) => Worth {
+            number: 0,
+            place: 0,
+            ticks,
+        },
+        Err(refusals::Refusal(number, place)) => Worth {
+            number: number as u64,
+            place,
+            ticks: 0,
+        },
     }
 }

@@ -7,13 +7,11 @@ use Rattle.integers.specs.Whole.{◌·◌, Within}
 use Rattle.integers.specs.Cells.{padded}
 use Rattle.integers.proofs.Lists.{padded-at, filled_within}
 use Rattle.tables.specs.declared.Counts.{Counts}
-use Rattle.tables.specs.declared.Verdict.{Verdict}
-use Rattle.tables.specs.declared.Verdict.TheVariants.{Fine, Refused}
+use Rattle.refusals.specs.Verdicts.{Verdict, Fine, Refused, unless, first_of}
 use Rattle.tables.specs.Limits.{max_states, max_actions, max_vectors, max_entry, K}
 use Rattle.tables.specs.Model.{backup}
 use Rattle.tables.specs.Storage.{entry_in, model_in}
 use Rattle.sums.specs.Steps.{chosen_in, foreseen_in, backup_in, TransitionsFit, ObservationsFit, RewardsFit, foreseen_limit}
-use Rattle.tables.specs.Verdicts.{unless, first_of}
 use Rattle.masks.specs.Masks.{covered_in, masked_in}
 use Rattle.sums.proofs.Regroup.{backup-regrouped, foreseen-limit, transitions-fit, observations-fit, rewards-fit}
 use Rattle.plans.specs.Level.{follows}

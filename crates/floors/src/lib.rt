@@ -12,7 +12,8 @@ ghost use Rattle.columns.specs.Steps.{Lists};
 ghost use Rattle.floors.specs.Steps.{Judging};
 
 use levels::shape;
-use tables::{Action, Counts, State, Tables, Vector, Verdict, read};
+use refusals::{Refusal, Verdict};
+use tables::{Action, Counts, State, Tables, Vector, read};
 
 // Whether an entry is at most its backup.
 fn entry_holds(backup: i64, entry: i64) -> bool
@@ -46,7 +47,7 @@ pub fn floors_hold<'a, 'b>(
 {
     let n = c.states;
     let k = c.observations;
-    let mut found = Verdict::Fine;
+    let mut found = Ok(());
     'vectors: for v in 0..vectors {
         let a = Action(shape::action(actions[v]));
         let f = vectors::foreseen(observation, n, k, masks, entries, choices, Vector(v), a);
@@ -55,7 +56,7 @@ pub fn floors_hold<'a, 'b>(
             if masks::covers(covering[v], State(s)) {
                 let e = read::entry_at(offered, n, Vector(v), State(s));
                 if !entry_holds(b[s], e) {
-                    found = Verdict::Refused(13, v);
+                    found = Err(Refusal(13, v));
                     break 'vectors;
                 }
             }

@@ -1,8 +1,7 @@
 -- What one form of number reads, a wider one reads alike. Assumes nothing.
+use Rattle.std.specs.Prelude.{Option, Some, None}
 use Rattle.integers.proofs.Kit.{◌≡◌, refl, subst⁻¹, List, ℕ}
 use Rattle.words.specs.Words.{Words, word, end}
-use Rattle.numerals.specs.declared.Amount.{Amount}
-use Rattle.numerals.specs.declared.Amount.TheVariants.{Is, Not}
 use Rattle.numerals.specs.declared.Form.{Form}
 use Rattle.numerals.specs.Numeral.{amount_of, unsigned, signed}
 use Rattle.numerals.proofs.Before.{Keeps}
@@ -26,12 +25,12 @@ alike_then (refused n p) b k l e h = tt
 abbrev pub Wider : Form → Form → Type 0
 Wider f g = (w : List ℕ) → Keeps (amount_of f w) (amount_of g w)
 
-limited-alike : (least most at : ℕ) (rest : Words) (a b : Amount) → Keeps a b
+limited-alike : (least most at : ℕ) (rest : Words) (a b : Option ℕ) → Keeps a b
     → Alike (answered at rest (limited least most a)) (answered at rest (limited least most b))
-limited-alike least most at rest (Is v) b e =
-    subst⁻¹ (λ (b : Amount). Alike (answered at rest (limited least most (Is v))) (answered at rest (limited least most b))) e
-    (alike_same (answered at rest (limited least most (Is v))))
-limited-alike least most at rest Not b e = tt
+limited-alike least most at rest (Some v) b e =
+    subst⁻¹ (λ (b : Option ℕ). Alike (answered at rest (limited least most (Some v))) (answered at rest (limited least most b))) e
+    (alike_same (answered at rest (limited least most (Some v))))
+limited-alike least most at rest None b e = tt
 
 module _ (f g : Form) (h : Wider f g) where
   pub number-alike : (least most : ℕ) (ws : Words) → Alike (number f least most ws) (number g least most ws)

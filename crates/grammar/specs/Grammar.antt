@@ -1,8 +1,6 @@
 -- One word at a time: its form (2), then its limit (3).
-use Rattle.std.specs.Prelude.{ℕ, ◌-◌, Bool, true, false, ◌&&◌, cond, List, [], ◌∷◌, ℤ, eqb, leb}
+use Rattle.std.specs.Prelude.{ℕ, ◌-◌, Bool, true, false, ◌&&◌, cond, List, [], ◌∷◌, ℤ, eqb, leb, Option, Some, None}
 use Rattle.words.specs.Words.{Words, word, end}
-use Rattle.numerals.specs.declared.Amount.{Amount}
-use Rattle.numerals.specs.declared.Amount.TheVariants.{Is, Not}
 use Rattle.numerals.specs.declared.Form.{Form}
 use Rattle.numerals.specs.Numeral.{count_form, amount_of, negative, unsigned, signed}
 
@@ -43,9 +41,9 @@ abbrev pub one_word : (List ℕ → Finding) → Words → Answer ℕ
 one_word find (word at w rest) = answered at rest (find w)
 one_word find (end at) = refused 2 at
 
-abbrev pub limited : ℕ → ℕ → Amount → Finding
-limited least most (Is v) = cond (leb least v && leb v most) (fits v) outside
-limited least most Not = unfit
+abbrev pub limited : ℕ → ℕ → Option ℕ → Finding
+limited least most (Some v) = cond (leb least v && leb v most) (fits v) outside
+limited least most None = unfit
 
 -- a number of a form, from `least` to `most`
 unfoldable pub number : Form → ℕ → ℕ → Words → Answer ℕ

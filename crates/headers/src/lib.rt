@@ -4,24 +4,16 @@
 ghost use Rattle.std.specs.Prelude.{◌≡◌, ◌≤◌, length, replicate};
 ghost use Rattle.words.specs.Words.{words_in, between};
 ghost use Rattle.tables.specs.Limits.{max_states, one};
-ghost use Rattle.grammar.specs.Steps.{Tells};
 ghost use Rattle.headers.specs.Headers.{header_counts, header, start_numbers};
-ghost use Rattle.headers.specs.Steps.{handed_header, Heads};
+ghost use Rattle.headers.specs.Steps.{Heads, Fills};
 
 use grammar::Read;
 use numerals::Form;
-use tables::Tables;
+use refusals::Refusal;
+use tables::{Counts, Tables};
 
-// States, actions, observations, the discount and where reading goes on; or a refusal's number and place.
-#[derive(Clone, Copy)]
-pub enum Headed {
-    Counts(usize, usize, usize, u64, usize),
-    Refused(u8, usize),
-}
-
-impl Headed {
-    pub const START: u64 = 100; // the total of the start numbers
-}
+// The total of the start numbers.
+pub const START: u64 = 100;
 
 // A count is 1 or more.
 const LEAST: u64 = 1;
@@ -31,89 +23,68 @@ const ROWS: usize = 1;
 
 const FIRST: usize = 0;
 
-// The refusal of a word, handed back.
-fn back(x: Read) -> Headed
-    ensures { result ≡ handed_header x }
-{
-    match x {
-        Read::Refused(number, place) => Headed::Refused(number, place),
-        Read::Value(_, _) => Headed::Refused(0, 0),
-    }
-}
-
 // From `states:` on.
-fn counted_at(file: &[u8], at: usize, discount: u64) -> Headed
+fn counted_at(file: &[u8], at: usize, discount: u64) -> Result<Read<Counts>, Refusal>
     requires { (at ≤ length file.now) × (discount ≤ one) }
-    ensures { Heads file.now result (header_counts discount (words_in between file.now at)) }
+    ensures { Heads file.now at result (header_counts discount (words_in between file.now at)) }
 {
-    let x = grammar::field_at(
+    let n = grammar::field_at(
         file,
         at,
         b"states",
         Form::COUNT,
         LEAST,
         Tables::STATES as u64,
-    );
-    let Read::Value(n, p) = x else {
-        return back(x);
-    };
-    let y = grammar::field_at(
+    )?;
+    let m = grammar::field_at(
         file,
-        p,
+        n.next,
         b"actions",
         Form::COUNT,
         LEAST,
         Tables::ACTIONS as u64,
-    );
-    let Read::Value(m, q) = y else {
-        return back(y);
-    };
-    let z = grammar::field_at(
+    )?;
+    let k = grammar::field_at(
         file,
-        q,
+        m.next,
         b"observations",
         Form::COUNT,
         LEAST,
         Tables::OBSERVATIONS as u64,
-    );
-    let Read::Value(k, next) = z else {
-        return back(z);
-    };
-    Headed::Counts(n as usize, m as usize, k as usize, discount, next)
+    )?;
+    Ok(Read {
+        value: Counts {
+            states: n.value as usize,
+            actions: m.value as usize,
+            observations: k.value as usize,
+            discount: discount,
+        },
+        next: k.next,
+    })
 }
 
 // From `discount:` on.
-pub fn header_at(file: &[u8]) -> Headed
-    ensures { Heads file.now result (header (words_in between file.now 0)) }
+#[tactic(auto, unfolding(crate::specs::Headers::header_by))]
+pub fn header_at(file: &[u8]) -> Result<Read<Counts>, Refusal>
+    ensures { Heads file.now 0 result (header (words_in between file.now 0)) }
 {
-    let x = grammar::field_at(file, 0, b"discount", Form::PROBABILITY, 0, Tables::ONE);
-    let Read::Value(discount, p) = x else {
-        return back(x);
-    };
-    let y = grammar::keys_at(file, p, b"values", b":");
-    let Read::Value(_, q) = y else {
-        return back(y);
-    };
-    let z = grammar::key_at(file, q, b"reward");
-    let Read::Value(_, next) = z else {
-        return back(z);
-    };
-    counted_at(file, next, discount)
+    let discount = grammar::field_at(file, 0, b"discount", Form::PROBABILITY, 0, Tables::ONE)?;
+    let values = grammar::keys_at(file, discount.next, b"values", b":")?;
+    let reward = grammar::key_at(file, values, b"reward")?;
+    counted_at(file, reward, discount.value)
 }
 
 // `start:` and n numbers, into cells that are 0.
-pub fn start_at(file: &[u8], at: usize, start: &mut [u16], n: usize) -> Read
+#[tactic(auto, unfolding(crate::specs::Headers::start_by))]
+pub fn start_at(file: &[u8], at: usize, start: &mut [u16], n: usize) -> Result<usize, Refusal>
     requires at_in_bounds { (at ≤ length file.now) × ((1 ≤ n) × (n ≤ max_states)) }
     requires start_value { start.old ≡ replicate max_states 0 }
-    ensures { Tells (λ _. start.new) file.now at 0 result (start_numbers n (words_in between file.now at)) }
+    ensures { Fills file.now at result start.new (start_numbers n (words_in between file.now at)) }
 {
-    let x = grammar::keys_at(file, at, b"start", b":");
-    let Read::Value(_, p) = x else {
-        return x;
-    };
+    let next = grammar::keys_at(file, at, b"start", b":")?;
     entries::row_at(
         file,
-        p,
+        next,
         start,
         ROWS,
         ROWS,
@@ -121,6 +92,6 @@ pub fn start_at(file: &[u8], at: usize, start: &mut [u16], n: usize) -> Read
         FIRST,
         FIRST,
         Form::START,
-        Headed::START,
+        START,
     )
 }

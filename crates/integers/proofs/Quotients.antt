@@ -1,13 +1,15 @@
--- The machine's quotient drops towards 0; corrected by the remainder's sign it is the quotient rounded down or up. Assumes nothing.
+-- The machine's quotient drops towards 0; corrected by the remainder's sign it is the quotient rounded up, and the Euclidean one is rounded down.
+-- Assumes nothing.
 --
--- In order: rounded down, by the sign of the remainder; rounded up; how large they are; of the machine's words.
+-- In order: rounded up, by the sign of the remainder; how large it is; rounded down; of the machine's words.
 use Rattle.integers.proofs.Kit.{◌≡◌, ◌∙◌, refl, ap, sym, true, false, ℕ, ◌≤◌, ◌<◌, ◌+◌, ◌*◌, suc, zero, ◌^◌, ◌/◌, ◌%◌, arith, ℤ, pos, ◌+ℤ◌}
-use Rattle.integers.proofs.Kit.{negsuc, ◌-ℤ◌, neg_ℤ, lt_z, mag, w64, to_z, of_z, SFits, to_z-of_z, to_z_pos}
+use Rattle.integers.proofs.Kit.{negsuc, neg_ℤ, lt_z, mag, w64, to_z, of_z, SFits, to_z-of_z, to_z_pos}
 use native.Mathlib.Nat as NatL
 use lib.Signed.{mag_rem, quot_z, rem_z}
 use mir.ValLaws.{sfits_le}
+use Rattle.std.specs.Int.{int_div_euclid}
 use Rattle.integers.specs.Whole.{floor_div, ceil_div}
-use Rattle.integers.proofs.Parts.{add_parts, sub-parts-ℤ, neg-parts, eq-by, lt_z-true, lt_z-false}
+use Rattle.integers.proofs.Parts.{add_parts, neg-parts, eq-by, lt_z-true, lt_z-false}
 
 module _ (k : ℕ) (p : 0 < k) where
   -- the quotient of the next number: the same, or one more where nothing remains
@@ -24,22 +26,6 @@ module _ (k : ℕ) (p : 0 < k) where
       by (suc q) e d =
           let d' : suc q * k + suc a % k ≡ suc a = rw e at d in
           e ∙ ap suc (sym (NatL.div-eq_of_lt-le k (omega arith) (omega arith)))
-
-  pub floor-less : (x : ℤ) → lt_z (rem_z x (pos k)) (pos 0) ≡ true → quot_z x (pos k) -ℤ pos 1 ≡ floor_div x k
-  unfolding floor_div
-  floor-less (pos a) t = absurd (let l = lt_z-true (pos (a % k)) (pos 0) t in let n : ⊥ = omega arith in n)
-  floor-less (negsuc a) t =
-      let r = lt_z-true (neg_ℤ (pos (suc a % k))) (pos 0) t in
-      let h : 0 < suc a % k = omega (arith, neg-parts (pos (suc a % k))) in
-      eq-by _ _ (omega (arith, sub-parts-ℤ (neg_ℤ (pos (suc a / k))) (pos 1), neg-parts (pos (suc a / k)), next-same a h))
-
-  pub floor-same : (x : ℤ) → lt_z (rem_z x (pos k)) (pos 0) ≡ false → quot_z x (pos k) ≡ floor_div x k
-  unfolding floor_div
-  floor-same (pos a) t = refl
-  floor-same (negsuc a) t =
-      let r = lt_z-false (neg_ℤ (pos (suc a % k))) (pos 0) t in
-      let h : suc a % k ≡ 0 = omega (arith, neg-parts (pos (suc a % k))) in
-      eq-by _ _ (omega (arith, neg-parts (pos (suc a / k)), next_more a h))
 
   pub ceil-more : (x : ℤ) → lt_z (pos 0) (rem_z x (pos k)) ≡ true → quot_z x (pos k) +ℤ pos 1 ≡ ceil_div x k
   unfolding floor_div ceil_div
@@ -80,6 +66,12 @@ module _ (k : ℕ) (p : 0 < k) where
   ceil-small (pos (suc a)) = omega (arith, NatL.div-le_self a k)
   ceil-small (negsuc a) = quotient-small (negsuc a)
 
+-- by a divisor above 0, the quotient that leaves no rest below 0
+euclid-floor : (x : ℤ) (k : ℕ) → int_div_euclid x (pos k) ≡ floor_div x k
+unfolding floor_div
+euclid-floor (pos a) k = refl
+euclid-floor (negsuc a) k = refl
+
 -- ---- from the machine's words
 module _ (x : ℤ) (k : ℕ) (fit : SFits w64 x) (p : 0 < k) (small : k < 2 ^ 63) where
   machine : {A : Type 0} (f : ℤ → ℤ → A) → f (to_z w64 (of_z w64 x)) (to_z w64 k) ≡ f x (pos k)
@@ -93,3 +85,6 @@ module _ (x : ℤ) (k : ℕ) (fit : SFits w64 x) (p : 0 < k) (small : k < 2 ^ 63
 
   pub remainder : to_z w64 (of_z w64 (rem_z (to_z w64 (of_z w64 x)) (to_z w64 k))) ≡ rem_z x (pos k)
   remainder = rw (machine rem_z) (to_z-of_z (sfits_le (mag_rem x (pos k)) fit))
+
+  pub euclid : int_div_euclid (to_z w64 (of_z w64 x)) (to_z w64 k) ≡ floor_div x k
+  euclid = machine int_div_euclid ∙ euclid-floor x k

@@ -42,26 +42,18 @@ pub fn minus(a: i64, b: i64) -> i64
 pub fn lesser(a: i64, b: i64) -> i64
     ensures { result ≡ lesser a b }
 {
-    if a <= b {
-        return a;
-    }
-    b
+    a.min(b)
 }
 
-// x over k, rounded towards minus infinity: the machine's quotient drops towards 0, so one less where a remainder is negative.
+// x over k, rounded towards minus infinity.
 pub fn floor_div(x: i64, k: u64) -> i64
     requires { (0 < k) × (k < 2 ^ 63) }
     ensures { result ≡ floor_div x k }
 {
-    let d = k as i64;
-    let q = x / d;
-    if x % d < 0 {
-        return q - 1;
-    }
-    q
+    x.div_euclid(k as i64)
 }
 
-// x over k, rounded towards plus infinity.
+// x over k, rounded towards plus infinity: the machine's quotient drops towards 0, so one more where a remainder is positive.
 pub fn ceil_div(x: i64, k: u64) -> i64
     requires { (0 < k) × (k < 2 ^ 63) }
     ensures { result ≡ ceil_div x k }
@@ -79,20 +71,12 @@ pub fn within(limit: u64, x: i64) -> bool
     requires { limit < 2 ^ 63 }
     ensures { result ≡ leb (nat_abs x) limit }
 {
-    let most = limit as i64;
-    if x < -most {
-        return false;
-    }
-    x <= most
+    x.unsigned_abs() <= limit
 }
 
 // The size of x, without its sign.
 pub fn magnitude(x: i64) -> u64
     ensures { result ≡ nat_abs x }
 {
-    if x < 0 {
-        let above = x + 1;
-        return (0 - above) as u64 + 1;
-    }
-    x as u64
+    x.unsigned_abs()
 }

@@ -2,12 +2,13 @@
 -- standing level says. Assumes nothing.
 --
 -- In order: ranges that hold; a certifier that is not refused by 7; each way out.
+use Rattle.std.specs.Prelude.{Ok, Err}
 use Rattle.integers.proofs.Kit.{◌≡◌, ◌∙◌, refl, ap, sym, true, false, Bool, List, ℕ, ◌≤◌, ◌<◌, leb-true, leb, length, get_or, ℤ}
 use native.Mathlib.Nat as NatL
 use Rattle.integers.proofs.Searches.{and-true, every-at, of-cong}
 use Rattle.tables.specs.Tables.{Tables}
-use Rattle.tables.specs.declared.Verdict.{Verdict}
-use Rattle.tables.specs.declared.Verdict.TheVariants.{Fine, Refused}
+use Rattle.refusals.specs.declared.Refusal.{Refusal}
+use Rattle.refusals.specs.Verdicts.{Fine}
 use Rattle.tables.specs.Limits.{max_states, max_levels}
 use Rattle.tables.specs.Model.{Model}
 use Rattle.tables.specs.Storage.{weight_in, model_of}
@@ -26,7 +27,7 @@ use Rattle.bounds.specs.Steps.{support_in, widened}
 use Rattle.bounds.proofs.Bounds.{counts-weights, some-counts-weights, Mixed, mixed, widened-at, widened-below}
 use Rattle.bounds.proofs.Bounds.{stands, roofed, counts-is, some_is, standing-holds}
 use Rattle.intervals.specs.declared.Enclosing.{Enclosing}
-use Rattle.intervals.specs.Intervals.{ranges_hold, highs_hold, within_verdict, no_totals, within_by, within_of}
+use Rattle.intervals.specs.Intervals.{ranges_hold, highs_hold, within_verdict, within_by, within_of}
 use Rattle.intervals.specs.Steps.{Ranged, least_in, lower_in_ranges, upper_in_ranges, totals_in, given_if, answer_within, AskedWithin}
 
 -- ---- ranges that hold
@@ -54,8 +55,8 @@ module _ (n : ℕ) (lows highs : List ℕ) (ordered : ranges_hold n lows highs �
   pub totals-given : (vectors : ℕ) (masks : List ℕ) (entries corners : List ℤ) {low high : List ℕ} {states : ℕ} {r : Enclosing}
       → r ≡ totals_in n vectors masks entries corners low high states → low ≡ widened n lows → high ≡ widened n highs
       → states ≡ support_in n (widened n highs) → some_includes masks vectors (support_in n (widened n highs)) ≡ true
-      → r ≡ answer_within n vectors masks entries corners lows highs
-  totals-given vectors masks entries corners e f g k some = e ∙ rw (f, g, k, ordered, limits, some)
+      → Ok r ≡ answer_within n vectors masks entries corners lows highs
+  totals-given vectors masks entries corners e f g k some = rw (e, f, g, k, ordered, limits, some) refl
 
 -- ---- a certifier that is not refused by 7
 module _ (m : Tables) (x : Lent) (h : holds m x ≡ true) where
@@ -112,9 +113,9 @@ module _ (m : Tables) (x : Lent) (h : holds m x ≡ true) where
 
 -- ---- each way out
 module _ (m : Tables) (x : Lent) (lows highs : List ℕ) where
-  pub refused : {v : Verdict} {k i : ℕ} → v ≡ standing_verdict m x → v ≡ Refused k i → no_totals v ≡ within_of m x lows highs
+  pub refused : {e : Refusal} → standing_verdict m x ≡ Err e → within_of m x lows highs ≡ Err e
   unfolding within_of within_verdict
-  refused e f = rw (sym e ∙ f, f)
+  refused e = rw e
 
   -- 24, 17, 22, or the totals
   by_tests : (ordered : Bool) → ranges_hold m.states lows highs ≡ ordered → (limits : Bool) → highs_hold m.states lows highs ≡ limits

@@ -1,10 +1,13 @@
 -- What totals within ranges say after any list of offers and new prices, proved over the definitions that the contract names. Assumes nothing.
+use Rattle.std.specs.Prelude.{Result}
 use Rattle.integers.proofs.Kit.{◌≡◌, ◌∙◌, refl, sym, subst, List, ℕ, ◌<◌, arith, lt-ltb}
 use Rattle.tables.specs.Tables.{Tables}
-use Rattle.tables.specs.declared.Verdict.TheVariants.{Fine}
+use Rattle.refusals.specs.declared.Refusal.{Refusal}
+use Rattle.refusals.specs.Verdicts.{Fine}
 use Rattle.tables.specs.Limits.{max_vectors}
 use Rattle.tables.specs.Storage.{weight_in, model_of}
 use Rattle.plans.specs.Level.{Level}
+use Rattle.plans.specs.Intervals.{lower_within, upper_within}
 use Rattle.plans.proofs.Agreement.{some-counts-agree}
 use Rattle.plans.proofs.Intervals.{between, lower-within-agree, upper-within-agree}
 use Rattle.levels.specs.Storage.{Cells, Lent, level_of, number_in, standing_in}
@@ -35,6 +38,10 @@ module _ {m : Tables} {x₀ : Cells} {t : ℕ} {c : Claim} {x : Lent} (r : Reach
   within-holds =
       let L : Level = level_of m (standing_in x) in
       rw within-fine record {
+        answer = record {
+          lower = lower_within (model_of m) L (weight_in lows) (weight_in highs);
+          upper = upper_within (model_of m) L (weight_in lows) (weight_in highs);
+        };
         given = refl;
         lower_is = lower-within-agree (model_of m) c.level L r.agrees (weight_in lows) (weight_in highs) (some_vectors r);
         upper_is = upper-within-agree (model_of m) c.level L r.agrees (weight_in lows) (weight_in highs);
@@ -46,7 +53,7 @@ pub within-claim : (m : Tables) (x : Lent) → ModelAccepted m x → (es : List 
 within-claim m x o es h lows highs e = within-holds (reached m x o es) h lows highs e
 
 -- an answer that meets its equation has what the claim says of it
-pub within-demand : (m : Tables) (y : Lent) (lows highs : List ℕ) (r : Enclosing) → r ≡ within_of m y lows highs
+pub within-demand : (m : Tables) (y : Lent) (lows highs : List ℕ) (r : Result Enclosing Refusal) → r ≡ within_of m y lows highs
     → (m₀ : Tables) (x : Lent) (es : List Event) → ModelAccepted m₀ x → certifier m y ≡ after m₀ x es → 0 < steps m₀ x es
     → RangesHold m (claim m₀ x es) lows highs → WithinHolds m (steps m₀ x es) (claim m₀ x es) lows highs r
 within-demand m y lows highs r e m₀ x es o q h ranges =

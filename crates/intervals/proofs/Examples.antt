@@ -1,10 +1,11 @@
 -- Weights known within ranges, by example, in the dough model: both totals, and the refusals in their order. The prover computes the definitions that the
 -- contract names. Assumes nothing.
+use Rattle.std.specs.Prelude.{Result, Ok, Err}
 use Rattle.integers.proofs.Kit.{◌≡◌, refl, [], ◌∷◌, ℕ, replicate, ℤ, pos, negsuc}
 use Rattle.integers.specs.Whole.{◌·◌, sum_to, total_to}
 use Rattle.integers.specs.Search.{every, some, first_largest_of}
-use Rattle.tables.specs.declared.Verdict.TheVariants.{Fine, Refused}
-use Rattle.tables.specs.Verdicts.{first_of}
+use Rattle.refusals.specs.declared.Refusal.{Refusal}
+use Rattle.refusals.specs.Verdicts.{first_of}
 use Rattle.tables.specs.Judged.{limits_hold, rows_total, tables_verdict}
 use Rattle.masks.specs.Masks.{covered}
 use Rattle.plans.specs.Limits.{range}
@@ -33,8 +34,11 @@ stands vectors = record {
   rows = rows_at 1;
 }
 
-abbrev given : ℤ → ℤ → Enclosing
-given x y = record { verdict = Fine; lower = x; upper = y }
+abbrev given : ℤ → ℤ → Result Enclosing Refusal
+given x y = Ok (record { lower = x; upper = y })
+
+abbrev refused : ℕ → Result Enclosing Refusal
+refused number = Err (record { 0 = number; 1 = 0 })
 
 record Table : Type 0 where
   -- 3 × -1000 + 2 × 600, and 1 × -100 + 4 × 600: the vector that waits does not count
@@ -44,20 +48,20 @@ record Table : Type 0 where
   -- at a range of one mixture, the products there
   one-mixture : within_of dough (stands 2) (1 ∷ 1 ∷ []) (1 ∷ 1 ∷ []) ≡ given (negsuc 399) (pos 500)
   -- 22 reads the highs: a state whose weight may be above 0 is to be covered
-  may-be-unripe : (within_of dough (stands 1) (0 ∷ 1 ∷ []) (1 ∷ 1 ∷ [])).verdict ≡ Refused 22 0
+  may-be-unripe : within_of dough (stands 1) (0 ∷ 1 ∷ []) (1 ∷ 1 ∷ []) ≡ refused 22
   surely-ripe : within_of dough (stands 1) (0 ∷ 1 ∷ []) (0 ∷ 1 ∷ []) ≡ given (negsuc 99) (pos 600)
   -- 17 reads the highs, and comes before 22
-  high-too-large : (within_of dough (stands 1) (0 ∷ 0 ∷ []) (1 ∷ 1_000_001 ∷ [])).verdict ≡ Refused 17 0
-  no-weight : (within_of dough (stands 2) (0 ∷ 0 ∷ []) (0 ∷ 0 ∷ [])).verdict ≡ Refused 17 0
+  high-too-large : within_of dough (stands 1) (0 ∷ 0 ∷ []) (1 ∷ 1_000_001 ∷ []) ≡ refused 17
+  no-weight : within_of dough (stands 2) (0 ∷ 0 ∷ []) (0 ∷ 0 ∷ []) ≡ refused 17
   no-low : within_of dough (stands 2) (0 ∷ 0 ∷ []) (1 ∷ 1 ∷ []) ≡ given (negsuc 999) (pos 600)
   -- 24 comes before 17
-  low-above-high : (within_of dough (stands 2) (2 ∷ 0 ∷ []) (1 ∷ 1_000_001 ∷ [])).verdict ≡ Refused 24 0
+  low-above-high : within_of dough (stands 2) (2 ∷ 0 ∷ []) (1 ∷ 1_000_001 ∷ []) ≡ refused 24
   -- a missing weight is 0 for 24, then gets 17
-  high-missing : (within_of dough (stands 2) (0 ∷ 1 ∷ []) (1 ∷ [])).verdict ≡ Refused 24 0
-  both-missing : (within_of dough (stands 2) (0 ∷ []) (1 ∷ [])).verdict ≡ Refused 17 0
-  low-missing : (within_of dough (stands 2) (0 ∷ []) (1 ∷ 1 ∷ [])).verdict ≡ Refused 17 0
+  high-missing : within_of dough (stands 2) (0 ∷ 1 ∷ []) (1 ∷ []) ≡ refused 24
+  both-missing : within_of dough (stands 2) (0 ∷ []) (1 ∷ []) ≡ refused 17
+  low-missing : within_of dough (stands 2) (0 ∷ []) (1 ∷ 1 ∷ []) ≡ refused 17
   -- 16 comes before 24
-  level-0 : (within_of dough fresh (2 ∷ 0 ∷ []) (1 ∷ 1 ∷ [])).verdict ≡ Refused 16 0
+  level-0 : within_of dough fresh (2 ∷ 0 ∷ []) (1 ∷ 1 ∷ []) ≡ refused 16
 
 table : Table
 unfolding dough slices rows_at fresh stands

@@ -3,9 +3,9 @@
 --   RangesHold    ranges at which totals are asked for
 --   WithinHolds   what holds of an answer: every mixture inside the ranges has its best plan between the two totals
 --   WithinClaim   the claim over the whole list
-use Rattle.std.specs.Prelude.{ℕ, ◌<◌, ◌≡◌, true, List}
+use Rattle.std.specs.Prelude.{ℕ, ◌<◌, ◌≡◌, true, List, Result, Ok}
 use Rattle.tables.specs.Tables.{Tables}
-use Rattle.tables.specs.declared.Verdict.TheVariants.{Fine}
+use Rattle.refusals.specs.declared.Refusal.{Refusal}
 use Rattle.tables.specs.Storage.{weight_in, model_of}
 use Rattle.plans.specs.Totals.{some_counts}
 use Rattle.plans.specs.Intervals.{lower_within, upper_within, Inside, Between}
@@ -20,12 +20,13 @@ pub record RangesHold (m : Tables) (c : Claim) (lows highs : List ℕ) : Type 0 
   pub limits : highs_hold m.states lows highs ≡ true
   pub counted : some_counts (model_of m) c.level (weight_in highs) ≡ true
 
--- totals r within ranges: given, those of the level that is claimed, and at every mixture b inside a bracket of what the best of all t-step plans of the
--- model earns
-pub record WithinHolds (m : Tables) (t : ℕ) (c : Claim) (lows highs : List ℕ) (r : Enclosing) : Type 0 where
-  pub given : r.verdict ≡ Fine
-  pub lower_is : r.lower ≡ lower_within (model_of m) c.level (weight_in lows) (weight_in highs)
-  pub upper_is : r.upper ≡ upper_within (model_of m) c.level (weight_in lows) (weight_in highs)
+-- an answer r within ranges: given, with the totals of the level that is claimed, and at every mixture b inside a bracket of what the best of all t-step
+-- plans of the model earns
+pub record WithinHolds (m : Tables) (t : ℕ) (c : Claim) (lows highs : List ℕ) (r : Result Enclosing Refusal) : Type 0 where
+  pub answer : Enclosing
+  pub given : r ≡ Ok answer
+  pub lower_is : answer.lower ≡ lower_within (model_of m) c.level (weight_in lows) (weight_in highs)
+  pub upper_is : answer.upper ≡ upper_within (model_of m) c.level (weight_in lows) (weight_in highs)
   pub between : (b : ℕ → ℕ) → Inside m.states (weight_in lows) (weight_in highs) b
       → Between (model_of m) t c.level (weight_in lows) (weight_in highs) b
 

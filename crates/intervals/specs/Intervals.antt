@@ -1,12 +1,11 @@
--- Weights known within ranges: what is refused, 7, 16, 24, 17 and 22 in this order, and the answer, on success and on refusal, in every field.
-use Rattle.std.specs.Prelude.{ℕ, Bool, ◌&&◌, List, leb, length, pos}
+-- Weights known within ranges: what is refused, 7, 16, 24, 17 and 22 in this order, and the answer, on success and on refusal.
+use Rattle.std.specs.Prelude.{ℕ, Bool, ◌&&◌, List, leb, length, Result, Ok, Err}
 use Rattle.integers.specs.Search.{every}
 use Rattle.tables.specs.Tables.{Tables}
-use Rattle.tables.specs.declared.Verdict.{Verdict}
-use Rattle.tables.specs.declared.Verdict.TheVariants.{Fine, Refused}
+use Rattle.refusals.specs.declared.Refusal.{Refusal}
+use Rattle.refusals.specs.Verdicts.{Verdict, ◌before◌, unless}
 use Rattle.tables.specs.Model.{Model}
 use Rattle.tables.specs.Storage.{weight_in, model_of}
-use Rattle.tables.specs.Verdicts.{◌before◌, unless}
 use Rattle.plans.specs.Level.{Level}
 use Rattle.plans.specs.Totals.{some_counts}
 use Rattle.plans.specs.Intervals.{lower_within, upper_within}
@@ -30,15 +29,11 @@ within_verdict m x lows highs =
     before unless (highs_hold m.states lows highs) 17 0
     before unless (some_counts (model_of m) (level_of m (standing_in x)) (weight_in highs)) 22 0
 
--- a refusal of which every other part is 0
-abbrev pub no_totals : Verdict → Enclosing
-no_totals v = record { verdict = v; lower = pos 0; upper = pos 0 }
-
 -- the totals of a level, or a refusal
-abbrev pub within_by : Verdict → Model → Level → (ℕ → ℕ) → (ℕ → ℕ) → Enclosing
-within_by Fine M L low high = record { verdict = Fine; lower = lower_within M L low high; upper = upper_within M L low high }
-within_by (Refused number place) M L low high = no_totals (Refused number place)
+abbrev pub within_by : Verdict → Model → Level → (ℕ → ℕ) → (ℕ → ℕ) → Result Enclosing Refusal
+within_by (Ok u) M L low high = Ok (record { lower = lower_within M L low high; upper = upper_within M L low high })
+within_by (Err e) M L low high = Err e
 
 -- the answer: the totals of the standing level
-unfoldable pub within_of : Tables → Lent → List ℕ → List ℕ → Enclosing
+unfoldable pub within_of : Tables → Lent → List ℕ → List ℕ → Result Enclosing Refusal
 within_of m x lows highs = within_by (within_verdict m x lows highs) (model_of m) (level_of m (standing_in x)) (weight_in lows) (weight_in highs)

@@ -1,8 +1,8 @@
 -- Totals within ranges over storage, and what keeps them within 64 bits.
-use Rattle.std.specs.Prelude.{ℕ, ◌≤◌, ◌<◌, Bool, true, false, List, get_or, ℤ, pos, negsuc}
+use Rattle.std.specs.Prelude.{ℕ, ◌≤◌, ◌<◌, Bool, true, false, List, get_or, ℤ, pos, negsuc, Result, Ok, Err}
 use Rattle.integers.specs.Whole.{Below}
 use Rattle.integers.specs.Search.{first_largest_of}
-use Rattle.tables.specs.declared.Verdict.TheVariants.{Fine, Refused}
+use Rattle.refusals.specs.declared.Refusal.{Refusal}
 use Rattle.tables.specs.Limits.{max_states, max_weight}
 use Rattle.tables.specs.Storage.{weight_in}
 use Rattle.masks.specs.Masks.{masked_in}
@@ -12,7 +12,7 @@ use Rattle.levels.specs.Storage.{corner_in}
 use Rattle.sawtooth.specs.Steps.{CornersFit}
 use Rattle.bounds.specs.Steps.{support_in, widened}
 use Rattle.intervals.specs.declared.Enclosing.{Enclosing}
-use Rattle.intervals.specs.Intervals.{ranges_hold, highs_hold, no_totals}
+use Rattle.intervals.specs.Intervals.{ranges_hold, highs_hold}
 
 -- the weight that an entry takes: one for entries of 0 or more, another for those below
 unfoldable pub weight_for : ℕ → ℕ → ℤ → ℕ
@@ -42,19 +42,19 @@ upper_in_ranges n corners lows highs = least_product n (weight_in highs) (weight
 -- both totals
 abbrev pub totals_in : ℕ → ℕ → List ℕ → List ℤ → List ℤ → List ℕ → List ℕ → ℕ → Enclosing
 totals_in n vectors masks entries corners lows highs states =
-    record { verdict = Fine; lower = lower_in_ranges n vectors masks entries lows highs states; upper = upper_in_ranges n corners lows highs }
+    record { lower = lower_in_ranges n vectors masks entries lows highs states; upper = upper_in_ranges n corners lows highs }
 
 -- an answer, or a refusal without a place where a test does not hold
-abbrev pub given_if : Bool → ℕ → Enclosing → Enclosing
+abbrev pub given_if : Bool → ℕ → Result Enclosing Refusal → Result Enclosing Refusal
 given_if true number r = r
-given_if false number r = no_totals (Refused number 0)
+given_if false number r = Err (record { 0 = number; 1 = 0 })
 
 -- the answer: 24, 17, then 22, else both totals
-abbrev pub answer_within : ℕ → ℕ → List ℕ → List ℤ → List ℤ → List ℕ → List ℕ → Enclosing
+abbrev pub answer_within : ℕ → ℕ → List ℕ → List ℤ → List ℤ → List ℕ → List ℕ → Result Enclosing Refusal
 answer_within n vectors masks entries corners lows highs =
     let states = support_in n (widened n highs) in
     given_if (ranges_hold n lows highs) 24 (given_if (highs_hold n lows highs) 17 (given_if (some_includes masks vectors states) 22
-    (totals_in n vectors masks entries corners (widened n lows) (widened n highs) states)))
+    (Ok (totals_in n vectors masks entries corners (widened n lows) (widened n highs) states))))
 
 -- a standing level's vectors and corners in slices, within the limits
 pub record AskedWithin (n vectors : ℕ) (masks : List ℕ) (entries corners : List ℤ) : Type 0 where

@@ -11,16 +11,16 @@ ghost use Rattle.plans.specs.Intervals.{least_product};
 ghost use Rattle.levels.specs.Storage.{Lent, cells, rows, lent};
 ghost use Rattle.runs.specs.Demand3.{ModelAccepted, Event, certifier, after, steps, claim};
 ghost use Rattle.bounds.specs.Steps.{support_in};
-ghost use Rattle.intervals.specs.Intervals.{ranges_hold, highs_hold, no_totals, within_of};
+ghost use Rattle.intervals.specs.Intervals.{ranges_hold, highs_hold, within_of};
 ghost use Rattle.intervals.specs.Claim.{RangesHold, WithinHolds};
 ghost use Rattle.intervals.specs.Steps.{weight_for, Ranged, lower_in_ranges, totals_in, answer_within, AskedWithin};
 
-use tables::{Counts, Verdict, read};
+use refusals::Refusal;
+use tables::{Counts, read};
 
 // The totals over all mixtures inside the ranges.
 #[derive(Clone, Copy)]
 pub struct Enclosing {
-    pub verdict: Verdict,
     pub lower: i64,
     pub upper: i64,
 }
@@ -32,7 +32,7 @@ fn weight_at(cells: &[u32], s: usize) -> u64
     if cells.len() <= s {
         return 0;
     }
-    weights::weight(cells[s])
+    u64::from(cells[s])
 }
 
 // 24: whether no low exceeds its high.
@@ -133,20 +133,8 @@ fn totals_at<'b>(
         ≡ totals_in n vectors masks.now entries.now corners.now lows.now highs.now states }
 {
     Enclosing {
-        verdict: Verdict::Fine,
         lower: surest_product(lows, highs, masks, entries, n, vectors, states),
         upper: sure_product(highs, lows, corners, 0, n),
-    }
-}
-
-// A refusal, with every other part 0.
-fn no_totals(v: Verdict) -> Enclosing
-    ensures { result ≡ no_totals v }
-{
-    Enclosing {
-        verdict: v,
-        lower: 0,
-        upper: 0,
     }
 }
 
@@ -159,23 +147,23 @@ fn answer<'b, 'c>(
     vectors: usize,
     lows: &'c [u32],
     highs: &'c [u32],
-) -> Enclosing
+) -> Result<Enclosing, Refusal>
     requires { AskedWithin n vectors masks.now entries.now corners.now }
     ensures { result ≡ answer_within n vectors masks.now entries.now corners.now lows.now highs.now }
 {
     if !ranges_hold(lows, highs, n) {
-        return no_totals(Verdict::Refused(24, 0));
+        return Err(Refusal(24, 0));
     }
     if !highs_hold(lows, highs, n) {
-        return no_totals(Verdict::Refused(17, 0));
+        return Err(Refusal(17, 0));
     }
     let low = weights::point_weights(lows, n, 0);
     let high = weights::point_weights(highs, n, 0);
     let states = masks::support(&high, n);
     if !masks::some_has(masks, vectors, states) {
-        return no_totals(Verdict::Refused(22, 0));
+        return Err(Refusal(22, 0));
     }
-    totals_at(masks, entries, corners, &low, &high, n, vectors, states)
+    Ok(totals_at(masks, entries, corners, &low, &high, n, vectors, states))
 }
 
 // The lower and the upper total of weights known within ranges of any content, or refused by 7, 16, 24, 17 or 22.
@@ -195,7 +183,7 @@ pub fn totals_within<'a, 'b, 'c>(
     qmdp: &'b [i64],
     lows: &'c [u32],
     highs: &'c [u32],
-) -> Enclosing
+) -> Result<Enclosing, Refusal>
     ensures { (choices : List ℕ) →
         let m = tables_in c transition.now observation.now reward.now in
         let standing = lent state.now (cells actions.now choices masks.now entries.now corners.now
@@ -205,7 +193,7 @@ pub fn totals_within<'a, 'b, 'c>(
         → RangesHold m (claim m₀ x es) lows.now highs.now
         → WithinHolds m (steps m₀ x es) (claim m₀ x es) lows.now highs.now result) }
 {
-    let standing = asking::judge_standing(
+    asking::judge_standing(
         transition,
         observation,
         reward,
@@ -219,10 +207,7 @@ pub fn totals_within<'a, 'b, 'c>(
         values,
         informed,
         qmdp,
-    );
-    let Verdict::Fine = standing else {
-        return no_totals(standing);
-    };
+    )?;
     let s = levels::standing_in(state);
     answer(masks, entries, corners, c.states, s.vectors, lows, highs)
 }

@@ -3,15 +3,13 @@
 -- In order: the stages as the code goes through them; what is lent to the tests of 21 and 13 to 15.
 use Rattle.integers.proofs.Kit.{◌≡◌, [], ℕ, ◌≤◌, ◌<◌, ◌+◌, arith, length}
 use Rattle.tables.specs.Tables.{Tables}
-use Rattle.tables.specs.declared.Verdict.{Verdict}
-use Rattle.tables.specs.declared.Verdict.TheVariants.{Fine, Refused}
+use Rattle.refusals.specs.Verdicts.{Verdict, Fine, Refused, ◌before◌}
 use Rattle.tables.specs.Limits.{max_vectors, max_levels}
 use Rattle.tables.specs.Model.{Model}
 use Rattle.tables.specs.Storage.{counts_of, model_in, model_of}
-use Rattle.tables.specs.Verdicts.{◌before◌}
 use Rattle.tables.specs.Steps.{rows_to}
 use Rattle.tables.proofs.Fitting.{rows-stored}
-use Rattle.tables.proofs.Refusals.{stops, goes}
+use Rattle.refusals.proofs.Refusals.{stops, goes}
 use Rattle.plans.specs.Level.{Level, Shaped, ceiling, gain, backup_at, follows}
 use Rattle.plans.proofs.Built.{shaped-mono}
 use Rattle.levels.specs.Storage.{LentLevel, Lent, level_of, floor_in, roof_in, number_in, standing_in}

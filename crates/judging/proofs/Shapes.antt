@@ -2,10 +2,9 @@
 use Rattle.integers.proofs.Kit.{◌≡◌, ap, true, false, ◌≤◌, ◌<◌, ◌+◌, arith, lt-ltb, le-ltb}
 use Rattle.integers.proofs.Searches.{and_is}
 use Rattle.tables.specs.Tables.{Tables}
-use Rattle.tables.specs.declared.Verdict.{Verdict}
-use Rattle.tables.specs.declared.Verdict.TheVariants.{Refused}
+use Rattle.refusals.specs.Verdicts.{Verdict, Refused}
 use Rattle.tables.specs.Limits.{max_states, max_observations, max_vectors, max_levels}
-use Rattle.tables.proofs.Refusals.{breaks, passes}
+use Rattle.refusals.proofs.Refusals.{breaks, passes}
 use Rattle.plans.specs.Limits.{max_points}
 use Rattle.levels.specs.declared.Standing.{Standing}
 use Rattle.levels.specs.Storage.{LentLevel, Lent, level_of, number_in, standing_at, lent_for, complete}

@@ -2,17 +2,17 @@
 #![tactic(auto)]
 
 ghost use Rattle.std.specs.Prelude.{◌≡◌, true, ◌*◌, ◌≤◌, length};
-ghost use Rattle.tables.specs.declared.Verdict.TheVariants.{Fine};
+ghost use Rattle.refusals.specs.Verdicts.{Fine, ◌before◌};
 ghost use Rattle.tables.specs.Limits.{max_states, max_observations, max_vectors, max_levels};
 ghost use Rattle.tables.specs.Storage.{model_of, tables_in};
 ghost use Rattle.plans.specs.Limits.{max_points};
-ghost use Rattle.tables.specs.Verdicts.{◌before◌};
 ghost use Rattle.columns.specs.Columns.{list_holds, handed_list};
 ghost use Rattle.levels.specs.Storage.{cells, rows, lent_for, level_in, level_of, lent, standing_in};
 ghost use Rattle.levels.specs.Judged.{level_verdict, shape_verdict, backups_verdict, offer_verdict};
 
 use levels::{Level, shape};
-use tables::{Counts, Verdict};
+use refusals::{Refusal, Verdict};
+use tables::Counts;
 
 // 10 to 12: the numbers of an offered level by themselves, at level t over so many standing vectors.
 fn judge_level<'a>(
@@ -38,7 +38,7 @@ fn judge_level<'a>(
         actions.now choices.now masks.now entries.now corners.now points weights.now
         values.now) }
 {
-    let numbers = shape::numbers_exist(
+    shape::numbers_exist(
         actions,
         choices,
         vectors,
@@ -46,16 +46,10 @@ fn judge_level<'a>(
         c.observations,
         standing,
         10,
-    );
-    let Verdict::Fine = numbers else {
-        return numbers;
-    };
-    let ranges = standing::ranges_hold(
+    )?;
+    standing::ranges_hold(
         masks, entries, corners, weights, values, c.states, vectors, points, t,
-    );
-    let Verdict::Fine = ranges else {
-        return ranges;
-    };
+    )?;
     weights::weights_hold(weights, c.states, points)
 }
 
@@ -107,14 +101,14 @@ fn judge_shape<'a, 'b, 'c>(
         informed,
         qmdp,
     ) {
-        return Verdict::Refused(7, 0);
+        return Err(Refusal(7, 0));
     }
     let s = levels::standing_in(state);
     if Level::LEVELS <= s.number {
-        return Verdict::Refused(8, 0);
+        return Err(Refusal(8, 0));
     }
     if !shape::counts_hold(vectors, points) {
-        return Verdict::Refused(9, 0);
+        return Err(Refusal(9, 0));
     }
     if !shape::complete(
         c.states,
@@ -129,7 +123,7 @@ fn judge_shape<'a, 'b, 'c>(
         newweights.len(),
         newvalues.len(),
     ) {
-        return Verdict::Refused(9, 0);
+        return Err(Refusal(9, 0));
     }
     if !shape::complete(
         c.states,
@@ -144,7 +138,7 @@ fn judge_shape<'a, 'b, 'c>(
         weights.len(),
         values.len(),
     ) {
-        return Verdict::Refused(9, 0);
+        return Err(Refusal(9, 0));
     }
     judge_level(
         newactions,
@@ -203,7 +197,7 @@ fn judge_backups<'a, 'b, 'c>(
         result ≡ backups_verdict (model_of m) (level_of m (standing_in x)) (level_of m l) }
 {
     let s = levels::standing_in(state);
-    let reached = reaches::masks_hold(
+    reaches::masks_hold(
         transition,
         list,
         observation,
@@ -213,11 +207,8 @@ fn judge_backups<'a, 'b, 'c>(
         newmasks,
         c,
         vectors,
-    );
-    let Verdict::Fine = reached else {
-        return reached;
-    };
-    let floor = floors::floors_hold(
+    )?;
+    floors::floors_hold(
         transition,
         list,
         observation,
@@ -230,10 +221,7 @@ fn judge_backups<'a, 'b, 'c>(
         newentries,
         c,
         vectors,
-    );
-    let Verdict::Fine = floor else {
-        return floor;
-    };
+    )?;
     roofs::roof_holds(
         transition,
         list,
@@ -286,9 +274,9 @@ pub fn judge_offer<'a, 'b, 'c>(
         result ≡ (handed_list m list.now before offer_verdict m x l) }
 {
     if !lists::holds(transition, list, observation, reward, c) {
-        return Verdict::Refused(7, 0);
+        return Err(Refusal(7, 0));
     }
-    let shape = judge_shape(
+    judge_shape(
         transition,
         observation,
         reward,
@@ -312,10 +300,7 @@ pub fn judge_offer<'a, 'b, 'c>(
         newcorners,
         newweights,
         newvalues,
-    );
-    let Verdict::Fine = shape else {
-        return shape;
-    };
+    )?;
     judge_backups(
         transition,
         list,

@@ -15,7 +15,7 @@ fn main(rt: HostRuntime) {
             return;
         }
     }
-    if !printing::answer(&rt, &file[..n]) {
+    if printing::answer(&rt, &file[..n]).is_err() {
         streams::tell_unwritten(&rt);
     }
 }

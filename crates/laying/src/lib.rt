@@ -73,11 +73,11 @@ pub fn lay_level<'b>(
         values.new
         ≡ laid_by n k vectors points new x }
 {
-    cells::paste_u8(actions, 0, newactions, vectors);
-    cells::paste_u16(choices, 0, newchoices, vectors * k);
+    cells::paste(actions, 0, newactions, vectors);
+    cells::paste(choices, 0, newchoices, vectors * k);
     lay_masks(masks, newmasks, vectors, n);
     lay_entries(entries, newmasks, newentries, vectors, n);
-    cells::paste_i64(corners, 0, newcorners, n);
-    cells::paste_u32(weights, 0, newweights, points * n);
-    cells::paste_i64(values, 0, newvalues, points);
+    cells::paste(corners, 0, newcorners, n);
+    cells::paste(weights, 0, newweights, points * n);
+    cells::paste(values, 0, newvalues, points);
 }

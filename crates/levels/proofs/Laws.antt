@@ -3,10 +3,8 @@ use Rattle.integers.proofs.Kit.{◌≡◌, true, false, Bool, ◌||◌, ℕ, ◌
 use mathlib.Core.Bool.{not}
 use Rattle.integers.proofs.Searches.{every-at}
 use Rattle.tables.specs.Model.{Model}
-use Rattle.tables.specs.declared.Verdict.{Verdict}
-use Rattle.tables.specs.declared.Verdict.TheVariants.{Fine, Refused}
-use Rattle.tables.specs.Verdicts.{◌before◌, unless}
-use Rattle.tables.proofs.Refusals.{before-fine, unless-fine, fine-at}
+use Rattle.refusals.specs.Verdicts.{Verdict, Fine, Refused, ◌before◌, unless}
+use Rattle.refusals.proofs.Refusals.{before-fine, unless-fine, fine-at}
 use Rattle.plans.specs.Level.{Level}
 use Rattle.levels.specs.Judged.{numbers_in, masks_verdict}
 

@@ -3,11 +3,9 @@
 use Rattle.integers.proofs.Kit.{◌≡◌, refl, true, Bool, false, ℕ, ℤ, pos, negsuc}
 use Rattle.integers.specs.Whole.{◌·◌, sum_to, total_to, largest_to}
 use Rattle.integers.specs.Search.{every}
-use Rattle.tables.specs.declared.Verdict.{Verdict}
-use Rattle.tables.specs.declared.Verdict.TheVariants.{Fine, Refused}
+use Rattle.refusals.specs.Verdicts.{Verdict, Fine, Refused, first_of}
 use Rattle.tables.specs.Limits.{one, K}
 use Rattle.tables.specs.Model.{Model, successor, expected_reward, backup}
-use Rattle.tables.specs.Verdicts.{first_of}
 use Rattle.plans.specs.Limits.{range}
 use Rattle.plans.specs.Level.{Level, product, joined, smallest, or_none, drop, gain, ceiling, backup_at, corner_weight, follows}
 use Rattle.levels.specs.Judged.{rows_within, values_within, ranges_verdict, weights_verdict, numbers_in, level_verdict}

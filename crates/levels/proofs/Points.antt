@@ -4,10 +4,8 @@ use Rattle.integers.proofs.Kit.{◌≡◌, refl, true, false, List, [], ◌∷�
 use Rattle.integers.specs.Whole.{total_to}
 use Rattle.integers.specs.Search.{every}
 use Rattle.tables.specs.Tables.{Tables}
-use Rattle.tables.specs.declared.Verdict.{Verdict}
-use Rattle.tables.specs.declared.Verdict.TheVariants.{Fine, Refused}
+use Rattle.refusals.specs.Verdicts.{Verdict, Fine, Refused, first_of}
 use Rattle.tables.specs.Limits.{one}
-use Rattle.tables.specs.Verdicts.{first_of}
 use Rattle.tables.specs.Judged.{limits_hold, rows_total, tables_verdict}
 use Rattle.masks.specs.Masks.{covered}
 use Rattle.plans.specs.Limits.{range}

@@ -2,7 +2,5 @@
 pub use Rattle.integers.proofs.Kit.{◌≡◌, ◌∙◌, refl, sym, true, List, ℕ, ◌≤◌, ◌-◌, arith, rules, lt-ltb, le-ltb, ltb, length, get_or}
 pub use Rattle.levels.proofs.Laws.{failed, passed}
 pub use Rattle.tables.proofs.Fitting.{rows-stored}
-pub use Rattle.tables.proofs.Refusals.{first-here, first_more, first-none}
-pub use Rattle.tables.specs.Verdicts.{first_of, unless}
-pub use Rattle.tables.specs.declared.Verdict.{Verdict}
-pub use Rattle.tables.specs.declared.Verdict.TheVariants.{Fine}
+pub use Rattle.refusals.proofs.Refusals.{first-here, first_more, first-none}
+pub use Rattle.refusals.specs.Verdicts.{first_of, unless, Verdict, Fine}

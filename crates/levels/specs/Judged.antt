@@ -4,11 +4,10 @@ use Rattle.std.specs.Int.Signed.{le_z}
 use Rattle.integers.specs.Whole.{◌·◌, total_to}
 use Rattle.integers.specs.Search.{every}
 use Rattle.tables.specs.Tables.{Tables}
-use Rattle.tables.specs.declared.Verdict.{Verdict}
+use Rattle.refusals.specs.Verdicts.{Verdict, ◌before◌, unless, first_of, is_fine}
 use Rattle.tables.specs.Limits.{max_vectors, K, max_levels}
 use Rattle.tables.specs.Model.{Model, backup}
 use Rattle.tables.specs.Storage.{entry_in, model_of}
-use Rattle.tables.specs.Verdicts.{◌before◌, unless, first_of, is_fine}
 use Rattle.tables.specs.Judged.{count_within, tables_verdict}
 use Rattle.plans.specs.Limits.{max_points, max_total, range}
 use Rattle.plans.specs.Level.{Level, backup_at, corner_weight, follows}

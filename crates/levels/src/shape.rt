@@ -7,7 +7,8 @@ ghost use Rattle.levels.specs.Storage.{long_enough};
 ghost use Rattle.levels.specs.Judged.{counts_hold, actions_exist, numbers_in};
 
 use super::Level;
-use tables::{Action, Observation, Tables, Vector, Verdict, read};
+use refusals::{Refusal, Verdict};
+use tables::{Action, Observation, Tables, Vector, read};
 
 // 9
 pub fn counts_hold(vectors: usize, points: usize) -> bool
@@ -38,12 +39,7 @@ pub fn actions_exist(actions: &[u8], vectors: usize, m: usize) -> bool
     requires { vectors ≤ length actions.now }
     ensures { result ≡ actions_exist m vectors (λ v. get_or actions.now v 0) }
 {
-    for v in 0..vectors {
-        if m <= action(actions[v]) {
-            return false;
-        }
-    }
-    true
+    actions[..vectors].iter().all(|a| action(*a) < m)
 }
 
 // 10 of a level, 18 of a plan graph: the first vector or node whose action, or a number that it chooses, does not exist.
@@ -60,16 +56,16 @@ pub fn numbers_exist<'a>(
     requires vectors_in_bounds { (vectors ≤ length actions.now) × (vectors * k ≤ length choices.now) }
     ensures { result ≡ numbers_in number vectors m k standing (λ v. get_or actions.now v 0) (choice_in k choices.now) }
 {
-    let mut found = Verdict::Fine;
+    let mut found = Ok(());
     'vectors: for v in 0..vectors {
         if m <= action(actions[v]) {
-            found = Verdict::Refused(number, v);
+            found = Err(Refusal(number, v));
             break 'vectors;
         }
         for o in 0..k {
             let chosen = read::choice_at(choices, k, Vector(v), Observation(o));
             if standing <= chosen.0 {
-                found = Verdict::Refused(number, v);
+                found = Err(Refusal(number, v));
                 break 'vectors;
             }
         }

@@ -6,11 +6,10 @@ use Rattle.integers.specs.Cells.{laid}
 use Rattle.integers.proofs.Lists.{laid-at, laid-length}
 use Rattle.integers.proofs.Searches.{and_is, at_every}
 use Rattle.tables.specs.Tables.{Tables}
-use Rattle.tables.specs.declared.Verdict.TheVariants.{Fine}
+use Rattle.refusals.specs.Verdicts.{Fine, unless}
 use Rattle.tables.specs.Storage.{model_of, transition_in}
-use Rattle.tables.specs.Verdicts.{unless}
 use Rattle.tables.specs.Judged.{tables_verdict}
-use Rattle.tables.proofs.Refusals.{before-fine, unless-fine}
+use Rattle.refusals.proofs.Refusals.{before-fine, unless-fine}
 use Rattle.tables.proofs.Accepted.{tables-valid}
 use Rattle.columns.specs.Columns.{list_of, is_list, turned_back, list_verdict, listed_of, list_holds}
 use Rattle.columns.specs.Steps.{Says}

@@ -2,10 +2,9 @@
 use Rattle.integers.proofs.Kit.{◌≡◌, sym, true, false, Bool, ◌||◌, ◌&&◌, List, ℕ, ◌<◌, arith, length, eqb, ne_eqb, false≢true}
 use Rattle.integers.proofs.Searches.{and-true}
 use Rattle.tables.specs.Tables.{Tables}
-use Rattle.tables.specs.declared.Verdict.TheVariants.{Fine}
+use Rattle.refusals.specs.Verdicts.{Fine, is_fine}
 use Rattle.tables.specs.Model.{Valid}
 use Rattle.tables.specs.Storage.{model_of, transition_in}
-use Rattle.tables.specs.Verdicts.{is_fine}
 use Rattle.tables.specs.Judged.{tables_verdict}
 use Rattle.tables.proofs.Accepted.{tables-valid, tables-stored}
 use Rattle.columns.specs.Columns.{is_list, list_holds}

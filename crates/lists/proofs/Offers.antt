@@ -7,12 +7,11 @@ use Rattle.integers.specs.Whole.{◌·◌, sum_to}
 use Rattle.integers.proofs.Searches.{every-cong}
 use Rattle.integers.proofs.Sums.{sum-cong, total-cong}
 use Rattle.tables.specs.Tables.{Tables}
-use Rattle.tables.specs.declared.Verdict.TheVariants.{Fine}
+use Rattle.refusals.specs.Verdicts.{Fine, unless}
 use Rattle.tables.specs.Limits.{K, max_levels}
 use Rattle.tables.specs.Model.{successor, expected_reward, backup}
 use Rattle.tables.specs.Storage.{model_of}
-use Rattle.tables.specs.Verdicts.{unless}
-use Rattle.tables.proofs.Refusals.{before-fine, before-cong, first_cong}
+use Rattle.refusals.proofs.Refusals.{before-fine, before-cong, first_cong}
 use Rattle.columns.specs.Columns.{turned_back}
 use Rattle.plans.specs.Level.{Level, backup_at, corner_weight, follows}
 use Rattle.plans.proofs.Agreement.{ceiling-weights}

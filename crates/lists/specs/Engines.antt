@@ -5,7 +5,7 @@
 --   ListsHold m      the claim
 use Rattle.std.specs.Prelude.{ℕ, ◌<◌, ◌≡◌, true, List, length, ℤ}
 use Rattle.tables.specs.Tables.{Tables}
-use Rattle.tables.specs.declared.Verdict.TheVariants.{Fine}
+use Rattle.refusals.specs.Verdicts.{Fine}
 use Rattle.tables.specs.Model.{Model, successor, backup}
 use Rattle.tables.specs.Storage.{model_of}
 use Rattle.tables.specs.Judged.{tables_verdict}

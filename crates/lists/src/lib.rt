@@ -5,7 +5,8 @@ ghost use Rattle.std.specs.Prelude.{◌≡◌};
 ghost use Rattle.tables.specs.Storage.{tables_in};
 ghost use Rattle.columns.specs.Columns.{list_verdict, listed_of, list_holds};
 
-use tables::{Counts, Verdict};
+use refusals::{Refusal, Verdict};
+use tables::Counts;
 
 // Writes the list of T over a slice; or refused by 3, 5 or 6 of the tables, or 9 where the slice is too short for it, and unchanged.
 pub fn make<'a>(
@@ -19,15 +20,12 @@ pub fn make<'a>(
     ensures list_after { list.new
         ≡ listed_of (tables_in c transition.now observation.now reward.now) list.old }
 {
-    let tables = validity::judge_tables(transition, observation, reward, c);
-    let Verdict::Fine = tables else {
-        return tables;
-    };
+    validity::judge_tables(transition, observation, reward, c)?;
     if list.len() < columns::size(transition, c.states, c.actions) {
-        return Verdict::Refused(9, 0);
+        return Err(Refusal(9, 0));
     }
     columns::put_list(transition, c.states, c.actions, list);
-    Verdict::Fine
+    Ok(())
 }
 
 // Whether a slice that is handed in with tables is empty, where no list is meant; or the tables are accepted, and it has their list.
@@ -43,9 +41,8 @@ pub fn holds<'a>(
     if list.len() == 0 {
         return true;
     }
-    let tables = validity::judge_tables(transition, observation, reward, c);
-    let Verdict::Fine = tables else {
+    if validity::judge_tables(transition, observation, reward, c).is_err() {
         return false;
-    };
+    }
     columns::is_list(transition, list, c.states, c.actions)
 }

@@ -69,12 +69,7 @@ pub fn some_has(masks: &[u64], vectors: usize, states: u64) -> bool
     requires { vectors ≤ length masks.now }
     ensures { result ≡ some_includes masks.now vectors states }
 {
-    for v in 0..vectors {
-        if has(masks[v], states) {
-            return true;
-        }
-    }
-    false
+    masks[..vectors].iter().any(|mask| has(*mask, states))
 }
 
 // The entry of a vector at a state, or 0 where it does not cover the state.

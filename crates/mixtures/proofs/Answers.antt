@@ -1,18 +1,19 @@
 -- Laws of the answers at many mixtures. Assumes nothing.
 --
 -- In order: the mixtures; the slices that are written; each way out.
+use Rattle.std.specs.Prelude.{Result, Err}
 use Rattle.integers.proofs.Kit.{◌≡◌, ◌∙◌, ap, sym, true, false, List, ℕ, ◌≤◌, ◌<◌, ◌+◌, ◌*◌, ◌/◌, arith, le-leb, leb-true, lt-leb, leb, length}
 use Rattle.integers.proofs.Kit.{set, ℤ, pos}
 use native.Mathlib.Nat as NatL
 use Rattle.integers.proofs.Lists.{laid_none, laid-turn, laid-length, laid-cong}
 use Rattle.integers.proofs.Searches.{and-true}
 use Rattle.tables.specs.Tables.{Tables}
-use Rattle.tables.specs.declared.Verdict.{Verdict}
-use Rattle.tables.specs.declared.Verdict.TheVariants.{Fine, Refused}
-use Rattle.tables.proofs.Refusals.{stops, goes, breaks, passes}
+use Rattle.refusals.specs.declared.Refusal.{Refusal}
+use Rattle.refusals.specs.Verdicts.{Verdict, Fine, Refused}
+use Rattle.refusals.proofs.Refusals.{goes, breaks, passes}
 use Rattle.levels.specs.Storage.{Lent}
 use Rattle.runs.specs.declared.Bounds.{Bounds}
-use Rattle.runs.specs.State.{totals_of, standing_verdict}
+use Rattle.runs.specs.State.{numbers_of, totals_of, standing_verdict}
 use Rattle.tables.specs.Storage.{row_in}
 use Rattle.mixtures.specs.Each.{Answers, answers, room_for_answers, refusal_in, answers_laid, each_verdict, each_of}
 
@@ -52,8 +53,8 @@ pub record AnswersAsLong (y z : Answers) : Type 0 where
   pub upper : length z.upper ≡ length y.upper
   pub advice : length z.advice ≡ length y.advice
 
-pub written-long : (answer : ℕ → Bounds) (y : Answers) {z : Answers} {i count : ℕ} → z ≡ answers_laid answer i y → AnswersRoom count y → i ≤ count
-    → AnswersAsLong y z
+pub written-long : (answer : ℕ → Result Bounds Refusal) (y : Answers) {z : Answers} {i count : ℕ} → z ≡ answers_laid answer i y → AnswersRoom count y
+    → i ≤ count → AnswersAsLong y z
 written-long answer y {z} {i} e room b = rw e record {
   verdicts = laid-length i _ y.verdicts (omega (arith, room.verdicts));
   lower = laid-length i _ y.lower (omega (arith, room.lower));
@@ -61,13 +62,13 @@ written-long answer y {z} {i} e room b = rw e record {
   advice = laid-length i _ y.advice (omega (arith, room.advice));
 }
 
-module _ (answer : ℕ → Bounds) (v₀ : List ℕ) (l₀ u₀ : List ℤ) (a₀ : List ℕ) where
+module _ (answer : ℕ → Result Bounds Refusal) (v₀ : List ℕ) (l₀ u₀ : List ℤ) (a₀ : List ℕ) where
   pub written_none : answers v₀ l₀ u₀ a₀ ≡ answers_laid answer 0 (answers v₀ l₀ u₀ a₀)
   written_none = sym (same (laid_none _ v₀) (laid_none _ l₀) (laid_none _ u₀) (laid_none _ a₀))
 
   pub written-more : {i count k w : ℕ} {v : List ℕ} {l u : List ℤ} {a : List ℕ} {x y : ℤ}
-      → answers v l u a ≡ answers_laid answer i (answers v₀ l₀ u₀ a₀) → AnswersRoom count (answers v₀ l₀ u₀ a₀) → i < count → k ≡ refusal_in (answer i).verdict
-      → x ≡ (answer i).lower → y ≡ (answer i).upper → w ≡ (answer i).action.0
+      → answers v l u a ≡ answers_laid answer i (answers v₀ l₀ u₀ a₀) → AnswersRoom count (answers v₀ l₀ u₀ a₀) → i < count → k ≡ refusal_in (answer i)
+      → x ≡ (numbers_of (answer i)).lower → y ≡ (numbers_of (answer i)).upper → w ≡ (numbers_of (answer i)).action.0
       → answers (set v i k) (set l i x) (set u i y) (set a i w) ≡ answers_laid answer (i + 1) (answers v₀ l₀ u₀ a₀)
   written-more {i} e room b k x y w = same
       (laid-turn _ i v₀ 0 (ap (λ (z : Answers). z.verdicts) e) k (omega (arith, room.verdicts)))
@@ -76,25 +77,25 @@ module _ (answer : ℕ → Bounds) (v₀ : List ℕ) (l₀ u₀ : List ℤ) (a�
       (laid-turn _ i a₀ 0 (ap (λ (z : Answers). z.advice) e) w (omega (arith, room.advice)))
 
 -- alike, where the answers are
-pub written_same : (count : ℕ) (f g : ℕ → Bounds) (y : Answers) → ((i : ℕ) → f i ≡ g i) → answers_laid f count y ≡ answers_laid g count y
+pub written_same : (count : ℕ) (f g : ℕ → Result Bounds Refusal) (y : Answers) → ((i : ℕ) → f i ≡ g i) → answers_laid f count y ≡ answers_laid g count y
 written_same count f g y h = same
-    (laid-cong count _ _ y.verdicts (λ i l. ap (λ (r : Bounds). refusal_in r.verdict) (h i)))
-    (laid-cong count _ _ y.lower (λ i l. ap (λ (r : Bounds). r.lower) (h i)))
-    (laid-cong count _ _ y.upper (λ i l. ap (λ (r : Bounds). r.upper) (h i)))
-    (laid-cong count _ _ y.advice (λ i l. ap (λ (r : Bounds). r.action.0) (h i)))
+    (laid-cong count _ _ y.verdicts (λ i l. ap refusal_in (h i)))
+    (laid-cong count _ _ y.lower (λ i l. ap (λ (r : Result Bounds Refusal). (numbers_of r).lower) (h i)))
+    (laid-cong count _ _ y.upper (λ i l. ap (λ (r : Result Bounds Refusal). (numbers_of r).upper) (h i)))
+    (laid-cong count _ _ y.advice (λ i l. ap (λ (r : Result Bounds Refusal). (numbers_of r).action.0) (h i)))
 
 -- ---- each way out
 module _ (m : Tables) (x : Lent) (packed : List ℕ) (count : ℕ) (y : Answers) where
   -- a refusal leaves the slices
-  pub left_alone : {k i : ℕ} → each_verdict m x packed count y ≡ Refused k i → y ≡ each_of m x packed count y
+  pub left_alone : {e : Refusal} → each_verdict m x packed count y ≡ Err e → y ≡ each_of m x packed count y
   unfolding each_of
   left_alone e = rw e
 
-  module _ {v : Verdict} (e : v ≡ standing_verdict m x) where
-    pub refused-standing : {k i : ℕ} → v ≡ Refused k i → v ≡ each_verdict m x packed count y
-    unfolding each_verdict
-    refused-standing f = stops _ e f
+  pub refused-standing : {e : Refusal} → standing_verdict m x ≡ Err e → each_verdict m x packed count y ≡ Err e
+  unfolding each_verdict
+  refused-standing e = rw e
 
+  module _ {v : Verdict} (e : v ≡ standing_verdict m x) where
     module _ (f : v ≡ Fine) where
       pub refused-17 : leb (count * m.states) (length packed) ≡ false → Refused 17 0 ≡ each_verdict m x packed count y
       unfolding each_verdict

@@ -1,14 +1,13 @@
 -- Many mixtures in one call: the certifier is judged once, and each mixture has the answer that totals give at it.
-use Rattle.std.specs.Prelude.{ℕ, ◌*◌, Bool, ◌&&◌, List, leb, length, ℤ}
+use Rattle.std.specs.Prelude.{ℕ, ◌*◌, Bool, ◌&&◌, List, leb, length, ℤ, Result, Ok, Err}
 use Rattle.integers.specs.Cells.{laid}
 use Rattle.tables.specs.Tables.{Tables}
-use Rattle.tables.specs.declared.Verdict.{Verdict}
-use Rattle.tables.specs.declared.Verdict.TheVariants.{Fine, Refused}
+use Rattle.refusals.specs.declared.Refusal.{Refusal}
+use Rattle.refusals.specs.Verdicts.{Verdict, ◌before◌, unless, left}
 use Rattle.tables.specs.Storage.{row_in}
-use Rattle.tables.specs.Verdicts.{◌before◌, unless, left}
 use Rattle.levels.specs.Storage.{Lent}
 use Rattle.runs.specs.declared.Bounds.{Bounds}
-use Rattle.runs.specs.State.{totals_of, standing_verdict}
+use Rattle.runs.specs.State.{numbers_of, totals_of, standing_verdict}
 
 -- the slices that the answers are written to, with a place for each mixture
 pub record Answers : Type 0 where
@@ -31,18 +30,18 @@ each_verdict m x packed count y =
     before unless (leb (count * m.states) (length packed)) 17 0
     before unless (room_for_answers count (length y.verdicts) (length y.lower) (length y.upper) (length y.advice)) 9 0
 
--- a refusal's number, and 0 where nothing is refused
-abbrev pub refusal_in : Verdict → ℕ
-refusal_in Fine = 0
-refusal_in (Refused number place) = number
+-- a refusal's number, and 0 where totals are given
+abbrev pub refusal_in : Result Bounds Refusal → ℕ
+refusal_in (Ok r) = 0
+refusal_in (Err e) = e.0
 
 -- answers over what the slices held: at place i, that of mixture i
-abbrev pub answers_laid : (ℕ → Bounds) → ℕ → Answers → Answers
+abbrev pub answers_laid : (ℕ → Result Bounds Refusal) → ℕ → Answers → Answers
 answers_laid answer count y = record {
-  verdicts = laid count (λ i. refusal_in (answer i).verdict) y.verdicts;
-  lower = laid count (λ i. (answer i).lower) y.lower;
-  upper = laid count (λ i. (answer i).upper) y.upper;
-  advice = laid count (λ i. (answer i).action.0) y.advice;
+  verdicts = laid count (λ i. refusal_in (answer i)) y.verdicts;
+  lower = laid count (λ i. (numbers_of (answer i)).lower) y.lower;
+  upper = laid count (λ i. (numbers_of (answer i)).upper) y.upper;
+  advice = laid count (λ i. (numbers_of (answer i)).action.0) y.advice;
 }
 
 unfoldable pub each_of : Tables → Lent → List ℕ → ℕ → Answers → Answers

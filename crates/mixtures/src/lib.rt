@@ -5,20 +5,11 @@ ghost use Rattle.std.specs.Prelude.{◌≡◌, List, ℕ, ◌*◌, ◌≤◌, le
 ghost use Rattle.tables.specs.Storage.{tables_in, row_in};
 ghost use Rattle.levels.specs.Storage.{cells, rows, lent};
 ghost use Rattle.bounds.specs.Steps.{answer_in, Asked};
-ghost use Rattle.mixtures.specs.Each.{answers, room_for_answers, refusal_in, answers_laid, each_verdict, each_of};
+ghost use Rattle.mixtures.specs.Each.{answers, room_for_answers, answers_laid, each_verdict, each_of};
 
 use levels::shape;
-use tables::{Counts, Verdict};
-
-// A refusal's number, and 0 where nothing is refused.
-fn refusal_of(v: Verdict) -> u8
-    ensures { result ≡ refusal_in v }
-{
-    match v {
-        Verdict::Fine => 0,
-        Verdict::Refused(number, _) => number,
-    }
-}
+use refusals::{Refusal, Verdict};
+use tables::Counts;
 
 // Whether slices of such lengths have a place for so many answers.
 fn room_for(count: usize, verdicts: usize, lower: usize, upper: usize, advice: usize) -> bool
@@ -65,19 +56,24 @@ fn write_answers<'b>(
         (answers verdicts.old lower.old upper.old advice.old) }
 {
     for i in 0..count {
-        let mixture = cells::row_u32(mixtures, n, i);
-        let b = bounds::answer(
+        let mixture = cells::row(mixtures, n, i);
+        match bounds::answer(
             actions, masks, entries, corners, weights, informed, gains, n, m, vectors, points,
             mixture,
-        );
-        let verdict = b.verdict;
-        let floor = b.lower;
-        let roof = b.upper;
-        let action = b.action;
-        verdicts[i] = refusal_of(verdict);
-        lower[i] = floor;
-        upper[i] = roof;
-        advice[i] = shape::number(action);
+        ) {
+            Ok(totals) => {
+                verdicts[i] = 0;
+                lower[i] = totals.lower;
+                upper[i] = totals.upper;
+                advice[i] = shape::number(totals.action);
+            }
+            Err(Refusal(number, _)) => {
+                verdicts[i] = number;
+                lower[i] = 0;
+                upper[i] = 0;
+                advice[i] = 0;
+            }
+        }
     }
 }
 
@@ -113,7 +109,7 @@ pub fn each<'a, 'b>(
         (result ≡ each_verdict m standing mixtures.now count y)
         × (written ≡ each_of m standing mixtures.now count y) }
 {
-    let standing = asking::judge_standing(
+    asking::judge_standing(
         transition,
         observation,
         reward,
@@ -127,13 +123,10 @@ pub fn each<'a, 'b>(
         values,
         informed,
         qmdp,
-    );
-    let Verdict::Fine = standing else {
-        return standing;
-    };
+    )?;
     let n = c.states;
     if mixtures.len() / n < count {
-        return Verdict::Refused(17, 0);
+        return Err(Refusal(17, 0));
     }
     if !room_for(
         count,
@@ -142,7 +135,7 @@ pub fn each<'a, 'b>(
         upper.len(),
         advice.len(),
     ) {
-        return Verdict::Refused(9, 0);
+        return Err(Refusal(9, 0));
     }
     let s = levels::standing_in(state);
     let gains = ceilings::gains(corners, weights, values, s.points, n);
@@ -150,5 +143,5 @@ pub fn each<'a, 'b>(
         actions, masks, entries, corners, weights, informed, &gains, n, c.actions, s.vectors,
         s.points, mixtures, count, verdicts, lower, upper, advice,
     );
-    Verdict::Fine
+    Ok(())
 }

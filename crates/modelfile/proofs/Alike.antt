@@ -3,9 +3,9 @@
 -- In order: start numbers and statements; what follows the counts, with room or without; headers; the whole file, by wider forms; files that read before.
 use Rattle.integers.proofs.Kit.{◌≡◌, refl, ap, true, false, Bool, cond, List, ℕ, ◌+◌, leb, length, replicate}
 use Rattle.tables.specs.declared.Counts.{Counts}
-use Rattle.tables.specs.declared.Verdict.TheVariants.{Fine}
+use Rattle.refusals.specs.Verdicts.{Fine}
 use Rattle.tables.specs.Limits.{max_states, one}
-use Rattle.tables.proofs.Refusals.{never}
+use Rattle.refusals.proofs.Refusals.{never}
 use Rattle.words.specs.Words.{Words, words_in, between}
 use Rattle.drafts.specs.Drafts.{stated}
 use Rattle.numerals.specs.Numeral.{probability_form, start_form, reward_form}

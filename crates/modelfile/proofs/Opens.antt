@@ -2,6 +2,7 @@
 --
 -- In order: what is read keeps the limits of 3; and the totals are those of 4, 5 and 6; what follows the counts, with rewards in full or not; the whole
 -- file.
+use Rattle.std.specs.Prelude.{Ok, Err}
 use Rattle.integers.proofs.Kit.{◌≡◌, ◌∙◌, refl, ap, sym, subst, true, false, Bool, cond, List, ℕ, ◌≤◌, ◌+◌, ◌*◌, arith, le-leb, eqb-true}
 use Rattle.integers.proofs.Kit.{leb, length, get_or, replicate, pos, nat_abs}
 use Rattle.integers.specs.Whole.{total_to}
@@ -9,15 +10,13 @@ use Rattle.integers.proofs.Lists.{replicate-at}
 use Rattle.integers.proofs.Searches.{and_is, at_every}
 use Rattle.tables.specs.declared.Counts.{Counts}
 use Rattle.tables.specs.Tables.{Tables}
-use Rattle.tables.specs.declared.Verdict.{Verdict}
-use Rattle.tables.specs.declared.Verdict.TheVariants.{Fine, Refused}
+use Rattle.refusals.specs.Verdicts.{Verdict, Fine, ◌before◌, unless}
 use Rattle.tables.specs.Limits.{max_states, max_actions, max_observations, one, max_reward, start_total}
 use Rattle.tables.specs.Storage.{counts_of, model_of, cell_in}
-use Rattle.tables.specs.Verdicts.{◌before◌, unless}
 use Rattle.tables.specs.Judged.{count_within, limits_hold, rows_total, model_verdict}
 use Rattle.tables.specs.Model.{Valid}
 use Rattle.tables.proofs.Accepted.{valid}
-use Rattle.tables.proofs.Refusals.{never, before-fine, unless-fine}
+use Rattle.refusals.proofs.Refusals.{never, before-fine, unless-fine}
 use Rattle.words.specs.Words.{Words, words_in, between}
 use Rattle.numerals.specs.Numeral.{count_form, probability_form}
 use Rattle.grammar.specs.Grammar.{Answer, got, refused, ◌then◌, key, key_named, field}
@@ -146,12 +145,12 @@ pub record FileOpens (r : Room) (f : ModelFile) : Type 0 where
   pub start-total : total_to f.tables.states (λ s. get_or f.start s 0) ≡ start_total
 
 placed-fine : (size : ℕ) (v : Verdict) → placed size v ≡ Fine → v ≡ Fine
-placed-fine size Fine e = refl
-placed-fine size (Refused k i) e = never e
+placed-fine size (Ok u) e = refl
+placed-fine size (Err r) e = never e
 
 all-fine : (b : Bool) (v w : Verdict) → b ≡ true → v ≡ Fine → w ≡ Fine → (unless b 3 0 before v before w) ≡ Fine
-all-fine true Fine w e f g = g
-all-fine true (Refused k i) w e f g = f
+all-fine true (Ok u) w e f g = g
+all-fine true (Err r) w e f g = f
 all-fine false v w e f g = let z : ◌≡◌ {A = ℕ} 0 1 = cc in absurd (omega arith)
 
 -- the totals of a text within the limits, where they are not refused
@@ -178,10 +177,10 @@ pub record BodyHolds (c : Counts) (f : ModelFile) : Type 0 where
 
 module _ (c : Counts) (h : Fits c) (size : ℕ) where
   judged-holds : (t : Text) (v : Verdict) → SmallTables c t.tables → sums_verdict size t ≡ v → (judged_file v t).verdict ≡ Fine → BodyHolds c (judged_file v t)
-  judged-holds t Fine s e f =
+  judged-holds t (Ok u) s e f =
       let z = totals-fine size t (small-limited t.tables h s) e in
       record { read = s; tables-fine = z.0; start-total = z.1 }
-  judged-holds t (Refused k i) s e f = never f
+  judged-holds t (Err r) s e f = never f
 
   ended-holds : (a : Answer Text) → Gives (λ t. SmallTables c t.tables) a → (ended size a).verdict ≡ Fine → BodyHolds c (ended size a)
   ended-holds (got t ws) s e = judged-holds t (sums_verdict size t) s refl e
@@ -195,10 +194,10 @@ module _ (c : Counts) (h : Fits c) (size : ℕ) where
 
 module _ (r : Room) where
   judged-opens : (size : ℕ) (t : Text) (v : Verdict) → Limited r t → sums_verdict size t ≡ v → (judged_file v t).verdict ≡ Fine → FileOpens r (judged_file v t)
-  judged-opens size t Fine l e f =
+  judged-opens size t (Ok u) l e f =
       let z = totals-fine size t l.limits e in
       record { tables-fine = z.0; tables-stored = l.stored; start-total = z.1 }
-  judged-opens size t (Refused k i) l e f = never f
+  judged-opens size t (Err r) l e f = never f
 
   ended-opens : (size : ℕ) (a : Answer Text) → Gives (Limited r) a → (ended size a).verdict ≡ Fine → FileOpens r (ended size a)
   ended-opens size (got t ws) l e = judged-opens size t (sums_verdict size t) l refl e

@@ -1,15 +1,14 @@
 -- What a refused file is answered: its number is 1 to 6, and where its place lies. Assumes nothing.
 --
 -- In order: a statement; the file; the totals; what a refusal says: its number, and its place in a file of so many bytes.
+use Rattle.std.specs.Prelude.{Ok, Err}
 use Rattle.integers.proofs.Kit.{◌≡◌, refl, sym, subst, true, false, Bool, cond, List, ℕ, ◌≤◌, ◌+◌, ◌*◌, suc, zero, arith, add-one}
 use Rattle.integers.proofs.Kit.{leb, eqb, length, get_or, replicate, ℤ}
 use Rattle.integers.specs.Whole.{total_to}
 use Rattle.tables.specs.declared.Counts.{Counts}
-use Rattle.tables.specs.declared.Verdict.{Verdict}
-use Rattle.tables.specs.declared.Verdict.TheVariants.{Fine, Refused}
+use Rattle.refusals.specs.Verdicts.{Verdict, Refused, ◌before◌, unless, first_of}
 use Rattle.tables.specs.Limits.{max_states, one, start_total}
 use Rattle.tables.specs.Storage.{cell_in}
-use Rattle.tables.specs.Verdicts.{◌before◌, unless, first_of}
 use Rattle.tables.specs.Judged.{rows_total}
 use Rattle.words.specs.Words.{Words, word, end, between, words_of, words_in}
 use Rattle.drafts.specs.Drafts.{stated}
@@ -174,12 +173,12 @@ module _ (size : ℕ) where
 -- ---- the totals
 
 abbrev Says : (ℕ → ℕ → Type 0) → Verdict → Type 0
-Says P Fine = Unit
-Says P (Refused n p) = P n p
+Says P (Ok u) = Unit
+Says P (Err e) = P e.0 e.1
 
 says-before : (P : ℕ → ℕ → Type 0) (v w : Verdict) → Says P v → Says P w → Says P (v before w)
-says-before P Fine w h k = k
-says-before P (Refused n p) w h k = h
+says-before P (Ok u) w h k = k
+says-before P (Err e) w h k = h
 
 says-unless : (P : ℕ → ℕ → Type 0) (b : Bool) (n p : ℕ) → P n p → Says P (unless b n p)
 says-unless P true n p h = tt
@@ -208,8 +207,8 @@ total-at : (size n : ℕ) → 4 ≤ n → n ≤ 6 → RefusedAt size n size
 total-at size n h k = record { low = omega arith; high = k; long = λ e. absurd (omega arith); word = λ l m. omega arith; total = λ l. refl }
 
 says-placed : (size number : ℕ) (v : Verdict) → 4 ≤ number → number ≤ 6 → Says (λ k p. k ≡ number) v → Says (RefusedAt size) (placed size v)
-says-placed size number Fine h k e = tt
-says-placed size number (Refused n p) h k e = total-at size n (omega arith) (omega arith)
+says-placed size number (Ok u) h k e = tt
+says-placed size number (Err r) h k e = total-at size r.0 (omega arith) (omega arith)
 
 says-sums : (size : ℕ) (t : Text) → Says (RefusedAt size) (sums_verdict size t)
 unfolding sums_verdict
@@ -225,8 +224,8 @@ says-sums size t =
     (cell_in m.states m.observations m.observation))))
 
 says-judged : (size : ℕ) (v : Verdict) (t : Text) → Says (RefusedAt size) v → Says (RefusedAt size) (judged_file v t).verdict
-says-judged size Fine t h = tt
-says-judged size (Refused n p) t h = h
+says-judged size (Ok u) t h = tt
+says-judged size (Err e) t h = h
 
 says-ended : (size c : ℕ) (a : Answer Text) → Named size c a → Says (RefusedAt size) (ended size a).verdict
 says-ended size c (got t ws) h = says-judged size (sums_verdict size t) t (says-sums size t)

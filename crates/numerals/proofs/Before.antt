@@ -1,6 +1,7 @@
 -- Words that were numbers before a part could be missing and an exponent follow are the same numbers. Assumes nothing.
 --
 -- In order: a plain form reads what it read before; and any form reads what a plain one reads.
+use Rattle.std.specs.Prelude.{Option, Some, None}
 use Prim.Native.Nat.{ℕ, suc, ◌+◌, ◌-◌, ◌*◌, ◌^◌, ◌≤◌}
 use mathlib.Core.Path.{◌≡◌, refl, sym, ap, subst, ◌∙◌}
 use mathlib.Core.Bool.{Bool, true, false, false≢true, ◌&&◌, ◌||◌, cond, and-eq-true_iff}
@@ -11,8 +12,6 @@ use borrow.Author.Tests.{eq-eqb, ne_eqb}
 use lib.Dec.{eqb, leb}
 use lib.ListN.{length, drop}
 use Rattle.words.specs.Class.{class_of}
-use Rattle.numerals.specs.declared.Amount.{Amount}
-use Rattle.numerals.specs.declared.Amount.TheVariants.{Is, Not}
 use Rattle.numerals.specs.declared.Form.{Form}
 use Rattle.numerals.specs.Numeral.{is_digit, is_point, digits, value, fitting, exponent, pointed, enough, after_point, fraction, amount_of}
 use Rattle.numerals.specs.Before.{plain, fraction_before, amount_before}
@@ -21,13 +20,13 @@ use Rattle.numerals.proofs.Laws.{exponent-end, exponent-not}
 -- ---- a plain form reads what it read before
 
 -- a plain number has no exponent: it ends where its digits end
-plain_end : (v k : ℕ) (w : List ℕ) → k ≤ length w → exponent false v (drop k w) ≡ fitting (eqb k (length w)) (Is v)
+plain_end : (v k : ℕ) (w : List ℕ) → k ≤ length w → exponent false v (drop k w) ≡ fitting (eqb k (length w)) (Some v)
 plain_end v k w h =
     elim (dec_lt k (length w)) [
-      | yes l ↦ exponent-not false v w k l (λ e _. false≢true e) ∙ sym (ap (λ (t : Bool). fitting t (Is v)) (ne_eqb k (length w) (λ e. omega arith)))
+      | yes l ↦ exponent-not false v w k l (λ e _. false≢true e) ∙ sym (ap (λ (t : Bool). fitting t (Some v)) (ne_eqb k (length w) (λ e. omega arith)))
       | no n ↦
           let e : k ≡ length w = omega arith in
-          exponent-end false v w k e ∙ sym (ap (λ (t : Bool). fitting t (Is v)) (eq-eqb k (length w) e))
+          exponent-end false v w k e ∙ sym (ap (λ (t : Bool). fitting t (Some v)) (eq-eqb k (length w) e))
     ]
 
 pub digits-short : (w : List ℕ) → digits w ≤ length w
@@ -40,8 +39,8 @@ digits-short (b ∷ w) = either (is_digit (class_of b)) (digits-short w)
     either false h = omega arith
 
 -- the tests of then and now: digits (d, n), a point (p), decimals (q, k), the end (e)
-same_tests : (d p q n k e : Bool) (a : Amount)
-    → fitting d (cond p (fitting (q && (n && k)) (fitting e a)) (fitting n Not)) ≡ fitting (n && d) (fitting (p && (e && (k && q))) a)
+same_tests : (d p q n k e : Bool) (a : Option ℕ)
+    → fitting d (cond p (fitting (q && (n && k)) (fitting e a)) (fitting n None)) ≡ fitting (n && d) (fitting (p && (e && (k && q))) a)
 same_tests false p q false k e a = refl
 same_tests false p q true k e a = refl
 same_tests true false q false k e a = refl
@@ -56,7 +55,7 @@ same_tests true true true true false true a = refl
 same_tests true true true true true false a = refl
 same_tests true true true true true true a = refl
 
-same_whole : (d n : Bool) (a : Amount) → fitting d (fitting n a) ≡ fitting (n && d) a
+same_whole : (d n : Bool) (a : Option ℕ) → fitting d (fitting n a) ≡ fitting (n && d) a
 same_whole false false a = refl
 same_whole false true a = refl
 same_whole true false a = refl
@@ -66,14 +65,14 @@ module _ (form : Form) where
   pointed-plain : (d : Bool) (n whole : ℕ) (w : List ℕ)
       → fitting d (fraction (plain form) n whole w) ≡ fitting (leb 1 n && d) (fraction_before form.places whole w)
   unfolding fraction after_point exponent
-  pointed-plain d n whole [] = same_whole d (leb 1 n) (Is whole)
+  pointed-plain d n whole [] = same_whole d (leb 1 n) (Some whole)
   pointed-plain d n whole (b ∷ w) =
       let p = is_point (class_of b) in
       let q = leb (digits w) form.places in
       let k = leb 1 (digits w) in
       let v = whole + value 0 w * 10 ^ (form.places - digits w) in
-      ap (λ (a : Amount). fitting d (cond p (fitting (q && (leb 1 n && k)) a) (fitting (leb 1 n) Not))) (plain_end v (digits w) w (digits-short w))
-      ∙ same_tests d p q (leb 1 n) k (eqb (digits w) (length w)) (Is v)
+      ap (λ (a : Option ℕ). fitting d (cond p (fitting (q && (leb 1 n && k)) a) (fitting (leb 1 n) None))) (plain_end v (digits w) w (digits-short w))
+      ∙ same_tests d p q (leb 1 n) k (eqb (digits w) (length w)) (Some v)
 
   -- word by word
   pub plain-before : (w : List ℕ) → amount_of (plain form) w ≡ amount_before form w
@@ -83,13 +82,13 @@ module _ (form : Form) where
 -- ---- and any form reads what a plain one reads
 
 -- where the first is a number, the second is the same
-abbrev pub Keeps : Amount → Amount → Type 0
-Keeps (Is v) b = b ≡ Is v
-Keeps Not b = Unit
+abbrev pub Keeps : Option ℕ → Option ℕ → Type 0
+Keeps (Some v) b = b ≡ Some v
+Keeps None b = Unit
 
-fitting-keeps : (s t : Bool) (a b : Amount) → (s ≡ true → t ≡ true) → Keeps a b → Keeps (fitting s a) (fitting t b)
-fitting-keeps true t (Is v) b h k = ap (λ (t : Bool). fitting t b) (h refl) ∙ k
-fitting-keeps true t Not b h k = tt
+fitting-keeps : (s t : Bool) (a b : Option ℕ) → (s ≡ true → t ≡ true) → Keeps a b → Keeps (fitting s a) (fitting t b)
+fitting-keeps true t (Some v) b h k = ap (λ (t : Bool). fitting t b) (h refl) ∙ k
+fitting-keeps true t None b h k = tt
 fitting-keeps false t a b h k = tt
 
 exponent-keeps : (loose : Bool) (v : ℕ) (w : List ℕ) → Keeps (exponent false v w) (exponent loose v w)
@@ -130,7 +129,7 @@ module _ (form : Form) where
 
   -- a word that was a number before is the same number
   pub before-keeps : (w : List ℕ) → Keeps (amount_before form w) (amount_of form w)
-  before-keeps w = subst (λ (a : Amount). Keeps a (amount_of form w)) (plain-before form w) (plain-keeps w)
+  before-keeps w = subst (λ (a : Option ℕ). Keeps a (amount_of form w)) (plain-before form w) (plain-keeps w)
 
-  pub read-before : (w : List ℕ) (v : ℕ) → amount_before form w ≡ Is v → amount_of form w ≡ Is v
-  read-before w v e = subst (λ (a : Amount). Keeps a (amount_of form w)) e (before-keeps w)
+  pub read-before : (w : List ℕ) (v : ℕ) → amount_before form w ≡ Some v → amount_of form w ≡ Some v
+  read-before w v e = subst (λ (a : Option ℕ). Keeps a (amount_of form w)) e (before-keeps w)

@@ -1,6 +1,7 @@
 -- Laws of numbers in words: one digit more or less, and which words are numbers. Assumes nothing.
 --
 -- In order: bytes; digits; digits as they were read; room in 64 bits; an exponent; a point; which words are numbers.
+use Rattle.std.specs.Prelude.{Option, Some, None}
 use Prim.Native.Nat.{ℕ, suc, ◌+◌, ◌-◌, ◌*◌, ◌^◌, ◌/◌, ◌%◌, ◌≤◌, ◌<◌}
 use mathlib.Core.Path.{◌≡◌, refl, sym, ap, subst, ◌∙◌}
 use mathlib.Core.Bool.{Bool, true, false, false≢true, ◌&&◌, ◌||◌, cond, and-eq-true_iff}
@@ -18,8 +19,6 @@ use Rattle.words.specs.Class.{class_of}
 use Rattle.words.specs.declared.Class.{Class}
 use Rattle.words.specs.declared.Class.TheVariants.{Space, Colon, Hash, Digit, Point, Minus, Star, Rest}
 use Rattle.words.proofs.Laws.{by-class, from-here}
-use Rattle.numerals.specs.declared.Amount.{Amount}
-use Rattle.numerals.specs.declared.Amount.TheVariants.{Is, Not}
 use Rattle.numerals.specs.declared.Form.{Form}
 use Rattle.numerals.specs.Numeral.{is_digit, is_point, digits, value, is_minus, negative, fitting}
 use Rattle.numerals.specs.Numeral.{unsigned, scaled, most_power, exponent_mark, powered, exponent, pointed, enough, after_point, fraction, amount_of}
@@ -153,27 +152,27 @@ module _ {form : Form} (short : Short form) where
   pub places-read : form.places ≤ most_read
   places-read = omega (arith, short.few_places, few-read form.loose)
 
-refused : (t : Bool) (a : Amount) → (t ≡ true → ⊥) → fitting t a ≡ Not
+refused : (t : Bool) (a : Option ℕ) → (t ≡ true → ⊥) → fitting t a ≡ None
 refused true a n = absurd (n refl)
 refused false a n = refl
 
 and_is : {s t : Bool} → s ≡ true → t ≡ true → (s && t) ≡ true
 and_is {s} {t} e f = (and-eq-true_iff s t).1 (e, f)
 
-accepted : (t : Bool) (a : Amount) → t ≡ true → fitting t a ≡ a
+accepted : (t : Bool) (a : Option ℕ) → t ≡ true → fitting t a ≡ a
 accepted t a e = ap (λ (t : Bool). fitting t a) e
 
 -- ---- an exponent
 
 module _ {minus : Bool} {u : ℕ} (p v : ℕ) (e : u ≡ 10 ^ p) where
-  pub scaled-times : minus ≡ false → Is (v * u) ≡ scaled minus p v
-  scaled-times t = ap (λ (u : ℕ). Is (v * u)) e ∙ sym (ap (λ (t : Bool). scaled t p v) t)
+  pub scaled-times : minus ≡ false → Some (v * u) ≡ scaled minus p v
+  scaled-times t = ap (λ (u : ℕ). Some (v * u)) e ∙ sym (ap (λ (t : Bool). scaled t p v) t)
 
-  pub scaled-over : minus ≡ true → v % u ≡ 0 → Is (v / u) ≡ scaled minus p v
+  pub scaled-over : minus ≡ true → v % u ≡ 0 → Some (v / u) ≡ scaled minus p v
   scaled-over t z =
-      ap (λ (u : ℕ). Is (v / u)) e ∙ sym (ap (λ (t : Bool). scaled t p v) t ∙ accepted _ _ (eq-eqb _ _ (subst (λ (u : ℕ). v % u ≡ 0) e z)))
+      ap (λ (u : ℕ). Some (v / u)) e ∙ sym (ap (λ (t : Bool). scaled t p v) t ∙ accepted _ _ (eq-eqb _ _ (subst (λ (u : ℕ). v % u ≡ 0) e z)))
 
-  pub scaled-not : minus ≡ true → (v % u ≡ 0 → ⊥) → Not ≡ scaled minus p v
+  pub scaled-not : minus ≡ true → (v % u ≡ 0 → ⊥) → None ≡ scaled minus p v
   scaled-not t n =
       sym (ap (λ (t : Bool). scaled t p v) t ∙ refused _ _ (λ z. n (subst (λ (u : ℕ). v % u ≡ 0) (sym e) (eqb-true _ _ z))))
 
@@ -191,7 +190,7 @@ module _ (v : ℕ) (w u : List ℕ) (e : u ≡ unsigned w) where
       accepted _ _ (and_is (eq-eqb _ _ q.alone) (and_is (eq-eqb _ _ q.digit) (le-leb _ _ q.small)))
       ∙ ap (λ (u : List ℕ). scaled (negative w) (value 0 u) v) (sym e)
 
-  pub powered-not : (Power u → ⊥) → powered v w ≡ Not
+  pub powered-not : (Power u → ⊥) → powered v w ≡ None
   unfolding powered
   powered-not n =
       refused _ _ (λ t.
@@ -199,7 +198,7 @@ module _ (v : ℕ) (w u : List ℕ) (e : u ≡ unsigned w) where
       let q = (and-eq-true_iff (eqb (digits (unsigned w)) 1) (leb (value 0 (unsigned w)) most_power)).0 p.1 in
       n (subst Power (sym e) (record { alone = eqb-true _ _ p.0; digit = eqb-true _ _ q.0; small = leb-true _ _ q.1 })))
 
-pub exponent-end : (loose : Bool) (v : ℕ) (w : List ℕ) (at : ℕ) → at ≡ length w → exponent loose v (drop at w) ≡ Is v
+pub exponent-end : (loose : Bool) (v : ℕ) (w : List ℕ) (at : ℕ) → at ≡ length w → exponent loose v (drop at w) ≡ Some v
 unfolding exponent
 exponent-end loose v w at e = rw (e, drop-length)
 
@@ -211,12 +210,12 @@ module _ (loose : Bool) (v : ℕ) (w : List ℕ) (at : ℕ) (h : at < length w) 
   pub exponent-is : loose ≡ true → get_or w at 0 ≡ exponent_mark → exponent loose v (drop at w) ≡ powered v (drop (at + 1) w)
   exponent-is l e = exponent-in ∙ accepted _ _ (and_is l (eq-eqb _ _ e))
 
-  pub exponent-not : (loose ≡ true → get_or w at 0 ≡ exponent_mark → ⊥) → exponent loose v (drop at w) ≡ Not
+  pub exponent-not : (loose ≡ true → get_or w at 0 ≡ exponent_mark → ⊥) → exponent loose v (drop at w) ≡ None
   exponent-not n =
       exponent-in ∙ refused _ _ (λ e. let p = (and-eq-true_iff loose (eqb (get_or w at 0) exponent_mark)).0 e in n p.0 (eqb-true _ _ p.1))
 
 -- a digit is no `e`
-pub digit-exponent : (loose : Bool) (v : ℕ) (w : List ℕ) (at : ℕ) → 0 < digits (drop at w) → exponent loose v (drop at w) ≡ Not
+pub digit-exponent : (loose : Bool) (v : ℕ) (w : List ℕ) (at : ℕ) → 0 < digits (drop at w) → exponent loose v (drop at w) ≡ None
 digit-exponent loose v w at l =
     elim (dec_lt at (length w)) [
       | yes h ↦ exponent-not loose v w at h (λ _ e. omega (arith, digit-byte (get_or w at 0) (digit-here w at h l)))
@@ -272,7 +271,7 @@ module _ (form : Form) (n whole : ℕ) (w : List ℕ) where
   unfolding after_point
   decimal-is few some = accepted _ _ (and_is (le-leb _ _ few) some)
 
-  pub decimal-not : (digits w ≤ form.places → enough form.loose n (digits w) ≡ true → ⊥) → after_point form n whole w ≡ Not
+  pub decimal-not : (digits w ≤ form.places → enough form.loose n (digits w) ≡ true → ⊥) → after_point form n whole w ≡ None
   unfolding after_point
   decimal-not bad =
       refused _ _ (λ e. let p = (and-eq-true_iff (leb (digits w) form.places) (enough form.loose n (digits w))).0 e in bad (leb-true _ _ p.0) p.1)
@@ -285,18 +284,18 @@ module _ (form : Form) (n whole : ℕ) (w : List ℕ) where
   unfolding fraction
   fraction-plain e h = rw (e, le-leb 1 n h)
 
-  pub fraction-none : pointed w ≡ false → n ≡ 0 → fraction form n whole w ≡ Not
+  pub fraction-none : pointed w ≡ false → n ≡ 0 → fraction form n whole w ≡ None
   unfolding fraction
   fraction-none e h = rw (e, h)
 
-pub digit-fraction : (form : Form) (n whole : ℕ) (w : List ℕ) (at : ℕ) → 0 < digits (drop at w) → fraction form n whole (drop at w) ≡ Not
+pub digit-fraction : (form : Form) (n whole : ℕ) (w : List ℕ) (at : ℕ) → 0 < digits (drop at w) → fraction form n whole (drop at w) ≡ None
 digit-fraction form n whole w at l =
     elim (dec_lt at (length w)) [
       | yes h ↦ either (digit-pointed w at h l)
       | no past ↦ absurd (omega (arith, digits-past w at past))
     ]
   where
-    either : pointed (drop at w) ≡ false → fraction form n whole (drop at w) ≡ Not
+    either : pointed (drop at w) ≡ false → fraction form n whole (drop at w) ≡ None
     either e =
         elim (dec_lt 0 n) [
           | yes k ↦ fraction-plain form n whole (drop at w) e (omega arith) ∙ digit-exponent form.loose whole w at l
@@ -309,6 +308,6 @@ module _ (form : Form) (w : List ℕ) where
   unfolding amount_of
   amount-is h = accepted _ _ (le-leb (digits w) form.digits h)
 
-  pub amount-not : (digits w ≤ form.digits → ⊥) → amount_of form w ≡ Not
+  pub amount-not : (digits w ≤ form.digits → ⊥) → amount_of form w ≡ None
   unfolding amount_of
   amount-not n = refused _ _ (λ e. n (leb-true (digits w) form.digits e))

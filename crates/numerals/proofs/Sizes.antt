@@ -4,6 +4,7 @@
 -- others, less than 10 ^ k × 10 ^ (places - k) = 10 ^ places. Nothing follows them in a form that is not loose. Qed.
 --
 -- In order: digits; numbers.
+use Rattle.std.specs.Prelude.{Option, Some, None}
 use Prim.Native.Nat.{ℕ, suc, ◌+◌, ◌-◌, ◌*◌, ◌^◌, ◌≤◌, ◌<◌}
 use mathlib.Core.Path.{◌≡◌, refl, sym, ap, ◌∙◌}
 use mathlib.Core.Bool.{Bool, true, false, true≢false, ◌&&◌, cond, and-eq-true_iff}
@@ -15,8 +16,6 @@ use lib.Dec.{leb}
 use lib.ListN.{drop}
 use lib.Pow.{pow-add}
 use Rattle.words.specs.Class.{class_of}
-use Rattle.numerals.specs.declared.Amount.{Amount}
-use Rattle.numerals.specs.declared.Amount.TheVariants.{Is, Not}
 use Rattle.numerals.specs.declared.Form.{Form}
 use Rattle.numerals.specs.Numeral.{is_digit, digits, value, fitting, exponent, pointed, enough, after_point, fraction, amount_of}
 use Rattle.numerals.proofs.Laws.{digit-byte, power-least, power-some}
@@ -48,16 +47,16 @@ less-times {v} n u h = omega (arith, add-mul v 1 u, one-mul u, mul-le-mul_right 
 -- ---- numbers
 
 -- what holds of a number, if it is one
-abbrev pub OfNumber : (ℕ → Type 0) → Amount → Type 0
-OfNumber P (Is v) = P v
-OfNumber P Not = Unit
+abbrev pub OfNumber : (ℕ → Type 0) → Option ℕ → Type 0
+OfNumber P (Some v) = P v
+OfNumber P None = Unit
 
 module _ (P : ℕ → Type 0) where
-  of-fitting : (t : Bool) (a : Amount) → (t ≡ true → OfNumber P a) → OfNumber P (fitting t a)
+  of-fitting : (t : Bool) (a : Option ℕ) → (t ≡ true → OfNumber P a) → OfNumber P (fitting t a)
   of-fitting true a h = h refl
   of-fitting false a h = tt
 
-  of-cond : (t : Bool) (a b : Amount) → OfNumber P a → OfNumber P b → OfNumber P (cond t a b)
+  of-cond : (t : Bool) (a b : Option ℕ) → OfNumber P a → OfNumber P b → OfNumber P (cond t a b)
   of-cond true a b h k = h
   of-cond false a b h k = k
 

@@ -1,6 +1,7 @@
 -- What is read is what the word writes, as an exact fraction. Assumes nothing.
 --
 -- In order: a word that is a number; its digits; its exponent; the whole word.
+use Rattle.std.specs.Prelude.{Option, Some, None}
 use Prim.Native.Nat.{ℕ, zero, suc, ◌+◌, ◌-◌, ◌*◌, ◌^◌, ◌/◌, ◌%◌, ◌≤◌}
 use mathlib.Core.Path.{◌≡◌, refl, sym, ap, subst, ◌∙◌}
 use mathlib.Core.Bool.{Bool, true, false, false≢true, ◌&&◌, cond, and-eq-true_iff}
@@ -12,8 +13,6 @@ use borrow.Author.Tests.{eqb-true, ne_eqb, leb-true}
 use lib.Dec.{eqb, leb}
 use lib.ListN.{drop}
 use Rattle.words.specs.Class.{class_of}
-use Rattle.numerals.specs.declared.Amount.{Amount}
-use Rattle.numerals.specs.declared.Amount.TheVariants.{Is, Not}
 use Rattle.numerals.specs.declared.Form.{Form}
 use Rattle.numerals.specs.Numeral.{is_digit, is_point, digits, value, negative, unsigned, fitting, scaled, is_power, powered, exponent_mark, exponent}
 use Rattle.numerals.specs.Numeral.{enough, after_point, fraction, amount_of}
@@ -22,15 +21,15 @@ use Rattle.numerals.proofs.Laws.{digit-byte, point-byte}
 
 -- ---- a word that is a number
 
-abbrev units_of : Amount → ℕ
-units_of (Is v) = v
-units_of Not = 0
+abbrev units_of : Option ℕ → ℕ
+units_of (Some v) = v
+units_of None = 0
 
-abbrev is_number : Amount → Bool
-is_number (Is v) = true
-is_number Not = false
+abbrev is_number : Option ℕ → Bool
+is_number (Some v) = true
+is_number None = false
 
-fitted : (t : Bool) (a : Amount) {x : ℕ} → fitting t a ≡ Is x → (t ≡ true) × (a ≡ Is x)
+fitted : (t : Bool) (a : Option ℕ) {x : ℕ} → fitting t a ≡ Some x → (t ≡ true) × (a ≡ Some x)
 fitted true a e = (refl, e)
 fitted false a e = absurd (false≢true (ap is_number e))
 
@@ -73,14 +72,14 @@ value_after v (b ∷ w) = either (is_digit (class_of b)) (value_after (v * 10 + 
 
 -- ---- its exponent
 
-scaled-worth : (t : Bool) (p v x : ℕ) → scaled t p v ≡ Is x → x * 10 ^ cond t p 0 ≡ v * 10 ^ cond t 0 p
+scaled-worth : (t : Bool) (p v x : ℕ) → scaled t p v ≡ Some x → x * 10 ^ cond t p 0 ≡ v * 10 ^ cond t 0 p
 scaled-worth false p v x e = mul-one x ∙ sym (ap units_of e)
 scaled-worth true p v x e =
-    let f = fitted (eqb (v % 10 ^ p) 0) (Is (v / 10 ^ p)) e in
+    let f = fitted (eqb (v % 10 ^ p) 0) (Some (v / 10 ^ p)) e in
     let q : v / 10 ^ p ≡ x = ap units_of f.1 in
     sym (ap (λ (n : ℕ). n * 10 ^ p) q) ∙ omega (arith, div-add-mod' v (10 ^ p), eqb-true (v % 10 ^ p) 0 f.0) ∙ sym (mul-one v)
 
-powered-worth : (v : ℕ) (w : List ℕ) (x : ℕ) → powered v w ≡ Is x → x * 10 ^ power_down w ≡ v * 10 ^ power_up w
+powered-worth : (v : ℕ) (w : List ℕ) (x : ℕ) → powered v w ≡ Some x → x * 10 ^ power_down w ≡ v * 10 ^ power_up w
 unfolding powered
 powered-worth v w x e = scaled-worth (negative w) (value 0 (unsigned w)) v x (fitted (is_power (unsigned w)) _ e).1
 
@@ -90,7 +89,7 @@ record Scaled (v : ℕ) (t : List ℕ) (x : ℕ) : Type 0 where
   none : decimals t ≡ 0
   worth : x * 10 ^ power_down (power_part t) ≡ v * 10 ^ power_up (power_part t)
 
-exponent-worth : (loose : Bool) (v : ℕ) (t : List ℕ) (x : ℕ) → exponent loose v t ≡ Is x → Scaled v t x
+exponent-worth : (loose : Bool) (v : ℕ) (t : List ℕ) (x : ℕ) → exponent loose v t ≡ Some x → Scaled v t x
 unfolding exponent mantissa decimals power_part value
 exponent-worth loose v [] x e = record { ends = λ u. refl; none = refl; worth = ap (λ (n : ℕ). n * 10 ^ 0) (sym (ap units_of e)) }
 exponent-worth loose v (b ∷ w) x e =
@@ -135,12 +134,12 @@ module _ (form : Form) (u : ℕ) where
   abbrev Worth : List ℕ → ℕ → Type 0
   Worth t x = x * (10 ^ decimals t * 10 ^ power_down (power_part t)) ≡ mantissa u t * 10 ^ power_up (power_part t) * 10 ^ form.places
 
-  plain-worth : (n : ℕ) (t : List ℕ) (x : ℕ) → fitting (leb 1 n) (exponent form.loose (u * 10 ^ form.places) t) ≡ Is x → Worth t x
+  plain-worth : (n : ℕ) (t : List ℕ) (x : ℕ) → fitting (leb 1 n) (exponent form.loose (u * 10 ^ form.places) t) ≡ Some x → Worth t x
   plain-worth n t x e =
       let s = exponent-worth form.loose (u * 10 ^ form.places) t x (fitted (leb 1 n) _ e).1 in
       rw (s.none, s.ends u) (alone x _ u (10 ^ form.places) _ s.worth)
 
-  decimal-worth : (n : ℕ) (w : List ℕ) (x : ℕ) → after_point form n (u * 10 ^ form.places) w ≡ Is x → Worth (46 ∷ w) x
+  decimal-worth : (n : ℕ) (w : List ℕ) (x : ℕ) → after_point form n (u * 10 ^ form.places) w ≡ Some x → Worth (46 ∷ w) x
   unfolding after_point mantissa decimals power_part
   decimal-worth n w x e =
       let k = digits w in
@@ -154,19 +153,19 @@ module _ (form : Form) (u : ℕ) where
       let units : 10 ^ p ≡ 10 ^ (p - k) * 10 ^ k = ap (λ (n : ℕ). 10 ^ n) (sym (sub-add_cancel few)) ∙ power-sum (p - k) k in
       rw (power, all) (beside x _ u (value 0 w) (10 ^ (p - k)) (10 ^ p) (10 ^ k) _ units s.worth)
 
-  fraction-worth : (n : ℕ) (t : List ℕ) (x : ℕ) → fraction form n (u * 10 ^ form.places) t ≡ Is x → Worth t x
+  fraction-worth : (n : ℕ) (t : List ℕ) (x : ℕ) → fraction form n (u * 10 ^ form.places) t ≡ Some x → Worth t x
   unfolding fraction
   fraction-worth n [] x e = plain-worth n [] x e
   fraction-worth n (b ∷ w) x e = either (is_point (class_of b)) refl e
     where
       either : (t : Bool) → is_point (class_of b) ≡ t
-          → cond t (after_point form n (u * 10 ^ form.places) w) (fitting (leb 1 n) (exponent form.loose (u * 10 ^ form.places) (b ∷ w))) ≡ Is x
+          → cond t (after_point form n (u * 10 ^ form.places) w) (fitting (leb 1 n) (exponent form.loose (u * 10 ^ form.places) (b ∷ w))) ≡ Some x
           → Worth (b ∷ w) x
       either true q e = subst (λ (b : ℕ). Worth (b ∷ w) x) (sym (point-byte b q)) (decimal-worth n w x e)
       either false q e = plain-worth n (b ∷ w) x e
 
 -- Its units are its digits, of which the decimals count in smaller units, and the exponent multiplies them or divides them without rest. Qed.
-pub amount-worth : (form : Form) (w : List ℕ) (x : ℕ) → amount_of form w ≡ Is x → IsWorth form.places w x
+pub amount-worth : (form : Form) (w : List ℕ) (x : ℕ) → amount_of form w ≡ Some x → IsWorth form.places w x
 unfolding amount_of
 amount-worth form w x e =
     let f = fitted (leb (digits w) form.digits) _ e in

@@ -1,11 +1,10 @@
 -- Numbers as a word writes them: a whole part, a point and decimals, an exponent.
 use Rattle.std.specs.Prelude.{ℕ, suc, ◌+◌, ◌-◌, ◌*◌, ◌^◌, ◌/◌, ◌%◌, Bool, true, false, ◌&&◌, ◌||◌, cond, List, [], ◌∷◌, length, drop, ℤ, pos, neg_ℤ, eqb, leb}
+use Rattle.std.specs.Prelude.{Option, Some, None}
 use Rattle.words.specs.Class.{class_of}
 use Rattle.words.specs.declared.Class.{Class}
 use Rattle.words.specs.declared.Class.TheVariants.{Space, Colon, Hash, Digit, Point, Minus, Star, Rest}
 use Rattle.numerals.specs.declared.Form.{Form}
-use Rattle.numerals.specs.declared.Amount.{Amount}
-use Rattle.numerals.specs.declared.Amount.TheVariants.{Is, Not}
 
 -- ---- forms: so many digits, then so many decimals; in a loose form one of the two may be missing, and an exponent may follow
 
@@ -81,14 +80,14 @@ signed false v = pos v
 
 -- ---- an exponent
 
-abbrev pub fitting : Bool → Amount → Amount
+abbrev pub fitting : Bool → Option ℕ → Option ℕ
 fitting true a = a
-fitting false a = Not
+fitting false a = None
 
 -- 10 to the power p times v; with a minus v over it, if that is whole
-abbrev pub scaled : Bool → ℕ → ℕ → Amount
-scaled false p v = Is (v * 10 ^ p)
-scaled true p v = fitting (eqb (v % 10 ^ p) 0) (Is (v / 10 ^ p))
+abbrev pub scaled : Bool → ℕ → ℕ → Option ℕ
+scaled false p v = Some (v * 10 ^ p)
+scaled true p v = fitting (eqb (v % 10 ^ p) 0) (Some (v / 10 ^ p))
 
 abbrev pub most_power : ℕ
 most_power = 3
@@ -98,7 +97,7 @@ abbrev pub is_power : List ℕ → Bool
 is_power w = eqb (length w) 1 && (eqb (digits w) 1 && leb (value 0 w) most_power)
 
 -- v, and after its `e` an optional minus and a power of ten
-unfoldable pub powered : ℕ → List ℕ → Amount
+unfoldable pub powered : ℕ → List ℕ → Option ℕ
 powered v w = fitting (is_power (unsigned w)) (scaled (negative w) (value 0 (unsigned w)) v)
 
 -- "e"
@@ -106,8 +105,8 @@ abbrev pub exponent_mark : ℕ
 exponent_mark = 101
 
 -- after v units: nothing, or in a loose form an exponent
-unfoldable pub exponent : Bool → ℕ → List ℕ → Amount
-exponent loose v [] = Is v
+unfoldable pub exponent : Bool → ℕ → List ℕ → Option ℕ
+exponent loose v [] = Some v
 exponent loose v (b ∷ w) = fitting (loose && eqb b exponent_mark) (powered v w)
 
 -- ---- a number of a form, in units of which 10 ^ places make 1
@@ -132,16 +131,16 @@ enough false n k = leb 1 n && leb 1 k
 enough true n k = leb 1 n || leb 1 k
 
 -- after a point, and before it n digits worth `whole` units
-unfoldable pub after_point : Form → ℕ → ℕ → List ℕ → Amount
+unfoldable pub after_point : Form → ℕ → ℕ → List ℕ → Option ℕ
 after_point form n whole w =
     fitting (leb (digits w) form.places && enough form.loose n (digits w))
     (exponent form.loose (whole + value 0 w * 10 ^ (form.places - digits w)) (drop (digits w) w))
 
 -- after n digits worth `whole` units
-unfoldable pub fraction : Form → ℕ → ℕ → List ℕ → Amount
+unfoldable pub fraction : Form → ℕ → ℕ → List ℕ → Option ℕ
 fraction form n whole w = cond (pointed w) (after_point form n whole (drop 1 w)) (fitting (leb 1 n) (exponent form.loose whole w))
 
 -- a word that has the form
-unfoldable pub amount_of : Form → List ℕ → Amount
+unfoldable pub amount_of : Form → List ℕ → Option ℕ
 amount_of form w =
     fitting (leb (digits w) form.digits) (fraction form (digits w) (value 0 w * 10 ^ form.places) (drop (digits w) w))

@@ -1,7 +1,5 @@
 -- Numbers as the rules let people type them, part by part, and what each is: said without a look at how a word is read.
-use Rattle.std.specs.Prelude.{ℕ, ◌+◌, ◌-◌, ◌*◌, ◌^◌, ◌≤◌, true, false, List, [], ◌∷◌, ◌++◌, length}
-use Rattle.numerals.specs.declared.Amount.{Amount}
-use Rattle.numerals.specs.declared.Amount.TheVariants.{Is}
+use Rattle.std.specs.Prelude.{ℕ, ◌+◌, ◌-◌, ◌*◌, ◌^◌, ◌≤◌, true, false, List, [], ◌∷◌, ◌++◌, length, Option, Some}
 use Rattle.numerals.specs.Numeral.{scaled, most_power, exponent_mark}
 
 -- digits, and their bytes
@@ -33,8 +31,8 @@ Few none = Unit
 Few (up p) = p ≤ most_power
 Few (down p) = p ≤ most_power
 
-abbrev pub raised_by : Exponent → ℕ → Amount
-raised_by none v = Is v
+abbrev pub raised_by : Exponent → ℕ → Option ℕ
+raised_by none v = Some v
 raised_by (up p) v = scaled false p v
 raised_by (down p) v = scaled true p v
 
@@ -46,8 +44,8 @@ abbrev pub pointed_word : List ℕ → List ℕ → Exponent → List ℕ
 pointed_word ds fs e = bytes ds ++ (46 ∷ (bytes fs ++ ending e))
 
 -- what they are, in units of which 10 ^ places make 1
-abbrev pub unpointed_amount : ℕ → List ℕ → Exponent → Amount
+abbrev pub unpointed_amount : ℕ → List ℕ → Exponent → Option ℕ
 unpointed_amount places ds e = raised_by e (written 0 ds * 10 ^ places)
 
-abbrev pub pointed_amount : ℕ → List ℕ → List ℕ → Exponent → Amount
+abbrev pub pointed_amount : ℕ → List ℕ → List ℕ → Exponent → Option ℕ
 pointed_amount places ds fs e = raised_by e (written 0 ds * 10 ^ places + written 0 fs * 10 ^ (places - length fs))

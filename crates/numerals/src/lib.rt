@@ -58,13 +58,6 @@ impl Form {
     };
 }
 
-// A number in the units asked for, or a word that does not fit the form.
-#[derive(Clone, Copy)]
-pub enum Amount {
-    Is(u64),
-    Not,
-}
-
 // Where digits end, and the number that they write.
 #[derive(Clone, Copy)]
 pub struct Digits {
@@ -90,8 +83,7 @@ pub fn digits_from(w: &[u8], from: usize, most: usize) -> Digits
 {
     let stop = bounded(w.len(), from, most);
     let mut v: u64 = 0;
-    let mut at = from;
-    while at < stop {
+    for at in from..stop {
         let b = w[at];
         if b < b'0' {
             return Digits { end: at, value: v };
@@ -101,9 +93,11 @@ pub fn digits_from(w: &[u8], from: usize, most: usize) -> Digits
             return Digits { end: at, value: v };
         };
         v = v * 10 + ((b - b'0') as u64);
-        at += 1;
     }
-    Digits { end: at, value: v }
+    Digits {
+        end: stop,
+        value: v,
+    }
 }
 
 // 10 to the power of `places`.

@@ -1,9 +1,8 @@
 -- What an offer is said to leave. Assumes nothing.
 use Rattle.integers.proofs.Kit.{◌≡◌, ◌∙◌, refl, ap}
+use Rattle.std.specs.Prelude.{Ok, Err}
 use Rattle.tables.specs.Tables.{Tables}
-use Rattle.tables.specs.declared.Verdict.{Verdict}
-use Rattle.tables.specs.declared.Verdict.TheVariants.{Fine, Refused}
-use Rattle.tables.specs.Verdicts.{◌before◌, left}
+use Rattle.refusals.specs.Verdicts.{Verdict, ◌before◌, left}
 use Rattle.levels.specs.Storage.{LentLevel, Lent, level_of}
 use Rattle.levels.specs.Judged.{offer_verdict}
 use Rattle.runs.specs.State.{raised, offered}
@@ -12,8 +11,8 @@ use Rattle.runs.specs.State.{raised, offered}
 handed-offered : (m : Tables) (x : Lent) (l : LentLevel) (h : Verdict)
     → left (h before offer_verdict m x l) (raised m x (level_of m l)) x ≡ left h (offered m x l) x
 unfolding offered
-handed-offered m x l Fine = refl
-handed-offered m x l (Refused number place) = refl
+handed-offered m x l (Ok u) = refl
+handed-offered m x l (Err e) = refl
 
 -- what is left by a verdict v
 pub settled-offered : (m : Tables) (x : Lent) (l : LentLevel) (h : Verdict) {v : Verdict} {z : Lent} → v ≡ (h before offer_verdict m x l)

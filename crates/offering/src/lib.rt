@@ -3,13 +3,14 @@
 
 ghost use Rattle.std.specs.Prelude.{◌≡◌};
 ghost use Rattle.tables.specs.Storage.{tables_in};
-ghost use Rattle.tables.specs.Verdicts.{◌before◌, left};
+ghost use Rattle.refusals.specs.Verdicts.{◌before◌, left};
 ghost use Rattle.columns.specs.Columns.{handed_list};
 ghost use Rattle.levels.specs.Storage.{cells, rows, lent, lent_for};
 ghost use Rattle.levels.specs.Judged.{offer_verdict};
 ghost use Rattle.runs.specs.State.{offered};
 
-use tables::{Counts, Verdict};
+use refusals::Verdict;
+use tables::Counts;
 
 // Offers a level of any content: the certifier then stands one level higher with it; or refused by 7 to 15 or 21 and unchanged. Backups are worked out from
 // the list of transitions where one is lent, and from the table where none is.

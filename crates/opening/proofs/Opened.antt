@@ -1,10 +1,11 @@
 -- What is written is what opening is said to leave. Assumes nothing.
 use Rattle.integers.proofs.Kit.{◌≡◌, ◌∙◌, ap, sym, true, List, ◌∷◌, ℕ, ◌*◌, arith, drop, ℤ, pos}
+use Rattle.std.specs.Prelude.{Err}
 use Rattle.integers.specs.Cells.{laid, laid_rows}
 use Rattle.integers.proofs.Lists.{laid_none, laid_rows-none}
 use Rattle.tables.specs.Tables.{Tables}
-use Rattle.tables.specs.declared.Verdict.{Verdict}
-use Rattle.tables.specs.declared.Verdict.TheVariants.{Fine, Refused}
+use Rattle.refusals.specs.declared.Refusal.{Refusal}
+use Rattle.refusals.specs.Verdicts.{Fine}
 use Rattle.masks.specs.Masks.{mask_of}
 use Rattle.plans.specs.Level.{level0}
 use Rattle.levels.specs.Storage.{rows, Lent, state_size, cells, lent, over}
@@ -17,12 +18,12 @@ unfolding laid_rows
 row-alone z w xs = let e : w ≡ 1 * w = omega arith in ap (λ (k : ℕ). laid k (λ i. z) xs) e
 
 module _ (m : Tables) (x : Lent) where
-  pub opened-refused : {k i : ℕ} {v : Verdict} → v ≡ open_verdict m x → v ≡ Refused k i → x ≡ opened m x
+  pub opened-refused : {e : Refusal} → Err e ≡ open_verdict m x → x ≡ opened m x
   unfolding opened
-  opened-refused e f = rw (sym e ∙ f)
+  opened-refused h = rw (sym h)
 
   -- level 0 and its rows over the slices
-  pub opened-fine : {v : Verdict} → v ≡ open_verdict m x → v ≡ Fine
+  pub opened-fine : Fine ≡ open_verdict m x
       → {state actions choices masks : List ℕ} {entries corners f q : List ℤ}
       → state ≡ 0 ∷ 1 ∷ 0 ∷ drop state_size x.state
       → actions ≡ laid 1 (λ v. 0) x.cells.actions
@@ -34,7 +35,7 @@ module _ (m : Tables) (x : Lent) where
       → q ≡ laid (m.actions * m.states) (λ i. pos 0) x.rows.qmdp
       → lent state (cells actions choices masks entries corners x.cells.weights x.cells.values) (rows f q) ≡ opened m x
   unfolding opened over level0 laid_rows
-  opened-fine e fine s a b k c d f q =
-      rw (sym e ∙ fine)
+  opened-fine h s a b k c d f q =
+      rw (sym h)
       (lent_same s (same_cells a (b ∙ row-alone 0 m.observations x.cells.choices) k (c ∙ row-alone (pos 0) m.states x.cells.entries) d
       (sym (laid_rows-none m.states level0.weight x.cells.weights)) (sym (laid_none _ x.cells.values))) f q)

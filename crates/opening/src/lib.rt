@@ -5,14 +5,15 @@ ghost use Rattle.std.specs.Prelude.{◌≡◌, true, ◌&&◌, ◌*◌, ◌≤�
 ghost use Rattle.integers.specs.Cells.{laid};
 ghost use Rattle.tables.specs.Limits.{max_states, max_observations};
 ghost use Rattle.tables.specs.Storage.{tables_in};
-ghost use Rattle.tables.specs.Verdicts.{◌before◌, unless};
+ghost use Rattle.refusals.specs.Verdicts.{◌before◌, unless};
 ghost use Rattle.tables.specs.Judged.{tables_verdict};
 ghost use Rattle.masks.specs.Masks.{mask_of};
 ghost use Rattle.levels.specs.Storage.{state_size, cells, rows, lent, long_enough, long_rows};
 ghost use Rattle.runs.specs.State.{open_verdict, opened};
 
 use levels::{Standing, shape};
-use tables::{Counts, Tables, Verdict};
+use refusals::{Refusal, Verdict};
+use tables::{Counts, Tables};
 
 // 3, 5 and 6 of the tables; then 9 where slices of such lengths are too short for level 0.
 fn judge_open<'a>(
@@ -35,12 +36,9 @@ fn judge_open<'a>(
         unless (leb state_size state && ((leb (1 * c.observations) choices && long_enough c.states 1 0 actions masks entries corners weights values)
         && long_rows c.actions c.states informed qmdp)) 9 0) }
 {
-    let tables = validity::judge_tables(transition, observation, reward, c);
-    let Verdict::Fine = tables else {
-        return tables;
-    };
+    validity::judge_tables(transition, observation, reward, c)?;
     if state < Standing::SIZE {
-        return Verdict::Refused(9, 0);
+        return Err(Refusal(9, 0));
     }
     let s = Standing::fresh();
     if !shape::complete(
@@ -56,16 +54,16 @@ fn judge_open<'a>(
         weights,
         values,
     ) {
-        return Verdict::Refused(9, 0);
+        return Err(Refusal(9, 0));
     }
     let cells = c.actions * c.states;
     if informed < cells {
-        return Verdict::Refused(9, 0);
+        return Err(Refusal(9, 0));
     }
     if qmdp < cells {
-        return Verdict::Refused(9, 0);
+        return Err(Refusal(9, 0));
     }
-    Verdict::Fine
+    Ok(())
 }
 
 // Level 0 over the slices: one zero vector that covers all states, zero corners.
@@ -88,10 +86,10 @@ fn lay_level_0(
     ensures corners_after { corners.new ≡ laid n (λ s. pos 0) corners.old }
 {
     actions[0] = 0;
-    cells::paste_u16(choices, 0, &[0u16; Tables::OBSERVATIONS], k);
+    cells::paste(choices, 0, &[0u16; Tables::OBSERVATIONS], k);
     masks[0] = masks::all(n);
-    cells::clear_i64(entries, n);
-    cells::clear_i64(corners, n);
+    cells::clear(entries, n);
+    cells::clear(corners, n);
 }
 
 // Opens a certifier on tables of any content: at level 0, or refused by 3, 5, 6 or 9.
@@ -119,7 +117,7 @@ pub fn open<'a>(
         (result ≡ open_verdict m x)
         × (y ≡ opened m x) }
 {
-    let verdict = judge_open(
+    judge_open(
         transition,
         observation,
         reward,
@@ -134,10 +132,7 @@ pub fn open<'a>(
         values.len(),
         informed.len(),
         qmdp.len(),
-    );
-    let Verdict::Fine = verdict else {
-        return verdict;
-    };
+    )?;
     levels::put_standing(state, Standing::fresh());
     lay_level_0(
         c.states,
@@ -148,7 +143,7 @@ pub fn open<'a>(
         entries,
         corners,
     );
-    cells::clear_i64(informed, c.actions * c.states);
-    cells::clear_i64(qmdp, c.actions * c.states);
-    Verdict::Fine
+    cells::clear(informed, c.actions * c.states);
+    cells::clear(qmdp, c.actions * c.states);
+    Ok(())
 }

@@ -8,34 +8,24 @@ ghost use Rattle.levels.specs.Storage.{cells, rows, lent};
 ghost use Rattle.runs.specs.Prices.{counts_same, same_plans, prices_verdict};
 ghost use Rattle.prices.specs.Steps.{Chances};
 
-use tables::{Counts, Verdict};
+use refusals::{Refusal, Verdict};
+use tables::Counts;
 
 // Whether the first cells of two tables are the same.
 fn cells_same(cells: &[u16], new: &[u16], count: usize) -> bool
     requires { (count ≤ length cells.now) × (count ≤ length new.now) }
     ensures { result ≡ every count (λ i. eqb (get_or new.now i 0) (get_or cells.now i 0)) }
 {
-    for i in 0..count {
-        if new[i] != cells[i] {
-            return false;
-        }
-    }
-    true
+    new[..count] == cells[..count]
 }
 
 fn counts_same(c: Counts, new: Counts) -> bool
     ensures { result ≡ counts_same (model_in c [] [] []) (model_in new [] [] []) }
 {
-    if new.states != c.states {
-        return false;
-    }
-    if new.actions != c.actions {
-        return false;
-    }
-    if new.observations != c.observations {
-        return false;
-    }
-    new.discount == c.discount
+    new.states == c.states
+        && new.actions == c.actions
+        && new.observations == c.observations
+        && new.discount == c.discount
 }
 
 // 23: whether counts, discount, T and O are the same.
@@ -103,12 +93,9 @@ pub fn judge_prices<'a, 'n, 'b>(
         informed,
         qmdp,
     ) {
-        return Verdict::Refused(7, 0);
+        return Err(Refusal(7, 0));
     }
-    let tables = validity::judge_tables(newtransition, newobservation, newreward, new);
-    let Verdict::Fine = tables else {
-        return tables;
-    };
+    validity::judge_tables(newtransition, newobservation, newreward, new)?;
     if !plans_same(
         transition,
         observation,
@@ -117,7 +104,7 @@ pub fn judge_prices<'a, 'n, 'b>(
         newobservation,
         new,
     ) {
-        return Verdict::Refused(23, 0);
+        return Err(Refusal(23, 0));
     }
-    Verdict::Fine
+    Ok(())
 }

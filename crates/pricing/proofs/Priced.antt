@@ -8,14 +8,15 @@ use Rattle.integers.proofs.Kit.{◌≡◌, ◌∙◌, refl, ap, sym, subst, true
 use Rattle.integers.proofs.Kit.{get_or}
 use Rattle.integers.proofs.Kit.{ℤ, pos, nat_abs}
 use native.Mathlib.Nat as NatL
+use Rattle.std.specs.Prelude.{Err}
 use Rattle.integers.specs.Whole.{largest_to, Within}
 use Rattle.integers.specs.Cells.{laid, laid_rows}
 use Rattle.integers.proofs.Sums.{largest-ind}
 use Rattle.integers.proofs.Sizes.{abs-sub}
 use Rattle.integers.proofs.Lists.{laid_rows-cong}
 use Rattle.tables.specs.Tables.{Tables}
-use Rattle.tables.specs.declared.Verdict.{Verdict}
-use Rattle.tables.specs.declared.Verdict.TheVariants.{Fine, Refused}
+use Rattle.refusals.specs.declared.Refusal.{Refusal}
+use Rattle.refusals.specs.Verdicts.{Fine}
 use Rattle.tables.specs.Limits.{max_reward, max_entry, max_levels, max_vectors}
 use Rattle.tables.specs.Model.{Valid}
 use Rattle.tables.specs.Storage.{counts_of, entry_in, model_of}
@@ -107,9 +108,9 @@ masked true limit k e = refl
 masked false limit k e = refl
 
 module _ (m : Tables) (x : Lent) (m' : Tables) where
-  pub priced-refused : {k i : ℕ} {v : Verdict} → v ≡ prices_verdict m x m' → v ≡ Refused k i → x ≡ priced_of m x m'
+  pub priced-refused : {e : Refusal} → Err e ≡ prices_verdict m x m' → x ≡ priced_of m x m'
   unfolding priced_of
-  priced-refused e f = rw (sym e ∙ f)
+  priced-refused h = rw (sym h)
 
   -- Entries at covered states, corners and values are laid as the level's are that was moved; rows are laid cell by cell. Qed.
   pub priced-fine : prices_verdict m x m' ≡ Fine → {s : Standing} → s ≡ standing_at x.state → {limit d : ℕ} → limit ≡ range s.number

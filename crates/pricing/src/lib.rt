@@ -2,7 +2,7 @@
 // refusal writes nothing.
 #![tactic(auto)]
 
-ghost use Rattle.std.specs.Prelude.{◌≡◌, cond, List, ℕ, ◌≤◌, ◌<◌, ◌^◌, max, pos, nat_abs, ◌-ℤ◌};
+ghost use Rattle.std.specs.Prelude.{◌≡◌, cond, List, ℕ, ◌≤◌, ◌<◌, ◌^◌, pos, nat_abs, ◌-ℤ◌};
 ghost use Rattle.integers.specs.Whole.{largest_to, Within};
 ghost use Rattle.integers.specs.Cells.{laid, laid_rows};
 ghost use Rattle.tables.specs.Limits.{max_states, max_reward, max_entry};
@@ -13,16 +13,8 @@ ghost use Rattle.levels.specs.Storage.{cells, rows, lent};
 ghost use Rattle.runs.specs.Prices.{prices_verdict, priced_of};
 ghost use Rattle.pricing.specs.Steps.{max_move, change_at, Vectors, PricedPoints, lowered_in, raised_in, value_in};
 
-use tables::{Counts, State, Verdict, read};
-
-fn larger(a: u64, b: u64) -> u64
-    ensures { result ≡ max a b }
-{
-    if a < b {
-        return b;
-    }
-    a
-}
+use refusals::Verdict;
+use tables::{Counts, State, read};
 
 // How far apart two rewards are.
 fn apart(a: i64, b: i64) -> u64
@@ -39,8 +31,8 @@ fn largest_change(reward: &[i64], new: &[i64], count: usize) -> u64
     ensures { result ≡ largest_to count (change_at reward.now new.now) }
 {
     let mut most: u64 = 0;
-    for i in 0..count {
-        most = larger(most, apart(reward[i], new[i]));
+    for (old, changed) in reward[..count].iter().zip(&new[..count]) {
+        most = most.max(apart(*old, *changed));
     }
     most
 }
@@ -96,8 +88,8 @@ fn raise_cells(cells: &mut [i64], count: usize, limit: u64, k: u64)
     requires limit_le_max_entry { (limit ≤ max_entry) × (k ≤ max_move) }
     ensures { cells.new ≡ laid count (raised_in limit k cells.old) cells.old }
 {
-    for i in 0..count {
-        cells[i] = risen(limit, cells[i], k);
+    for cell in &mut cells[..count] {
+        *cell = risen(limit, *cell, k);
     }
 }
 
@@ -145,7 +137,7 @@ pub fn reprice<'a, 'n, 'b>(
         (result ≡ prices_verdict m standing m')
         × (priced ≡ priced_of m standing m') }
 {
-    let verdict = prices::judge_prices(
+    prices::judge_prices(
         transition,
         observation,
         reward,
@@ -163,10 +155,7 @@ pub fn reprice<'a, 'n, 'b>(
         &values[..],
         &informed[..],
         &qmdp[..],
-    );
-    let Verdict::Fine = verdict else {
-        return verdict;
-    };
+    )?;
     let s = levels::standing_in(state);
     let limit = standing::range_of(s.number);
     let cells = c.actions * c.states;
@@ -176,5 +165,5 @@ pub fn reprice<'a, 'n, 'b>(
     raise_values(weights, values, c.states, s.points, limit, k);
     raise_cells(informed, cells, limit, k);
     raise_cells(qmdp, cells, limit, k);
-    Verdict::Fine
+    Ok(())
 }

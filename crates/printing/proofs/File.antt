@@ -1,6 +1,6 @@
 -- A file that the program read: its tables are valid and lie in the program's arrays, and its start numbers are a point. Assumes nothing.
 use Rattle.integers.proofs.Kit.{◌≡◌, List, ℕ, arith}
-use Rattle.tables.specs.declared.Verdict.TheVariants.{Fine}
+use Rattle.refusals.specs.Verdicts.{Fine}
 use Rattle.tables.specs.Model.{Valid}
 use Rattle.tables.specs.Storage.{weight_in, counts_of, model_of}
 use Rattle.tables.specs.Steps.{Stored}

@@ -2,14 +2,15 @@
 #![tactic(auto)]
 
 use climbing::ROWS;
-use tables::{Tables, Verdict};
+use std::io;
+use tables::Tables;
 
 const TRANSITIONS: usize = ROWS * Tables::STATES;
 
 const OBSERVATIONS: usize = ROWS * Tables::OBSERVATIONS;
 
-// What is printed of a file; false where it could not be written.
-pub fn answer(rt: &impl Print, file: &[u8]) -> bool {
+// What is printed of a file.
+pub fn answer(rt: &impl Print, file: &[u8]) -> io::Result<()> {
     let mut transition = [0u16; TRANSITIONS];
     let mut observation = [0u16; OBSERVATIONS];
     let mut reward = [0i64; ROWS];
@@ -24,16 +25,8 @@ pub fn answer(rt: &impl Print, file: &[u8]) -> bool {
         &mut reward,
         &mut start,
     );
-    let verdict = read.verdict;
-    match verdict {
-        Verdict::Fine => ascent::levels_of(
-            rt,
-            &transition,
-            &observation,
-            &reward,
-            read.counts,
-            start,
-        ),
-        Verdict::Refused(number, place) => streams::print_refusal(rt, number, place),
+    match read {
+        Ok(c) => ascent::levels_of(rt, &transition, &observation, &reward, c, start),
+        Err(r) => streams::print_refusal(rt, r),
     }
 }

@@ -2,7 +2,7 @@
 #![tactic(auto)]
 
 ghost use Rattle.std.specs.Prelude.{◌≡◌};
-ghost use Rattle.tables.specs.declared.Verdict.TheVariants.{Fine};
+ghost use Rattle.refusals.specs.Verdicts.{Fine};
 ghost use Rattle.tables.specs.Storage.{tables_in};
 ghost use Rattle.levels.specs.Judged.{offer_verdict};
 ghost use Rattle.runs.specs.State.{offered, answer_for};
@@ -35,7 +35,7 @@ pub fn raised<'a>(
     let mut values = h.values;
     let mut informed = h.informed;
     let mut qmdp = h.qmdp;
-    let accepted = offering::offer(
+    offering::offer(
         transition,
         &none,
         observation,
@@ -60,8 +60,8 @@ pub fn raised<'a>(
         &w.corners,
         &w.weights,
         &w.values,
-    );
-    climbing::served(accepted);
+    )
+    .unwrap();
     Climber {
         state: state,
         actions: actions,

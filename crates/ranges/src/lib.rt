@@ -9,7 +9,8 @@ ghost use Rattle.masks.specs.Masks.{masked_in};
 ghost use Rattle.levels.specs.Storage.{point_in};
 ghost use Rattle.levels.specs.Judged.{rows_within, value_holds, values_within};
 
-use tables::{State, Vector, Verdict, read};
+use refusals::{Refusal, Verdict};
+use tables::{State, Vector, read};
 
 // 11 of corners, and 7 of rows: the first row, of width w, with a number outside ± limit.
 pub fn rows_within(cells: &[i64], rows: usize, w: usize, limit: u64, number: u8) -> Verdict
@@ -17,12 +18,12 @@ pub fn rows_within(cells: &[i64], rows: usize, w: usize, limit: u64, number: u8)
     requires w_in_bounds { rows * w ≤ length cells.now }
     ensures { result ≡ rows_within number rows w limit (λ i x. get_or cells.now (row_place w i x) (pos 0)) }
 {
-    let mut found = Verdict::Fine;
+    let mut found = Ok(());
     'rows: for i in 0..rows {
         for x in 0..w {
             let at = read::row(i, w, x);
             if !integers::within(limit, cells[at]) {
-                found = Verdict::Refused(number, i);
+                found = Err(Refusal(number, i));
                 break 'rows;
             }
         }
@@ -42,12 +43,12 @@ pub fn entries_within<'a>(
     requires vectors_in_bounds { (vectors ≤ length masks.now) × (vectors * n ≤ length entries.now) }
     ensures { result ≡ rows_within 11 vectors n limit (masked_in n masks.now entries.now) }
 {
-    let mut found = Verdict::Fine;
+    let mut found = Ok(());
     'vectors: for v in 0..vectors {
         for s in 0..n {
             let e = masks::entry_at(masks, entries, n, Vector(v), State(s));
             if !integers::within(limit, e) {
-                found = Verdict::Refused(11, v);
+                found = Err(Refusal(11, v));
                 break 'vectors;
             }
         }
@@ -81,8 +82,8 @@ pub fn values_within<'a>(
     for i in 0..points {
         let total = weights::weights_total(weights, read::start(i, n), n);
         if !value_holds(total, limit, values[i]) {
-            return Verdict::Refused(11, i);
+            return Err(Refusal(11, i));
         }
     }
-    Verdict::Fine
+    Ok(())
 }

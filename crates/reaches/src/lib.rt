@@ -13,7 +13,8 @@ ghost use Rattle.levels.specs.Judged.{masks_verdict};
 ghost use Rattle.reaches.specs.Steps.{reached_in, ActionStored, Chooses, Reaching};
 
 use levels::shape;
-use tables::{Action, Counts, Observation, State, Vector, Verdict, read};
+use refusals::{Refusal, Verdict};
+use tables::{Action, Counts, Observation, State, Vector, read};
 
 // Whether a state is reached, with T above 0, from one of a mask.
 fn reached(transition: &[u16], n: usize, mask: u64, a: Action, to: State) -> bool
@@ -161,8 +162,8 @@ pub fn masks_hold<'a, 'b>(
             a,
             covering[v],
         ) {
-            return Verdict::Refused(21, v);
+            return Err(Refusal(21, v));
         }
     }
-    Verdict::Fine
+    Ok(())
 }

@@ -13,64 +13,43 @@ pub struct Reader<'a> {
     pub at: usize,
 }
 
-pub fn start<'a>(file: &'a [u8], at: usize) -> Reader<'a>
-    ensures { (result.file ≡ file.entry) × (result.at ≡ at) }
-{
-    Reader { file, at }
-}
+impl<'a> Reader<'a> {
+    // A reader at an offset of a file.
+    pub fn new(file: &'a [u8], at: usize) -> Reader<'a>
+        ensures { (result.file ≡ file.entry) × (result.at ≡ at) }
+    {
+        Reader { file, at }
+    }
 
-pub fn next<'a>(r: Reader<'a>) -> Word
-    ensures { Next r.entry.file.now r.entry.at result }
-{
-    words::word_at(r.file, r.at)
-}
-
-// The reader at another offset of its file.
-pub fn moved<'a>(r: Reader<'a>, at: usize) -> Reader<'a>
-    ensures { (result.file ≡ r.entry.file) × (result.at ≡ at) }
-{
-    Reader { file: r.file, at }
-}
-
-// The offset after a word that was looked for from `at` on.
-pub fn past(w: Word, at: usize) -> usize
-    ensures { result ≡ past_word w at }
-{
-    let Word::At(_, stop) = w else {
-        return at;
-    };
-    stop
-}
-
-// The next word from an offset of a file, for callers that hold both by themselves.
-pub fn word_from(file: &[u8], at: usize) -> Word
-    ensures { Next file.now at result }
-{
-    next(start(file, at))
+    // The next word: reading goes on past it.
+    pub fn next(&mut self) -> Option<Word>
+        ensures word { Next self.old.file.now self.old.at result }
+        ensures moved { (self.new.file ≡ self.old.file) × (self.new.at ≡ past_word result self.old.at) }
+    {
+        let word = words::word_at(self.file, self.at);
+        if let Some(w) = word {
+            self.at = w.stop;
+        }
+        word
+    }
 }
 
 // A word and the one after it.
 #[derive(Clone, Copy)]
 pub struct Pair {
-    pub first: Word,
-    pub second: Word,
+    pub first: Option<Word>,
+    pub second: Option<Word>,
 }
 
-pub fn both(first: Word, second: Word) -> Pair
-    ensures { (result.first ≡ first) × (result.second ≡ second) }
+// The next two words from an offset of a file.
+pub fn pair_from(file: &[u8], at: usize) -> Pair
+    ensures { Paired file.now at result }
 {
+    let mut reader = Reader::new(file, at);
+    let first = reader.next();
+    let second = reader.next();
     Pair {
         first: first,
         second: second,
     }
-}
-
-// The next two words from an offset of a file: the reader is handed back past the first.
-pub fn pair_from(file: &[u8], at: usize) -> Pair
-    ensures { Paired file.now at result }
-{
-    let r = start(file, at);
-    let w = next(r);
-    let q = moved(r, past(w, at));
-    both(w, next(q))
 }

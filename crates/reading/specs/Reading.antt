@@ -1,12 +1,11 @@
 -- Reading a model file into lent slices.
-use Rattle.std.specs.Prelude.{ℕ, ◌*◌, List, leb, length, get_or, ℤ, pos}
+use Rattle.std.specs.Prelude.{ℕ, ◌*◌, List, leb, length, get_or, ℤ, pos, Result}
 use Rattle.integers.specs.Cells.{laid}
-use Rattle.tables.specs.declared.Verdict.{Verdict}
-use Rattle.tables.specs.declared.Verdict.TheVariants.{Fine, Refused}
+use Rattle.refusals.specs.declared.Refusal.{Refusal}
+use Rattle.refusals.specs.Verdicts.{Verdict, ◌before◌, unless}
+use Rattle.tables.specs.declared.Counts.{Counts}
 use Rattle.tables.specs.Storage.{counts_of}
-use Rattle.tables.specs.Verdicts.{◌before◌, unless}
-use Rattle.bodies.specs.declared.TablesRead.{TablesRead}
-use Rattle.bodies.specs.Body.{ModelFile, refusing}
+use Rattle.bodies.specs.Body.{ModelFile, with_counts}
 use Rattle.modelfile.specs.ModelFile.{room, model_file}
 
 -- the file, read for slices that are lent for T, O and R
@@ -17,9 +16,8 @@ file_for file transition observation reward = model_file (room (length transitio
 unfoldable pub read_verdict : ModelFile → List ℕ → Verdict
 read_verdict x start = let n = x.tables.states in x.verdict before unless (leb n (length start)) 100 n
 
-abbrev pub read_of : Verdict → ModelFile → TablesRead
-read_of Fine x = record { verdict = Fine; counts = counts_of x.tables }
-read_of (Refused number place) x = refusing (Refused number place)
+abbrev pub read_of : Verdict → ModelFile → Result Counts Refusal
+read_of v x = with_counts v (counts_of x.tables)
 
 -- what is read, laid over the slices
 abbrev pub laid_transitions : ModelFile → List ℕ → List ℕ

@@ -2,23 +2,24 @@
 #![tactic(auto)]
 
 ghost use Rattle.std.specs.Prelude.{◌≡◌};
-ghost use Rattle.tables.specs.Verdicts.{left};
+ghost use Rattle.refusals.specs.Verdicts.{left};
 ghost use Rattle.reading.specs.Reading.{file_for, read_verdict, read_of, laid_transitions, laid_observations, laid_rewards, laid_start};
 
-use bodies::TablesRead;
-use tables::{Tables, Verdict};
+use refusals::Refusal;
+use tables::{Counts, Tables};
 
 // The slice lent for the start numbers is too short.
 const SHORT: u8 = 100;
 
 // Reads a model file into tables and start numbers, in hundredths.
+#[tactic(auto, unfolding(crate::specs::Reading::read_verdict))]
 pub fn read(
     file: &[u8],
     transition: &mut [u16],
     observation: &mut [u16],
     reward: &mut [i64],
     start: &mut [u16],
-) -> TablesRead
+) -> Result<Counts, Refusal>
     ensures { let x = file_for file.now transition.old observation.old reward.old in
         let v = read_verdict x start.old in
         (result ≡ read_of v x)
@@ -31,7 +32,7 @@ pub fn read(
     let mut o = [0u16; Tables::ACTIONS * Tables::STATES * Tables::OBSERVATIONS];
     let mut r = [0i64; Tables::ACTIONS * Tables::STATES];
     let mut s = [0u16; Tables::STATES];
-    let read = modelfile::read(
+    let c = modelfile::read(
         file,
         transition.len(),
         observation.len(),
@@ -40,20 +41,15 @@ pub fn read(
         &mut o,
         &mut r,
         &mut s,
-    );
-    let verdict = read.verdict;
-    let Verdict::Fine = verdict else {
-        return bodies::refusal(verdict);
-    };
-    let c = read.counts;
+    )?;
     let n = c.states;
     if start.len() < n {
-        return bodies::refusal(Verdict::Refused(SHORT, n));
+        return Err(Refusal(SHORT, n));
     }
     let rows = c.actions * n;
-    cells::paste_u16(transition, 0, &t, rows * n);
-    cells::paste_u16(observation, 0, &o, rows * c.observations);
-    cells::paste_i64(reward, 0, &r, rows);
-    cells::paste_u16(start, 0, &s, n);
-    read
+    cells::paste(transition, 0, &t, rows * n);
+    cells::paste(observation, 0, &o, rows * c.observations);
+    cells::paste(reward, 0, &r, rows);
+    cells::paste(start, 0, &s, n);
+    Ok(c)
 }

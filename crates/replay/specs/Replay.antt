@@ -3,21 +3,21 @@
 --   replay_answer   how many of the offers were accepted
 --   replayed       what is left of a certifier: as the list leaves it
 --   ReplayHolds    that demand 3 holds of the whole list
-use Rattle.std.specs.Prelude.{◌≡◌, ℕ, ◌+◌, List, ◌++◌}
+use Rattle.std.specs.Prelude.{◌≡◌, ℕ, ◌+◌, List, ◌++◌, Result, Ok, Err}
 use Rattle.tables.specs.Tables.{Tables}
-use Rattle.tables.specs.declared.Verdict.{Verdict}
-use Rattle.tables.specs.Verdicts.{left}
+use Rattle.refusals.specs.declared.Refusal.{Refusal}
+use Rattle.refusals.specs.Verdicts.{Verdict, left}
 use Rattle.levels.specs.Storage.{LentLevel, Lent}
 use Rattle.runs.specs.Demand3.{Event, offers, certifier, after, steps, Demand3}
 use Rattle.blocks.specs.Blocks.{Packed, replay_verdict}
 use Rattle.series.specs.Series.{offers_in, offered_all, accepted_of}
-use Rattle.replay.specs.declared.Replayed.{Replayed}
 
--- how many were accepted; 0 with a refusal
-abbrev pub replayed_by : Verdict → ℕ → Replayed
-replayed_by v accepted = record { verdict = v; accepted = left v accepted 0 }
+-- how many were accepted, or the refusal
+abbrev pub replayed_by : Verdict → ℕ → Result ℕ Refusal
+replayed_by (Ok u) accepted = Ok accepted
+replayed_by (Err e) accepted = Err e
 
-unfoldable pub replay_answer : Tables → Lent → Packed → ℕ → Replayed
+unfoldable pub replay_answer : Tables → Lent → Packed → ℕ → Result ℕ Refusal
 replay_answer m x b count = replayed_by (replay_verdict m x b count) (accepted_of m x (offers_in m b count))
 
 unfoldable pub replayed : Tables → Lent → Packed → ℕ → Lent

@@ -1,9 +1,8 @@
 // A list of offers that lies packed in slices, run through the calls one after the other.
 #![tactic(auto)]
 
-ghost use Rattle.std.specs.Prelude.{◌≡◌, List};
+ghost use Rattle.std.specs.Prelude.{◌≡◌, List, ℕ, Ok};
 ghost use Rattle.tables.specs.Tables.{Tables};
-ghost use Rattle.tables.specs.declared.Verdict.TheVariants.{Fine};
 ghost use Rattle.tables.specs.Storage.{tables_in};
 ghost use Rattle.levels.specs.Storage.{Lent, cells, rows, lent};
 ghost use Rattle.runs.specs.Demand3.{ModelAccepted, Event, certifier, after};
@@ -11,17 +10,11 @@ ghost use Rattle.blocks.specs.Blocks.{packed};
 ghost use Rattle.series.specs.Series.{offers_in};
 ghost use Rattle.replay.specs.Replay.{replay_answer, replayed, ReplayHolds};
 
-use tables::{Counts, Verdict};
+use refusals::Refusal;
+use tables::Counts;
 
-// How many offers were accepted; 0 with a refusal.
-#[derive(Clone, Copy)]
-pub struct Replayed {
-    pub verdict: Verdict,
-    pub accepted: usize,
-}
-
-// Offers a list of any content, one level after the other, to the certifier that is lent; or refused by 7 or 9 and nothing is offered. Each block has room
-// for v vectors and p points, and the offer that lies there has its own counts of them.
+// Offers a list of any content, one level after the other, to the certifier that is lent, and says how many were accepted; or refused by 7 or 9 and nothing
+// is offered. Each block has room for v vectors and p points, and the offer that lies there has its own counts of them.
 pub fn replay<'a, 'b>(
     transition: &'a [u16],
     observation: &'a [u16],
@@ -49,7 +42,7 @@ pub fn replay<'a, 'b>(
     newcorners: &'b [i64],
     newweights: &'b [u32],
     newvalues: &'b [i64],
-) -> Replayed
+) -> Result<usize, Refusal>
     ensures { let m = tables_in c transition.now observation.now reward.now in
         let x = lent state.old (cells actions.old choices.old masks.old entries.old
         corners.old weights.old values.old) (rows informed.old qmdp.old) in
@@ -59,10 +52,10 @@ pub fn replay<'a, 'b>(
         weights.new values.new) (rows informed.new qmdp.new) in
         (result ≡ replay_answer m x b count)
         × ((y ≡ replayed m x b count)
-        × ((m₀ : Tables) (x₀ : Lent) (es : List Event) → ModelAccepted m₀ x₀ → certifier m x ≡ after m₀ x₀ es → result.verdict ≡ Fine → ReplayHolds m₀ x₀ es
-        (offers_in m b count) m y result.accepted)) }
+        × ((m₀ : Tables) (x₀ : Lent) (es : List Event) → ModelAccepted m₀ x₀ → certifier m x ≡ after m₀ x₀ es → (accepted : ℕ) → result ≡ Ok accepted
+        → ReplayHolds m₀ x₀ es (offers_in m b count) m y accepted)) }
 {
-    let verdict = blocks::judge_list(
+    blocks::judge_list(
         transition,
         observation,
         reward,
@@ -88,8 +81,7 @@ pub fn replay<'a, 'b>(
         newcorners,
         newweights,
         newvalues,
-    );
-    let made = blocks::passed(verdict, count); // a list that is refused makes no offer
+    )?;
     let accepted = series::offer_all(
         transition,
         observation,
@@ -105,7 +97,7 @@ pub fn replay<'a, 'b>(
         values,
         informed,
         qmdp,
-        made,
+        count,
         v,
         p,
         vectors,
@@ -118,8 +110,5 @@ pub fn replay<'a, 'b>(
         newweights,
         newvalues,
     );
-    Replayed {
-        verdict: verdict,
-        accepted: accepted,
-    }
+    Ok(accepted)
 }

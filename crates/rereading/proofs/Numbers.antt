@@ -1,6 +1,7 @@
 -- Numbers that are written are read as what they are. Assumes nothing.
 --
 -- In order: digits; the words that digits make; what they are read as; the numbers of a model file.
+use Rattle.std.specs.Prelude.{Some}
 use Rattle.integers.proofs.Kit.{◌≡◌, ◌∙◌, refl, ap, sym, subst, subst⁻¹, true, false, Bool, cond, ◌&&◌, List, [], ◌∷◌, ℕ, ◌≤◌, ◌<◌, ◌+◌, ◌*◌, suc, zero, ◌^◌}
 use Rattle.integers.proofs.Kit.{◌/◌, ◌%◌, ◌-◌, arith, length, drop, ltb, ne_eqb, le-leb, lt-ltb, le-ltb, dec_lt, ℤ, pos, negsuc, nat_abs}
 use mathlib.Core.List.{◌++◌, append-nil}
@@ -13,7 +14,6 @@ use Rattle.words.specs.declared.Class.TheVariants.{Digit}
 use Rattle.words.specs.Words.{role_of}
 use Rattle.words.specs.Steps.{is_end}
 use Rattle.numerals.specs.declared.Form.{Form}
-use Rattle.numerals.specs.declared.Amount.TheVariants.{Is}
 use Rattle.numerals.specs.Numeral.{count_form, probability_form, start_form, reward_form}
 use Rattle.numerals.specs.Numeral.{is_digit, is_minus, digits, value, negative, unsigned, signed, exponent, fraction, amount_of}
 use Rattle.numerals.specs.Typed.{Digits, bytes, written, none}
@@ -164,10 +164,10 @@ none_left (d ∷ ds) = none_left ds
 -- a number as a word: what it is read as, and that it is no sign or colon
 pub record Number (form : Form) (w : List ℕ) (v : ℕ) : Type 0 where
   pub is_word : IsWord w
-  pub amount : amount_of form w ≡ Is v
+  pub amount : amount_of form w ≡ Some v
   pub other : (k : ℕ) → ((d : ℕ) → d ≤ 9 → k ≡ 48 + d → ⊥) → same (k ∷ []) w ≡ false
 
-counted : (ds : List ℕ) → Digits ds → 1 ≤ length ds → length ds ≤ 2 → amount_of count_form (bytes ds) ≡ Is (written 0 ds)
+counted : (ds : List ℕ) → Digits ds → 1 ≤ length ds → length ds ≤ 2 → amount_of count_form (bytes ds) ≡ Some (written 0 ds)
 unfolding exponent
 counted ds h some few =
     let n = digits-read ds h in
@@ -175,7 +175,7 @@ counted ds h some few =
     amount-is count_form (bytes ds) (omega (arith, n))
     ∙ ap (λ (i : ℕ). fraction count_form i (value 0 (bytes ds) * 10 ^ 0) (drop i (bytes ds))) n
     ∙ ap (λ (i : ℕ). fraction count_form (length ds) (i * 10 ^ 0) (drop (length ds) (bytes ds))) (value_read 0 ds h)
-    ∙ ap (fraction count_form (length ds) v) (none_left ds) ∙ fraction-plain count_form (length ds) v [] refl some ∙ ap Is (mul-one (written 0 ds))
+    ∙ ap (fraction count_form (length ds) v) (none_left ds) ∙ fraction-plain count_form (length ds) v [] refl some ∙ ap Some (mul-one (written 0 ds))
 
 -- a count or an index
 pub whole-number : (v : ℕ) → v < 100 → Number count_form (whole v) v
@@ -186,7 +186,7 @@ whole-number v h = by (writes-whole 2 v (omega arith) (λ _. omega arith) (λ l.
         let ds = w.ds in
         subst⁻¹ (λ (t : List ℕ). Number count_form t v) w.is (record {
           is_word = record { plainly = plain-alone ds w.small; some = omega (arith, bytes-long ds, w.some) };
-          amount = counted ds w.small w.some w.few ∙ ap Is w.worth;
+          amount = counted ds w.small w.some w.few ∙ ap Some w.worth;
           other = λ k n. ap (same (k ∷ [])) (sym (append-nil (bytes ds))) ∙ no_digit k ds [] w.small w.some n;
         })
 
@@ -207,7 +207,7 @@ module _ (form : Form) (loose : form.loose ≡ true) (ds fs : List ℕ) (hd : Di
     };
     amount = ap (λ (l : List ℕ). amount_of form (bytes ds ++ (46 ∷ l))) (sym (append-nil (bytes fs)))
         ∙ pointed-read form loose ds none hd few tt fs hf (omega (arith, exact)) (omega arith)
-        ∙ ap Is (units (written 0 ds) (written 0 fs) (10 ^ form.places) form.places (length fs) exact);
+        ∙ ap Some (units (written 0 ds) (written 0 fs) (10 ^ form.places) form.places (length fs) exact);
     other = λ k n. no_digit k ds (46 ∷ bytes fs) hd some n;
   }
 
@@ -252,7 +252,7 @@ start-number p h = (fixed_number start_form p refl (omega arith) (λ l. absurd (
 -- a reward: its magnitude after an optional minus, and its sign
 pub record Reward (w : List ℕ) (r : ℤ) : Type 0 where
   pub is_word : IsWord w
-  pub amount : amount_of reward_form (unsigned w) ≡ Is (nat_abs r)
+  pub amount : amount_of reward_form (unsigned w) ≡ Some (nat_abs r)
   pub sign : signed (negative w) (nat_abs r) ≡ r
 
 plus-reward : (w : List ℕ) (v : ℕ) → Fixed reward_form w v → Reward w (pos v)

@@ -6,16 +6,14 @@ use Rattle.integers.proofs.Kit.{length, get_or, length-replicate, ℤ, pos}
 use Rattle.integers.specs.Whole.{total_to}
 use Rattle.integers.proofs.Sums.{total-cong, total-part}
 use Rattle.tables.specs.declared.Counts.{Counts}
-use Rattle.tables.specs.declared.Verdict.{Verdict}
-use Rattle.tables.specs.declared.Verdict.TheVariants.{Fine}
+use Rattle.refusals.specs.Verdicts.{Verdict, Fine, ◌before◌, unless}
 use Rattle.tables.specs.Limits.{max_states, max_actions, max_observations, start_total}
 use Rattle.tables.specs.Model.{Valid}
 use Rattle.tables.specs.Storage.{model_in, model_of, counts_of, cell_in}
 use Rattle.tables.specs.Steps.{Stored}
 use Rattle.tables.specs.Judged.{limits_hold, rows_total, rows_verdict, model_verdict}
-use Rattle.tables.specs.Verdicts.{◌before◌, unless}
 use Rattle.tables.proofs.Accepted.{is-valid}
-use Rattle.tables.proofs.Refusals.{before-fine, unless-fine}
+use Rattle.refusals.proofs.Refusals.{before-fine, unless-fine}
 use Rattle.words.specs.Words.{end, words_in, between}
 use Rattle.grammar.specs.Grammar.{Answer, got, refused, ◌then◌}
 use Rattle.entries.specs.Entries.{wholly, forms}

@@ -7,11 +7,12 @@ ghost use Rattle.entries.specs.Steps.{CellsFit, Leaves};
 ghost use Rattle.rewards.specs.Rewards.{reward, rewards, outcome_kept, outcome, outcomes, rewards_or_outcomes};
 ghost use Rattle.rewards.specs.Steps.{OutcomesFit, RewardCells};
 
-use grammar::Read;
 use numerals::Form;
+use refusals::Refusal;
 use tables::Tables;
 
 // `r` for the rewards that a and s stand for.
+#[tactic(auto, unfolding(crate::specs::Rewards::reward_by))]
 fn reward_at(
     file: &[u8],
     at: usize,
@@ -20,42 +21,41 @@ fn reward_at(
     n: usize,
     a: usize,
     s: usize,
-) -> Read
+) -> Result<usize, Refusal>
     requires at_in_bounds { (at ≤ length file.now) × (CellsFit m n 1 cells.old) }
     requires a_le_m { (a ≤ m) × (s ≤ n) }
     ensures { Leaves file.now at result cells.new (reward m n a s cells.old (words_in between file.now at)) }
 {
-    let r = grammar::signed_at(file, at, Form::REWARD, Tables::REWARD);
-    let x = r.read;
-    let Read::Value(_, next) = x else {
-        return x;
-    };
+    let r = grammar::signed_at(file, at, Form::REWARD, Tables::REWARD)?;
     drafts::state_reward(cells, m, n, a, s, r.value);
-    Read::Value(0, next)
+    Ok(r.next)
 }
 
 // After `R`.
-fn rewards_at(file: &[u8], at: usize, cells: &mut [i64], m: usize, n: usize) -> Read
+#[tactic(auto, unfolding(crate::specs::Rewards::rewards_by))]
+fn rewards_at(
+    file: &[u8],
+    at: usize,
+    cells: &mut [i64],
+    m: usize,
+    n: usize,
+) -> Result<usize, Refusal>
     requires { (at ≤ length file.now) × (CellsFit m n 1 cells.old) }
     ensures { Leaves file.now at result cells.new (rewards m n cells.old (words_in between file.now at)) }
 {
-    let i = entries::indexed_at(file, at, m);
-    let Read::Value(a, p) = i else {
-        return i;
-    };
-    let j = entries::indexed_at(file, p, n);
-    let Read::Value(s, q) = j else {
-        return j;
-    };
-    let first = grammar::keys_at(file, q, b":", b"*");
-    let Read::Value(_, t) = first else {
-        return first;
-    };
-    let second = grammar::keys_at(file, t, b":", b"*");
-    let Read::Value(_, next) = second else {
-        return second;
-    };
-    reward_at(file, next, cells, m, n, a as usize, s as usize)
+    let a = entries::indexed_at(file, at, m)?;
+    let s = entries::indexed_at(file, a.next, n)?;
+    let first = grammar::keys_at(file, s.next, b":", b"*")?;
+    let second = grammar::keys_at(file, first, b":", b"*")?;
+    reward_at(
+        file,
+        second,
+        cells,
+        m,
+        n,
+        a.value as usize,
+        s.value as usize,
+    )
 }
 
 // r is stated in full, where the model has few enough states.
@@ -80,6 +80,7 @@ fn keep_outcome(
 }
 
 // `r` for the rewards that a, s, the state reached `to` and o stand for.
+#[tactic(auto, unfolding(crate::specs::Rewards::outcome_by))]
 fn outcome_at(
     file: &[u8],
     at: usize,
@@ -91,53 +92,45 @@ fn outcome_at(
     s: usize,
     to: usize,
     o: usize,
-) -> Read
+) -> Result<usize, Refusal>
     requires at_in_bounds { (at ≤ length file.now) × (OutcomesFit m n k cells.old) }
     requires a_le_m { (a ≤ m) × ((s ≤ n) × ((to ≤ n) × (o ≤ k))) }
     ensures { Leaves file.now at result cells.new
         (outcome m n k a s to o cells.old (words_in between file.now at)) }
 {
-    let r = grammar::signed_at(file, at, Form::REWARD, Tables::REWARD);
-    let x = r.read;
-    let Read::Value(_, next) = x else {
-        return x;
-    };
+    let r = grammar::signed_at(file, at, Form::REWARD, Tables::REWARD)?;
     keep_outcome(cells, m, n, k, a, s, to, o, r.value);
-    Read::Value(0, next)
+    Ok(r.next)
 }
 
 // After `R`, in full.
-fn outcomes_at(file: &[u8], at: usize, cells: &mut [i64], m: usize, n: usize, k: usize) -> Read
+#[tactic(auto, unfolding(crate::specs::Rewards::outcomes_by))]
+fn outcomes_at(
+    file: &[u8],
+    at: usize,
+    cells: &mut [i64],
+    m: usize,
+    n: usize,
+    k: usize,
+) -> Result<usize, Refusal>
     requires { (at ≤ length file.now) × (OutcomesFit m n k cells.old) }
     ensures { Leaves file.now at result cells.new (outcomes m n k cells.old (words_in between file.now at)) }
 {
-    let i = entries::indexed_at(file, at, m);
-    let Read::Value(a, p) = i else {
-        return i;
-    };
-    let j = entries::indexed_at(file, p, n);
-    let Read::Value(s, q) = j else {
-        return j;
-    };
-    let g = entries::indexed_at(file, q, n);
-    let Read::Value(to, t) = g else {
-        return g;
-    };
-    let h = entries::indexed_at(file, t, k);
-    let Read::Value(o, next) = h else {
-        return h;
-    };
+    let a = entries::indexed_at(file, at, m)?;
+    let s = entries::indexed_at(file, a.next, n)?;
+    let to = entries::indexed_at(file, s.next, n)?;
+    let o = entries::indexed_at(file, to.next, k)?;
     outcome_at(
         file,
-        next,
+        o.next,
         cells,
         m,
         n,
         k,
-        a as usize,
-        s as usize,
-        to as usize,
-        o as usize,
+        a.value as usize,
+        s.value as usize,
+        to.value as usize,
+        o.value as usize,
     )
 }
 
@@ -150,7 +143,7 @@ pub fn rewards_or_outcomes_at(
     n: usize,
     k: usize,
     full: bool,
-) -> Read
+) -> Result<usize, Refusal>
     requires { (at ≤ length file.now) × (RewardCells full m n k cells.old) }
     ensures { Leaves file.now at result cells.new
         (rewards_or_outcomes full m n k cells.old (words_in between file.now at)) }

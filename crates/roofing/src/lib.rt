@@ -21,8 +21,8 @@ fn least_of(backups: &[i64], actions: usize) -> i64
     ensures { result ≡ least_roof actions backups.now }
 {
     let mut most = integers::ceil_div(backups[0], Tables::K);
-    for a in 1..actions {
-        let here = integers::ceil_div(backups[a], Tables::K);
+    for backup in &backups[1..actions] {
+        let here = integers::ceil_div(*backup, Tables::K);
         if most < here {
             most = here;
         }

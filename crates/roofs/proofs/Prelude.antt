@@ -8,11 +8,9 @@ pub use Rattle.levels.specs.Judged.{covers_backups}
 pub use Rattle.plans.specs.Level.{Level}
 pub use Rattle.sawtooth.specs.Steps.{ceiling_in}
 pub use Rattle.backups.specs.Steps.{CeilingOf}
-pub use Rattle.tables.proofs.Refusals.{first-here, first_more, first-none}
+pub use Rattle.refusals.proofs.Refusals.{first-here, first_more, first-none}
 pub use Rattle.tables.specs.Limits.{max_states}
 pub use Rattle.tables.specs.Storage.{model_in}
-pub use Rattle.tables.specs.Verdicts.{first_of, unless}
+pub use Rattle.refusals.specs.Verdicts.{first_of, unless, Verdict, Fine}
 pub use Rattle.tables.specs.declared.Counts.{Counts}
-pub use Rattle.tables.specs.declared.Verdict.{Verdict}
-pub use Rattle.tables.specs.declared.Verdict.TheVariants.{Fine}
 unfoldable pub use Rattle.tables.specs.Limits.{K}

@@ -7,7 +7,7 @@ ghost use Rattle.integers.specs.Whole.{◌·◌};
 ghost use Rattle.integers.specs.Search.{every};
 ghost use Rattle.tables.specs.Limits.{max_entry, K};
 ghost use Rattle.tables.specs.Storage.{model_in};
-ghost use Rattle.tables.specs.Verdicts.{◌before◌};
+ghost use Rattle.refusals.specs.Verdicts.{◌before◌};
 ghost use Rattle.plans.specs.Limits.{max_total};
 ghost use Rattle.plans.specs.Level.{Level, IsPoint};
 ghost use Rattle.levels.specs.Storage.{point_in, roof_in};
@@ -16,7 +16,8 @@ ghost use Rattle.sawtooth.specs.Steps.{ceiling_in, CornersFit, PointsFit, Values
 ghost use Rattle.columns.specs.Steps.{Lists};
 ghost use Rattle.backups.specs.Steps.{Roof, CeilingOf, Roofed};
 
-use tables::{Counts, State, Tables, Verdict};
+use refusals::{Refusal, Verdict};
+use tables::{Counts, State, Tables};
 
 // Whether a value is at least every action's backup.
 fn covers(backups: &[i64], actions: usize, w: i64) -> bool
@@ -69,10 +70,10 @@ fn corners_hold<'a, 'b>(
             State(s),
         );
         if !covers(&backups, c.actions, offered[s]) {
-            return Verdict::Refused(14, s);
+            return Err(Refusal(14, s));
         }
     }
-    Verdict::Fine
+    Ok(())
 }
 
 // 15: the first point below its backup.
@@ -115,10 +116,10 @@ fn points_hold<'a, 'b, 'c>(
             i,
         );
         if !covers(&backups, c.actions, at[i]) {
-            return Verdict::Refused(15, i);
+            return Err(Refusal(15, i));
         }
     }
-    Verdict::Fine
+    Ok(())
 }
 
 // 14, then 15: the gains of the standing level are worked out once for both.
@@ -146,7 +147,7 @@ pub fn roof_holds<'a, 'b, 'c>(
         result ≡ (corners_verdict M L W before points_verdict M L W) }
 {
     let gains = ceilings::gains(corners, weights, values, points, c.states);
-    let roof = corners_hold(
+    corners_hold(
         transition,
         list,
         observation,
@@ -157,10 +158,7 @@ pub fn roof_holds<'a, 'b, 'c>(
         newcorners,
         c,
         points,
-    );
-    let Verdict::Fine = roof else {
-        return roof;
-    };
+    )?;
     points_hold(
         transition,
         list,

@@ -186,8 +186,8 @@ pub fn step<'a>(
     let count = c.actions * c.states;
     let mut next = [0i64; Tables::ACTIONS * Tables::STATES];
     step_informed(transition, observation, reward, c, &informed[..], &mut next);
-    cells::paste_i64(informed, 0, &next, count);
+    cells::paste(informed, 0, &next, count);
     let mut above = [0i64; Tables::ACTIONS * Tables::STATES];
     step_qmdp(transition, reward, c, &qmdp[..], &mut above);
-    cells::paste_i64(qmdp, 0, &above, count);
+    cells::paste(qmdp, 0, &above, count);
 }

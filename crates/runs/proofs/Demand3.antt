@@ -1,11 +1,13 @@
 -- Demand 3, proved over the definitions that the contracts name: what one event keeps (`Reached.antt`) holds of a list. Assumes nothing.
 --
 -- In order: a list after a list; offers alone; a list of events; what holds then; an answer that meets its equation has what demand 3 says of it.
+use Rattle.std.specs.Prelude.{Result}
 use Rattle.integers.proofs.Kit.{◌≡◌, ◌∙◌, refl, ap, sym, subst, true, List, [], ◌∷◌, ℕ, ◌<◌, ◌+◌, add-zero, zero-add}
 use mathlib.Core.List.{◌++◌}
 use native.Mathlib.Nat.{add_assoc}
 use Rattle.tables.specs.Tables.{Tables}
-use Rattle.tables.specs.declared.Verdict.{Verdict}
+use Rattle.refusals.specs.declared.Refusal.{Refusal}
+use Rattle.refusals.specs.Verdicts.{Verdict}
 use Rattle.tables.specs.Storage.{weight_in, model_of}
 use Rattle.tables.specs.Limits.{max_vectors, max_levels}
 use Rattle.plans.specs.Build.{some_covers_all}
@@ -80,6 +82,7 @@ module _ (x : Lent) {m : Tables} {z : Lent} {t : ℕ} {c : Claim} (r : Reached m
   unfolding totals_of
   totals-hold h b e =
       rw (totals-fine r b h e.0 e.1) record {
+        answer = _;
         given = refl;
         lower_is = lower_is r b;
         sawtooth_is = sawtooth_is r b;
@@ -132,7 +135,7 @@ module _ {m : Tables} {y : Lent} (m₀ : Tables) (x : Lent) (es : List Event) (o
   pub stands-in-force : Held max_vectors m y
   stands-in-force = subst (λ (z : Certifier). Held max_vectors z.tables z.lent) (sym q) (reached m₀ x o es).stands
 
-pub totals-demand : (m : Tables) (y : Lent) (b : List ℕ) (r : Bounds) → r ≡ totals_of m y b
+pub totals-demand : (m : Tables) (y : Lent) (b : List ℕ) (r : Result Bounds Refusal) → r ≡ totals_of m y b
     → (m₀ : Tables) (x : Lent) (es : List Event) → ModelAccepted m₀ x → certifier m y ≡ after m₀ x es → 0 < steps m₀ x es
     → MixtureHolds m (claim m₀ x es) b → TotalsHold m (steps m₀ x es) (claim m₀ x es) b r
 totals-demand m y b r e m₀ x es o q h mixture = rw e ((in-force m₀ x es o q).totals h b mixture)

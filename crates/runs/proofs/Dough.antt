@@ -2,6 +2,7 @@
 -- it. The prover computes the definitions that the contracts name. Assumes nothing.
 --
 -- In order: the levels that are built, written out; D9, over all two-step plans; the table.
+use Rattle.std.specs.Prelude.{Result, Ok, Err}
 use Rattle.integers.proofs.Kit.{◌≡◌, refl, List, [], ◌∷◌, ℕ, ◌<◌, ◌+◌, ◌*◌, suc, zero, ◌^◌, arith, replicate, ℤ, pos, ◌+ℤ◌, negsuc, ◌≤ℤ◌}
 use lib.IntN.{+ℤ_idr}
 use lib.Signed.{le_z_yes}
@@ -11,11 +12,11 @@ use Rattle.integers.specs.Cells.{listed, laid, laid_rows}
 use Rattle.integers.proofs.Order.{·-zero}
 use Rattle.integers.proofs.Sums.{sum-zero}
 use Rattle.tables.specs.Tables.{Tables}
-use Rattle.tables.specs.declared.Verdict.TheVariants.{Fine, Refused}
+use Rattle.refusals.specs.declared.Refusal.{Refusal}
+use Rattle.refusals.specs.Verdicts.{Fine, Refused, first_of}
 use Rattle.tables.specs.Limits.{K}
 use Rattle.tables.specs.Model.{Model, successor, expected_reward, backup, backed_up}
 use Rattle.tables.specs.Storage.{weight_in, model_of}
-use Rattle.tables.specs.Verdicts.{first_of}
 use Rattle.tables.specs.Judged.{limits_hold, rows_total, tables_verdict}
 use Rattle.masks.specs.Masks.{covered, mask_of}
 use Rattle.plans.specs.Limits.{range}
@@ -234,9 +235,13 @@ best-of-two = record {
 }
 
 -- totals and action, then the two ceilings
-abbrev pub given : ℤ → ℤ → ℤ → ℕ → ℤ → ℤ → Bounds
+abbrev pub given : ℤ → ℤ → ℤ → ℕ → ℤ → ℤ → Result Bounds Refusal
 given low high apart a saw row =
-    record { verdict = Fine; lower = low; upper = high; gap = apart; action = record { 0 = a }; sawtooth = saw; informed = row }
+    Ok (record { lower = low; upper = high; gap = apart; action = record { 0 = a }; sawtooth = saw; informed = row })
+
+-- totals that are refused
+abbrev pub refused : ℕ → Result Bounds Refusal
+refused number = Err (record { 0 = number; 1 = 0 })
 
 -- ---- the table
 record Table : Type 0 where
@@ -263,7 +268,7 @@ record Table : Type 0 where
   d9 : BestIs (model_of dough) 2 (weight_in (mixture 50 50)) (pos 10_025)
   d10 : totals_of dough (standing 2 two) (mixture 1 0) ≡ given (negsuc 50) (negsuc 49) (pos 1) 0 (negsuc 31) (negsuc 49)
   d11 : totals_of dough (standing 2 two) (mixture 0 1) ≡ given (pos 510) (pos 510) (pos 0) 1 (pos 510) (pos 510)
-  d12 : (totals_of dough (standing 2 two) (mixture 0 0)).verdict ≡ Refused 17 0
+  d12 : totals_of dough (standing 2 two) (mixture 0 0) ≡ refused 17
 
 table : Table
 unfolding dough slices rows_at blank fresh half one two three level standing alone changed mixture pair open_verdict opened offered offer_up_to shape_up_to

@@ -9,13 +9,13 @@ use Rattle.integers.specs.Whole.{◌·◌, total_to}
 use Rattle.integers.proofs.Parts.{le_z-is, le-true}
 use Rattle.integers.proofs.Searches.{and-true, and_is, every-at, at_every, zero_or}
 use Rattle.tables.specs.Tables.{Tables}
-use Rattle.tables.specs.declared.Verdict.TheVariants.{Fine}
+use Rattle.refusals.specs.Verdicts.{Fine}
 use Rattle.tables.specs.Limits.{K, max_levels}
 use Rattle.tables.specs.Model.{Model, Valid, backup}
 use Rattle.tables.specs.Storage.{counts_of, entry_in, model_of}
 use Rattle.tables.specs.Steps.{Stored}
 use Rattle.tables.specs.Judged.{tables_verdict}
-use Rattle.tables.proofs.Refusals.{before-fine, unless-fine, fine-at, at-fine, fine-true, fine-is}
+use Rattle.refusals.proofs.Refusals.{before-fine, unless-fine, fine-at, at-fine, fine-true, fine-is}
 use Rattle.tables.proofs.Accepted.{tables-valid, tables-stored, tables-fine}
 use Rattle.plans.specs.Limits.{max_total, range}
 use Rattle.plans.specs.Level.{Level, backup_at, corner_weight, follows, Meets, ShapedUpTo, IsPoint}

@@ -4,10 +4,9 @@ use Rattle.integers.proofs.Kit.{◌≡◌, refl, [], ◌∷◌, ℕ, replicate, 
 use Rattle.integers.specs.Whole.{◌·◌, sum_to, total_to, largest_to, lesser, ceil_div, floor_div}
 use Rattle.integers.specs.Search.{every, some, first_largest_of}
 use Rattle.integers.specs.Cells.{listed, laid, laid_rows}
-use Rattle.tables.specs.declared.Verdict.TheVariants.{Fine, Refused}
+use Rattle.refusals.specs.Verdicts.{Fine, Refused, first_of}
 use Rattle.tables.specs.Limits.{K}
 use Rattle.tables.specs.Model.{successor, expected_reward, backup}
-use Rattle.tables.specs.Verdicts.{first_of}
 use Rattle.tables.specs.Judged.{limits_hold, rows_total, tables_verdict}
 use Rattle.masks.specs.Masks.{covered, mask_of}
 use Rattle.plans.specs.Limits.{range}
@@ -19,7 +18,7 @@ use Rattle.levels.specs.Judged.{rows_within, values_within, ranges_verdict, weig
 use Rattle.levels.specs.Judged.{points_verdict}
 use Rattle.levels.specs.Judged.{masks_verdict, level_verdict, shape_up_to, backups_verdict, offer_up_to, offer_verdict}
 use Rattle.runs.specs.State.{offered, standing_verdict, totals_verdict, totals_of, build_verdict}
-use Rattle.runs.proofs.Dough.{dough, slices, rows_at, fresh, given, half}
+use Rattle.runs.proofs.Dough.{dough, slices, rows_at, fresh, given, refused, half}
 
 -- the mask of the second state, and one with a state that there is not
 abbrev ripe : ℕ
@@ -74,12 +73,12 @@ record Table : Type 0 where
   empty : offer_verdict dough fresh (offer 0 0 (pos 999_999) (pos 999_999) (negsuc 99) (pos 600)) ≡ Fine
   -- totals where all weight lies on covered states, else 22; 17 comes first
   counts-there : totals_of dough stands (0 ∷ 1 ∷ []) ≡ given (pos 600) (pos 600) (pos 0) 1 (pos 600) (pos 600)
-  counts-not : (totals_of dough stands (1 ∷ 0 ∷ [])).verdict ≡ Refused 22 0
-  counts-partly : (totals_of dough stands (1 ∷ 1 ∷ [])).verdict ≡ Refused 22 0
-  no-weight : (totals_of dough stands (0 ∷ 0 ∷ [])).verdict ≡ Refused 17 0
-  too-heavy : (totals_of dough stands (1_000_001 ∷ 0 ∷ [])).verdict ≡ Refused 17 0
+  counts-not : totals_of dough stands (1 ∷ 0 ∷ []) ≡ refused 22
+  counts-partly : totals_of dough stands (1 ∷ 1 ∷ []) ≡ refused 22
+  no-weight : totals_of dough stands (0 ∷ 0 ∷ []) ≡ refused 17
+  too-heavy : totals_of dough stands (1_000_001 ∷ 0 ∷ []) ≡ refused 17
   -- 16 comes before 17
-  level-0 : (totals_of dough fresh (0 ∷ 0 ∷ [])).verdict ≡ Refused 16 0
+  level-0 : totals_of dough fresh (0 ∷ 0 ∷ []) ≡ refused 16
   -- nothing is built upon vectors that cover a part; 12 comes first
   none-covers-all : build_verdict dough stands 1 half ≡ Refused 22 0
   no-point : build_verdict dough stands 1 (slices 0 (replicate 2 0)) ≡ Refused 12 0

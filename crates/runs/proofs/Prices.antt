@@ -7,12 +7,12 @@ use Rattle.integers.proofs.Kit.{◌≡◌, ◌∙◌, refl, ap, true, false, Boo
 use Rattle.integers.proofs.Lists.{laid-at, laid-length, laid_rows-at, laid_rows-length}
 use Rattle.integers.proofs.Searches.{and-true, every-at}
 use Rattle.tables.specs.Tables.{Tables}
-use Rattle.tables.specs.declared.Verdict.TheVariants.{Fine}
+use Rattle.refusals.specs.Verdicts.{Fine}
 use Rattle.tables.specs.Limits.{max_vectors}
 use Rattle.tables.specs.Model.{Model, Valid}
 use Rattle.tables.specs.Storage.{counts_of, entry_in, model_of}
 use Rattle.tables.specs.Steps.{Stored}
-use Rattle.tables.proofs.Refusals.{before-fine, unless-fine}
+use Rattle.refusals.proofs.Refusals.{before-fine, unless-fine}
 use Rattle.tables.proofs.Accepted.{tables-valid, tables-stored}
 use Rattle.masks.specs.Masks.{covered_in}
 use Rattle.plans.specs.Level.{Level, Agree}

@@ -1,16 +1,16 @@
 -- What holds of a certifier in every run: after opening, after one event more, and what totals and buildings then say. Assumes nothing.
 --
 -- In order: opening; one event; totals; building.
+use Rattle.std.specs.Prelude.{Ok, Err}
 use Rattle.integers.proofs.Kit.{◌≡◌, ◌∙◌, refl, ap, sym, subst, true, List, [], ◌∷◌, ℕ, ◌≤◌, ◌<◌, ◌+◌, ◌*◌, suc, arith, add-zero, add-one, le-leb}
 use Rattle.integers.proofs.Kit.{leb-true, lt-ltb, leb, length, drop}
 use Rattle.integers.proofs.Searches.{and-true, and_is}
 use Rattle.tables.specs.Tables.{Tables}
-use Rattle.tables.specs.declared.Verdict.{Verdict}
-use Rattle.tables.specs.declared.Verdict.TheVariants.{Fine, Refused}
+use Rattle.refusals.specs.Verdicts.{Verdict, Fine, ◌before◌, left}
 use Rattle.tables.specs.Model.{Model}
 use Rattle.tables.specs.Storage.{weight_in, entry_in, model_of}
 use Rattle.tables.specs.Judged.{tables_verdict}
-use Rattle.tables.proofs.Refusals.{before-fine, unless-fine}
+use Rattle.refusals.proofs.Refusals.{before-fine, unless-fine}
 use Rattle.tables.proofs.Accepted.{tables-valid, tables-stored}
 use Rattle.tables.specs.Limits.{max_vectors, max_levels}
 use Rattle.plans.specs.Level.{level0, Agree, ceiling}
@@ -31,7 +31,6 @@ use Rattle.levels.specs.Judged.{holds}
 use Rattle.levels.proofs.Laws.{passed, fine_before}
 use Rattle.levels.proofs.Over.{read-elsewhere, covers-elsewhere, Complete, AsLong, long-long, complete-true, complete-is, complete-long, over_agree, over-long}
 use Rattle.levels.proofs.Over.{over-same, informed-over, qmdp-over, informed-long, qmdp-long}
-use Rattle.tables.specs.Verdicts.{◌before◌, left}
 use Rattle.columns.specs.Columns.{handed_list}
 use Rattle.runs.specs.State.{open_verdict, opened, verdict_on, raised, offered, mixture_holds, standing_verdict, totals_verdict}
 use Rattle.runs.specs.State.{answer_for, build_verdict, built_from}
@@ -211,19 +210,19 @@ module _ {m : Tables} {x₀ : Cells} {t : ℕ} {c : Claim} {x : Lent} (r : Reach
     where
       of-list : (u v : Verdict) (z : Lent) → Reached m x₀ (t + tally v) (left v (stepped (model_of m) (level_of m l) c) c) z
           → Reached m x₀ (t + tally (u before v)) (left (u before v) (stepped (model_of m) (level_of m l) c) c) (left u z x)
-      of-list Fine v z k = k
-      of-list (Refused number place) v z k = rw (add-zero t) r
+      of-list (Ok u) v z k = k
+      of-list (Err e) v z k = rw (add-zero t) r
 
       by : (v : Verdict) → (v ≡ Fine → Accepted max_vectors m x l)
           → Reached m x₀ (t + tally v) (left v (stepped (model_of m) (level_of m l) c) c) (left v (raised m x (level_of m l)) x)
-      by Fine a = rw (add-one t) (reached-next l (a refl))
-      by (Refused number place) a = rw (add-zero t) r
+      by (Ok u) a = rw (add-one t) (reached-next l (a refl))
+      by (Err e) a = rw (add-zero t) r
   reached-step (prices m') = rw (add-zero t) (by (prices_verdict m x m') (priced m x m'))
     where
       by : (v : Verdict) → (v ≡ Fine → Priced m x m')
           → Reached (left v m' m) x₀ t (left v (shifted (model_of m) (model_of m') t c) c) (left v (moved m x (change (model_of m) (model_of m'))) x)
-      by Fine p = reached-prices m' (p refl)
-      by (Refused number place) p = r
+      by (Ok u) p = reached-prices m' (p refl)
+      by (Err e) p = r
 
   -- ---- totals
   holds-true : holds m x ≡ true

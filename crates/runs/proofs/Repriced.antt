@@ -5,8 +5,7 @@ use Rattle.integers.specs.Whole.{total_to, largest_to, lesser}
 use Rattle.integers.specs.Search.{every}
 use Rattle.integers.specs.Cells.{listed, laid, laid_rows}
 use Rattle.tables.specs.Tables.{Tables}
-use Rattle.tables.specs.declared.Verdict.TheVariants.{Fine, Refused}
-use Rattle.tables.specs.Verdicts.{first_of}
+use Rattle.refusals.specs.Verdicts.{Fine, Refused, first_of}
 use Rattle.tables.specs.Judged.{limits_hold, rows_total, tables_verdict}
 use Rattle.masks.specs.Masks.{covered}
 use Rattle.plans.specs.Limits.{range}

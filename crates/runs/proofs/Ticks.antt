@@ -1,13 +1,13 @@
 -- How much rounding costs, proved over the same definitions as demand 3. Assumes nothing.
 --
 -- In order: a level that agrees with a built one; the levels so far, the last of them the one that is claimed.
+use Rattle.std.specs.Prelude.{Ok, Err}
 use Rattle.integers.proofs.Kit.{◌≡◌, ◌∙◌, refl, ap, sym, subst, List, [], ◌∷◌, ℕ, ◌<◌, ◌+◌, suc, ◌^◌, arith, add-zero, add-one, length}
 use Rattle.integers.proofs.Kit.{ℤ, pos, ◌+ℤ◌, ◌≤ℤ◌, ◌<ℤ◌}
 use Rattle.integers.specs.Whole.{◌·◌, floor_div}
 use Rattle.integers.proofs.Order.{≤-of, <-≤, ·-zero}
 use Rattle.tables.specs.Tables.{Tables}
-use Rattle.tables.specs.declared.Verdict.{Verdict}
-use Rattle.tables.specs.declared.Verdict.TheVariants.{Fine, Refused}
+use Rattle.refusals.specs.Verdicts.{Verdict, Fine, left}
 use Rattle.tables.specs.Limits.{max_vectors, K}
 use Rattle.tables.specs.Model.{Model, Valid, backed_up}
 use Rattle.tables.specs.Storage.{model_of}
@@ -21,7 +21,6 @@ use Rattle.plans.proofs.Built.{action_exists, chosen-exists}
 use Rattle.plans.proofs.Ticks.{BackedUp, low-next, high-next}
 use Rattle.levels.specs.Storage.{Cells, LentLevel, Lent, level_of, point_in}
 use Rattle.levels.proofs.Over.{covers-elsewhere, over_agree}
-use Rattle.tables.specs.Verdicts.{left}
 use Rattle.runs.specs.State.{raised, opened, verdict_on, offered, build_verdict, built_from, built_of}
 use Rattle.runs.specs.Demand3.{ModelAccepted, Event, offer, offers, certifier, run, tally, after, steps}
 use Rattle.runs.specs.Demand3.{Claim, stepped, claimed_by, claimed, claim0, claim}
@@ -112,12 +111,12 @@ module _ (m : Tables) (valid-tables : Valid (model_of m)) (x₀ : Cells) where
       where
         by : (v : Verdict) → (v ≡ Fine → Stacked m x₀ (level_of m l ∷ below) (stepped (model_of m) (level_of m l) c) (raised m x (level_of m l)))
             → Stacked m x₀ (stacked v (level_of m l) below) (left v (stepped (model_of m) (level_of m l) c) c) (left v (raised m x (level_of m l)) x)
-        by Fine next = next refl
-        by (Refused number place) next = k
+        by (Ok u) next = next refl
+        by (Err e) next = k
 
   stacked-length : (v : Verdict) (W : Level) (below : List Level) → length (stacked v W below) ≡ length below + tally v
-  stacked-length Fine W below = sym (add-one (length below))
-  stacked-length (Refused number place) W below = sym (add-zero (length below))
+  stacked-length (Ok u) W below = sym (add-one (length below))
+  stacked-length (Err e) W below = sym (add-zero (length below))
 
   -- after offers alone, the last of which stand on those below
   abbrev After : List Level → Claim → Lent → List LentLevel → Type 0
@@ -144,8 +143,8 @@ module _ (m : Tables) (valid-tables : Valid (model_of m)) (x₀ : Cells) where
 
       by : (v : Verdict) → (v ≡ Fine → After below c x (l ∷ made_from m (offered m x l) ps)) → After below c x (made_from m x ps)
           → After below c x (unless_refused v l (made_from m (offered m x l) ps) (made_from m x ps))
-      by Fine accepted refused = accepted refl
-      by (Refused number place) accepted refused = refused
+      by (Ok u) accepted refused = accepted refl
+      by (Err e) accepted refused = refused
 
 -- After any list of point lists, built and offered in turn: each entry is at most what the plan named by its vector earns, and less than t ticks below it.
 -- By induction over the list, `Stacked` holds after it. At level 0 a plan of no steps earns 0, which is the zero vector's entry. Of a list that is refused

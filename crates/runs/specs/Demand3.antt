@@ -6,13 +6,12 @@
 --   steps m x es     t, the number of offers that were accepted
 --   claim m x es     the level and the rows that it claims: those of the last accepted level, or of level 0, as new prices since have moved them
 --   Demand3 m x es   what holds of them, for the tables then in force
-use Rattle.std.specs.Prelude.{ℕ, ◌+◌, ◌^◌, ◌≤◌, ◌<◌, ◌≡◌, true, List, [], ◌∷◌, ℤ, ◌-ℤ◌, ◌≤ℤ◌}
+use Rattle.std.specs.Prelude.{ℕ, ◌+◌, ◌^◌, ◌≤◌, ◌<◌, ◌≡◌, true, List, [], ◌∷◌, ℤ, ◌-ℤ◌, ◌≤ℤ◌, Result, Ok, Err}
 use Rattle.tables.specs.Tables.{Tables}
-use Rattle.tables.specs.declared.Verdict.{Verdict}
-use Rattle.tables.specs.declared.Verdict.TheVariants.{Fine, Refused}
+use Rattle.refusals.specs.declared.Refusal.{Refusal}
+use Rattle.refusals.specs.Verdicts.{Verdict, Fine, ◌before◌, left}
 use Rattle.tables.specs.Model.{Model}
 use Rattle.tables.specs.Storage.{weight_in, model_of}
-use Rattle.tables.specs.Verdicts.{◌before◌, left}
 use Rattle.integers.specs.Whole.{◌·◌}
 use Rattle.tables.specs.Limits.{max_levels, K}
 use Rattle.columns.specs.Columns.{handed_list}
@@ -62,8 +61,8 @@ run y (e ∷ es) = run (handed y e) es
 
 -- accepted offers are counted, new prices are not
 abbrev pub tally : Verdict → ℕ
-tally Fine = 1
-tally (Refused number place) = 0
+tally (Ok u) = 1
+tally (Err e) = 0
 
 abbrev pub counted : Certifier → Event → ℕ
 counted y (offer list l) = tally (handed_list y.tables list before verdict_on y.tables y.lent l)
@@ -137,16 +136,17 @@ pub record RowsAre (m : Tables) (x : Lent) (t : ℕ) (c : Claim) : Type 0 where
 abbrev pub MixtureHolds : Tables → Claim → List ℕ → Type 0
 MixtureHolds m c b = (mixture_holds m.states b ≡ true) × (some_counts (model_of m) c.level (weight_in b) ≡ true)
 
--- totals r at a mixture b: given, document 01's at the level and rows that are claimed, and a bracket of what the best of all t-step plans of the model
--- earns there, with an action that opens a plan earning the lower one
-pub record TotalsHold (m : Tables) (t : ℕ) (c : Claim) (b : List ℕ) (r : Bounds) : Type 0 where
-  pub given : r.verdict ≡ Fine
-  pub lower_is : r.lower ≡ lower (model_of m) c.level (weight_in b)
-  pub sawtooth_is : r.sawtooth ≡ ceiling m.states c.level (weight_in b)
-  pub informed_is : r.informed ≡ best_row (model_of m) c.informed (weight_in b)
-  pub upper_is : r.upper ≡ upper (model_of m) c.level c.informed (weight_in b)
-  pub gap_is : r.gap ≡ r.upper -ℤ r.lower
-  pub action_is : r.action.0 ≡ advice (model_of m) c.level (weight_in b)
+-- an answer r at a mixture b: given, with document 01's totals at the level and rows that are claimed, and a bracket of what the best of all t-step plans
+-- of the model earns there, with an action that opens a plan earning the lower one
+pub record TotalsHold (m : Tables) (t : ℕ) (c : Claim) (b : List ℕ) (r : Result Bounds Refusal) : Type 0 where
+  pub answer : Bounds
+  pub given : r ≡ Ok answer
+  pub lower_is : answer.lower ≡ lower (model_of m) c.level (weight_in b)
+  pub sawtooth_is : answer.sawtooth ≡ ceiling m.states c.level (weight_in b)
+  pub informed_is : answer.informed ≡ best_row (model_of m) c.informed (weight_in b)
+  pub upper_is : answer.upper ≡ upper (model_of m) c.level c.informed (weight_in b)
+  pub gap_is : answer.gap ≡ answer.upper -ℤ answer.lower
+  pub action_is : answer.action.0 ≡ advice (model_of m) c.level (weight_in b)
   pub bracket : Bracket (model_of m) t c.level c.informed (weight_in b)
 
 -- a verdict v on a building of a count of points, and the slices y' that it left of those that were lent, y: given, document 01's over the level that is

@@ -7,10 +7,9 @@ use Rattle.std.specs.Prelude.{ℕ, Bool, cond, ◌&&◌, eqb}
 use Rattle.integers.specs.Cells.{laid, laid_rows}
 use Rattle.integers.specs.Search.{every}
 use Rattle.tables.specs.Tables.{Tables}
-use Rattle.tables.specs.declared.Verdict.{Verdict}
+use Rattle.refusals.specs.Verdicts.{Verdict, ◌before◌, unless, left}
 use Rattle.tables.specs.Model.{Model}
 use Rattle.tables.specs.Storage.{entry_in, model_of}
-use Rattle.tables.specs.Verdicts.{◌before◌, unless, left}
 use Rattle.tables.specs.Judged.{tables_verdict}
 use Rattle.plans.specs.Level.{Level}
 use Rattle.plans.specs.Prices.{change, repriced, raised_rows}

@@ -1,14 +1,13 @@
 -- What opening, offering, totals and building answer, and what they leave in the slices that they are lent, on success and on refusal.
-use Rattle.std.specs.Prelude.{ℕ, ◌+◌, Bool, ◌&&◌, List, ◌∷◌, leb, ltb, length, drop, ℤ, pos, ◌-ℤ◌}
+use Rattle.std.specs.Prelude.{ℕ, ◌+◌, Bool, ◌&&◌, List, ◌∷◌, leb, ltb, length, drop, ℤ, pos, ◌-ℤ◌, Result, Ok, Err}
 use Rattle.integers.specs.Whole.{total_to}
 use Rattle.integers.specs.Search.{every}
 use Rattle.tables.specs.Tables.{Tables}
-use Rattle.tables.specs.declared.Verdict.{Verdict}
-use Rattle.tables.specs.declared.Verdict.TheVariants.{Fine, Refused}
+use Rattle.refusals.specs.declared.Refusal.{Refusal}
+use Rattle.refusals.specs.Verdicts.{Verdict, ◌before◌, unless, left}
 use Rattle.tables.specs.Limits.{max_weight, max_levels}
 use Rattle.tables.specs.Model.{Model}
 use Rattle.tables.specs.Storage.{weight_in, model_of}
-use Rattle.tables.specs.Verdicts.{◌before◌, unless, left}
 use Rattle.tables.specs.Judged.{tables_verdict}
 use Rattle.plans.specs.Limits.{max_built}
 use Rattle.plans.specs.Level.{Level, level0, ceiling}
@@ -73,25 +72,24 @@ totals_verdict m x b =
     before unless (mixture_holds m.states b) 17 0
     before unless (some_counts (model_of m) (level_of m (standing_in x)) (weight_in b)) 22 0
 
--- a refusal of which every other part is 0
-abbrev pub no_bounds : Verdict → Bounds
-no_bounds v =
-    record { verdict = v; lower = pos 0; upper = pos 0; gap = pos 0; action = record { 0 = 0 }; sawtooth = pos 0; informed = pos 0 }
-
 -- the totals of a level, or a refusal
-abbrev pub bounds_by : Verdict → Model → Level → (ℕ → ℕ → ℤ) → (ℕ → ℕ) → Bounds
-bounds_by Fine M L F b = record {
-  verdict = Fine;
+abbrev pub bounds_by : Verdict → Model → Level → (ℕ → ℕ → ℤ) → (ℕ → ℕ) → Result Bounds Refusal
+bounds_by (Ok u) M L F b = Ok (record {
   lower = lower M L b;
   upper = upper M L F b;
   gap = upper M L F b -ℤ lower M L b;
   action = record { 0 = advice M L b };
   sawtooth = ceiling M.states L b;
   informed = best_row M F b;
-}
-bounds_by (Refused number place) M L F b = no_bounds (Refused number place)
+})
+bounds_by (Err e) M L F b = Err e
 
-unfoldable pub totals_of : Tables → Lent → List ℕ → Bounds
+-- the totals of an answer; in a refusal every part is 0
+abbrev pub numbers_of : Result Bounds Refusal → Bounds
+numbers_of (Ok r) = r
+numbers_of (Err e) = record { lower = pos 0; upper = pos 0; gap = pos 0; action = record { 0 = 0 }; sawtooth = pos 0; informed = pos 0 }
+
+unfoldable pub totals_of : Tables → Lent → List ℕ → Result Bounds Refusal
 totals_of m x b = bounds_by (totals_verdict m x b) (model_of m) (level_of m (standing_in x)) (informed_in m x) (weight_in b)
 
 -- ---- building

@@ -4,11 +4,10 @@
 --   made m x ps      the levels that are offered
 --   levels m x ls    the accepted ones of a list of offers, the last one first
 --   Ticks m x ps     each vector names a plan of the model; each entry is at most what that earns, and less than t ticks below it
-use Rattle.std.specs.Prelude.{ℕ, ◌^◌, ◌<◌, ◌≡◌, List, [], ◌∷◌, length, pos, ◌+ℤ◌, ◌≤ℤ◌, ◌<ℤ◌}
+use Rattle.std.specs.Prelude.{ℕ, ◌^◌, ◌<◌, ◌≡◌, List, [], ◌∷◌, length, pos, ◌+ℤ◌, ◌≤ℤ◌, ◌<ℤ◌, Ok, Err}
 use Rattle.integers.specs.Whole.{◌·◌}
 use Rattle.tables.specs.Tables.{Tables}
-use Rattle.tables.specs.declared.Verdict.{Verdict}
-use Rattle.tables.specs.declared.Verdict.TheVariants.{Fine, Refused}
+use Rattle.refusals.specs.Verdicts.{Verdict}
 use Rattle.tables.specs.Limits.{K}
 use Rattle.tables.specs.Storage.{model_of}
 use Rattle.plans.specs.Plan.{Fits, earns}
@@ -28,8 +27,8 @@ built_level m x p = answer_for m p.count (built_of m x p.count p.cells)
 
 -- a level before others, if its building was not refused
 abbrev pub unless_refused : Verdict → LentLevel → List LentLevel → List LentLevel → List LentLevel
-unless_refused Fine l with_it without = l ∷ with_it
-unless_refused (Refused number place) l with_it without = without
+unless_refused (Ok u) l with_it without = l ∷ with_it
+unless_refused (Err e) l with_it without = without
 
 -- each level is built upon what the offers before it left
 unfoldable pub made_from : Tables → Lent → List Points → List LentLevel
@@ -42,8 +41,8 @@ made m x ps = made_from m (opened m x) ps
 
 -- a level on top of those below, if its offer was accepted
 abbrev pub stacked : Verdict → Level → List Level → List Level
-stacked Fine new below = new ∷ below
-stacked (Refused number place) new below = below
+stacked (Ok u) new below = new ∷ below
+stacked (Err e) new below = below
 
 unfoldable pub levels_of : Tables → List Level → Lent → List LentLevel → List Level
 levels_of m below x [] = below

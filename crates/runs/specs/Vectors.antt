@@ -1,7 +1,7 @@
 -- Acceptance of built levels, as a claim over the most vectors that a level may have.
 use Rattle.std.specs.Prelude.{ℕ, ◌+◌, ◌<◌, ◌≤◌, ◌≡◌, true}
 use Rattle.tables.specs.Tables.{Tables}
-use Rattle.tables.specs.declared.Verdict.TheVariants.{Fine}
+use Rattle.refusals.specs.Verdicts.{Fine}
 use Rattle.tables.specs.Limits.{max_levels}
 use Rattle.tables.specs.Storage.{model_of}
 use Rattle.plans.specs.Build.{some_covers_all}

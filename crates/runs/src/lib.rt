@@ -2,12 +2,11 @@
 // `pricing`.
 #![tactic(auto)]
 
-use tables::{Action, Verdict};
+use tables::Action;
 
 // The totals at a mixture, the action of the first vector with the largest product, and the two ceilings of which the upper total is the lower one.
 #[derive(Clone, Copy)]
 pub struct Bounds {
-    pub verdict: Verdict,
     pub lower: i64,
     pub upper: i64,
     pub gap: i64,

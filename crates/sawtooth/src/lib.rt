@@ -40,7 +40,7 @@ fn reaches(q: &[u64], weights: &[u32], at: usize, gain: u64, n: usize, least: u6
     ensures { result ≡ every n (λ s. leb (least * get_or weights.now (at + s) 0) (get_or q.now s 0 * gain)) }
 {
     for s in 0..n {
-        let p = weights::weight(weights[at + s]);
+        let p = u64::from(weights[at + s]);
         if reach(q[s], gain) < wanted(least, p) {
             return false;
         }
@@ -66,7 +66,7 @@ fn drop_of(q: &[u64], weights: &[u32], at: usize, gain: u64, n: usize) -> u64
     let mut top: u64 = 1; // under no weight: any state with weight takes its place
     let mut under: u64 = 0;
     for s in 0..n {
-        let p = weights::weight(weights[at + s]);
+        let p = u64::from(weights[at + s]);
         let x = q[s];
         if cross(x, under) < cross(top, p) {
             top = x;

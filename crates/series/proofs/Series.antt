@@ -1,12 +1,13 @@
 -- Laws of offers made one after the other. Assumes nothing.
-use Rattle.integers.proofs.Kit.{◌≡◌, ◌∙◌, refl, ap, sym, List, [], ◌∷◌, ℕ, ◌≤◌, ◌+◌, ◌*◌, suc, arith, add-one, get_or, length}
+use Rattle.std.specs.Result.{is_ok}
+use Rattle.integers.proofs.Kit.{◌≡◌, ◌∙◌, refl, ap, sym, true, false, List, [], ◌∷◌, ℕ, ◌≤◌, ◌+◌, ◌*◌, suc, arith, add-one, get_or, length}
+use Rattle.integers.proofs.Parts.{is_T}
 use mathlib.Core.List.{◌++◌}
 use native.Mathlib.Nat as NatL
 use Rattle.tables.specs.Tables.{Tables}
-use Rattle.tables.specs.declared.Verdict.{Verdict}
-use Rattle.tables.specs.declared.Verdict.TheVariants.{Fine, Refused}
+use Rattle.std.specs.Prelude.{Ok, Err}
+use Rattle.refusals.specs.Verdicts.{Verdict}
 use Rattle.tables.specs.Storage.{row_in}
-use Rattle.tables.specs.Verdicts.{left}
 use Rattle.levels.specs.Storage.{Cells, LentLevel, Lent, lent_for}
 use Rattle.levels.specs.Judged.{offer_verdict}
 use Rattle.levels.proofs.Over.{AsLong, as_long, long-long, same_cells}
@@ -57,32 +58,36 @@ accepted-more m x ls l =
     ∙ ap (λ (n : ℕ). accepted_of m x ls + n) (NatL.add-zero _ ∙ ap (λ (y : Certifier). counted y (offer [] l)) (offers-keep m x ls))
 
 -- one that is accepted counts
-tally-left : (v : Verdict) → left v 1 0 ≡ tally v
-tally-left Fine = refl
-tally-left (Refused number place) = refl
+tally-few : (v : Verdict) → tally v ≤ 1
+tally-few (Ok u) = omega arith
+tally-few (Err e) = omega arith
 
-pub counted-few : (v : Verdict) → left v 1 0 ≤ 1
-counted-few Fine = omega arith
-counted-few (Refused number place) = omega arith
+pub counted-one : (v : Verdict) → is_ok v ≡ true → tally v ≡ 1
+counted-one (Ok u) e = refl
+counted-one (Err r) e = absurd (is_T e)
+
+pub counted-none : (v : Verdict) → is_ok v ≡ false → tally v ≡ 0
+counted-none (Ok u) e = absurd (is_T (sym e))
+counted-none (Err r) e = refl
 
 pub running_none : (m : Tables) (b : Packed) (x : Lent) → Running m b x 0 x 0
 unfolding run acceptances offers offers_in
 running_none m b x = record { left_is = refl; accepted-is = refl; few = omega arith }
 
-pub running_more : {m : Tables} {b : Packed} {x y z : Lent} {i a k : ℕ} {v : Verdict} {l : LentLevel} → Running m b x i y a → l ≡ offer_in m b i
-    → v ≡ offer_verdict m y l → z ≡ offered m y l → k ≡ left v 1 0 → Running m b x (i + 1) z (a + k)
+pub running_more : {m : Tables} {b : Packed} {x y z : Lent} {i a n : ℕ} {v : Verdict} {l : LentLevel} → Running m b x i y a → l ≡ offer_in m b i
+    → v ≡ offer_verdict m y l → z ≡ offered m y l → n ≡ a + tally v → Running m b x (i + 1) z n
 unfolding offers_in
-running_more {m} {b} {x} {y} {z} {i} {a} {k} {v} {l} r h e f g =
+running_more {m} {b} {x} {y} {z} {i} {a} {n} {v} {l} r h e f g =
     let ls = offers_in m b i in
     let more : ls ++ (l ∷ []) ≡ offers_in m b (suc i) = ap (λ (l : LentLevel). ls ++ (l ∷ [])) h in
-    let said : k ≡ tally (offer_verdict m (offered_all m x ls) l) =
-    g ∙ (tally-left v ∙ (ap tally e ∙ ap (λ (y : Lent). tally (offer_verdict m y l)) r.left_is)) in
+    let said : tally v ≡ tally (offer_verdict m (offered_all m x ls) l) =
+    ap tally e ∙ ap (λ (y : Lent). tally (offer_verdict m y l)) r.left_is in
     rw (add-one i) record {
       left_is = f ∙ (ap (λ (y : Lent). offered m y l) r.left_is ∙ (sym (offered-more m x ls l) ∙ ap (offered_all m x) more));
       accepted-is =
-          ap (λ (j : ℕ). a + j) said ∙ (ap (λ (j : ℕ). j + tally (offer_verdict m (offered_all m x ls) l)) r.accepted-is
-          ∙ (sym (accepted-more m x ls l) ∙ ap (accepted_of m x) more));
-      few = omega (arith, r.few, g, counted-few v);
+          g ∙ (ap (λ (j : ℕ). a + j) said ∙ (ap (λ (j : ℕ). j + tally (offer_verdict m (offered_all m x ls) l)) r.accepted-is
+          ∙ (sym (accepted-more m x ls l) ∙ ap (accepted_of m x) more)));
+      few = omega (arith, r.few, g, tally-few v);
     }
 
 -- the parts of slices that are block i of each

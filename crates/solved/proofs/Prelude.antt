@@ -1,5 +1,5 @@
 -- What more than one proof of this crate names.
 pub use Rattle.integers.proofs.Kit.{◌≡◌, ◌∙◌, ap, sym, ◌≤◌, ◌-◌, arith, rules, get_or, pos}
 pub use Rattle.integers.proofs.Lists.{padded-cong, padded-length}
-pub use Rattle.tables.specs.declared.Verdict.{Verdict}
+pub use Rattle.refusals.specs.Verdicts.{Verdict}
 pub use Rattle.tables.specs.Limits.{max_states}

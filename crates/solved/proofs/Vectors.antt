@@ -11,14 +11,12 @@ use Rattle.integers.specs.Search.{every}
 use Rattle.integers.specs.Cells.{padded}
 use Rattle.integers.proofs.Lists.{padded-at, padded-length, filled_within}
 use Rattle.tables.specs.declared.Counts.{Counts}
-use Rattle.tables.specs.declared.Verdict.{Verdict}
-use Rattle.tables.specs.declared.Verdict.TheVariants.{Fine, Refused}
+use Rattle.refusals.specs.Verdicts.{Verdict, Fine, Refused, is_fine, ◌before◌, unless, first_of}
 use Rattle.tables.specs.Limits.{max_states, max_observations, K}
 use Rattle.tables.specs.Model.{Model, backed_up}
 use Rattle.tables.specs.Storage.{row_place, model_in}
-use Rattle.tables.specs.Verdicts.{◌before◌, unless, first_of}
 use Rattle.tables.proofs.Fitting.{row-alone, alone_at}
-use Rattle.tables.proofs.Refusals.{never, first_cong}
+use Rattle.refusals.proofs.Refusals.{never, first_cong}
 use Rattle.masks.specs.Masks.{masked_in}
 use Rattle.sums.specs.Steps.{foreseen_in, backup_in, foreseen_limit, ChosenFit}
 use Rattle.sums.proofs.Regroup.{backup-regrouped, foreseen-limit, transitions-fit, observations-fit}
@@ -113,31 +111,32 @@ unfolding first_of every
 first-every zero b k v = refl
 first-every (suc n) b k v = ap (λ (w : Verdict). w before unless (b n) k v) (first-every n b k v) ∙ both_hold (every n b) (b n) k v
 
-module _ (n limit : ℕ) (f : ℕ → ℤ) (v : ℕ) {row : List ℤ} (e : row ≡ padded (pos 0) max_states n f) {r : Verdict}
-    (said : r ≡ rows_within 11 1 n limit (λ i x. get_or row (row_place n i x) (pos 0))) where
+module _ (n limit : ℕ) (f : ℕ → ℤ) (v : ℕ) {row : List ℤ} (e : row ≡ padded (pos 0) max_states n f) where
+  abbrev tested : Verdict
+  tested = rows_within 11 1 n limit (λ i x. get_or row (row_place n i x) (pos 0))
+
   abbrev within : ℕ → Bool
   within s = leb (nat_abs (f s)) limit
 
-  row-every : r ≡ unless (every n within) 11 0
+  row-every : tested ≡ unless (every n within) 11 0
   unfolding rows_within first_of
   row-every =
-      said
-      ∙ first_cong n _ _ (λ s l. ap (λ (z : ℤ). unless (leb (nat_abs z) limit) 11 0)
+      first_cong n _ _ (λ s l. ap (λ (z : ℤ). unless (leb (nat_abs z) limit) 11 0)
       (ap (λ (i : ℕ). get_or row i (pos 0)) (row-alone n s) ∙ ap (λ (xs : List ℤ). get_or xs s (pos 0)) e ∙ padded-at (pos 0) max_states n f s (pos 0) l))
       ∙ first-every n within 11 0
 
-  pub row_fine : r ≡ Fine → first_of n (λ s. unless (leb (nat_abs (f s)) limit) 11 v) ≡ Fine
+  pub row_fine : tested ≡ Fine → first_of n (λ s. unless (leb (nat_abs (f s)) limit) 11 v) ≡ Fine
   row_fine g = first-every n within 11 v ∙ by (every n within) (sym row-every ∙ g)
     where
       by : (b : Bool) → unless b 11 0 ≡ Fine → unless b 11 v ≡ Fine
       by true h = refl
       by false h = never h
 
-  pub row-refused : {k i : ℕ} → r ≡ Refused k i → first_of n (λ s. unless (leb (nat_abs (f s)) limit) 11 v) ≡ Refused 11 v
-  row-refused {k} {i} g = first-every n within 11 v ∙ by (every n within) (sym row-every ∙ g)
+  pub row-refused : is_fine tested ≡ false → first_of n (λ s. unless (leb (nat_abs (f s)) limit) 11 v) ≡ Refused 11 v
+  row-refused g = first-every n within 11 v ∙ by (every n within) (rw row-every at g)
     where
-      by : (b : Bool) → unless b 11 0 ≡ Refused k i → unless b 11 v ≡ Refused 11 v
-      by true h = never (sym h)
+      by : (b : Bool) → is_fine (unless b 11 0) ≡ false → unless b 11 v ≡ Refused 11 v
+      by true h = cc
       by false h = refl
 
 -- ---- the vector as the builder's rows are filled with it

@@ -17,7 +17,8 @@ ghost use Rattle.stated.specs.Steps.{ReadTo};
 ghost use Rattle.solved.specs.Steps.{vectors_over, Solving, Gives};
 
 use levels::shape;
-use tables::{Action, ByState, Chosen, Counts, Tables, Vector, Verdict, read};
+use refusals::{Refusal, Verdict};
+use tables::{Action, ByState, Chosen, Counts, Tables, Vector, read};
 
 // A vector of the level, and where the files go on after it.
 #[derive(Clone, Copy)]
@@ -102,9 +103,6 @@ fn row_at<'a, 'c>(
         graph.now) v result }
 {
     let x = stated::said_at(alpha, graph, c.states, c.observations, t, v, p, q);
-    let a = x.action;
-    let ticks = x.ticks;
-    let chosen = x.chosen;
     let row = entries_of(
         transition,
         observation,
@@ -113,15 +111,15 @@ fn row_at<'a, 'c>(
         entries,
         c,
         standing,
-        ticks,
-        &chosen,
-        a,
+        x.ticks,
+        &x.chosen,
+        x.action,
     );
     Row {
         alpha: x.alpha,
         graph: x.graph,
-        action: a,
-        chosen: chosen,
+        action: x.action,
+        chosen: x.chosen,
         entries: row,
     }
 }
@@ -166,15 +164,13 @@ pub fn entries_hold<'a, 'c>(
             p,
             q,
         );
-        let row = x.entries;
-        let verdict = ranges::rows_within(&row, 1, c.states, limit, 11);
-        let Verdict::Fine = verdict else {
-            return Verdict::Refused(11, v);
-        };
+        if ranges::rows_within(&x.entries, 1, c.states, limit, 11).is_err() {
+            return Err(Refusal(11, v));
+        }
         p = x.alpha;
         q = x.graph;
     }
-    Verdict::Fine
+    Ok(())
 }
 
 // ---- the level
@@ -226,12 +222,10 @@ pub fn write_vectors<'a, 'c>(
             p,
             q,
         );
-        let chosen = x.chosen;
-        let row = x.entries;
         newactions[v] = shape::number(x.action);
         newmasks[v] = all;
-        cells::paste_u16(newchoices, read::start(v, k), &chosen, k);
-        cells::paste_i64(newentries, read::start(v, n), &row, n);
+        cells::paste(newchoices, read::start(v, k), &x.chosen, k);
+        cells::paste(newentries, read::start(v, n), &x.entries, n);
         p = x.alpha;
         q = x.graph;
     }

@@ -1,27 +1,22 @@
 -- All the vectors or nodes of a file, one after the other. Assumes nothing.
 --
---   Left       as a loop reads them for the first time: left-start, left_end, left_back, left-on
---   GoesOn   as a loop reads them once more: stands_read, standing_on
-use Rattle.integers.proofs.Kit.{◌≡◌, ◌∙◌, refl, ap, sym, subst, List, [], ◌∷◌, ℕ, ◌≤◌, ◌<◌, ◌+◌, suc, ◌-◌, zero, arith, zero-add, add-one, length}
+--   counted-all   as a loop reads them for the first time
+--   GoesOn        as a loop reads them once more: stands_read, standing-fine, standing_on
+use Rattle.std.specs.Prelude.{Some, Result, Ok, Err, IsOk}
+use Rattle.integers.proofs.Kit.{◌≡◌, ◌∙◌, refl, ap, sym, List, [], ◌∷◌, ℕ, ◌≤◌, ◌<◌, ◌+◌, suc, ◌-◌, zero, arith, zero-add, add-one, length}
 use Rattle.integers.proofs.Kit.{get_or, drop, take}
-use denote.Enum.Declared.{tag_of}
 use lib.Seq.{drop-cons}
-use Rattle.tables.specs.declared.Verdict.{Verdict}
-use Rattle.tables.specs.declared.Verdict.TheVariants.{Fine, Refused as Not}
-use Rattle.tables.specs.contracts.Verdict as verdict-type
-use Rattle.tables.proofs.Refusals.{never}
+use Rattle.refusals.specs.declared.Refusal.{Refusal}
+use Rattle.refusals.specs.Verdicts.{Fine}
+use Rattle.refusals.proofs.Refusals.{never}
 use Rattle.words.specs.declared.Word.{Word}
-use Rattle.words.specs.declared.Word.TheVariants.{At, End}
-use Rattle.words.specs.Words.{Words, word, end, words_in, between}
-use Rattle.words.specs.Steps.{Worded}
-use Rattle.words.specs.contracts.Word as word-type
+use Rattle.words.specs.Words.{Words, word, end, words_in, between, told}
+use Rattle.grammar.specs.declared.Read.{Read}
 use Rattle.grammar.specs.Grammar.{Answer, got, refused, ◌then◌, unless_end}
-use Rattle.grammar.proofs.Arms.{no_word}
 use Rattle.alphas.specs.Alphas.{words_verdict}
 use Rattle.alphas.specs.Steps.{Gave}
-use Rattle.solver.specs.declared.Judged.{Judged}
 use Rattle.solver.specs.Files.{all_from, all_in, read_list, with_count}
-use Rattle.solver.specs.Steps.{judged_from, GoesOn}
+use Rattle.solver.specs.Steps.{Counted, ends, stops, goes, judged_from, GoesOn}
 
 module _ {A : Type 0} (one : ℕ → Words → Answer A) where
   -- the one numbered i, and those after it
@@ -43,84 +38,50 @@ module _ {A : Type 0} (one : ℕ → Words → Answer A) where
 
   -- ---- read for the first time
 
-  abbrev whole : List ℕ → Judged
+  abbrev whole : List ℕ → Result ℕ Refusal
   whole file = with_count (words_verdict (all_in one file)) (length (read_list (all_in one file)))
 
   judged-whole : (a : Answer (List A)) → judged_from 0 a ≡ with_count (words_verdict a) (length (read_list a))
-  judged-whole (got xs ws) = ap (λ (n : ℕ). record { verdict = Fine; vectors = n }) (zero-add (length xs))
+  judged-whole (got xs ws) = ap (λ (n : ℕ). Ok n) (zero-add (length xs))
   judged-whole (refused number place) = refl
 
   judged-next : (i : ℕ) (x : A) (a : Answer (List A)) → judged_from i (a then λ xs ws. got (x ∷ xs) ws) ≡ judged_from (i + 1) a
-  judged-next i x (got xs ws) =
-      let e : i + suc (length xs) ≡ (i + 1) + length xs = omega arith in ap (λ (n : ℕ). record { verdict = Fine; vectors = n }) e
+  judged-next i x (got xs ws) = let e : i + suc (length xs) ≡ (i + 1) + length xs = omega arith in ap (λ (n : ℕ). Ok n) e
   judged-next i x (refused number place) = refl
 
-  module _ (file : List ℕ) where
-    -- the first i are read, and `fuel` more are enough
-    pub record Left (i at : ℕ) : Type 0 where
-      pub fuel : ℕ
-      pub enough : length file < fuel + at
-      pub inside : at ≤ length file
-      pub few : i ≤ at
-      pub same : judged_from i (all_from one fuel i (words_in between file at)) ≡ whole file
+  judged-refused : (i : ℕ) {e : Refusal} (a : Answer A) (k : A → Words → Answer (List A)) → Err e ≡ words_verdict a → Err e ≡ judged_from i (a then k)
+  judged-refused i (got x ws) k h = never h
+  judged-refused i {e} (refused number place) k h = cc
 
-    pub left-start : Left 0 0
-    unfolding all_in
-    left-start = record {
-      fuel = length file + 1;
-      enough = omega arith;
-      inside = omega arith;
-      few = omega arith;
-      same = judged-whole (all_in one file);
-    }
+  module _ {B : Type 0} (f : B → A) (file : List ℕ) where
+    -- what is read of the one numbered i
+    abbrev reads : ℕ → ℕ → Result (Read B) Refusal → Type 0
+    reads i at r = Gave f file at r (one i (words_in between file at))
 
-    module _ {i at : ℕ} (left : Left i at) (w : Word) (worded : Worded file at w) where
-      -- no word is left
-      pub left_end : tag_of word-type.the_type w ≡ 1 → record { verdict = Fine; vectors = i } ≡ whole file
-      left_end e =
+    at-word : (fuel i at : ℕ) (w : Word) → 0 < fuel → words_in between file at ≡ told file (Some w)
+        → all_from one fuel i (words_in between file at) ≡ (one i (words_in between file at) then onward (fuel - 1) i)
+    at-word fuel i at w h e =
+        all_more fuel i (words_in between file at) w.start (take (w.stop - w.start) (drop w.start file)) (words_in between file w.stop) h e
+
+    module _ {P : ℕ → ℕ → Result (Read B) Refusal → Type 0} where
+      counted_on : {i at : ℕ} {r : Result ℕ Refusal} → Counted file P i at r → ((i at : ℕ) (r : Result (Read B) Refusal) → P i at r → reads i at r)
+          → (fuel : ℕ) → length file < fuel + at → at ≤ length file → r ≡ judged_from i (all_from one fuel i (words_in between file at))
+      counted_on (ends i at e) reading fuel h k =
           let z : i ≡ i + length {A = A} [] = omega arith in
-          ap (λ (n : ℕ). record { verdict = Fine; vectors = n }) z
-          ∙ sym (ap (judged_from i) (all_end left.fuel i (words_in between file at) (length file) (no_word file at w e worded))) ∙ left.same
+          ap (λ (n : ℕ). Ok n) z ∙ sym (ap (judged_from i) (all_end fuel i (words_in between file at) (length file) e))
+      counted_on (stops i at w e q p) reading fuel h k =
+          judged-refused i (one i (words_in between file at)) (onward (fuel - 1) i) (reading i at (Err e) p)
+          ∙ sym (ap (judged_from i) (at-word fuel i at w (omega arith) q))
+      counted_on (goes i at w x r q p c) reading fuel h k =
+          let (is, past) = reading i at (Ok x) p in
+          counted_on c reading (fuel - 1) (omega (arith, past)) past.1
+          ∙ sym (judged-next i (f x.value) (all_from one (fuel - 1) (i + 1) (words_in between file x.next)))
+          ∙ ap (λ (a : Answer A). judged_from i (a then onward (fuel - 1) i)) is
+          ∙ sym (ap (judged_from i) (at-word fuel i at w (omega arith) q))
 
-      next_one : tag_of word-type.the_type w ≡ 0 → judged_from i (one i (words_in between file at) then onward (left.fuel - 1) i) ≡ whole file
-      next_one e = sym (ap (judged_from i) (at-word w worded e)) ∙ left.same
-        where
-          at-word : (w : Word) → Worded file at w → tag_of word-type.the_type w ≡ 0
-              → all_from one left.fuel i (words_in between file at) ≡ (one i (words_in between file at) then onward (left.fuel - 1) i)
-          at-word (At a b) h e =
-              all_more left.fuel i (words_in between file at) a (take (b - a) (drop a file)) (words_in between file b)
-              (omega (arith, left.enough, left.inside)) h.is
-          at-word End h e = absurd (omega arith)
-
-      module _ (verdict : Verdict) (stop : ℕ) (x : A) (e : tag_of word-type.the_type w ≡ 0)
-          (gave : Gave file at verdict stop x (one i (words_in between file at))) where
-        -- the next is refused, or read
-        pub left_back : tag_of verdict-type.the_type verdict ≡ 1 → record { verdict = verdict; vectors = 0 } ≡ whole file
-        left_back t = by verdict t gave ∙ next_one e
-          where
-            refusing : (number place : ℕ) (a : Answer A) (k : A → Words → Answer (List A)) → Not number place ≡ words_verdict a
-                → record { verdict = Not number place; vectors = 0 } ≡ judged_from i (a then k)
-            refusing number place (got y ws) k h = never h
-            refusing number place (refused m p) k h = ap (λ (v : Verdict). record { verdict = v; vectors = 0 }) h
-
-            by : (verdict : Verdict) → tag_of verdict-type.the_type verdict ≡ 1 → Gave file at verdict stop x (one i (words_in between file at))
-                → record { verdict = verdict; vectors = 0 } ≡ judged_from i (one i (words_in between file at) then onward (left.fuel - 1) i)
-            by Fine t g = absurd (omega arith)
-            by (Not number place) t g = refusing number place (one i (words_in between file at)) (onward (left.fuel - 1) i) g
-
-        pub left-on : verdict ≡ Fine → (at < stop) × Left (i + 1) stop
-        left-on t =
-            let fine = subst (λ (v : Verdict). Gave file at v stop x (one i (words_in between file at))) t gave in (
-              fine.1.0,
-              record {
-                fuel = left.fuel - 1;
-                enough = omega (arith, left.enough, left.inside, fine.1);
-                inside = fine.1.1;
-                few = omega (arith, left.few, fine.1);
-                same = sym (judged-next i x (all_from one (left.fuel - 1) (i + 1) (words_in between file stop)))
-                    ∙ ap (λ (a : Answer A). judged_from i (a then onward (left.fuel - 1) i)) fine.0 ∙ next_one e;
-              },
-            )
+      pub counted-all : {r : Result ℕ Refusal} → Counted file P 0 0 r → ((i at : ℕ) (r : Result (Read B) Refusal) → P i at r → reads i at r) → r ≡ whole file
+      unfolding all_in
+      counted-all c reading = counted_on c reading (length file + 1) (omega arith) (omega arith) ∙ judged-whole (all_in one file)
 
   -- ---- read once more
 
@@ -175,41 +136,38 @@ module _ {A : Type 0} (one : ℕ → Words → Answer A) where
       by (got xs last) q e = stands file xs last q
       by (refused number place) q e = never e
 
-  module _ (file : List ℕ) (all : List A) where
-    -- what is read at the one numbered i, and where the next stands
-    pub record Onward (i : ℕ) (verdict : Verdict) (stop : ℕ) (x : A) : Type 0 where
-      pub fine : verdict ≡ Fine
-      pub same : (d : A) → x ≡ get_or all i d
-      pub next : GoesOn one file all (i + 1) stop
+  module _ {B : Type 0} (f : B → A) (file : List ℕ) (all : List A) {i at : ℕ} (standing : GoesOn one file all i at) (h : i < length all) where
+    first : (d : A) → First i (words_in between file at) (get_or all i d) (drop (suc i) all) standing.last
+    first d =
+        first_of standing.fuel i (words_in between file at) (get_or all i d) (drop (suc i) all) standing.last
+        (standing.left ∙ ap (λ (l : List A). got l standing.last) (drop-cons all i d h))
 
-    pub standing_on : {i at : ℕ} → GoesOn one file all i at → i < length all → (verdict : Verdict) (stop : ℕ) (x : A)
-        → Gave file at verdict stop x (one i (words_in between file at)) → Onward i verdict stop x
-    standing_on {i} {at} standing h verdict stop x gave = by verdict gave
+    -- the one numbered i is read
+    pub standing-fine : (d : A) (r : Result (Read B) Refusal) → Gave f file at r (one i (words_in between file at)) → IsOk r
+    standing-fine d (Ok x) gave = refl
+    standing-fine d (Err e) gave = never (gave ∙ ap words_verdict (first d).is)
+
+    -- as what, and where the next stands
+    pub record Onward (x : Read B) : Type 0 where
+      pub same : (d : A) → f x.value ≡ get_or all i d
+      pub next : GoesOn one file all (i + 1) x.next
+
+    pub standing_on : (x : Read B) → Gave f file at (Ok x) (one i (words_in between file at)) → Onward x
+    standing_on x (e, (_, inside)) = record {
+      same = λ d. ap value_of (e ∙ (first d).is);
+      next = record {
+        inside = inside;
+        fuel = (first (f x.value)).fuel;
+        last = standing.last;
+        left = ap (all_from one (first (f x.value)).fuel (i + 1)) (ap rest_of (e ∙ (first (f x.value)).is)) ∙ (first (f x.value)).left
+            ∙ ap (λ (k : ℕ). got (drop k all) standing.last) (sym (add-one i));
+      };
+    }
       where
-        first : (d : A) → First i (words_in between file at) (get_or all i d) (drop (suc i) all) standing.last
-        first d =
-            first_of standing.fuel i (words_in between file at) (get_or all i d) (drop (suc i) all) standing.last
-            (standing.left ∙ ap (λ (l : List A). got l standing.last) (drop-cons all i d h))
-
         value_of : Answer A → A
         value_of (got y ws) = y
-        value_of (refused number place) = x
+        value_of (refused number place) = f x.value
 
         rest_of : Answer A → Words
         rest_of (got y ws) = ws
         rest_of (refused number place) = end 0
-
-        by : (verdict : Verdict) → Gave file at verdict stop x (one i (words_in between file at)) → Onward i verdict stop x
-        by Fine (e, (_, inside)) =
-            record {
-              fine = refl;
-              same = λ d. ap value_of (e ∙ (first d).is);
-              next = record {
-                inside = inside;
-                fuel = (first x).fuel;
-                last = standing.last;
-                left = ap (all_from one (first x).fuel (i + 1)) (ap rest_of (e ∙ (first x).is)) ∙ (first x).left
-                    ∙ ap (λ (k : ℕ). got (drop k all) standing.last) (sym (add-one i));
-              };
-            }
-        by (Not number place) e = never (e ∙ ap words_verdict (first x).is)

@@ -4,7 +4,7 @@
 use Rattle.integers.proofs.Kit.{◌≡◌, refl, List, [], ◌∷◌, ℕ, pos, negsuc}
 use Rattle.integers.specs.Whole.{floor_div}
 use Rattle.integers.specs.Search.{every}
-use Rattle.tables.specs.declared.Verdict.TheVariants.{Fine, Refused}
+use Rattle.refusals.specs.Verdicts.{Fine, Refused}
 use Rattle.words.specs.Words.{word_run, words_of, words_in}
 use Rattle.numerals.specs.Numeral.{digits, value, amount_of, fraction, after_point, exponent}
 use Rattle.grammar.specs.Grammar.{number, magnitude, signed_number, same, key}

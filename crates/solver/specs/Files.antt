@@ -1,13 +1,12 @@
 -- What a solver's two files are read as: an alpha file, of vectors with n entries, and a policy graph file, of nodes with a next node for each of k
 -- observations. A word that does not fit, or is missing, gets 19; files that differ in the number of vectors or in an action get 20.
-use Rattle.std.specs.Prelude.{ℕ, zero, suc, ◌+◌, Bool, ◌&&◌, List, [], ◌∷◌, eqb, length, get_or, ℤ, pos}
+use Rattle.std.specs.Prelude.{ℕ, zero, suc, ◌+◌, Bool, ◌&&◌, List, [], ◌∷◌, eqb, length, get_or, ℤ, pos, Result, Ok, Err}
 use Rattle.integers.specs.Search.{every}
-use Rattle.tables.specs.declared.Verdict.{Verdict}
-use Rattle.tables.specs.Verdicts.{◌before◌, unless, left}
+use Rattle.refusals.specs.declared.Refusal.{Refusal}
+use Rattle.refusals.specs.Verdicts.{Verdict, ◌before◌, unless}
 use Rattle.words.specs.Words.{Words, words_in, between}
 use Rattle.grammar.specs.Grammar.{Answer, got, refused, ◌then◌, unless_end}
 use Rattle.alphas.specs.Alphas.{Alpha, PolicyNode, alpha, node, words_verdict}
-use Rattle.solver.specs.declared.Judged.{Judged}
 
 -- the most bytes of a file
 abbrev pub max_file : ℕ
@@ -66,9 +65,10 @@ unfoldable pub files_verdict : ℕ → ℕ → List ℕ → List ℕ → Verdict
 files_verdict n k alphaFile graphFile =
     words_verdict (alphas n alphaFile) before words_verdict (nodes k graphFile) before unless (alike n k alphaFile graphFile) 20 0
 
--- the number of vectors; 0 with a refusal
-abbrev pub with_count : Verdict → ℕ → Judged
-with_count v vectors = record { verdict = v; vectors = left v vectors 0 }
+-- the number of vectors, or the refusal
+abbrev pub with_count : Verdict → ℕ → Result ℕ Refusal
+with_count (Ok u) vectors = Ok vectors
+with_count (Err e) vectors = Err e
 
-abbrev pub files_judged : ℕ → ℕ → List ℕ → List ℕ → Judged
+abbrev pub files_judged : ℕ → ℕ → List ℕ → List ℕ → Result ℕ Refusal
 files_judged n k alphaFile graphFile = with_count (files_verdict n k alphaFile graphFile) (vectors_in n alphaFile)

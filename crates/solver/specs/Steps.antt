@@ -1,18 +1,31 @@
 -- What the code's steps ask and say.
-use Rattle.std.specs.Prelude.{ℕ, ◌+◌, ◌≤◌, ◌≡◌, List, length, drop}
-use Rattle.tables.specs.declared.Verdict.TheVariants.{Fine, Refused as Not}
-use Rattle.words.specs.Words.{Words, words_in, between}
+use Rattle.std.specs.Prelude.{ℕ, ◌+◌, ◌≤◌, ◌<◌, ◌≡◌, List, length, drop, Some, None, Result, Ok, Err}
+use Rattle.refusals.specs.declared.Refusal.{Refusal}
+use Rattle.words.specs.declared.Word.{Word}
+use Rattle.words.specs.Words.{Words, words_in, between, told}
+use Rattle.grammar.specs.declared.Read.{Read}
 use Rattle.grammar.specs.Grammar.{Answer, got, refused}
 use Rattle.alphas.specs.Alphas.{alpha, node}
-use Rattle.solver.specs.declared.Judged.{Judged}
 use Rattle.solver.specs.Files.{all_from, alphas, nodes, read_list, vectors_in}
 
 -- ---- a file
 
+-- reading goes on past `at`
+abbrev pub Past : {X : Type 0} → List ℕ → ℕ → Result (Read X) Refusal → Type 0
+Past s at (Ok x) = (at < x.next) × (x.next ≤ length s)
+Past s at (Err e) = Unit
+
+-- one after the other, each as P says, from the one numbered i on, which is read from `at` on: counted, or the first that is refused
+pub data Counted {X : Type 0} (s : List ℕ) (P : ℕ → ℕ → Result (Read X) Refusal → Type 0) : ℕ → ℕ → Result ℕ Refusal → Type 0 where
+  ends : (i at : ℕ) → words_in between s at ≡ told s None → Counted s P i at (Ok i)
+  stops : (i at : ℕ) (w : Word) (e : Refusal) → words_in between s at ≡ told s (Some w) → P i at (Err e) → Counted s P i at (Err e)
+  goes : (i at : ℕ) (w : Word) (x : Read X) (r : Result ℕ Refusal) → words_in between s at ≡ told s (Some w) → P i at (Ok x)
+      → Counted s P (i + 1) x.next r → Counted s P i at r
+
 -- how a file is judged, after i that were read
-abbrev pub judged_from : {A : Type 0} → ℕ → Answer (List A) → Judged
-judged_from i (got xs ws) = record { verdict = Fine; vectors = i + length xs }
-judged_from i (refused number place) = record { verdict = Not 19 place; vectors = 0 }
+abbrev pub judged_from : {A : Type 0} → ℕ → Answer (List A) → Result ℕ Refusal
+judged_from i (got xs ws) = Ok (i + length xs)
+judged_from i (refused number place) = Err (record { 0 = 19; 1 = place })
 
 -- ---- a file that is read once more
 

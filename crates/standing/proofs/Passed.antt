@@ -1,23 +1,21 @@
 -- 7, test by test: the first that fails refuses, and after those that were passed the rest decides. Assumes nothing.
 --
 -- The code reads what stands into s once its slice is long enough.
-use Rattle.integers.proofs.Kit.{◌≡◌, ◌∙◌, sym, true, false, Bool, ◌&&◌, [], ℕ, ◌≤◌, ◌<◌, le-leb, lt-leb, leb, length, get_or}
+use Rattle.integers.proofs.Kit.{◌≡◌, ◌∙◌, refl, sym, true, false, Bool, ◌&&◌, [], ◌≤◌, ◌<◌, le-leb, lt-leb, leb, length, get_or}
 use Rattle.tables.specs.Tables.{Tables}
-use Rattle.tables.specs.declared.Verdict.{Verdict}
-use Rattle.tables.specs.declared.Verdict.TheVariants.{Fine, Refused}
+use Rattle.refusals.specs.Verdicts.{Verdict, Fine, is_fine}
 use Rattle.tables.specs.Limits.{max_vectors, max_levels}
 use Rattle.tables.specs.Judged.{tables_verdict}
-use Rattle.tables.specs.Verdicts.{is_fine}
-use Rattle.tables.proofs.Refusals.{fine-is}
+use Rattle.refusals.proofs.Refusals.{fine-is}
 use Rattle.levels.specs.declared.Standing.{Standing}
 use Rattle.levels.specs.Storage.{Lent, LentLevel, state_size, standing_at, level_in, level_of, readable, point_in, number_in, standing_in}
 use Rattle.levels.specs.Judged.{counts_hold, actions_exist, ranges_verdict, weights_verdict, rows_hold, holds_up_to}
-use Rattle.standing.proofs.Stages.{fails, holds_on, not-fine, ranges-read}
+use Rattle.standing.proofs.Stages.{fails, holds_on, ranges-read}
 
 module _ (m : Tables) (x : Lent) where
-  pub tables-refused : {k i : ℕ} → tables_verdict m ≡ Refused k i → false ≡ holds_up_to max_vectors m x
+  pub tables-refused : is_fine (tables_verdict m) ≡ false → false ≡ holds_up_to max_vectors m x
   unfolding holds_up_to
-  tables-refused e = fails _ (not-fine e)
+  tables-refused e = fails _ e
 
   module _ (fine : tables_verdict m ≡ Fine) where
     pub state-short : length x.state < state_size → false ≡ holds_up_to max_vectors m x
@@ -79,18 +77,18 @@ module _ (m : Tables) (x : Lent) where
                   && (actions_exist m.actions (standing_in x).vectors (level_of m (standing_in x)).action && b))))))
               after-actions f = after-number (holds_on (rw e at counted) (holds_on (rw e at read) (holds_on (rw e at act) f)))
 
-              pub ranges-refused : {k i : ℕ} → ranged ≡ Refused k i → false ≡ holds_up_to max_vectors m x
+              pub ranges-refused : is_fine ranged ≡ false → false ≡ holds_up_to max_vectors m x
               unfolding holds_up_to
-              ranges-refused f = after-actions (fails _ (not-fine (ranges-stand f)))
+              ranges-refused f = after-actions (fails _ (rw (sym (ranges-stand refl)) at f))
 
               module _ (ranges : ranged ≡ Fine) where
                 -- 12, of what stands
                 abbrev totaled : Verdict
                 totaled = weights_verdict m.states s.points (point_in m.states x.cells.weights)
 
-                pub totals-refused : {k i : ℕ} → totaled ≡ Refused k i → false ≡ holds_up_to max_vectors m x
+                pub totals-refused : is_fine totaled ≡ false → false ≡ holds_up_to max_vectors m x
                 unfolding holds_up_to
-                totals-refused f = after-actions (holds_on (fine-is (ranges-stand ranges)) (fails _ (not-fine (rw e at f))))
+                totals-refused f = after-actions (holds_on (fine-is (ranges-stand ranges)) (fails _ (rw e at f)))
 
                 module _ (totals : totaled ≡ Fine) where
                   pub informed-refused : rows_hold m.actions m.states s.number x.rows.informed ≡ false → false ≡ holds_up_to max_vectors m x

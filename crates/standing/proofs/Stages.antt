@@ -3,16 +3,14 @@
 -- In order: several tests; what 9 says of the counts; 11 by stages: entries, corners, values; what is not read.
 use Rattle.integers.proofs.Kit.{◌≡◌, ◌∙◌, refl, true, false, Bool, ◌&&◌, List, [], ℕ, ◌≤◌, ◌+◌, ◌*◌, arith, leb-true, leb, get_or, ℤ, pos}
 use Rattle.integers.proofs.Searches.{and-true}
-use Rattle.tables.specs.declared.Verdict.{Verdict}
-use Rattle.tables.specs.declared.Verdict.TheVariants.{Fine, Refused}
+use Rattle.refusals.specs.Verdicts.{Verdict, Fine, Refused}
 use Rattle.tables.specs.Limits.{max_vectors}
 use Rattle.tables.specs.Judged.{count_within}
-use Rattle.tables.proofs.Refusals.{stops, goes, first_cong}
+use Rattle.refusals.proofs.Refusals.{stops, goes, first_cong}
 use Rattle.masks.specs.Masks.{masked_in}
 use Rattle.plans.specs.Limits.{max_points, range}
 use Rattle.plans.specs.Level.{Level}
 use Rattle.levels.specs.Storage.{point_in, level_in}
-use Rattle.tables.specs.Verdicts.{is_fine}
 use Rattle.levels.specs.Judged.{counts_hold, rows_within, values_within, ranges_verdict}
 
 -- ---- several tests: one that fails is the whole, and after one that holds the whole is the rest
@@ -21,9 +19,6 @@ fails b e = rw e
 
 pub holds_on : {a b x : Bool} → a ≡ true → x ≡ b → x ≡ (a && b)
 holds_on e f = rw e f
-
-pub not-fine : {v : Verdict} {k i : ℕ} → v ≡ Refused k i → is_fine v ≡ false
-not-fine e = rw e
 
 -- what 9 says of the counts
 pub counts-few : (vectors points : ℕ) → counts_hold max_vectors vectors points ≡ true → (vectors ≤ max_vectors) × (points ≤ max_points)

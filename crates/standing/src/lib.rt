@@ -10,7 +10,8 @@ ghost use Rattle.levels.specs.Storage.{cells, rows, level_in, lent};
 ghost use Rattle.levels.specs.Judged.{ranges_verdict, rows_hold, holds};
 
 use levels::{Level, Standing, shape};
-use tables::{Counts, Tables, Verdict};
+use refusals::Verdict;
+use tables::{Counts, Tables};
 
 // The range of entries and corners at level t.
 pub fn range_of(t: usize) -> u64
@@ -40,14 +41,8 @@ pub fn ranges_hold<'a>(
         values.now) }
 {
     let limit = range_of(t);
-    let floor = ranges::entries_within(masks, entries, vectors, n, limit);
-    let Verdict::Fine = floor else {
-        return floor;
-    };
-    let roof = ranges::rows_within(corners, n, 1, limit, 11);
-    let Verdict::Fine = roof else {
-        return roof;
-    };
+    ranges::entries_within(masks, entries, vectors, n, limit)?;
+    ranges::rows_within(corners, n, 1, limit, 11)?;
     ranges::values_within(weights, values, n, points, limit)
 }
 
@@ -59,11 +54,7 @@ fn rows_hold(cells: &[i64], m: usize, n: usize, t: usize) -> bool
     if cells.len() < m * n {
         return false;
     }
-    let verdict = ranges::rows_within(cells, m, n, range_of(t), 7);
-    let Verdict::Fine = verdict else {
-        return false;
-    };
-    true
+    ranges::rows_within(cells, m, n, range_of(t), 7).is_ok()
 }
 
 // 7: whether the tables, the standing level and the rows are within their limits. The level's choices are not read.
@@ -86,10 +77,9 @@ pub fn standing_holds<'a, 'b>(
         (lent state.now (cells actions.now choices masks.now entries.now corners.now
         weights.now values.now) (rows informed.now qmdp.now)) }
 {
-    let tables = validity::judge_tables(transition, observation, reward, c);
-    let Verdict::Fine = tables else {
+    if validity::judge_tables(transition, observation, reward, c).is_err() {
         return false;
-    };
+    }
     if state.len() < Standing::SIZE {
         return false;
     }
@@ -116,16 +106,16 @@ pub fn standing_holds<'a, 'b>(
     if !shape::actions_exist(actions, s.vectors, c.actions) {
         return false;
     }
-    let ranges = ranges_hold(
+    if ranges_hold(
         masks, entries, corners, weights, values, c.states, s.vectors, s.points, s.number,
-    );
-    let Verdict::Fine = ranges else {
+    )
+    .is_err()
+    {
         return false;
-    };
-    let totals = weights::weights_hold(weights, c.states, s.points);
-    let Verdict::Fine = totals else {
+    }
+    if weights::weights_hold(weights, c.states, s.points).is_err() {
         return false;
-    };
+    }
     if !rows_hold(informed, c.actions, c.states, s.number) {
         return false;
     }

@@ -6,12 +6,11 @@
 use Rattle.integers.proofs.Kit.{◌≡◌, ◌∙◌, refl, ap, sym, true, Bool, cond, List, ℕ, ◌≤◌, ◌<◌, suc, zero, arith, ne_eqb, eq-eqb, ltb, length, get_or}
 use Rattle.integers.proofs.Lists.{padded-at, padded-length}
 use Rattle.integers.proofs.Searches.{every-cong}
-use Rattle.tables.specs.declared.Verdict.{Verdict}
+use Rattle.refusals.specs.Verdicts.{Verdict, ◌before◌, unless, first_of}
 use Rattle.tables.specs.Limits.{max_observations}
 use Rattle.tables.specs.Storage.{choice_in}
-use Rattle.tables.specs.Verdicts.{◌before◌, unless, first_of}
 use Rattle.tables.proofs.Fitting.{alone_at}
-use Rattle.tables.proofs.Refusals.{first_cong}
+use Rattle.refusals.proofs.Refusals.{first_cong}
 use Rattle.masks.specs.Masks.{covered, mask_of}
 use Rattle.masks.proofs.Bits.{mask-covers}
 use Rattle.reaches.specs.Steps.{reached_in, Chooses}

@@ -3,8 +3,7 @@ use Rattle.std.specs.Prelude.{ℕ, ◌+◌, ◌≤◌, ◌<◌, ◌≡◌, true,
 use Rattle.integers.specs.Cells.{padded}
 use Rattle.tables.specs.declared.Counts.{Counts}
 use Rattle.tables.specs.Limits.{max_states, max_observations}
-use Rattle.tables.specs.declared.Verdict.{Verdict}
-use Rattle.tables.specs.Verdicts.{unless, first_of}
+use Rattle.refusals.specs.Verdicts.{Verdict, unless, first_of}
 use Rattle.reaches.specs.Steps.{reached_in, ActionStored}
 use Rattle.solver.specs.Files.{vectors_in, action_at, ticks_at, next_at}
 use Rattle.solver.specs.Steps.{BothAt}

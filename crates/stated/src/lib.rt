@@ -4,14 +4,15 @@
 ghost use Rattle.std.specs.Prelude.{◌≡◌, ◌≤◌, ◌<◌, ltb, length, get_or};
 ghost use Rattle.integers.specs.Cells.{padded};
 ghost use Rattle.tables.specs.Limits.{max_states, max_observations};
-ghost use Rattle.tables.specs.Verdicts.{◌before◌, unless, first_of};
+ghost use Rattle.refusals.specs.Verdicts.{◌before◌, unless, first_of};
 ghost use Rattle.levels.specs.Judged.{numbers_in};
 ghost use Rattle.solver.specs.Files.{vectors_in, action_at};
 ghost use Rattle.stated.specs.Stated.{chosen_over};
 ghost use Rattle.stated.specs.Steps.{choices_at, ReadTo, Files, SaysVector, Choosing, masks_over};
 
-use alphas::{NextNodes, NodeAt};
-use tables::{Action, ByState, Chosen, Counts, Observation, Tables, Vector, Verdict, read};
+use alphas::{Alpha, NextNodes, Node};
+use refusals::{Refusal, Verdict};
+use tables::{Action, ByState, Chosen, Counts, Observation, Tables, Vector, read};
 
 // What both files say of a vector, and where they go on after it.
 #[derive(Clone, Copy)]
@@ -32,7 +33,7 @@ fn chosen_over(t: usize, next: u16) -> u16
     if 0 < t {
         return next;
     }
-    if read::wide(next) == NodeAt::HYPHEN {
+    if read::wide(next) == Node::HYPHEN {
         return 0;
     }
     next
@@ -65,17 +66,16 @@ pub fn said_at<'c>(
     requires v_bound { (v < vectors_in n alpha.now) × (ReadTo n k alpha.now graph.now v p q) }
     ensures { SaysVector n k t alpha.now graph.now v result }
 {
-    let x = alphas::alpha_at(alpha, p, n);
-    let y = alphas::node_at(graph, q, v, k);
-    let ticks = x.ticks;
-    let next = y.next;
-    let chosen = choices_of(next, k, t);
+    let x = alphas::alpha_at(alpha, p, n).unwrap();
+    let y = alphas::node_at(graph, q, v, k).unwrap();
+    let Alpha { action, ticks } = x.value;
+    let chosen = choices_of(y.value.next, k, t);
     Said {
-        alpha: x.end,
-        graph: y.end,
-        action: Action(x.action as usize),
-        ticks: ticks,
-        chosen: chosen,
+        alpha: x.next,
+        graph: y.next,
+        action: Action(action as usize),
+        ticks,
+        chosen,
     }
 }
 
@@ -94,15 +94,15 @@ fn vector_exists(
     ensures { result ≡ (unless (ltb a.0 m) 10 v before first_of k (λ o. unless (ltb (get_or chosen.now o 0) standing) 10 v)) }
 {
     if m <= a.0 {
-        return Verdict::Refused(10, v);
+        return Err(Refusal(10, v));
     }
     for o in 0..k {
         let next = read::choice_at(chosen, k, Vector(0), Observation(o));
         if standing <= next.0 {
-            return Verdict::Refused(10, v);
+            return Err(Refusal(10, v));
         }
     }
-    Verdict::Fine
+    Ok(())
 }
 
 // 10: the first vector whose action, or a vector that it chooses, does not exist.
@@ -122,15 +122,11 @@ pub fn numbers_hold<'c>(
     let mut q: usize = 0;
     for v in 0..count {
         let x = said_at(alpha, graph, c.states, c.observations, t, v, p, q);
-        let chosen = x.chosen;
-        let verdict = vector_exists(x.action, &chosen, c.actions, c.observations, standing, v);
-        let Verdict::Fine = verdict else {
-            return verdict;
-        };
+        vector_exists(x.action, &x.chosen, c.actions, c.observations, standing, v)?;
         p = x.alpha;
         q = x.graph;
     }
-    Verdict::Fine
+    Ok(())
 }
 
 // 21: the first vector that chooses one which does not cover a state that is reached.
@@ -156,23 +152,22 @@ pub fn masks_hold<'a, 'c>(
     let mut q: usize = 0;
     for v in 0..count {
         let x = said_at(alpha, graph, n, k, t, v, p, q);
-        let chosen = x.chosen;
         if !reaches::reached_covered(
             transition,
             &none,
             observation,
             masks,
-            &chosen,
+            &x.chosen,
             n,
             k,
             Vector(0),
             x.action,
             all,
         ) {
-            return Verdict::Refused(21, v);
+            return Err(Refusal(21, v));
         }
         p = x.alpha;
         q = x.graph;
     }
-    Verdict::Fine
+    Ok(())
 }

@@ -1,3 +1,2 @@
 -- Statements to tables.
 pub mod Statements
-pub mod Steps

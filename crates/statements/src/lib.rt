@@ -7,11 +7,11 @@ ghost use Rattle.words.specs.Steps.{WordInside};
 ghost use Rattle.entries.specs.Steps.{CellsFit, outcome_of, Leaves};
 ghost use Rattle.rewards.specs.Steps.{RewardCells};
 ghost use Rattle.statements.specs.Statements.{draft, reward_statement, observation_or_reward, one_statement, statements};
-ghost use Rattle.statements.specs.Steps.{begin};
 
-use grammar::Read;
+use refusals::Refusal;
 use words::Word;
 
+#[tactic(auto, unfolding(crate::specs::Statements::reward_statement_by))]
 fn reward_statement_at(
     file: &[u8],
     w: Word,
@@ -20,18 +20,16 @@ fn reward_statement_at(
     n: usize,
     k: usize,
     full: bool,
-) -> Read
-    requires { (WordInside file.now 0 w) × (RewardCells full m n k reward.old) }
-    ensures { (t o : List ℕ) → Leaves file.now (begin w) result (draft t o reward.new)
-        (reward_statement full m n k (draft t o reward.old) (told file.now w)) }
+) -> Result<usize, Refusal>
+    requires { (WordInside file.now 0 (Some w)) × (RewardCells full m n k reward.old) }
+    ensures { (t o : List ℕ) → Leaves file.now w.start result (draft t o reward.new)
+        (reward_statement full m n k (draft t o reward.old) (told file.now (Some w))) }
 {
-    let x = grammar::key_of(file, w, b"R");
-    let Read::Value(_, next) = x else {
-        return x;
-    };
+    let next = grammar::key_of(file, Some(w), b"R")?;
     rewards::rewards_or_outcomes_at(file, next, reward, m, n, k, full)
 }
 
+#[tactic(auto, unfolding(crate::specs::Statements::observation_or_reward_by))]
 fn other_statement_at(
     file: &[u8],
     w: Word,
@@ -41,18 +39,18 @@ fn other_statement_at(
     n: usize,
     k: usize,
     full: bool,
-) -> Read
-    requires { (WordInside file.now 0 w) × ((CellsFit m n k observation.old) × (RewardCells full m n k reward.old)) }
-    ensures { (t : List ℕ) → Leaves file.now (begin w) result (draft t observation.new reward.new)
-        (observation_or_reward full m n k (draft t observation.old reward.old) (told file.now w)) }
+) -> Result<usize, Refusal>
+    requires { (WordInside file.now 0 (Some w)) × ((CellsFit m n k observation.old) × (RewardCells full m n k reward.old)) }
+    ensures { (t : List ℕ) → Leaves file.now w.start result (draft t observation.new reward.new)
+        (observation_or_reward full m n k (draft t observation.old reward.old) (told file.now (Some w))) }
 {
-    let x = grammar::key_of(file, w, b"O");
-    let Read::Value(_, next) = x else {
+    let Ok(next) = grammar::key_of(file, Some(w), b"O") else {
         return reward_statement_at(file, w, reward, m, n, k, full);
     };
     entries::table_at(file, next, observation, m, n, k)
 }
 
+#[tactic(auto, unfolding(crate::specs::Statements::one_statement_by))]
 fn statement_at(
     file: &[u8],
     w: Word,
@@ -63,20 +61,20 @@ fn statement_at(
     n: usize,
     k: usize,
     full: bool,
-) -> Read
-    requires { (WordInside file.now 0 w) × ((CellsFit m n n transition.old) × ((CellsFit m n k observation.old)
+) -> Result<usize, Refusal>
+    requires { (WordInside file.now 0 (Some w)) × ((CellsFit m n n transition.old) × ((CellsFit m n k observation.old)
         × (RewardCells full m n k reward.old))) }
-    ensures { Leaves file.now (begin w) result (draft transition.new observation.new reward.new)
-        (one_statement full m n k (draft transition.old observation.old reward.old) (told file.now w)) }
+    ensures { Leaves file.now w.start result (draft transition.new observation.new reward.new)
+        (one_statement full m n k (draft transition.old observation.old reward.old) (told file.now (Some w))) }
 {
-    let x = grammar::key_of(file, w, b"T");
-    let Read::Value(_, next) = x else {
+    let Ok(next) = grammar::key_of(file, Some(w), b"T") else {
         return other_statement_at(file, w, observation, reward, m, n, k, full);
     };
     entries::table_at(file, next, transition, m, n, n)
 }
 
 // Statements up to the end of the file.
+#[tactic(auto, unfolding(crate::specs::Statements::statements_by))]
 pub fn statements_at(
     file: &[u8],
     from: usize,
@@ -87,7 +85,7 @@ pub fn statements_at(
     n: usize,
     k: usize,
     full: bool,
-) -> Read
+) -> Result<usize, Refusal>
     requires { (from ≤ length file.now) × ((CellsFit m n n transition.old) × ((CellsFit m n k observation.old)
         × (RewardCells full m n k reward.old))) }
     ensures { outcome_of (draft transition.new observation.new reward.new) file.now result ≡ statements
@@ -95,15 +93,8 @@ pub fn statements_at(
         (words_in between file.now from) }
 {
     let mut at = from;
-    loop {
-        let w = reader::word_from(file, at);
-        let Word::At(_, _) = w else {
-            return Read::Value(0, at);
-        };
-        let x = statement_at(file, w, transition, observation, reward, m, n, k, full);
-        let Read::Value(_, next) = x else {
-            return x;
-        };
-        at = next;
+    while let Some(w) = words::word_at(file, at) {
+        at = statement_at(file, w, transition, observation, reward, m, n, k, full)?;
     }
+    Ok(at)
 }

@@ -1,11 +1,11 @@
-// What the program `ladder` reads and writes, line by line, and where its input ends. A line says whether it could be written.
+// What the program `ladder` reads and writes, line by line, and where its input ends.
 #![tactic(auto)]
 
-ghost use Rattle.std.specs.Prelude.{◌≡◌, ◌≤◌, length};
-ghost use Rattle.tables.specs.declared.Verdict.TheVariants.{Fine};
+ghost use Rattle.std.specs.Prelude.{◌≤◌, length};
 
+use refusals::Refusal;
 use runs::Bounds;
-use std::io::Read;
+use std::io::{self, Read};
 
 // Fills the slice from the input, until nothing more comes or a read fails: how many bytes.
 pub fn read_full<R: Read>(from: &mut R, to: &mut [u8]) -> usize
@@ -45,14 +45,12 @@ pub fn tell_unwritten(rt: &impl Eprint) {
     let _told = eprintln!(rt; "ladder: standard output cannot be written");
 }
 
-// The line of a level's totals, which were not refused; false where it could not be written.
-pub fn print_totals(rt: &impl Print, number: usize, r: Bounds) -> bool
-    requires { r.verdict ≡ Fine }
-{
+// The line of a level's totals.
+pub fn print_totals(rt: &impl Print, number: usize, r: Bounds) -> io::Result<()> {
     let action = r.action;
-    println!(rt; "{} {} {} {} {}", number, r.lower, r.upper, r.gap, action.0).is_ok()
+    println!(rt; "{} {} {} {} {}", number, r.lower, r.upper, r.gap, action.0)
 }
 
-pub fn print_refusal(rt: &impl Print, number: u8, place: usize) -> bool {
-    println!(rt; "refused {} at {}", number, place).is_ok()
+pub fn print_refusal(rt: &impl Print, r: Refusal) -> io::Result<()> {
+    println!(rt; "{}", r)
 }

@@ -4,14 +4,14 @@
 use Rattle.integers.proofs.Kit.{◌≡◌, true, ℕ, ◌≤◌, ◌<◌, arith, le-leb, leb-true, eq-eqb, eqb-true, leb}
 use Rattle.integers.specs.Whole.{total_to}
 use Rattle.integers.proofs.Searches.{and-true, and_is, every-at, at_every}
-use Rattle.tables.specs.declared.Verdict.TheVariants.{Fine}
+use Rattle.refusals.specs.Verdicts.{Fine}
 use Rattle.tables.specs.Tables.{Tables}
 use Rattle.tables.specs.Limits.{one}
 use Rattle.tables.specs.Model.{Model, Valid}
 use Rattle.tables.specs.Storage.{counts_of, model_of}
 use Rattle.tables.specs.Steps.{Stored}
 use Rattle.tables.specs.Judged.{count_within, cells_within, limits_hold, rows_total, model_verdict, tables_verdict}
-use Rattle.tables.proofs.Refusals.{before-fine, unless-fine, fine-at, at-fine}
+use Rattle.refusals.proofs.Refusals.{before-fine, unless-fine, fine-at, at-fine}
 use Rattle.tables.proofs.Fitting.{stored-true, stored_is}
 
 pub count-true : (limit n : ℕ) → count_within limit n ≡ true → (0 < n) × (n ≤ limit)

@@ -1,5 +1,4 @@
 -- Laws for this crate's proofs and those above it.
-pub mod Refusals
 pub mod Orders
 pub mod Fitting
 pub mod Accepted

@@ -4,8 +4,7 @@ use Rattle.integers.proofs.Kit.{◌≡◌, refl, [], ◌∷◌, ℕ, pos}
 use Rattle.integers.specs.Whole.{total_to}
 use Rattle.integers.specs.Search.{every}
 use Rattle.tables.specs.Tables.{Tables}
-use Rattle.tables.specs.declared.Verdict.TheVariants.{Fine, Refused}
-use Rattle.tables.specs.Verdicts.{first_of}
+use Rattle.refusals.specs.Verdicts.{Fine, Refused, first_of}
 use Rattle.tables.specs.Judged.{limits_hold, rows_total, tables_verdict}
 
 -- one state, one action and one observation, with a discount, a number of T and one of O

@@ -4,11 +4,10 @@ use Rattle.integers.specs.Whole.{total_to}
 use Rattle.integers.specs.Search.{every}
 use Rattle.tables.specs.Tables.{Tables}
 use Rattle.tables.specs.declared.Counts.{Counts}
-use Rattle.tables.specs.declared.Verdict.{Verdict}
+use Rattle.refusals.specs.Verdicts.{Verdict, ◌before◌, unless, first_of}
 use Rattle.tables.specs.Limits.{max_states, max_actions, max_observations, one, max_reward}
 use Rattle.tables.specs.Model.{Model}
 use Rattle.tables.specs.Storage.{row_place, counts_of, model_of}
-use Rattle.tables.specs.Verdicts.{◌before◌, unless, first_of}
 
 -- 1 to a limit
 abbrev pub count_within : ℕ → ℕ → Bool

@@ -4,5 +4,4 @@ pub mod Model
 pub mod Tables
 pub mod Storage
 pub mod Steps
-pub mod Verdicts
 pub mod Judged

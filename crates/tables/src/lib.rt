@@ -40,13 +40,6 @@ pub struct Counts {
 #[derive(Clone, Copy)]
 pub struct Tables {}
 
-// What a test answers: nothing to refuse, or document 01's number and place.
-#[derive(Clone, Copy)]
-pub enum Verdict {
-    Fine,
-    Refused(u8, usize),
-}
-
 impl Tables {
     pub const STATES: usize = 64;
 

@@ -12,12 +12,6 @@ pub fn wide(x: u16) -> u64
     x as u64
 }
 
-fn index(x: u16) -> usize
-    ensures { result ≡ x }
-{
-    x as usize
-}
-
 // Where row r of width w starts.
 pub fn start(r: usize, w: usize) -> usize
     requires { (r < max_rows) × (w ≤ max_states) }
@@ -100,7 +94,7 @@ pub fn choice_at(choices: &[u16], k: usize, v: Vector, o: Observation) -> Vector
     ensures { result.0 ≡ choice_in k choices.now v.0 o.0 }
 {
     let at = row(v.0, k, o.0);
-    Vector(index(choices[at]))
+    Vector(usize::from(choices[at]))
 }
 
 // Stores the vector that v chooses for an observation.

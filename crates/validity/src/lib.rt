@@ -1,14 +1,15 @@
 // Refusals 3, 5 and 6 of tables of any content.
 #![tactic(auto)]
 
-ghost use Rattle.std.specs.Prelude.{◌≡◌, ◌&&◌, ◌+◌, ◌*◌, ◌≤◌, max, length, get_or};
+ghost use Rattle.std.specs.Prelude.{◌≡◌, ◌&&◌, ◌+◌, ◌*◌, ◌≤◌, length, get_or};
 ghost use Rattle.integers.specs.Whole.{total_to, largest_to};
 ghost use Rattle.tables.specs.Limits.{max_states, max_actions, max_observations};
 ghost use Rattle.tables.specs.Storage.{cell_in, reward_in, model_of, tables_in};
 ghost use Rattle.tables.specs.Judged.{counts_within, cells_within, rewards_within, limits_hold, has_room, tables_stored};
 ghost use Rattle.tables.specs.Judged.{rows_total, tables_verdict};
 
-use tables::{Action, Counts, State, Tables, Verdict, read};
+use refusals::{Refusal, Verdict};
+use tables::{Action, Counts, State, Tables, read};
 
 pub fn counts_within(n: usize, m: usize, k: usize) -> bool
     ensures { result ≡ counts_within n m k }
@@ -22,23 +23,14 @@ pub fn counts_within(n: usize, m: usize, k: usize) -> bool
     tables::count_within(Tables::OBSERVATIONS, k)
 }
 
-fn larger(a: u16, b: u16) -> u16
-    ensures { result ≡ max a b }
-{
-    if a < b {
-        return b;
-    }
-    a
-}
-
 // The largest of the first `count` cells.
 fn largest(cells: &[u16], count: usize) -> u16
     requires { count ≤ length cells.now }
     ensures { result ≡ largest_to count (λ x. get_or cells.now x 0) }
 {
     let mut most: u16 = 0;
-    for x in 0..count {
-        most = larger(most, cells[x]);
+    for cell in &cells[..count] {
+        most = most.max(*cell);
     }
     most
 }
@@ -133,17 +125,15 @@ pub fn rows_total(cells: &[u16], m: usize, n: usize, w: usize, number: u8) -> Ve
     requires w_in_bounds { m * n * w ≤ length cells.now }
     ensures { result ≡ rows_total number m n w (cell_in n w cells.now) }
 {
-    let mut found = Verdict::Fine;
-    'rows: for a in 0..m {
+    for a in 0..m {
         for s in 0..n {
             let row = read::row(a, n, s);
             if row_total(cells, read::start(row, w), w) != Tables::ONE {
-                found = Verdict::Refused(number, row);
-                break 'rows;
+                return Err(Refusal(number, row));
             }
         }
     }
-    found
+    Ok(())
 }
 
 // 3, then 5, then 6, of tables of any content.
@@ -157,11 +147,8 @@ pub fn judge_tables<'a>(
     ensures { result ≡ tables_verdict (tables_in c transition.now observation.now reward.now) }
 {
     if !limits_hold(transition, observation, reward, c) {
-        return Verdict::Refused(3, 0);
+        return Err(Refusal(3, 0));
     }
-    let transitions = rows_total(transition, c.actions, c.states, c.states, 5);
-    let Verdict::Fine = transitions else {
-        return transitions;
-    };
+    rows_total(transition, c.actions, c.states, c.states, 5)?;
     rows_total(observation, c.actions, c.states, c.observations, 6)
 }

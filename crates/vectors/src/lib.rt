@@ -141,8 +141,8 @@ pub fn floored(b: &[i64], n: usize) -> ByState
     ensures { result ≡ padded (pos 0) max_states n (λ s. floor_div (get_or b.now s (pos 0)) K) }
 {
     let mut e = [0i64; Tables::STATES];
-    for s in 0..n {
-        e[s] = integers::floor_div(b[s], Tables::K);
+    for (s, backup) in b[..n].iter().enumerate() {
+        e[s] = integers::floor_div(*backup, Tables::K);
     }
     e
 }

@@ -11,14 +11,8 @@ ghost use Rattle.levels.specs.Storage.{point_in};
 ghost use Rattle.levels.specs.Judged.{total_holds, weights_verdict};
 
 use levels::Level;
-use tables::{Tables, Verdict, Weights, read};
-
-// A weight of a mixture or a point.
-pub fn weight(x: u32) -> u64
-    ensures { result ≡ x }
-{
-    x as u64
-}
+use refusals::{Refusal, Verdict};
+use tables::{Tables, Weights, read};
 
 // The weights of row i: of a point, or of a mixture, which is a row alone.
 pub fn point_weights(weights: &[u32], n: usize, i: usize) -> Weights
@@ -29,7 +23,7 @@ pub fn point_weights(weights: &[u32], n: usize, i: usize) -> Weights
     let mut p = [0u64; Tables::STATES];
     for s in 0..n {
         let at = read::row(i, n, s);
-        p[s] = weight(weights[at]);
+        p[s] = u64::from(weights[at]);
     }
     p
 }
@@ -40,8 +34,8 @@ pub fn weights_total(cells: &[u32], at: usize, n: usize) -> u64
     ensures { result ≡ total_to n (λ s. get_or cells.now (at + s) 0) }
 {
     let mut sum: u64 = 0;
-    for s in 0..n {
-        sum += weight(cells[at + s]);
+    for cell in &cells[at..at + n] {
+        sum += u64::from(*cell);
     }
     sum
 }
@@ -64,8 +58,8 @@ pub fn weights_hold(cells: &[u32], n: usize, points: usize) -> Verdict
 {
     for i in 0..points {
         if !total_holds(weights_total(cells, read::start(i, n), n)) {
-            return Verdict::Refused(12, i);
+            return Err(Refusal(12, i));
         }
     }
-    Verdict::Fine
+    Ok(())
 }

@@ -2,11 +2,10 @@
 --
 -- Spaces part words, a colon is a word by itself, and a hash ends a word and opens a comment up to the next LF or the file's end. The file is
 -- taken byte by byte; a byte stands between words, inside a word that began before it, or in a comment.
-use Rattle.std.specs.Prelude.{ℕ, ◌+◌, ◌-◌, cond, List, [], ◌∷◌, length, take, drop, eqb}
+use Rattle.std.specs.Prelude.{ℕ, ◌+◌, ◌-◌, cond, List, [], ◌∷◌, length, take, drop, eqb, Option, Some, None}
 use Rattle.words.specs.declared.Class.{Class}
 use Rattle.words.specs.declared.Class.TheVariants.{Space, Colon, Hash, Digit, Point, Minus, Star, Rest}
 use Rattle.words.specs.declared.Word.{Word}
-use Rattle.words.specs.declared.Word.TheVariants.{At, End}
 use Rattle.words.specs.Class.{class_of}
 
 -- what a byte does: it parts words, is a word by itself, opens a comment, or belongs to a word
@@ -63,6 +62,6 @@ unfoldable pub words_in : Mode → List ℕ → ℕ → Words
 words_in m s at = words_of m at (drop at s)
 
 -- the words from the one that the word function answers
-abbrev pub told : List ℕ → Word → Words
-told s (At start stop) = word start (take (stop - start) (drop start s)) (words_in between s stop)
-told s End = end (length s)
+abbrev pub told : List ℕ → Option Word → Words
+told s (Some w) = word w.start (take (w.stop - w.start) (drop w.start s)) (words_in between s w.stop)
+told s None = end (length s)

@@ -50,11 +50,11 @@ fn is_end(b: u8) -> bool
     }
 }
 
-// Where the next word starts and stops, or that none is left.
+// Where a word starts and stops.
 #[derive(Clone, Copy)]
-pub enum Word {
-    At(usize, usize),
-    End,
+pub struct Word {
+    pub start: usize,
+    pub stop: usize,
 }
 
 // The end of a comment: the next LF, or the end of the file.
@@ -62,14 +62,12 @@ fn line_end(s: &[u8], from: usize) -> usize
     requires { from ≤ length s.now }
     ensures { (from ≤ result) × ((result ≤ length s.now) × (words_in comment s.now from ≡ words_in between s.now result)) }
 {
-    let mut at = from;
-    while at < s.len() {
+    for at in from..s.len() {
         if s[at] == b'\n' {
             return at;
         }
-        at += 1;
     }
-    at
+    s.len()
 }
 
 // The end of a word that began before `from`.
@@ -77,25 +75,26 @@ fn word_end(s: &[u8], from: usize) -> usize
     requires { from ≤ length s.now }
     ensures { Run s.now from result }
 {
-    let mut at = from;
-    while at < s.len() {
+    for at in from..s.len() {
         if is_end(s[at]) {
             return at;
         }
-        at += 1;
     }
-    at
+    s.len()
 }
 
 // The next word from an offset; none from past the end.
-pub fn word_at(s: &[u8], from: usize) -> Word
+pub fn word_at(s: &[u8], from: usize) -> Option<Word>
     ensures { Next s.now from result }
 {
     let mut at = from;
     while at < s.len() {
         let b = s[at];
         if !is_end(b) {
-            return Word::At(at, word_end(s, at + 1));
+            return Some(Word {
+                start: at,
+                stop: word_end(s, at + 1),
+            });
         }
         let k = class_of(b);
         match k {
@@ -103,12 +102,15 @@ pub fn word_at(s: &[u8], from: usize) -> Word
                 at = line_end(s, at + 1);
             }
             Class::Colon => {
-                return Word::At(at, at + 1);
+                return Some(Word {
+                    start: at,
+                    stop: at + 1,
+                });
             }
             _ => {
                 at += 1;
             }
         }
     }
-    Word::End
+    None
 }

@@ -2,11 +2,11 @@
 use Rattle.integers.proofs.Kit.{◌≡◌, true, ℕ, leb-true, ltb-true}
 use Rattle.integers.proofs.Searches.{and-true}
 use Rattle.tables.specs.Tables.{Tables}
-use Rattle.tables.specs.declared.Verdict.TheVariants.{Fine}
+use Rattle.refusals.specs.Verdicts.{Fine}
 use Rattle.tables.specs.Storage.{counts_of, model_of}
 use Rattle.tables.specs.Judged.{count_within}
 use Rattle.tables.proofs.Accepted.{tables-valid, tables-stored, count-true}
-use Rattle.tables.proofs.Refusals.{before-fine, unless-fine}
+use Rattle.refusals.proofs.Refusals.{before-fine, unless-fine}
 use Rattle.levels.proofs.Laws.{numbers-in}
 use Rattle.worths.specs.Limits.{max_nodes}
 use Rattle.worths.specs.Graph.{WorthAccepted}

@@ -1,17 +1,15 @@
--- What a worth is refused for, 3, 5, 6 and 18, and the answer, on success and on refusal, in every field.
-use Rattle.std.specs.Prelude.{ℕ, Bool, ◌&&◌, leb, ltb, pos}
+-- What a worth is refused for, 3, 5, 6 and 18, and the answer, on success and on refusal.
+use Rattle.std.specs.Prelude.{ℕ, ℤ, Bool, ◌&&◌, leb, ltb, Result, Ok, Err}
 use Rattle.tables.specs.Tables.{Tables}
-use Rattle.tables.specs.declared.Verdict.{Verdict}
-use Rattle.tables.specs.declared.Verdict.TheVariants.{Fine, Refused}
+use Rattle.refusals.specs.declared.Refusal.{Refusal}
+use Rattle.refusals.specs.Verdicts.{Verdict, ◌before◌, unless}
 use Rattle.tables.specs.Model.{Model}
 use Rattle.tables.specs.Storage.{model_of}
-use Rattle.tables.specs.Verdicts.{◌before◌, unless}
 use Rattle.tables.specs.Judged.{count_within, tables_verdict}
 use Rattle.levels.specs.Judged.{numbers_in}
 use Rattle.worths.specs.Limits.{max_nodes, max_steps}
 use Rattle.worths.specs.Graph.{PlanGraph, worth_of}
 use Rattle.worths.specs.Storage.{LentGraph, graph_of, graph_stored}
-use Rattle.worth.specs.declared.Valued.{Valued}
 
 -- the asked node, state and steps are within their limits
 abbrev pub asked_within : ℕ → ℕ → ℕ → ℕ → ℕ → Bool
@@ -27,10 +25,11 @@ worth_verdict m g v s d =
     before numbers_in 18 G.nodes M.actions M.observations G.nodes G.action G.next
     before unless (asked_within G.nodes M.states v s d) 18 0
 
-abbrev pub valued_by : Verdict → Tables → LentGraph → ℕ → ℕ → ℕ → Valued
-valued_by Fine m g v s d = record { verdict = Fine; ticks = worth_of (model_of m) (graph_of m.observations g) d v s }
-valued_by (Refused number place) m g v s d = record { verdict = Refused number place; ticks = pos 0 }
+-- the worth, or the refusal
+abbrev pub valued_by : Verdict → Tables → LentGraph → ℕ → ℕ → ℕ → Result ℤ Refusal
+valued_by (Ok u) m g v s d = Ok (worth_of (model_of m) (graph_of m.observations g) d v s)
+valued_by (Err e) m g v s d = Err e
 
 -- the worth of node v at state s with d steps left, of tables and a graph of any content
-unfoldable pub worth_answer : Tables → LentGraph → ℕ → ℕ → ℕ → Valued
+unfoldable pub worth_answer : Tables → LentGraph → ℕ → ℕ → ℕ → Result ℤ Refusal
 worth_answer m g v s d = valued_by (worth_verdict m g v s d) m g v s d

@@ -10,15 +10,9 @@ ghost use Rattle.worths.specs.Storage.{lent_graph, graph_stored};
 ghost use Rattle.worth.specs.Judged.{asked_within, worth_verdict, worth_answer};
 
 use levels::shape;
-use tables::{Counts, State, Vector, Verdict, read};
+use refusals::{Refusal, Verdict};
+use tables::{Counts, State, Vector, read};
 use worths::{Graph, Node};
-
-// The verdict on what is asked, with the worth.
-#[derive(Clone, Copy)]
-pub struct Valued {
-    pub verdict: Verdict,
-    pub ticks: i64,
-}
 
 fn asked_within(nodes: usize, n: usize, v: Node, s: State, d: usize) -> bool
     ensures { result ≡ asked_within nodes n v.0 s.0 d }
@@ -63,21 +57,15 @@ fn judge_worth<'a, 'b>(
         ≡ worth_verdict (tables_in c transition.now observation.now reward.now)
         (lent_graph nodes actions.now next.now) v.0 s.0 d }
 {
-    let tables = validity::judge_tables(transition, observation, reward, c);
-    let Verdict::Fine = tables else {
-        return tables;
-    };
+    validity::judge_tables(transition, observation, reward, c)?;
     if !nodes_within(actions, next, nodes, c.observations) {
-        return Verdict::Refused(18, 0);
+        return Err(Refusal(18, 0));
     }
-    let numbers = shape::numbers_exist(actions, next, nodes, c.actions, c.observations, nodes, 18);
-    let Verdict::Fine = numbers else {
-        return numbers;
-    };
+    shape::numbers_exist(actions, next, nodes, c.actions, c.observations, nodes, 18)?;
     if !asked_within(nodes, c.states, v, s, d) {
-        return Verdict::Refused(18, 0);
+        return Err(Refusal(18, 0));
     }
-    Verdict::Fine
+    Ok(())
 }
 
 // The worth of a node at a state with d steps left, of tables and a graph of any content, or refused by 3, 5, 6 or 18.
@@ -92,12 +80,12 @@ pub fn worth<'a, 'b>(
     v: Node,
     s: State,
     d: usize,
-) -> Valued
+) -> Result<i64, Refusal>
     ensures { result
         ≡ worth_answer (tables_in c transition.now observation.now reward.now)
         (lent_graph nodes actions.now next.now) v.0 s.0 d }
 {
-    let verdict = judge_worth(
+    judge_worth(
         transition,
         observation,
         reward,
@@ -108,21 +96,7 @@ pub fn worth<'a, 'b>(
         v,
         s,
         d,
-    );
-    match verdict {
-        Verdict::Fine => {
-            let all = worths::worths(transition, observation, reward, actions, next, c, nodes, d);
-            let ticks = read::entry_at(&all, c.states, Vector(v.0), s);
-            Valued {
-                verdict: Verdict::Fine,
-                ticks: ticks,
-            }
-        }
-        Verdict::Refused(number, place) => {
-            Valued {
-                verdict: Verdict::Refused(number, place),
-                ticks: 0,
-            }
-        }
-    }
+    )?;
+    let all = worths::worths(transition, observation, reward, actions, next, c, nodes, d);
+    Ok(read::entry_at(&all, c.states, Vector(v.0), s))
 }

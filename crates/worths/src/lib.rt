@@ -95,7 +95,7 @@ fn step<'a, 'b>(
             nodes,
             Node(v),
         );
-        cells::paste_i64(&mut worths, read::start(v, n), &row, n);
+        cells::paste(&mut worths, read::start(v, n), &row, n);
     }
     worths
 }

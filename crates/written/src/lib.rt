@@ -43,8 +43,8 @@ fn put_numbers(
     ensures { Wrote at (numbers places cells.now from w) out.old result out.new }
 {
     let mut next = at;
-    for x in 0..w {
-        next = put_number(out, next, places, unit, read::wide(cells[from + x]));
+    for cell in &cells[from..from + w] {
+        next = put_number(out, next, places, unit, read::wide(*cell));
     }
     next
 }

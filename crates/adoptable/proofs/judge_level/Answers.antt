@@ -1,10 +1,8 @@
-use Rattle.adoptable.proofs.Prelude.{◌≡◌, sym, ◌∙◌}
-use Rattle.integers.proofs.Kit.{ℕ, ℤ, List, ◌<◌, ◌≤◌}
+use Rattle.integers.proofs.Kit.{◌≡◌, sym, ◌∙◌, rules, ℕ, ℤ, List, ◌<◌, ◌≤◌}
 use Rattle.tables.specs.declared.Counts.{Counts}
-use Rattle.tables.specs.declared.Verdict.{Verdict}
-use Rattle.tables.specs.declared.Verdict.TheVariants.{Fine}
+use Rattle.refusals.specs.Verdicts.{Verdict, Fine}
 use Rattle.tables.specs.Limits.{max_levels, max_vectors}
-use Rattle.tables.proofs.Refusals.{stops, goes}
+use Rattle.refusals.proofs.Refusals.{stops, goes}
 use Rattle.levels.specs.Judged.{numbers_in}
 use Rattle.levels.proofs.Laws.{numbers-in}
 use Rattle.candidates.specs.Steps.{Upon}
@@ -32,29 +30,33 @@ solving {c = c} {standing = standing} {t = t} {alpha = alpha} {graph = graph} {c
       chooses = λ v l. (exist v l).1;
     }
 
-pub returns-in_default : goal.returns-in_default
+pub returns-in_err-numbers_hold : goal.returns-in_err-numbers_hold
 unfolding solved
-returns-in_default c = stops _ c.numbers_hold-numbers.ensures c.in_default.is
+returns-in_err-numbers_hold c =
+    let same : c.from_residual.result ≡ c.numbers_hold.result = search rules in same ∙ stops _ c.numbers_hold.ensures c.in_err-numbers_hold.was
 
-pub masks_hold-reached-requires : goal.masks_hold-reached-requires
-masks_hold-reached-requires c = solving-chooses (solving c.requires.upon c.requires.files c.numbers_hold-numbers.ensures c.in-Fine.is)
+pub masks_hold-requires : goal.masks_hold-requires
+masks_hold-requires c = solving-chooses (solving c.requires.upon c.requires.files c.numbers_hold.ensures c.in_ok-numbers_hold.was)
 
-pub returns-in_default-reached : goal.returns-in_default-reached
+pub returns-in_err-masks_hold : goal.returns-in_err-masks_hold
 unfolding solved
-returns-in_default-reached c =
-    goes c.numbers_hold-numbers.ensures c.in-Fine.is (stops _ c.masks_hold-reached.ensures c.in_default-reached.is)
+returns-in_err-masks_hold c =
+    let same : c.from_residual-in_err-masks_hold.result ≡ c.masks_hold.result = search rules in
+    same ∙ goes c.numbers_hold.ensures c.in_ok-numbers_hold.was (stops _ c.masks_hold.ensures c.in_err-masks_hold.was)
 
-pub entries_hold-ranges-requires : goal.entries_hold-ranges-requires
-entries_hold-ranges-requires c = solving c.requires.upon c.requires.files c.numbers_hold-numbers.ensures c.in-Fine.is
+pub entries_hold-requires : goal.entries_hold-requires
+entries_hold-requires c = solving c.requires.upon c.requires.files c.numbers_hold.ensures c.in_ok-numbers_hold.was
 
-pub returns-in_default-ranges : goal.returns-in_default-ranges
+pub returns-in_err-entries_hold : goal.returns-in_err-entries_hold
 unfolding solved
-returns-in_default-ranges c =
-    goes c.numbers_hold-numbers.ensures c.in-Fine.is
-    (goes c.masks_hold-reached.ensures c.in-Fine-reached.is (stops _ c.entries_hold-ranges.ensures c.in_default-ranges.is))
+returns-in_err-entries_hold c =
+    let same : c.from_residual-in_err-entries_hold.result ≡ c.entries_hold.result = search rules in
+    same
+    ∙ goes c.numbers_hold.ensures c.in_ok-numbers_hold.was
+    (goes c.masks_hold.ensures c.in_ok-masks_hold.was (stops _ c.entries_hold.ensures c.in_err-entries_hold.was))
 
 pub returns : goal.returns
 unfolding solved
 returns c =
-    goes c.numbers_hold-numbers.ensures c.in-Fine.is
-    (goes c.masks_hold-reached.ensures c.in-Fine-reached.is (goes c.entries_hold-ranges.ensures c.in-Fine-ranges.is c.weights_hold.ensures))
+    goes c.numbers_hold.ensures c.in_ok-numbers_hold.was
+    (goes c.masks_hold.ensures c.in_ok-masks_hold.was (goes c.entries_hold.ensures c.in_ok-entries_hold.was c.weights_hold.ensures))

@@ -1,7 +1,7 @@
-use Rattle.alphas.proofs.Prelude.{ℕ, refl, ap, ◌∙◌, List, arith, take, Words, Answer, got, ◌then◌, value-is, value-next, gave-back, lists-value}
-use Rattle.alphas.proofs.Prelude.{action, decimal, several}
+use Rattle.std.specs.Prelude.{Ok, Err}
+use Rattle.alphas.proofs.Prelude.{ℕ, refl, ap, ◌∙◌, List, arith, rules, Words, Answer, got, ◌then◌, handed, gave-back, still-read, Unread}
+use Rattle.alphas.proofs.Prelude.{decimal, several}
 use Rattle.integers.proofs.Kit.{ℤ}
-use Rattle.grammar.proofs.Arms.{refusing}
 use Rattle.alphas.specs.Alphas.{Alpha, alpha}
 use Rattle.alphas.proofs.alpha_at.Goals as goal
 
@@ -12,32 +12,29 @@ made a ts ws = got (record { action = a; ticks = ts }) ws
 abbrev after : ℕ → ℕ → Words → Answer Alpha
 after n a ws = several decimal n ws then made a
 
-pub returns-in_default : goal.returns-in_default
-unfolding alpha action
-returns-in_default c =
-    let a = c.args in
-    let x = c.number_at-x in
-    gave-back (λ v. v) a.file.now a.at _ _ x.result (after a.n) (c.no_alpha.ensures ∙ c.back.ensures) (refusing c.in_default.is)
-    x.ensures.is refl
+pub returns-in_err-action : goal.returns-in_err-action
+unfolding alpha
+returns-in_err-action c =
+    let x = c.action_at in
+    let m : Unread x.result (Err c.in_err-action.field-0.0) = search rules in
+    gave-back _ _ _ _ _ x.result _ (after c.args.n) m (handed _ c.from_residual.ensures) x.ensures.is refl
 
-pub returns-in_default-y : goal.returns-in_default-y
-unfolding alpha action
-returns-in_default-y c =
-    let a = c.args in
-    let x = c.in-Value in
-    let y = c.ticks_at-t in
-    gave-back (λ _. take a.n y.result.ticks) a.file.now a.at _ _ y.result.read (made x.action)
-    (c.no_alpha-in_default-y.ensures ∙ c.back-in_default-y.ensures) (refusing c.in_default-y.is) y.ensures.is
-    (ap (λ (x : Answer ℕ). x then after a.n) (value-is x.action x.p c.number_at-x.ensures x.is))
+pub returns-in_err-ticks : goal.returns-in_err-ticks
+unfolding alpha
+returns-in_err-ticks c =
+    let m : Unread c.action_at.result (Ok c.in_ok-action.action) = search rules in
+    let m' : Unread c.ticks_at.result (Err c.in_err-ticks.field-0.0) = search rules in
+    let x = rw (still-read c.action_at.result m) at c.action_at.ensures in
+    gave-back _ _ _ _ _ c.ticks_at.result _ (made c.in_ok-action.action.value) m' (handed _ c.from_residual-in_err-ticks.ensures) c.ticks_at.ensures.is
+    (ap (λ (x : Answer ℕ). x then after c.args.n) x.is)
 
 pub returns : goal.returns
-unfolding alpha action
+unfolding alpha
 returns c =
-    let a = c.args in
-    let x = c.in-Value in
-    let first = value-next x.action x.p c.number_at-x.ensures x.is in
-    let last = lists-value c.in-Value-y.field-0 c.in-Value-y.end c.ticks_at-t.ensures c.in-Value-y.is in (
-      ap (λ (t : Answer (List ℤ)). t then made x.action) last.0
-          ∙ ap (λ (x : Answer ℕ). x then after a.n) (value-is x.action x.p c.number_at-x.ensures x.is),
-      (omega (arith, first, last.1), last.1.1),
+    let m : Unread c.action_at.result (Ok c.in_ok-action.action) = search rules in
+    let m' : Unread c.ticks_at.result (Ok c.in_ok-ticks.field-0) = search rules in
+    let x = rw (still-read c.action_at.result m) at c.action_at.ensures in
+    let y = rw (still-read c.ticks_at.result m') at c.ticks_at.ensures in (
+      ap (λ (t : Answer (List ℤ)). t then made c.in_ok-action.action.value) y.is ∙ ap (λ (x : Answer ℕ). x then after c.args.n) x.is,
+      (omega (arith, x.onward, y.since), y.since.1),
     )

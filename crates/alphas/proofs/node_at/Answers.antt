@@ -1,9 +1,9 @@
-use Rattle.alphas.proofs.Prelude.{ℕ, refl, ◌≡◌, ap, ◌∙◌, List, arith, take, Words, words_in, between, Answer, got, ◌then◌, value-is, value-next}
-use Rattle.alphas.proofs.Prelude.{gave-back, lists-value, action, next_node, several}
-use Rattle.grammar.proofs.Arms.{refusing}
+use Rattle.std.specs.Prelude.{Ok, Err}
+use Rattle.alphas.proofs.Prelude.{ℕ, ◌<◌, refl, ◌≡◌, ap, ◌∙◌, List, arith, rules, Words, words_in, between, Answer, got, ◌then◌, handed, gave-back}
+use Rattle.alphas.proofs.Prelude.{still-read, Unread, action, next_node, several}
 use Rattle.alphas.specs.Alphas.{PolicyNode, node}
 use Rattle.alphas.proofs.node_at.Goals as goal
-use Rattle.alphas.proofs.node_at.Goals.{In-Value-y}
+use Rattle.alphas.proofs.node_at.Goals.{In_ok-action}
 
 -- what follows the action, and the node's number
 abbrev made : ℕ → List ℕ → Words → Answer PolicyNode
@@ -15,51 +15,52 @@ after k a ws = several next_node k ws then made a
 abbrev numbered : ℕ → ℕ → Words → Answer PolicyNode
 numbered k _ ws = action ws then after k
 
-pub returns-in_default : goal.returns-in_default
+pub returns-in_err-number : goal.returns-in_err-number
 unfolding node
-returns-in_default c =
-    let a = c.args in
-    let x = c.number_at-x in
-    gave-back (λ v. v) a.file.now a.at _ _ x.result (numbered a.k) (c.no_node.ensures ∙ c.back.ensures) (refusing c.in_default.is)
-    x.ensures.is refl
+returns-in_err-number c =
+    let x = c.number_at in
+    let m : Unread x.result (Err c.in_err-number.field-0.0) = search rules in
+    gave-back _ _ _ _ _ x.result _ (numbered c.args.k) m (handed _ c.from_residual.ensures) x.ensures.is refl
 
-pub returns-in_default-y : goal.returns-in_default-y
-unfolding node action
-returns-in_default-y c =
-    let a = c.args in
-    let x = c.in-Value in
-    let y = c.number_at-y in
-    gave-back (λ v. v) a.file.now a.at _ _ y.result (after a.k) (c.no_node-in_default-y.ensures ∙ c.back-in_default-y.ensures)
-    (refusing c.in_default-y.is) y.ensures.is
-    (ap (λ (x : Answer ℕ). x then numbered a.k) (value-is x.field-0 x.p c.number_at-x.ensures x.is))
+pub returns-in_err-action : goal.returns-in_err-action
+unfolding node
+returns-in_err-action c =
+    let m : Unread c.number_at.result (Ok c.in_ok-number.number) = search rules in
+    let m' : Unread c.action_at.result (Err c.in_err-action.field-0.0) = search rules in
+    let x = rw (still-read c.number_at.result m) at c.number_at.ensures in
+    gave-back _ _ _ _ _ c.action_at.result _ (after c.args.k) m' (handed _ c.from_residual-in_err-action.ensures) c.action_at.ensures.is
+    (ap (λ (x : Answer ℕ). x then numbered c.args.k) x.is)
 
--- the number and the action were read: what is left
-left : (c : In-Value-y) → let a = c.args in
-    (several next_node a.k (words_in between a.file.now c.in-Value-y.q) then made c.in-Value-y.action) ≡ node a.k a.i (words_in between a.file.now a.at)
-unfolding node action
+-- the number and the action were read: how far, and what is left
+record Left (c : In_ok-action) : Type 0 where
+  past : c.args.at < c.in_ok-action.action.next
+  is : (several next_node c.args.k (words_in between c.args.file.now c.in_ok-action.action.next) then made c.in_ok-action.action.value)
+      ≡ node c.args.k c.args.i (words_in between c.args.file.now c.args.at)
+
+left : (c : In_ok-action) → Left c
+unfolding node
 left c =
-    let a = c.args in
-    let x = c.in-Value in
-    let y = c.in-Value-y in
-    ap (λ (x : Answer ℕ). x then after a.k) (value-is y.action y.q c.number_at-y.ensures y.is)
-    ∙ ap (λ (x : Answer ℕ). x then numbered a.k) (value-is x.field-0 x.p c.number_at-x.ensures x.is)
+    let m : Unread c.number_at.result (Ok c.in_ok-number.number) = search rules in
+    let m' : Unread c.action_at.result (Ok c.in_ok-action.action) = search rules in
+    let x = rw (still-read c.number_at.result m) at c.number_at.ensures in
+    let y = rw (still-read c.action_at.result m') at c.action_at.ensures in
+    record {
+      past = omega (arith, x.onward, y.onward);
+      is = ap (λ (x : Answer ℕ). x then after c.args.k) y.is ∙ ap (λ (x : Answer ℕ). x then numbered c.args.k) x.is;
+    }
 
-pub returns-in_default-z : goal.returns-in_default-z
-returns-in_default-z c =
-    let a = c.args in
-    let z = c.nexts_at-t in
-    gave-back (λ _. take a.k z.result.next) a.file.now a.at _ _ z.result.read (made c.in-Value-y.action)
-    (c.no_node-in_default-z.ensures ∙ c.back-in_default-z.ensures) (refusing c.in_default-z.is) z.ensures.is
-    (left (goal.at.returns-in_default-z c).In-Value-y)
+pub returns-in_err-nodes : goal.returns-in_err-nodes
+returns-in_err-nodes c =
+    let z = c.nexts_at in
+    let m : Unread z.result (Err c.in_err-nodes.field-0.0) = search rules in
+    gave-back _ _ _ _ _ z.result _ (made c.in_ok-action.action.value) m (handed _ c.from_residual-in_err-nodes.ensures) z.ensures.is
+    (left (goal.at.returns-in_err-nodes c).In_ok-action).is
 
 pub returns : goal.returns
 returns c =
-    let x = c.in-Value in
-    let y = c.in-Value-y in
-    let z = c.in-Value-z in
-    let first = value-next x.field-0 x.p c.number_at-x.ensures x.is in
-    let second = value-next y.action y.q c.number_at-y.ensures y.is in
-    let last = lists-value z.field-0 z.end c.nexts_at-t.ensures z.is in (
-      ap (λ (t : Answer (List ℕ)). t then made y.action) last.0 ∙ left (goal.at.returns c).In-Value-y,
-      (omega (arith, first.1, second.1, last.1), last.1.1),
+    let m : Unread c.nexts_at.result (Ok c.in_ok-nodes.field-0) = search rules in
+    let z = rw (still-read c.nexts_at.result m) at c.nexts_at.ensures in
+    let h = left (goal.at.returns c).In_ok-action in (
+      ap (λ (t : Answer (List ℕ)). t then made c.in_ok-action.action.value) z.is ∙ h.is,
+      (omega (arith, h.past, z.since), z.since.1),
     )

@@ -1,8 +1,7 @@
-use Rattle.integers.proofs.Kit.{◌≡◌, ◌∙◌, ap, sym, subst, List, ℕ, ◌<◌, arith, rules, length}
+use Rattle.integers.proofs.Kit.{◌≡◌, sym, subst, List, ℕ, ◌<◌, arith, rules, length}
 use Rattle.tables.specs.Limits.{max_states, max_levels}
 use Rattle.tables.specs.Storage.{weight_in, tables_in}
 use Rattle.plans.specs.Level.{IsPoint}
-use Rattle.runs.specs.declared.Bounds.{Bounds}
 use Rattle.climbing.proofs.Climbing.{blank-opens, blank-points, climbed-0, built-given, built-accepted, climbed-next, totals-given}
 use Rattle.ascent.proofs.levels_of.Goals as goal
 
@@ -28,12 +27,11 @@ made-w-requires g c = built-given c.loop-t.invariant.climbed c.loop-t.invariant.
 pub raised-h-requires : goal.raised-h-requires
 raised-h-requires g c = built-accepted c.loop-t.invariant.climbed c.loop-t.invariant.points (omega arith) c.made-w.ensures
 
-pub print_totals-requires : goal.print_totals-requires
-print_totals-requires g c =
+pub unwrap-r-requires : goal.unwrap-r-requires
+unwrap-r-requires g c =
     let h = c.loop-t.invariant in
     let few : c.loop-t.t < max_levels = omega arith in
-    ap (λ (b : Bounds). b.verdict) c.asked-r.ensures
-    ∙ totals-given (climbed-next h.climbed h.points few c.made-w.ensures c.raised-h.ensures) h.points (omega arith)
+    rw c.asked.ensures (totals-given (climbed-next h.climbed h.points few c.made-w.ensures c.raised-h.ensures) h.points (omega arith))
 
 pub loop-t-preserved : goal.loop-t-preserved
 loop-t-preserved g c =

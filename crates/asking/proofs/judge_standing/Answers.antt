@@ -1,7 +1,7 @@
 use Rattle.std.proofs.Common.{◌≡◌, ℕ, sym, ◌∙◌, List, [], arith, true, false}
 use Rattle.integers.proofs.Kit.{lt-ltb, ltb}
 use Rattle.tables.specs.Limits.{max_vectors}
-use Rattle.tables.proofs.Refusals.{breaks, passes}
+use Rattle.refusals.proofs.Refusals.{breaks, passes}
 use Rattle.levels.specs.declared.Standing.{Standing}
 use Rattle.levels.specs.Storage.{standing_at}
 use Rattle.runs.specs.State.{standing_verdict}

@@ -6,9 +6,9 @@ use Rattle.tables.specs.Limits.{max_weight}
 use Rattle.integers.specs.Search.{every}
 use Rattle.asking.proofs.mixture_holds.Given as goal
 
-abbrev pub invariant-loop-s : goal.invariant-loop-s
-invariant-loop-s l = record {
-  low : every l.s (λ x. leb (weight_in l.mixture x) max_weight) ≡ true;
-  so_far : l.total ≡ total_to l.s (weight_in l.mixture);
-  small : l.total ≤ l.s * max_weight;
+abbrev pub invariant-loop-cell : goal.invariant-loop-cell
+invariant-loop-cell l = record {
+  low : every l.cell-index (λ x. leb (weight_in l.mixture x) max_weight) ≡ true;
+  so_far : l.total ≡ total_to l.cell-index (weight_in l.mixture);
+  small : l.total ≤ l.cell-index * max_weight;
 }

@@ -1,7 +1,7 @@
 use Rattle.integers.proofs.Kit.{sym}
 use Rattle.tables.specs.Limits.{max_vectors}
 use Rattle.tables.specs.Storage.{tables_in}
-use Rattle.tables.proofs.Refusals.{breaks, passes}
+use Rattle.refusals.proofs.Refusals.{breaks, passes}
 use Rattle.levels.specs.Storage.{cells, rows, lent}
 use Rattle.runs.proofs.Judged.{standing-true}
 use Rattle.blocks.specs.Blocks.{replay_verdict}

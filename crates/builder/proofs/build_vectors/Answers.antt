@@ -34,14 +34,14 @@ best_candidate-best-requires-clause-light c =
 pub number-requires : goal.number-requires
 number-requires c = (made (goal.at.number-requires c).After-best_candidate-best).action_in
 
-pub paste_u16-requires : goal.paste_u16-requires
-paste_u16-requires c =
-    let b = (goal.at.paste_u16-requires c).After-best_candidate-best in
+pub paste-requires : goal.paste-requires
+paste-requires c =
+    let b = (goal.at.paste-requires c).After-best_candidate-best in
     (rw c.start.ensures (room b).choices_fit, omega (arith, (made b).chosen-long, c.requires.upon.valid.few_observations))
 
-pub paste_i64-requires : goal.paste_i64-requires
-paste_i64-requires c =
-    let b = (goal.at.paste_i64-requires c).After-best_candidate-best in
+pub paste-requires-in-loop-v : goal.paste-requires-in-loop-v
+paste-requires-in-loop-v c =
+    let b = (goal.at.paste-requires-in-loop-v c).After-best_candidate-best in
     (rw c.start-in-loop-v.ensures (room b).entries_fit, omega (arith, (made b).entries_long, c.requires.upon.valid.few_states))
 
 pub loop-v-preserved : goal.loop-v-preserved
@@ -49,4 +49,4 @@ loop-v-preserved c =
     let r = c.requires in
     filled_more _ _ _ r.rows_fit c.loop-v.invariant c.loop-v-test.true (made (goal.at.loop-v-preserved c).After-best_candidate-best)
     r.upon.valid.few_observations r.upon.valid.few_states c.number.ensures c.all-all.ensures
-    (rw c.start.ensures at c.paste_u16.ensures) (rw c.start-in-loop-v.ensures at c.paste_i64.ensures)
+    (rw c.start.ensures at c.paste.ensures) (rw c.start-in-loop-v.ensures at c.paste-in-loop-v.ensures)

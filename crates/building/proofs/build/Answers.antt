@@ -1,7 +1,9 @@
 use Rattle.integers.proofs.Kit.{◌≡◌, ◌∙◌, ap, sym, true, List, [], ℕ, arith}
-use Rattle.tables.specs.declared.Verdict.TheVariants.{Fine}
+use Rattle.std.specs.Prelude.{Err}
+use Rattle.std.proofs.lemmas.Result.{err_from_is_err_and}
+use Rattle.refusals.specs.Verdicts.{Fine}
 use Rattle.tables.specs.Storage.{model_of, tables_in}
-use Rattle.tables.proofs.Refusals.{passes}
+use Rattle.refusals.proofs.Refusals.{passes}
 use Rattle.columns.specs.Columns.{list_holds}
 use Rattle.lists.proofs.Fitting.{list-listed}
 use Rattle.plans.specs.Level.{Level, Shaped}
@@ -15,49 +17,51 @@ use Rattle.candidates.specs.Steps.{top_built}
 use Rattle.builder.proofs.Levels.{upon-lent, roofed-lent, built-read}
 use Rattle.building.proofs.Buildable.{Buildable, left-passes, buildable, built-refused, built-fine}
 use Rattle.building.proofs.build.Goals as goal
-use Rattle.building.proofs.build.Goals.{After-judge_build-verdict, In-Fine}
+use Rattle.building.proofs.build.Goals.{After-judge_build, In_ok-judge_build}
 
 -- the list that is handed in has been tested
-listed : (c : After-judge_build-verdict) → let a = c.args in
+listed : (c : After-judge_build) → let a = c.args in
     list_holds (tables_in a.c a.transition.now a.observation.now a.reward.now) a.list.now ≡ true
 listed c = sym c.holds.ensures ∙ c.if-not-holds.false
 
-said : (c : After-judge_build-verdict) (choices : List ℕ) → let a = c.args in
-    c.judge_build-verdict.result
+said : (c : After-judge_build) (choices : List ℕ) → let a = c.args in
+    c.judge_build.result
     ≡ build_verdict (tables_in a.c a.transition.now a.observation.now a.reward.now)
     (lent a.state.now (cells a.actions.now choices a.masks.now a.entries.now a.corners.now a.weights.now a.values.now) (rows a.informed.now a.qmdp.now))
     a.count (cells a.newactions.now a.newchoices.now a.newmasks.now a.newentries.now a.newcorners.now a.given.now a.newvalues.now)
 unfolding build_verdict
-said c choices = c.judge_build-verdict.ensures choices
+said c choices = c.judge_build.ensures choices
 
-known : (c : In-Fine) → let a = c.args in
+known : (c : In_ok-judge_build) → let a = c.args in
     Buildable (tables_in a.c a.transition.now a.observation.now a.reward.now)
     (lent a.state.now (cells a.actions.now [] a.masks.now a.entries.now a.corners.now a.weights.now a.values.now) (rows a.informed.now a.qmdp.now))
     a.count (cells a.newactions.now a.newchoices.now a.newmasks.now a.newentries.now a.newcorners.now a.given.now a.newvalues.now)
 unfolding build_verdict
-known c = buildable _ _ _ _ (sym (c.judge_build-verdict.ensures []) ∙ c.in-Fine.is)
+known c = buildable _ _ _ _ (sym (c.in_ok-judge_build.ensures []))
 
-pub returns-in_default : goal.returns-in_default
-returns-in_default c choices =
+pub returns-in_err-judge_build : goal.returns-in_err-judge_build
+returns-in_err-judge_build c choices =
     let a = c.args in
-    let j = (goal.at.returns-in_default c).After-judge_build-verdict in
+    let j = (goal.at.returns-in_err-judge_build c).After-judge_build in
     let m = tables_in a.c a.transition.now a.observation.now a.reward.now in
     let x = lent a.state.now (cells a.actions.now choices a.masks.now a.entries.now a.corners.now a.weights.now a.values.now)
     (rows a.informed.now a.qmdp.now) in
     let y = cells a.newactions.now a.newchoices.now a.newmasks.now a.newentries.now a.newcorners.now a.given.now a.newvalues.now in
-    let same = built-refused m x a.count y (said j choices) c.in_default.is in (
-      passes 7 0 (listed j) (said j choices),
+    let p = err_from_is_err_and c.from_residual.result c.from_residual.ensures.1 in
+    let refused = p.1 ∙ ap Err p.2 ∙ sym c.in_err-judge_build.was ∙ said j choices in
+    let same = built-refused m x a.count y (rw p.1 at refused) in (
+      passes 7 0 (listed j) refused,
       (
         left-passes 7 0 y (listed j) same,
-        λ m₀ x₀ es accepted is few some points holds. build-demand m x a.count y _ y (said j choices) same m₀ x₀ es accepted is few some points,
+        λ m₀ x₀ es accepted is few some points holds. build-demand m x a.count y _ y refused same m₀ x₀ es accepted is few some points,
       ),
     )
 
 pub standing_in-s-requires : goal.standing_in-s-requires
-standing_in-s-requires c = (known (goal.at.standing_in-s-requires c).In-Fine).standing.state-long
+standing_in-s-requires c = (known (goal.at.standing_in-s-requires c).In_ok-judge_build).standing.state-long
 
 -- the standing level is one that can be built upon
-shaped : (c : In-Fine) → let a = c.args in
+shaped : (c : In_ok-judge_build) → let a = c.args in
     let m = tables_in a.c a.transition.now a.observation.now a.reward.now in
     let x = lent a.state.now (cells a.actions.now [] a.masks.now a.entries.now a.corners.now a.weights.now a.values.now)
     (rows a.informed.now a.qmdp.now) in
@@ -70,7 +74,7 @@ build_level-requires-clause-upon c =
     let m = tables_in a.c a.transition.now a.observation.now a.reward.now in
     let x = lent a.state.now (cells a.actions.now [] a.masks.now a.entries.now a.corners.now a.weights.now a.values.now)
     (rows a.informed.now a.qmdp.now) in
-    let p = (goal.at.build_level-requires-clause-upon c).In-Fine in
+    let p = (goal.at.build_level-requires-clause-upon c).In_ok-judge_build in
     let st = (known p).standing in
     rw c.standing_in-s.ensures (upon-lent {m = m} {l = standing_in x} st.valid-tables st.stored-tables st.read (shaped p))
 
@@ -80,28 +84,28 @@ build_level-requires-clause-roofed c =
     let m = tables_in a.c a.transition.now a.observation.now a.reward.now in
     let x = lent a.state.now (cells a.actions.now [] a.masks.now a.entries.now a.corners.now a.weights.now a.values.now)
     (rows a.informed.now a.qmdp.now) in
-    let p = (goal.at.build_level-requires-clause-roofed c).In-Fine in
+    let p = (goal.at.build_level-requires-clause-roofed c).In_ok-judge_build in
     let st = (known p).standing in
     rw c.standing_in-s.ensures (roofed-lent {m = m} {l = standing_in x} st.valid-tables st.stored-tables st.read (shaped p))
 
 pub build_level-requires-clause-count_le_max_built : goal.build_level-requires-clause-count_le_max_built
 build_level-requires-clause-count_le_max_built c =
-    let b = known (goal.at.build_level-requires-clause-count_le_max_built c).In-Fine in (b.few, b.total)
+    let b = known (goal.at.build_level-requires-clause-count_le_max_built c).In_ok-judge_build in (b.few, b.total)
 
 pub build_level-requires-clause-worths_value : goal.build_level-requires-clause-worths_value
-build_level-requires-clause-worths_value c = (known (goal.at.build_level-requires-clause-worths_value c).In-Fine).whole
+build_level-requires-clause-worths_value c = (known (goal.at.build_level-requires-clause-worths_value c).In_ok-judge_build).whole
 
 pub build_level-requires-clause-lists : goal.build_level-requires-clause-lists
 build_level-requires-clause-lists c =
     let a = c.args in
     let p = goal.at.build_level-requires-clause-lists c in
-    list-listed (tables_in a.c a.transition.now a.observation.now a.reward.now) a.list.now (known p.In-Fine).standing.valid-tables
-    (listed p.After-judge_build-verdict)
+    list-listed (tables_in a.c a.transition.now a.observation.now a.reward.now) a.list.now (known p.In_ok-judge_build).standing.valid-tables
+    (listed p.After-judge_build)
 
 pub returns : goal.returns
 returns c choices =
     let a = c.args in
-    let j = (goal.at.returns c).After-judge_build-verdict in
+    let j = (goal.at.returns c).After-judge_build in
     let m = tables_in a.c a.transition.now a.observation.now a.reward.now in
     let x = lent a.state.now (cells a.actions.now choices a.masks.now a.entries.now a.corners.now a.weights.now a.values.now)
     (rows a.informed.now a.qmdp.now) in
@@ -110,8 +114,8 @@ returns c choices =
     ∙ ap (λ (t : Standing). over m (built (model_of m) (level_in a.c.states a.c.observations t.vectors [] [] a.masks.now a.entries.now
     a.corners.now t.points a.weights.now a.values.now) a.count (point_in a.c.states a.given.now)) y) c.standing_in-s.ensures
     ∙ ap (λ (W : Level). over m W y) (built-read m (standing_in x) a.count (point_in a.c.states a.given.now)) in
-    let made = built-fine m x a.count y (said j choices) c.in-Fine.is laid in
-    let fine = sym (sym (said j choices) ∙ c.in-Fine.is) in (
+    let fine = sym c.in_ok-judge_build.was ∙ said j choices in
+    let made = built-fine m x a.count y fine laid in (
       passes 7 0 (listed j) fine,
       (
         left-passes 7 0 y (listed j) made,

@@ -1,10 +1,9 @@
-use Rattle.integers.proofs.Kit.{◌≡◌, ◌∙◌, ap, sym, Bool, ◌&&◌, List, [], ℕ, ◌+◌, ◌*◌, arith, le-leb, lt-ltb, leb, ltb, length}
+use Rattle.integers.proofs.Kit.{◌≡◌, ◌∙◌, refl, ap, sym, Bool, ◌&&◌, List, [], ℕ, ◌+◌, ◌*◌, arith, le-leb, lt-ltb, leb, ltb, length}
 use Rattle.integers.proofs.Searches.{and_is}
-use Rattle.tables.specs.declared.Verdict.{Verdict}
+use Rattle.refusals.specs.Verdicts.{Verdict, ◌before◌, unless}
 use Rattle.tables.specs.Limits.{max_vectors, max_levels}
 use Rattle.tables.specs.Storage.{model_of, tables_in}
-use Rattle.tables.specs.Verdicts.{◌before◌, unless}
-use Rattle.tables.proofs.Refusals.{goes, passes}
+use Rattle.refusals.proofs.Refusals.{goes, passes}
 use Rattle.masks.specs.Steps.{some_includes}
 use Rattle.plans.specs.Limits.{max_built}
 use Rattle.plans.specs.Build.{some_covers_all}
@@ -14,7 +13,7 @@ use Rattle.levels.specs.Judged.{holds, weights_verdict}
 use Rattle.runs.proofs.Judged.{Held, standing-true}
 use Rattle.building.proofs.Buildable.{some-covers}
 use Rattle.building.proofs.judge_build.Goals as goal
-use Rattle.building.proofs.judge_build.Goals.{Else-not-standing_holds, In-Fine, After-some_has}
+use Rattle.building.proofs.judge_build.Goals.{Else-not-standing_holds, In_ok-weights_hold, After-some_has}
 
 -- ---- what each test says
 known : (c : Else-not-standing_holds) → let a = c.args in
@@ -23,7 +22,7 @@ known : (c : Else-not-standing_holds) → let a = c.args in
 known c = standing-true max_vectors _ _ (sym (c.standing_holds.ensures []) ∙ c.if-not-standing_holds.false)
 
 -- a refusal, or none, after the tests that were passed
-on-12 : (c : In-Fine) (choices : List ℕ) {u w : Verdict} → u ≡ w → let a = c.args in
+on-12 : (c : In_ok-weights_hold) (choices : List ℕ) {u w : Verdict} → u ≡ w → let a = c.args in
     let m = tables_in a.c a.transition.now a.observation.now a.reward.now in
     let x = lent a.state.now (cells a.actions.now choices a.masks.now a.entries.now a.corners.now a.weights.now a.values.now)
     (rows a.informed.now a.qmdp.now) in
@@ -38,7 +37,7 @@ on-12 c choices e =
     passes 7 0 (sym (c.standing_holds.ensures choices) ∙ c.if-not-standing_holds.false)
     (passes 8 0 (lt-ltb _ _ (rw number at c.if-s-ge-LEVELS.false))
     (passes 9 0 (and_is (le-leb _ _ c.if-count-gt-BUILT.false) (sym c.complete.ensures ∙ c.if-not-complete.false))
-    (goes c.weights_hold-totals.ensures c.in-Fine.is e)))
+    (goes c.in_ok-weights_hold.ensures refl e)))
 
 -- what the test of the masks says
 covers-all : (c : After-some_has) (choices : List ℕ) → let a = c.args in
@@ -66,9 +65,9 @@ complete-requires c =
     let v = (known (goal.at.complete-requires c).Else-not-standing_holds).valid-tables in
     (v.few_states, (v.few_observations, (omega (arith, v.few_states), omega arith)))
 
-pub weights_hold-totals-requires-clause-n_le_max_states : goal.weights_hold-totals-requires-clause-n_le_max_states
-weights_hold-totals-requires-clause-n_le_max_states c =
-    ((known (goal.at.weights_hold-totals-requires-clause-n_le_max_states c).Else-not-standing_holds).valid-tables.few_states, omega arith)
+pub weights_hold-requires-clause-n_le_max_states : goal.weights_hold-requires-clause-n_le_max_states
+weights_hold-requires-clause-n_le_max_states c =
+    ((known (goal.at.weights_hold-requires-clause-n_le_max_states c).Else-not-standing_holds).valid-tables.few_states, omega arith)
 
 pub all-requires : goal.all-requires
 all-requires c = let v = (known (goal.at.all-requires c).Else-not-standing_holds).valid-tables in (v.some_states, v.few_states)
@@ -80,9 +79,9 @@ some_has-requires c =
 pub returns-then-not-some_has : goal.returns-then-not-some_has
 returns-then-not-some_has c choices =
     let p = goal.at.returns-then-not-some_has c in
-    on-12 p.In-Fine choices (sym (ap (λ (b : Bool). unless b 22 0) (sym (covers-all p.After-some_has choices) ∙ c.if-not-some_has.true)))
+    on-12 p.In_ok-weights_hold choices (sym (ap (λ (b : Bool). unless b 22 0) (sym (covers-all p.After-some_has choices) ∙ c.if-not-some_has.true)))
 
 pub returns : goal.returns
 returns c choices =
     let p = goal.at.returns c in
-    on-12 p.In-Fine choices (sym (ap (λ (b : Bool). unless b 22 0) (sym (covers-all p.After-some_has choices) ∙ c.if-not-some_has.false)))
+    on-12 p.In_ok-weights_hold choices (sym (ap (λ (b : Bool). unless b 22 0) (sym (covers-all p.After-some_has choices) ∙ c.if-not-some_has.false)))

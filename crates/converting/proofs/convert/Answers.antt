@@ -1,9 +1,9 @@
 use Rattle.integers.proofs.Kit.{◌≡◌, ◌∙◌, refl, subst, le-leb, lt-leb, length}
-use Rattle.tables.specs.declared.Verdict.{Verdict}
-use Rattle.tables.specs.Verdicts.{◌before◌}
+use Rattle.refusals.specs.Verdicts.{Verdict, ◌before◌}
 use Rattle.bodies.specs.Body.{ModelFile}
 use Rattle.modelfile.specs.ModelFile.{max_bytes}
 use Rattle.written.specs.Text.{max_text}
+use Rattle.grammar.proofs.Laws.{handed}
 use Rattle.conversion.specs.Convert.{said, expect_verdict, convert_verdict, converted}
 use Rattle.conversion.specs.Steps.{AnswersText, AnswersFile}
 use Rattle.conversion.proofs.Converting.{answers-refused, short-output, long-file, short-file, unheaded, headed}
@@ -22,33 +22,30 @@ pub returns-then-out-lt-LENGTH : goal.returns-then-out-lt-LENGTH
 returns-then-out-lt-LENGTH c =
     let a = c.args in
     let (value, (after, holds)) = convert-answers a.file.now a.out.now (answers-refused (converted a.file.now) a.out.now
-    (short-output _ a.file.now (lt-leb max_text _ c.if-out-lt-LENGTH.true)) c.refusal.ensures refl) in
+    (short-output _ a.file.now (lt-leb max_text _ c.if-out-lt-LENGTH.true)) refl refl) in
     record { value = value; out_after = after; convert_holds = holds }
 
 pub returns-then-file-gt-BYTES : goal.returns-then-file-gt-BYTES
 returns-then-file-gt-BYTES c =
     let a = c.args in
     let (value, (after, holds)) = convert-answers a.file.now a.out.now (answers-refused (converted a.file.now) a.out.now
-    (long-file _ a.file.now (le-leb max_text _ c.if-out-lt-LENGTH.false) (lt-leb _ max_bytes c.if-file-gt-BYTES.true))
-    c.refusal-then-file-gt-BYTES.ensures refl) in
+    (long-file _ a.file.now (le-leb max_text _ c.if-out-lt-LENGTH.false) (lt-leb _ max_bytes c.if-file-gt-BYTES.true)) refl refl) in
     record { value = value; out_after = after; convert_holds = holds }
 
-pub returns-in-Refused : goal.returns-in-Refused
-returns-in-Refused c =
+pub returns-in_err-head : goal.returns-in_err-head
+returns-in_err-head c =
     let a = c.args in
-    let r = c.in-Refused in
     let (value, (after, holds)) = convert-answers a.file.now a.out.now (answers-refused (converted a.file.now) a.out.now
-    (unheaded a.file.now c.header_at.ensures r.number r.place r.is ∙ judged (goal.at.returns-in-Refused c).Else-file-gt-BYTES)
-    c.refusal-in-Refused.ensures refl) in
+    (unheaded a.file.now c.in_err-head.ensures ∙ judged (goal.at.returns-in_err-head c).Else-file-gt-BYTES)
+    (handed _ c.from_residual.ensures) refl) in
     record { value = value; out_after = after; convert_holds = holds }
 
-pub returns-in-Counts : goal.returns-in-Counts
-returns-in-Counts c =
+pub returns : goal.returns
+returns c =
     let a = c.args in
-    let n = c.in-Counts in
     let f = c.from_counts in
     let (value, (after, holds)) = convert-answers a.file.now a.out.now
     (subst (λ (v : Verdict). AnswersText v (converted a.file.now) a.out.now f.result f.new.out)
-    (judged (goal.at.returns-in-Counts c).Else-file-gt-BYTES) (subst (λ (x : ModelFile). AnswersFile x a.out.now f.result f.new.out)
-    (headed a.file.now c.header_at.ensures n.n n.m n.k n.discount n.next n.is) f.ensures)) in
+    (judged (goal.at.returns c).Else-file-gt-BYTES) (subst (λ (x : ModelFile). AnswersFile x a.out.now f.result f.new.out)
+    (headed a.file.now c.in_ok-head.ensures) f.ensures)) in
     record { value = value; out_after = after; convert_holds = holds }

@@ -3,4 +3,4 @@ use Rattle.digits.proofs.Over.{over-paste}
 use Rattle.digits.proofs.put.Goals as goal
 
 pub returns : goal.returns
-returns c = record { place = refl; same = c.paste_u8.ensures ∙ over-paste _ _ _ }
+returns c = record { place = refl; same = c.paste.ensures ∙ over-paste _ _ _ }

@@ -5,10 +5,10 @@ pub loop-g-init : goal.loop-g-init
 loop-g-init c = marking-start _ _ _
 
 pub loop-g-preserved : goal.loop-g-preserved
-loop-g-preserved c = marking-more c.loop-g.invariant (rw c.start.ensures at c.mark_reward_blocks.ensures)
+loop-g-preserved c = marking-more c.loop-g.invariant (rw c.start.ensures at c.mark_blocks.ensures)
 
-pub mark_reward_blocks-requires-clause-w_in_bounds : goal.mark_reward_blocks-requires-clause-w_in_bounds
-mark_reward_blocks-requires-clause-w_in_bounds c =
+pub mark_blocks-requires-clause-w_in_bounds : goal.mark_blocks-requires-clause-w_in_bounds
+mark_blocks-requires-clause-w_in_bounds c =
     let a = c.args in
     let g = c.loop-g.g in
     let under = row_below (a.a + g) (a.a + a.groups) a.n (omega arith) in

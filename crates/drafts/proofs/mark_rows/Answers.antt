@@ -2,7 +2,7 @@ use Rattle.drafts.proofs.Prelude.{marking-start, marking-more}
 use Rattle.drafts.proofs.mark_rows.Goals as goal
 
 pub loop-r-init : goal.loop-r-init
-loop-r-init c = marking-start _ _ _
+loop-r-init g c = marking-start _ _ _
 
 pub loop-r-preserved : goal.loop-r-preserved
-loop-r-preserved c = marking-more c.loop-r.invariant (rw c.start.ensures at c.mark_u16.ensures)
+loop-r-preserved g c = marking-more c.loop-r.invariant (rw c.start.ensures at c.mark.ensures)

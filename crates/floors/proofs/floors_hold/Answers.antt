@@ -3,7 +3,7 @@ use Rattle.integers.specs.Cells.{padded}
 use Rattle.integers.proofs.Lists.{padded-at}
 use Rattle.integers.proofs.Words.{answer, back}
 use Rattle.tables.specs.Limits.{max_states}
-use Rattle.tables.proofs.Refusals.{first-here, first_more, first-none}
+use Rattle.refusals.proofs.Refusals.{first-here, first_more, first-none}
 use Rattle.floors.proofs.Floors.{floors-are, entry-unread, acts-in, observations-here, Ready, ready, entry-passes, entry-fails}
 use Rattle.floors.proofs.floors_hold.Goals as goal
 use Rattle.floors.proofs.floors_hold.Goals.{After-foreseen-f, then-covers+else-not-entry_holds, else-covers}

@@ -1,6 +1,5 @@
 use Rattle.std.proofs.Common.{◌≡◌}
-use Rattle.tables.specs.declared.Verdict.TheVariants.{Fine}
-use Rattle.tables.specs.Verdicts.{first_of}
+use Rattle.refusals.specs.Verdicts.{Fine, first_of}
 use Rattle.floors.proofs.Floors.{entry_verdict}
 use Rattle.floors.proofs.floors_hold.Given as goal
 

@@ -1,3 +1,4 @@
+use Rattle.integers.proofs.Kit.{◌≡◌, ◌∙◌, rules}
 use Rattle.tables.specs.Limits.{max_vectors}
 use Rattle.tables.specs.Tables.{Tables}
 use Rattle.tables.specs.Storage.{tables_in}
@@ -34,31 +35,33 @@ lists c = list-listed (tables c) c.args.list.now (known c).standing.valid-tables
 pub standing_in-s-requires : goal.standing_in-s-requires
 standing_in-s-requires c = (fitting max_vectors _ _ _ c.requires.newvalues_value).standing.state-long
 
-pub masks_hold-reached-requires-clause-reaching : goal.masks_hold-reached-requires-clause-reaching
-masks_hold-reached-requires-clause-reaching c =
-    let s = (goal.at.masks_hold-reached-requires-clause-reaching c).After-standing_in-s in reaching (tables s) (certifier s) (offered s) (known s)
+pub masks_hold-requires-clause-reaching : goal.masks_hold-requires-clause-reaching
+masks_hold-requires-clause-reaching c =
+    let s = (goal.at.masks_hold-requires-clause-reaching c).After-standing_in-s in reaching (tables s) (certifier s) (offered s) (known s)
 
-pub masks_hold-reached-requires-clause-by_index : goal.masks_hold-reached-requires-clause-by_index
-masks_hold-reached-requires-clause-by_index c =
-    let s = (goal.at.masks_hold-reached-requires-clause-by_index c).After-standing_in-s in
+pub masks_hold-requires-clause-by_index : goal.masks_hold-requires-clause-by_index
+masks_hold-requires-clause-by_index c =
+    let s = (goal.at.masks_hold-requires-clause-by_index c).After-standing_in-s in
     λ v b. lists s _ ((offered-shaped (tables s) (certifier s) (offered s) (known s)).action_in v b)
 
-pub returns-in_default : goal.returns-in_default
-returns-in_default c =
-    let s = (goal.at.returns-in_default c).After-standing_in-s in
-    refused-21 (tables s) (certifier s) (offered s) c.masks_hold-reached.ensures c.in_default.is
+pub returns-in_err-masks_hold : goal.returns-in_err-masks_hold
+returns-in_err-masks_hold c =
+    let s = (goal.at.returns-in_err-masks_hold c).After-standing_in-s in
+    let same : c.from_residual.result ≡ c.masks_hold.result = search rules in
+    same ∙ refused-21 (tables s) (certifier s) (offered s) c.masks_hold.ensures c.in_err-masks_hold.was
 
-pub floors_hold-floor-requires-clause-judging : goal.floors_hold-floor-requires-clause-judging
-floors_hold-floor-requires-clause-judging c =
-    let s = (goal.at.floors_hold-floor-requires-clause-judging c).After-standing_in-s in judging (tables s) (certifier s) (offered s) (known s)
+pub floors_hold-requires-clause-judging : goal.floors_hold-requires-clause-judging
+floors_hold-requires-clause-judging c =
+    let s = (goal.at.floors_hold-requires-clause-judging c).After-standing_in-s in judging (tables s) (certifier s) (offered s) (known s)
 
-pub floors_hold-floor-requires-clause-lists : goal.floors_hold-floor-requires-clause-lists
-floors_hold-floor-requires-clause-lists c = lists (goal.at.floors_hold-floor-requires-clause-lists c).After-standing_in-s
+pub floors_hold-requires-clause-lists : goal.floors_hold-requires-clause-lists
+floors_hold-requires-clause-lists c = lists (goal.at.floors_hold-requires-clause-lists c).After-standing_in-s
 
-pub returns-in_default-floor : goal.returns-in_default-floor
-returns-in_default-floor c =
-    let s = (goal.at.returns-in_default-floor c).After-standing_in-s in
-    refused-13 (tables s) (certifier s) (offered s) c.masks_hold-reached.ensures c.in-Fine.is c.floors_hold-floor.ensures c.in_default-floor.is
+pub returns-in_err-floors_hold : goal.returns-in_err-floors_hold
+returns-in_err-floors_hold c =
+    let s = (goal.at.returns-in_err-floors_hold c).After-standing_in-s in
+    let same : c.from_residual-in_err-floors_hold.result ≡ c.floors_hold.result = search rules in
+    same ∙ refused-13 (tables s) (certifier s) (offered s) c.masks_hold.ensures c.in_ok-masks_hold.was c.floors_hold.ensures c.in_err-floors_hold.was
 
 pub roof_holds-requires-clause-roofed : goal.roof_holds-requires-clause-roofed
 roof_holds-requires-clause-roofed c =
@@ -75,5 +78,5 @@ roof_holds-requires-clause-lists c = lists (goal.at.roof_holds-requires-clause-l
 pub returns : goal.returns
 returns c =
     let s = (goal.at.returns c).After-standing_in-s in
-    left-14 (tables s) (certifier s) (offered s) c.masks_hold-reached.ensures c.in-Fine.is c.floors_hold-floor.ensures c.in-Fine-floor.is
+    left-14 (tables s) (certifier s) (offered s) c.masks_hold.ensures c.in_ok-masks_hold.was c.floors_hold.ensures c.in_ok-floors_hold.was
     (rw c.standing_in-s.ensures at c.roof_holds.ensures)

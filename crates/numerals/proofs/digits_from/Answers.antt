@@ -4,6 +4,7 @@ use lib.ListN.{drop, length, get_or}
 use Rattle.numerals.specs.Numeral.{digits, is_digit}
 use mathlib.Core.Bool.{true, false}
 use mathlib.Core.List.{List}
+use mathlib.Core.Path.{subst}
 use native.Mathlib.Decide.{dec_lt}
 use native.Mathlib.Nat.{pow-suc, pow-le-pow_right}
 use Rattle.words.specs.declared.Class.{Class}
@@ -96,4 +97,8 @@ loop-at-preserved c =
     }
 
 pub returns : goal.returns
-returns c = done c.loop-at.invariant (at-stop c.loop-at.invariant (omega arith))
+returns c =
+    let l = c.loop-at in
+    let stop = c.bounded-stop.result in
+    let e : l.at ≡ stop = omega arith in
+    subst (λ (at : ℕ). WrittenDigits c.args.w.now c.args.from c.args.most at l.v) e (done l.invariant (at-stop l.invariant e))

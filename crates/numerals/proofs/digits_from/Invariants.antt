@@ -15,6 +15,3 @@ pub record Reading (w : List ℕ) (from most stop v at : ℕ) : Type 0 where
 
 abbrev pub invariant-loop-at : goal.invariant-loop-at
 invariant-loop-at l = Reading l.w l.from l.most l.stop l.v l.at
-
-abbrev pub decreases-loop-at : goal.decreases-loop-at
-decreases-loop-at l = l.stop - l.at

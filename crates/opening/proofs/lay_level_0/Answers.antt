@@ -10,7 +10,7 @@ returns-clause-actions_after c =
 
 pub returns-clause-choices_after : goal.returns-clause-choices_after
 returns-clause-choices_after c =
-    c.paste_u16.ensures ∙ same-laid 0 max_observations c.args.k c.args.choices.now c.requires.n_nonzero.1.1
+    c.paste.ensures ∙ same-laid 0 max_observations c.args.k c.args.choices.now c.requires.n_nonzero.1.1
 
 pub returns-clause-masks_after : goal.returns-clause-masks_after
 returns-clause-masks_after c =

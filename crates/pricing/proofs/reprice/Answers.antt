@@ -1,4 +1,5 @@
 use Rattle.integers.proofs.Kit.{◌≡◌, ◌∙◌, sym, [], ℕ, ◌≤◌, ◌*◌, arith, mul-le-mul}
+use Rattle.std.proofs.lemmas.Result.{err_from_is_err_and}
 use Rattle.integers.specs.Whole.{largest_to}
 use Rattle.tables.specs.Tables.{Tables}
 use Rattle.tables.specs.Limits.{max_entry}
@@ -21,76 +22,77 @@ small m x m' p e el ed = (
       (change-few (m.actions * m.states) m.reward m'.reward (rewards-within m p.standing.valid-tables p.standing.stored-tables) (new-within m x m' p))),
 )
 
-pub returns-in_default : goal.returns-in_default
-returns-in_default c choices =
-    let e = c.judge_prices-verdict.ensures choices in
-    (e, priced-refused _ _ _ e c.in_default.is)
+pub returns-in_err-judge_prices : goal.returns-in_err-judge_prices
+returns-in_err-judge_prices c choices =
+    let p = err_from_is_err_and c.from_residual.result c.from_residual.ensures.1 in
+    let e = c.in_err-judge_prices.ensures choices in
+    (rw (p.1, p.2) e, priced-refused _ _ _ e)
 
 pub standing_in-s-requires : goal.standing_in-s-requires
-standing_in-s-requires c = (priced _ _ _ (sym (c.judge_prices-verdict.ensures []) ∙ c.in-Fine.is)).standing.state-long
+standing_in-s-requires c = (priced _ _ _ (sym (c.in_ok-judge_prices.ensures []))).standing.state-long
 
 pub range_of-limit-requires : goal.range_of-limit-requires
 range_of-limit-requires c =
-    levels-few _ _ (priced _ _ _ (sym (c.judge_prices-verdict.ensures []) ∙ c.in-Fine.is)).standing c.standing_in-s.ensures
+    levels-few _ _ (priced _ _ _ (sym (c.in_ok-judge_prices.ensures []))).standing c.standing_in-s.ensures
 
 pub overflow_mul-cells : goal.overflow_mul-cells
 overflow_mul-cells c =
-    let v = (priced _ _ _ (sym (c.judge_prices-verdict.ensures []) ∙ c.in-Fine.is)).standing.valid-tables in
+    let v = (priced _ _ _ (sym (c.in_ok-judge_prices.ensures []))).standing.valid-tables in
     omega (arith, mul-le-mul v.few_actions v.few_states)
 
 pub largest_change-requires-clause-within : goal.largest_change-requires-clause-within
 largest_change-requires-clause-within c =
-    let h = (priced _ _ _ (sym (c.judge_prices-verdict.ensures []) ∙ c.in-Fine.is)).standing in
+    let h = (priced _ _ _ (sym (c.in_ok-judge_prices.ensures []))).standing in
     rewards-within _ h.valid-tables h.stored-tables
 
 pub largest_change-requires-clause-within_2 : goal.largest_change-requires-clause-within_2
-largest_change-requires-clause-within_2 c = new-within _ _ _ (priced _ _ _ (sym (c.judge_prices-verdict.ensures []) ∙ c.in-Fine.is))
+largest_change-requires-clause-within_2 c = new-within _ _ _ (priced _ _ _ (sym (c.in_ok-judge_prices.ensures [])))
 
 pub overflow_mul-k : goal.overflow_mul-k
 overflow_mul-k c =
-    let p = priced _ _ _ (sym (c.judge_prices-verdict.ensures []) ∙ c.in-Fine.is) in
+    let p = priced _ _ _ (sym (c.in_ok-judge_prices.ensures [])) in
     let few : c.largest_change.result * c.standing_in-s.result.number ≤ max_move
     = (small _ _ _ p c.standing_in-s.ensures c.range_of-limit.ensures c.largest_change.ensures).1 in
     omega (arith, few)
 
 pub lower_entries-requires : goal.lower_entries-requires
 lower_entries-requires c =
-    let p = priced _ _ _ (sym (c.judge_prices-verdict.ensures []) ∙ c.in-Fine.is) in record {
+    let p = priced _ _ _ (sym (c.in_ok-judge_prices.ensures [])) in record {
       vectors = vectors-ask _ _ p.standing c.standing_in-s.ensures c.range_of-limit.ensures;
       limit_le_max_entry = small _ _ _ p c.standing_in-s.ensures c.range_of-limit.ensures c.largest_change.ensures;
     }
 
 pub raise_cells-requires : goal.raise_cells-requires
 raise_cells-requires c =
-    let p = priced _ _ _ (sym (c.judge_prices-verdict.ensures []) ∙ c.in-Fine.is) in record {
+    let p = priced _ _ _ (sym (c.in_ok-judge_prices.ensures [])) in record {
       within = corners-ask _ _ p.standing c.standing_in-s.ensures c.range_of-limit.ensures;
       limit_le_max_entry = small _ _ _ p c.standing_in-s.ensures c.range_of-limit.ensures c.largest_change.ensures;
     }
 
 pub raise_values-requires : goal.raise_values-requires
 raise_values-requires c =
-    let p = priced _ _ _ (sym (c.judge_prices-verdict.ensures []) ∙ c.in-Fine.is) in record {
+    let p = priced _ _ _ (sym (c.in_ok-judge_prices.ensures [])) in record {
       priced_points = points-ask _ _ p.standing c.standing_in-s.ensures c.range_of-limit.ensures;
       limit_le_max_entry = small _ _ _ p c.standing_in-s.ensures c.range_of-limit.ensures c.largest_change.ensures;
     }
 
 pub raise_cells-requires-2 : goal.raise_cells-requires-2
 raise_cells-requires-2 c =
-    let p = priced _ _ _ (sym (c.judge_prices-verdict.ensures []) ∙ c.in-Fine.is) in record {
+    let p = priced _ _ _ (sym (c.in_ok-judge_prices.ensures [])) in record {
       within = informed-ask _ _ p.standing c.standing_in-s.ensures c.range_of-limit.ensures;
       limit_le_max_entry = small _ _ _ p c.standing_in-s.ensures c.range_of-limit.ensures c.largest_change.ensures;
     }
 
 pub raise_cells-requires-3 : goal.raise_cells-requires-3
 raise_cells-requires-3 c =
-    let p = priced _ _ _ (sym (c.judge_prices-verdict.ensures []) ∙ c.in-Fine.is) in record {
+    let p = priced _ _ _ (sym (c.in_ok-judge_prices.ensures [])) in record {
       within = qmdp-ask _ _ p.standing c.standing_in-s.ensures c.range_of-limit.ensures;
       limit_le_max_entry = small _ _ _ p c.standing_in-s.ensures c.range_of-limit.ensures c.largest_change.ensures;
     }
 
 pub returns : goal.returns
 returns c choices =
-    let fine = sym (c.judge_prices-verdict.ensures choices) ∙ c.in-Fine.is in
+    let fine = sym (c.in_ok-judge_prices.ensures choices) in
     let p = priced _ _ _ fine in (
       sym fine,
       priced-fine _ _ _ fine c.standing_in-s.ensures c.range_of-limit.ensures

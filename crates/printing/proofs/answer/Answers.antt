@@ -1,4 +1,4 @@
-use Rattle.integers.proofs.Kit.{◌∙◌, ℕ, ◌*◌, length-replicate, pos}
+use Rattle.integers.proofs.Kit.{◌∙◌, refl, ℕ, ◌*◌, length-replicate, pos}
 use Rattle.tables.specs.Limits.{max_states, max_actions, max_observations}
 use Rattle.tables.proofs.Fitting.{Long}
 use Rattle.bodies.specs.Steps.{file_in}
@@ -9,7 +9,7 @@ use Rattle.printing.proofs.answer.Goals as goal
 pub levels_of-requires : goal.levels_of-requires
 levels_of-requires g c =
     let r = c.read-read in
-    let drafted = file_in r.result r.new.transition r.new.observation r.new.reward r.new.start in
+    let drafted = file_in c.in-Ok.c r.new.transition r.new.observation r.new.reward r.new.start in
     let long : Long drafted.tables = record {
       transition = r.auto.transition ∙ length-replicate {A = ℕ} (max_actions * max_states * max_states) 0;
       observation = r.auto.observation ∙ length-replicate {A = ℕ} (max_actions * max_states * max_observations) 0;
@@ -17,5 +17,5 @@ levels_of-requires g c =
     } in
     let given = read-given drafted
     (room (max_actions * max_states * max_states) (max_actions * max_states * max_observations) (max_actions * max_states))
-    c.args.file.now (r.ensures.start_after c.in-Fine.is) c.in-Fine.is long in
+    c.args.file.now (c.in-Ok.ensures.start_after c.in-Ok.c refl) refl long in
     record { valid = given.0; stored = given.1.0; point = given.1.1 }

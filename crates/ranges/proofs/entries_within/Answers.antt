@@ -1,7 +1,7 @@
 use Rattle.std.proofs.Common.{◌≡◌, refl, sym, ◌∙◌, arith}
 use Rattle.integers.proofs.Kit.{leb, nat_abs}
 use Rattle.integers.proofs.Words.{answer}
-use Rattle.tables.proofs.Refusals.{first-none, first_more, first-here}
+use Rattle.refusals.proofs.Refusals.{first-none, first_more, first-here}
 use Rattle.masks.specs.Masks.{masked_in}
 use Rattle.levels.specs.Judged.{rows_within}
 use Rattle.levels.proofs.Laws.{passed, failed}

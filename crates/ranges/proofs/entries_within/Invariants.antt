@@ -1,9 +1,7 @@
 use Rattle.std.proofs.Common.{◌≡◌, ℕ, ℤ}
 use Rattle.masks.specs.Masks.{masked_in}
 use Rattle.integers.proofs.Kit.{List, nat_abs, leb}
-use Rattle.tables.specs.declared.Verdict.{Verdict}
-use Rattle.tables.specs.declared.Verdict.TheVariants.{Fine}
-use Rattle.tables.specs.Verdicts.{unless, first_of}
+use Rattle.refusals.specs.Verdicts.{Verdict, Fine, unless, first_of}
 use Rattle.ranges.proofs.entries_within.Given as goal
 
 -- the verdict on the entry of vector v at state s

@@ -1,7 +1,7 @@
 use Rattle.std.proofs.Common.{◌≡◌, ◌+◌, ◌*◌, refl, sym, ◌∙◌, arith, rules, get_or, pos, ◌<◌, ◌^◌}
 use Rattle.integers.proofs.Kit.{leb, nat_abs, mag}
 use Rattle.integers.proofs.Words.{back}
-use Rattle.tables.proofs.Refusals.{first-none, first_more, first-here}
+use Rattle.refusals.proofs.Refusals.{first-none, first_more, first-here}
 use Rattle.levels.specs.Judged.{rows_within}
 use Rattle.levels.proofs.Laws.{passed, failed}
 use Rattle.ranges.proofs.rows_within.Goals as goal

@@ -1,8 +1,6 @@
 use Rattle.std.proofs.Common.{◌≡◌, ◌*◌, get_or, pos, ℕ, ◌+◌, ℤ}
 use Rattle.integers.proofs.Kit.{List, leb, nat_abs}
-use Rattle.tables.specs.declared.Verdict.{Verdict}
-use Rattle.tables.specs.declared.Verdict.TheVariants.{Fine}
-use Rattle.tables.specs.Verdicts.{unless, first_of}
+use Rattle.refusals.specs.Verdicts.{Verdict, Fine, unless, first_of}
 use Rattle.ranges.proofs.rows_within.Given as goal
 
 -- the verdict on the number at x of row i

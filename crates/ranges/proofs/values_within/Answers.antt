@@ -1,7 +1,7 @@
 use Rattle.std.proofs.Common.{ℕ, ◌+◌, ◌*◌, ◌≡◌, sym, ap, ◌∙◌, arith, rules, Bool, List, get_or, ℤ, pos}
 use Rattle.integers.proofs.Words.{back}
 use Rattle.integers.specs.Whole.{total_to}
-use Rattle.tables.proofs.Refusals.{first-none, first_more, first-here}
+use Rattle.refusals.proofs.Refusals.{first-none, first_more, first-here}
 use Rattle.levels.proofs.Laws.{passed, failed}
 use Rattle.levels.specs.Storage.{point_in}
 use Rattle.levels.specs.Judged.{value_holds, values_within}

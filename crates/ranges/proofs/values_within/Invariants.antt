@@ -3,9 +3,7 @@ use Rattle.levels.specs.Storage.{point_in}
 use Rattle.levels.specs.Judged.{value_holds}
 use Rattle.integers.proofs.Kit.{List}
 use Rattle.integers.specs.Whole.{total_to}
-use Rattle.tables.specs.declared.Verdict.{Verdict}
-use Rattle.tables.specs.declared.Verdict.TheVariants.{Fine}
-use Rattle.tables.specs.Verdicts.{unless, first_of}
+use Rattle.refusals.specs.Verdicts.{Verdict, Fine, unless, first_of}
 use Rattle.ranges.proofs.values_within.Given as goal
 
 -- the verdict on point i

@@ -1,5 +1,5 @@
 use Rattle.integers.proofs.Kit.{◌≡◌, ◌∙◌, sym, ap, arith}
-use Rattle.tables.proofs.Refusals.{first-none, first_more, first-here}
+use Rattle.refusals.proofs.Refusals.{first-none, first_more, first-here}
 use Rattle.levels.specs.Judged.{masks_verdict}
 use Rattle.levels.proofs.Laws.{passed, failed}
 use Rattle.reaches.proofs.masks_hold.Invariants.{keeps}

@@ -1,9 +1,7 @@
 use Rattle.integers.proofs.Kit.{◌≡◌, ℕ, Bool, List, get_or}
 use Rattle.tables.specs.declared.Counts.{Counts}
-use Rattle.tables.specs.declared.Verdict.{Verdict}
-use Rattle.tables.specs.declared.Verdict.TheVariants.{Fine}
+use Rattle.refusals.specs.Verdicts.{Verdict, Fine, unless, first_of}
 use Rattle.tables.specs.Storage.{choice_in}
-use Rattle.tables.specs.Verdicts.{unless, first_of}
 use Rattle.masks.specs.Masks.{covered_in}
 use Rattle.reaches.specs.Steps.{reached_in}
 use Rattle.reaches.proofs.masks_hold.Given as goal

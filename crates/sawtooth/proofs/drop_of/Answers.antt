@@ -6,7 +6,7 @@ use Rattle.sawtooth.proofs.drop_of.Goals.{then-cross, else-cross}
 pub loop-s-preserved : goal.loop-s-preserved
 loop-s-preserved c =
     let so_far = c.loop-s.invariant in
-    let weight = c.weight-p.ensures in
+    let weight = c.from-p.ensures in
     elim c.if-cross.branch [
       | then-cross w ↦ least-taken _ _ so_far (rw (c.cross.ensures, c.cross-in-loop-s.ensures, weight) at w.if-cross.true) w.top-is (w.under-is ∙ weight)
       | else-cross w ↦ least-left _ _ so_far (rw (c.cross.ensures, c.cross-in-loop-s.ensures, weight) at w.if-cross.false) w.top-is w.under-is

@@ -8,10 +8,10 @@ loop-s-init c = every-none _
 
 pub returns-then-reach-wanted : goal.returns-then-reach-wanted
 returns-then-reach-wanted c =
-    let less = rw (c.reach.ensures, c.wanted.ensures, c.weight-p.ensures) at c.if-reach-wanted.true in
+    let less = rw (c.reach.ensures, c.wanted.ensures, c.from-p.ensures) at c.if-reach-wanted.true in
     sym (every-not _ _ c.loop-s.s (omega arith) (lt-leb _ _ less))
 
 pub loop-s-preserved : goal.loop-s-preserved
 loop-s-preserved c =
-    let least = rw (c.reach.ensures, c.wanted.ensures, c.weight-p.ensures) at c.if-reach-wanted.false in
+    let least = rw (c.reach.ensures, c.wanted.ensures, c.from-p.ensures) at c.if-reach-wanted.false in
     every_more _ _ c.loop-s.invariant (le-leb _ _ least)

@@ -1,7 +1,6 @@
 use Rattle.solved.proofs.Prelude.{◌≡◌, Verdict}
 use Rattle.integers.proofs.Kit.{ℕ, ◌+◌, leb, nat_abs}
-use Rattle.tables.specs.declared.Verdict.TheVariants.{Fine}
-use Rattle.tables.specs.Verdicts.{first_of, unless}
+use Rattle.refusals.specs.Verdicts.{Fine, first_of, unless}
 use Rattle.plans.specs.Limits.{range}
 use Rattle.stated.specs.Steps.{ReadTo}
 use Rattle.solved.specs.Steps.{vectors_over}

@@ -20,5 +20,5 @@ loop-v-preserved c =
       read = c.row_at-x.ensures.onward;
       filled = filled_more _ _ _ c.requires.rows_fit c.loop-v.invariant.filled below
           (row_made c.row_at-x.result c.requires.solving below c.row_at-x.ensures) f.few_observations f.few_states c.number.ensures c.all-all.ensures
-          (rw c.start.ensures at c.paste_u16.ensures) (rw c.start-in-loop-v.ensures at c.paste_i64.ensures);
+          (rw c.start.ensures at c.paste.ensures) (rw c.start-in-loop-v.ensures at c.paste-in-loop-v.ensures);
     }

@@ -1,33 +1,31 @@
-use Rattle.integers.proofs.Kit.{sym, ◌∙◌, ap}
-use denote.Enum.Declared.{tag_of}
-use Rattle.tables.specs.contracts.Verdict as verdict-type
+use Rattle.integers.proofs.Kit.{sym, ◌∙◌}
+use Rattle.grammar.proofs.Laws.{handed}
 use Rattle.solver.proofs.Files.{first-refuses, second-refuses, unlike-counts, both-files, unlike-actions, all_alike}
 use Rattle.solver.proofs.judge_files.Goals as goal
+use Rattle.solver.proofs.judge_files.Goals.{then-vectors-nodes-via-then-vectors-nodes, then-vectors-nodes-via-else-vectors-nodes+then-not-same_actions}
 
-pub returns-in_default : goal.returns-in_default
-returns-in_default c = first-refuses _ _ _ _ c.judge_alphas-x.ensures (ap (tag_of verdict-type.the_type) c.in_default.is)
+pub returns-in_err-vectors : goal.returns-in_err-vectors
+returns-in_err-vectors c = handed _ c.from_residual.ensures ∙ first-refuses _ _ _ _ c.in_err-vectors.ensures
 
-pub returns-in_default-second : goal.returns-in_default-second
-returns-in_default-second c =
-    second-refuses _ _ _ _ c.judge_alphas-x.ensures c.in-Fine.is c.judge_nodes-y.ensures
-    (ap (tag_of verdict-type.the_type) c.in_default-second.is)
-
-pub returns-then-x-y : goal.returns-then-x-y
-returns-then-x-y c =
-    unlike-counts _ _ _ _ c.judge_alphas-x.ensures c.in-Fine.is c.judge_nodes-y.ensures c.in-Fine-second.is c.if-x-y.true
+pub returns-in_err-nodes : goal.returns-in_err-nodes
+returns-in_err-nodes c =
+    handed _ c.from_residual-in_err-nodes.ensures ∙ second-refuses _ _ _ _ c.in_ok-vectors.ensures c.in_err-nodes.ensures
 
 pub same_actions-requires : goal.same_actions-requires
-same_actions-requires c = (
-  c.requires.0,
-  (c.requires.1, both-files _ _ _ _ c.judge_alphas-x.ensures c.in-Fine.is c.judge_nodes-y.ensures c.in-Fine-second.is c.if-x-y.false),
-)
+same_actions-requires c =
+    (c.requires.0, (c.requires.1, both-files _ _ _ _ c.in_ok-vectors.ensures c.in_ok-nodes.ensures c.if-vectors-nodes.false))
 
-pub returns-then-not-same_actions : goal.returns-then-not-same_actions
-returns-then-not-same_actions c =
-    unlike-actions _ _ _ _ c.judge_alphas-x.ensures c.in-Fine.is c.judge_nodes-y.ensures c.in-Fine-second.is c.if-x-y.false
-    (sym c.same_actions.ensures ∙ c.if-not-same_actions.true)
+pub returns-then-vectors-nodes : goal.returns-then-vectors-nodes
+returns-then-vectors-nodes c =
+    let x = c.in_ok-vectors.ensures in
+    let y = c.in_ok-nodes.ensures in
+    elim c.then-vectors-nodes.branch [
+      | then-vectors-nodes-via-then-vectors-nodes w ↦ unlike-counts _ _ _ _ x y w.if-vectors-nodes.true
+      | then-vectors-nodes-via-else-vectors-nodes+then-not-same_actions w ↦
+          unlike-actions _ _ _ _ x y w.if-vectors-nodes.false (sym w.same_actions.ensures ∙ w.if-not-same_actions.true)
+    ]
 
 pub returns : goal.returns
 returns c =
-    all_alike _ _ _ _ c.judge_alphas-x.ensures c.in-Fine.is c.judge_nodes-y.ensures c.in-Fine-second.is c.if-x-y.false
+    all_alike _ _ _ _ c.in_ok-vectors.ensures c.in_ok-nodes.ensures c.if-vectors-nodes.false
     (sym c.same_actions.ensures ∙ c.if-not-same_actions.false)

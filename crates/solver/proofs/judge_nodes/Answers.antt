@@ -1,29 +1,8 @@
-use Rattle.integers.proofs.Kit.{ap}
-use denote.Enum.Declared.{tag_of}
-use Rattle.tables.specs.contracts.Verdict as verdict-type
-use Rattle.words.specs.contracts.Word as word-type
-use Rattle.grammar.proofs.Arms.{ended}
+use Rattle.integers.proofs.Kit.{rules}
+use Rattle.alphas.specs.Alphas.{node}
 use Rattle.alphas.specs.Steps.{node_of}
-use Rattle.solver.proofs.All.{left-start, left_end, left_back, left-on}
+use Rattle.solver.proofs.All.{counted-all}
 use Rattle.solver.proofs.judge_nodes.Goals as goal
 
-pub loop-x-init : goal.loop-x-init
-loop-x-init c = left-start _ _
-
-pub returns-in_default : goal.returns-in_default
-returns-in_default c =
-    let w = c.word_from-w in left_end _ _ c.loop-x.invariant w.result (w.ensures.within c.loop-x.invariant.inside) (ended c.in_default.is)
-
-pub returns-in_default-verdict : goal.returns-in_default-verdict
-returns-in_default-verdict c =
-    let w = c.word_from-w in
-    let x = c.node_at-x in
-    left_back _ _ c.loop-x.invariant w.result (w.ensures.within c.loop-x.invariant.inside) x.result.verdict x.result.end (node_of c.args.k x.result)
-    (ap (tag_of word-type.the_type) c.in-At.is) x.ensures (ap (tag_of verdict-type.the_type) c.in_default-verdict.is)
-
-pub loop-x-preserved : goal.loop-x-preserved
-loop-x-preserved c =
-    let w = c.word_from-w in
-    let x = c.node_at-x in
-    (left-on _ _ c.loop-x.invariant w.result (w.ensures.within c.loop-x.invariant.inside) x.result.verdict x.result.end (node_of c.args.k x.result)
-    (ap (tag_of word-type.the_type) c.in-At.is) x.ensures c.in-Fine.is).1
+pub returns : goal.returns
+returns c = let a = c.args in counted-all (node a.k) (node_of a.k) a.file.now c.count.ensures (λ i at r p. search rules)

@@ -1,6 +1,6 @@
 use Rattle.stated.proofs.Prelude.{ℕ, ◌≡◌, List, ltb, Verdict, Fine, first_of, unless}
 use Rattle.tables.specs.declared.Counts.{Counts}
-use Rattle.tables.specs.Verdicts.{◌before◌}
+use Rattle.refusals.specs.Verdicts.{◌before◌}
 use Rattle.solver.specs.Files.{action_at}
 use Rattle.stated.specs.Steps.{choices_at, ReadTo}
 use Rattle.stated.proofs.numbers_hold.Given as goal

@@ -1,15 +1,21 @@
 use Rattle.stated.proofs.Prelude.{◌∙◌, max_observations}
 use Rattle.integers.proofs.Kit.{ap}
 use Rattle.integers.proofs.Lists.{padded-cong}
-use Rattle.solver.proofs.Files.{both-on}
+use Rattle.solver.proofs.Files.{vector-fine, node-fine, both-on}
 use Rattle.stated.specs.Stated.{chosen_over}
 use Rattle.stated.proofs.said_at.Goals as goal
+
+pub unwrap-x-requires : goal.unwrap-x-requires
+unwrap-x-requires c = let (v_in, read) = c.requires.v_bound in vector-fine _ _ _ _ read v_in _ c.alpha_at.ensures
+
+pub unwrap-y-requires : goal.unwrap-y-requires
+unwrap-y-requires c = let (v_in, read) = c.requires.v_bound in node-fine _ _ _ _ read v_in _ c.node_at.ensures
 
 pub returns : goal.returns
 returns c =
     let a = c.args in
     let (v_in, read) = c.requires.v_bound in
-    let t = both-on a.n a.k a.alpha.now a.graph.now read v_in c.alpha_at-x.result c.node_at-y.result c.alpha_at-x.ensures c.node_at-y.ensures in
+    let t = both-on _ _ _ _ read v_in _ _ (rw c.unwrap-x.ensures at c.alpha_at.ensures) (rw c.unwrap-y.ensures at c.node_at.ensures) in
     record {
       action = t.action;
       ticks = t.ticks;

@@ -1,7 +1,7 @@
 use Rattle.stated.proofs.Prelude.{ℕ, ◌≡◌, ◌∙◌, sym, List, arith, get_or, first-none, first_more, first-here}
 use Rattle.integers.proofs.Kit.{◌+◌, ◌*◌, ap, lt-ltb, le-ltb}
 use Rattle.tables.specs.Storage.{choice_in}
-use Rattle.tables.proofs.Refusals.{breaks, passes}
+use Rattle.refusals.proofs.Refusals.{breaks, passes}
 use Rattle.levels.proofs.Laws.{passed, failed}
 use Rattle.stated.proofs.vector_exists.Goals as goal
 

@@ -1,30 +1,35 @@
-use Rattle.integers.proofs.Kit.{ap}
-use denote.Enum.Declared.{tag_of}
-use Rattle.words.specs.contracts.Word as word-type
-use Rattle.grammar.proofs.Arms.{ended, refusing}
-use Rattle.statements.proofs.Laws.{left-start, left_end, left_back, left-on}
+use Rattle.std.proofs.lemmas.Grind.{common_steps}
+use Rattle.integers.proofs.Kit.{◌≡◌, ◌-◌, ◌+◌, suc, refl, arith, length}
+use Rattle.statements.specs.Statements.{statements_by}
 use Rattle.statements.proofs.statements_at.Goals as goal
 
-pub loop-transition-init : goal.loop-transition-init
-loop-transition-init c = left-start _ _ _ _ _ _ _ c.requires.0
+pub loop-w-init : goal.loop-w-init
+loop-w-init c = record { inside = c.requires.0; same = (length c.args.file.now + 1, (omega arith, refl)) }
 
-pub returns-in_default : goal.returns-in_default
-returns-in_default c =
-    let left = c.loop-transition.invariant in
-    let w = c.word_from-w in
-    left_end _ _ _ _ _ _ _ left w.result (w.ensures.within left.inside) (ended c.in_default.is)
+pub returns-in_err-at : goal.returns-in_err-at
+unfolding statements_by
+returns-in_err-at c =
+    let left = c.loop-w.invariant in
+    let (fuel, (enough, same)) = left.same in
+    let more : fuel ≡ suc (fuel - 1) = omega arith in
+    let w = c.in-Some.ensures.within left.inside in
+    grind (arith, common_steps)
 
-pub returns-in_default-x : goal.returns-in_default-x
-returns-in_default-x c =
-    let left = c.loop-transition.invariant in
-    let w = c.word_from-w in
-    left_back _ _ _ _ _ _ _ left w.result (w.ensures.within left.inside) (ap (tag_of word-type.the_type) c.in-At.is) c.statement_at-x.ensures
-    (refusing c.in_default-x.is)
+pub loop-w-preserved : goal.loop-w-preserved
+unfolding statements_by
+loop-w-preserved c =
+    let left = c.loop-w.invariant in
+    let (fuel, (enough, same)) = left.same in
+    let more : fuel ≡ suc (fuel - 1) = omega arith in
+    let w = c.in-Some.ensures.within left.inside in
+    let read = c.in_ok-at.ensures in
+    record { inside = omega (arith, read.onward); same = (fuel - 1, (omega (arith, w.lies, read.onward), grind (arith, common_steps))) }
 
-pub loop-transition-preserved : goal.loop-transition-preserved
-loop-transition-preserved c =
-    let left = c.loop-transition.invariant in
-    let w = c.word_from-w in
-    let x = c.in-Value in
-    left-on _ _ _ _ _ _ _ left w.result (w.ensures.within left.inside) x.field-0 x.next (ap (tag_of word-type.the_type) c.in-At.is)
-    c.statement_at-x.ensures x.is
+pub returns : goal.returns
+unfolding statements_by
+returns c =
+    let left = c.loop-w.invariant in
+    let (fuel, (enough, same)) = left.same in
+    let more : fuel ≡ suc (fuel - 1) = omega arith in
+    let w = c.in_default.ensures.within left.inside in
+    grind (arith, common_steps)

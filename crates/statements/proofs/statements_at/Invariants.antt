@@ -1,12 +1,17 @@
-use Rattle.std.proofs.Common.{◌-◌, length}
-use Rattle.statements.specs.Statements.{draft}
-use Rattle.statements.proofs.Laws.{Left}
+use Rattle.std.specs.Prelude.{ℕ, ◌≡◌, ◌<◌, ◌≤◌, ◌+◌, ◌-◌, length}
+use Rattle.words.specs.Words.{words_in, between}
+use Rattle.statements.specs.Statements.{draft, statements}
 use Rattle.statements.proofs.statements_at.Given as goal
 
-abbrev pub invariant-loop-transition : goal.invariant-loop-transition
-invariant-loop-transition l =
-    Left l.full l.m l.n l.k l.file l.from (draft l.initial.transition l.initial.observation l.initial.reward) l.at
-    (draft l.transition l.observation l.reward)
+-- how far they are read: `fuel` more are enough
+abbrev pub invariant-loop-w : goal.invariant-loop-w
+invariant-loop-w l = record {
+  inside : l.at ≤ length l.file;
+  same : (fuel : ℕ) × ((length l.file < fuel + l.at)
+      × (statements l.full fuel l.m l.n l.k (draft l.transition l.observation l.reward) (words_in between l.file l.at)
+      ≡ statements l.full (length l.file + 1) l.m l.n l.k (draft l.initial.transition l.initial.observation l.initial.reward)
+      (words_in between l.file l.from)));
+}
 
-abbrev pub decreases-loop-transition : goal.decreases-loop-transition
-decreases-loop-transition l = length l.file - l.at
+abbrev pub decreases-loop-w : goal.decreases-loop-w
+decreases-loop-w l = length l.file - l.at

@@ -1,6 +1,6 @@
 use Rattle.std.proofs.Common.{ℕ, ◌+◌, ◌*◌, ◌≡◌, sym, ap, ◌∙◌, arith, Bool, List, get_or}
 use Rattle.integers.specs.Whole.{total_to}
-use Rattle.tables.proofs.Refusals.{first-none, first_more, first-here}
+use Rattle.refusals.proofs.Refusals.{first-none, first_more, first-here}
 use Rattle.levels.proofs.Laws.{passed, failed}
 use Rattle.levels.specs.Storage.{point_in}
 use Rattle.levels.specs.Judged.{total_holds, weights_verdict}

@@ -1,8 +1,6 @@
 use Rattle.std.proofs.Common.{ℕ, ◌≡◌, List}
 use Rattle.integers.specs.Whole.{total_to}
-use Rattle.tables.specs.declared.Verdict.{Verdict}
-use Rattle.tables.specs.declared.Verdict.TheVariants.{Fine}
-use Rattle.tables.specs.Verdicts.{unless, first_of}
+use Rattle.refusals.specs.Verdicts.{Verdict, Fine, unless, first_of}
 use Rattle.levels.specs.Storage.{point_in}
 use Rattle.levels.specs.Judged.{total_holds}
 use Rattle.weights.proofs.weights_hold.Given as goal

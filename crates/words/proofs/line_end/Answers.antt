@@ -1,4 +1,4 @@
-use Rattle.words.proofs.Prelude.{◌≡◌, sym, ◌∙◌, arith, length, between, at-end}
+use Rattle.words.proofs.Prelude.{◌≡◌, refl, sym, ◌∙◌, arith, length, between, at-end}
 use Rattle.words.specs.Words.{comment}
 use Rattle.words.proofs.Laws.{comment-on, comment-ends}
 use Rattle.words.proofs.line_end.Goals as goal
@@ -18,4 +18,4 @@ returns c =
     let s = c.args.s.now in
     let l = c.loop-at in
     let e : l.at ≡ length s = omega arith in
-    (omega arith, (omega arith, l.invariant.1.1 ∙ at-end comment s l.at e ∙ sym (at-end between s l.at e)))
+    (omega arith, (omega arith, l.invariant.1.1 ∙ at-end comment s l.at e ∙ sym (at-end between s (length s) refl)))

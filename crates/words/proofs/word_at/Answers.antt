@@ -3,7 +3,7 @@ use mathlib.Core.Path.{refl, ap}
 use mathlib.Core.Bool.{true, true≢false}
 use mathlib.Core.List.{List}
 use Rattle.words.specs.declared.Word.{Word}
-use Rattle.words.specs.declared.Word.TheVariants.{At, End}
+use Rattle.std.specs.Prelude.{Option, Some, None}
 use Rattle.words.specs.declared.Class.{Class}
 use Rattle.words.specs.declared.Class.TheVariants.{Space, Colon, Hash, Digit, Point, Minus, Star, Rest}
 use Rattle.words.specs.Words.{parts}
@@ -17,12 +17,12 @@ further : {s : List ℕ} {from at to : ℕ} → Skipped s from at → at ≤ to 
 further k a b e = record { up = omega (arith, k.up); low = λ h. b; same = λ h. k.same h ∙ e }
 
 -- the same place, seen from before it
-earlier : (s : List ℕ) (from at : ℕ) (w : Word) → from ≤ at → WordInside s at w → WordInside s from w
-earlier s from at (At start stop) h (a, b) = (omega arith, b)
-earlier s from at End h e = tt
+earlier : (s : List ℕ) (from at : ℕ) (w : Option Word) → from ≤ at → WordInside s at w → WordInside s from w
+earlier s from at (Some w) h (a, b) = (omega arith, b)
+earlier s from at None h e = tt
 
 -- a word that begins here
-found : {s : List ℕ} {from at : ℕ} {w : Word} → Skipped s from at → at < length s → Worded s at w → Next s from w
+found : {s : List ℕ} {from at : ℕ} {w : Option Word} → Skipped s from at → at < length s → Worded s at w → Next s from w
 found {s} {from} {at} {w = x} k h w = record {
   within = λ l. record { is = k.same l ∙ w.is; lies = earlier s from at x k.up w.lies };
   past = λ l. absurd (omega (arith, k.up));

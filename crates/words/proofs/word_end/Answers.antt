@@ -1,4 +1,6 @@
-use Rattle.words.proofs.Prelude.{sym, ◌∙◌, arith}
+use Rattle.words.proofs.Prelude.{◌≡◌, sym, ◌∙◌, length, arith}
+use mathlib.Core.Path.{subst}
+use Rattle.words.specs.Steps.{Run}
 use Rattle.words.proofs.Laws.{role_in, no_end, end-run, run_more, run_ends}
 use Rattle.words.proofs.word_end.Goals as goal
 
@@ -14,4 +16,7 @@ loop-at-preserved c =
     (omega arith, λ r w. l.invariant.1 r (run_more c.args.s.now l.at (omega arith) e w))
 
 pub returns : goal.returns
-returns c = let l = c.loop-at in l.invariant.1 l.at (end-run c.args.s.now l.at (omega arith))
+returns c =
+    let l = c.loop-at in
+    let e : l.at ≡ length c.args.s.now = omega arith in
+    subst (Run c.args.s.now c.args.from) e (l.invariant.1 l.at (end-run c.args.s.now l.at e))

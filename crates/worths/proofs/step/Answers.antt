@@ -6,4 +6,4 @@ loop-v-init c = worths-none-yet _ _
 
 pub loop-v-preserved : goal.loop-v-preserved
 loop-v-preserved c =
-    worths-more c.requires.graph_held _ c.loop-v-test.true c.loop-v.invariant c.worths_of-row.ensures (rw c.start.ensures at c.paste_i64.ensures)
+    worths-more c.requires.graph_held _ c.loop-v-test.true c.loop-v.invariant c.worths_of-row.ensures (rw c.start.ensures at c.paste.ensures)

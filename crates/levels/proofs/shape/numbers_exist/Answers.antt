@@ -1,5 +1,5 @@
 use Rattle.levels.proofs.Prelude.{◌≡◌, ◌∙◌, refl, sym, arith, lt-ltb, le-ltb, first-none, first_more, first-here, passed, failed}
-use Rattle.tables.proofs.Refusals.{refused-before}
+use Rattle.refusals.proofs.Refusals.{refused-before}
 use Rattle.levels.specs.Judged.{numbers_in}
 use Rattle.levels.proofs.Laws.{fine_before}
 use Rattle.levels.proofs.shape.numbers_exist.Goals as goal

@@ -1,7 +1,5 @@
 use Rattle.std.proofs.Common.{◌≡◌, ℕ, List, ltb, get_or}
-use Rattle.tables.specs.declared.Verdict.{Verdict}
-use Rattle.tables.specs.declared.Verdict.TheVariants.{Fine}
-use Rattle.tables.specs.Verdicts.{◌before◌, unless, first_of}
+use Rattle.refusals.specs.Verdicts.{Verdict, Fine, ◌before◌, unless, first_of}
 use Rattle.tables.specs.Storage.{choice_in}
 use Rattle.levels.proofs.shape.numbers_exist.Given as goal
 

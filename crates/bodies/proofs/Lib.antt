@@ -1,3 +1,0 @@
--- Laws about the definitions of this crate.
-pub mod Laws
-pub mod Prelude

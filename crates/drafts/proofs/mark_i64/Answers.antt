@@ -1,8 +1,0 @@
-use Rattle.drafts.proofs.Prelude.{write-marks, marking-start, marking-more}
-use Rattle.drafts.proofs.mark_i64.Goals as goal
-
-pub loop-j-init : goal.loop-j-init
-loop-j-init c = marking-start _ _ _
-
-pub loop-j-preserved : goal.loop-j-preserved
-loop-j-preserved c = marking-more c.loop-j.invariant (write-marks _ _ _)

@@ -1,0 +1,2 @@
+-- Refusals, and the order in which they are found.
+pub mod Verdicts
