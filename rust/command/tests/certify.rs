@@ -3,6 +3,7 @@
 use assert_cmd::Command;
 use serde_json::{json, Value};
 use std::path::{Path, PathBuf};
+use std::sync::atomic::{AtomicUsize, Ordering};
 use std::{fs, str};
 
 /// How many steps the examples have.
@@ -36,9 +37,11 @@ fn words(list: &[String]) -> Vec<&str> {
     list.iter().map(String::as_str).collect()
 }
 
-/// A file of the tests' own folder.
+/// A file of the tests' own folder, another for each call, since tests run beside each other.
 fn temporary(name: &str, content: &str) -> String {
-    let path = Path::new(env!("CARGO_TARGET_TMPDIR")).join(name);
+    static FILES: AtomicUsize = AtomicUsize::new(0);
+    let number = FILES.fetch_add(1, Ordering::Relaxed);
+    let path = Path::new(env!("CARGO_TARGET_TMPDIR")).join(format!("{}-{}", number, name));
     fs::write(&path, content).unwrap();
     path.to_str().unwrap().to_string()
 }
