@@ -59,7 +59,7 @@ fn next_at(file: &[u8], at: usize) -> Result<Read<u64>, Refusal>
     requires { at ≤ length file.now }
     ensures { Reads file.now at no_node result (next_node (words_in between file.now at)) }
 {
-    let w = words::word_at(file, at);
+    let w = reader::word_from(file, at);
     let Ok(next) = grammar::key_of(file, w, b"-") else {
         return grammar::number_of(file, w, Form::NODE, 0, Node::NUMBER);
     };

@@ -3,6 +3,7 @@
 
 ghost use Rattle.std.specs.Prelude.{◌≡◌, List, ℕ, ◌*◌, ◌≤◌, leb};
 ghost use Rattle.tables.specs.Limits.{max_states, max_observations};
+ghost use Rattle.refusals.specs.Verdicts.{left};
 ghost use Rattle.tables.specs.Storage.{tables_in};
 ghost use Rattle.levels.specs.Storage.{cells, rows, lent};
 ghost use Rattle.blocks.specs.Blocks.{packed, blocks_fit, replay_verdict};
@@ -72,6 +73,16 @@ fn blocks_fit(
         return false;
     }
     enough(count, p, values)
+}
+
+// So many where a verdict refuses nothing, none where it refuses.
+pub fn passed(v: Verdict, count: usize) -> usize
+    ensures { result ≡ left v count 0 }
+{
+    match v {
+        Ok(()) => count,
+        Err(_) => 0,
+    }
 }
 
 // Whether a list is offered at all: 7 of the certifier, 9 of the list's slices.

@@ -11,7 +11,9 @@ pub fn paste<T: Copy>(cells: &mut [T], at: usize, row: &[T], w: usize)
     requires { (at + w ≤ length cells.old) × (w ≤ length row.now) }
     ensures { cells.new ≡ paste cells.old at row.now w }
 {
-    cells[at..at + w].copy_from_slice(&row[..w]);
+    for x in 0..w {
+        cells[at + x] = row[x];
+    }
 }
 
 // Zeros, written over the first w cells.

@@ -8,8 +8,6 @@ ghost use Rattle.conversion.specs.Convert.{convert_verdict, converted, convert_a
 ghost use Rattle.conversion.specs.Claim.{ConvertHolds};
 ghost use Rattle.exports_files.specs.Calls.{reading_by, conversion_by};
 
-use refusals::Refusal;
-
 // What a model file has, with its refusal: every count 0 where it is refused.
 #[repr(C)]
 #[derive(Clone, Copy)]
@@ -57,14 +55,17 @@ pub extern "C" fn biidhaqun_read(
             observations: c.observations,
             discount: c.discount,
         },
-        Err(Refusal(number, place)) => Reading {
-            number: number as u64,
-            place: place,
-            states: 0,
-            actions: 0,
-            observations: 0,
-            discount: 0,
-        },
+        Err(e) => {
+            let refusal = answers::refusal_of(Err(e));
+            Reading {
+                number: refusal.number,
+                place: refusal.place,
+                states: 0,
+                actions: 0,
+                observations: 0,
+                discount: 0,
+            }
+        }
     }
 }
 
@@ -83,10 +84,13 @@ pub extern "C" fn biidhaqun_convert(file: &[u8], out: &mut [u8]) -> Conversion
             place: 0,
             length: length,
         },
-        Err(Refusal(number, place)) => Conversion {
-            number: number as u64,
-            place: place,
-            length: 0,
-        },
+        Err(e) => {
+            let refusal = answers::refusal_of(Err(e));
+            Conversion {
+                number: refusal.number,
+                place: refusal.place,
+                length: 0,
+            }
+        }
     }
 }

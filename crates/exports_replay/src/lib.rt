@@ -12,7 +12,6 @@ ghost use Rattle.replay.specs.Replay.{replay_answer, replayed, ReplayHolds};
 ghost use Rattle.answers.specs.Calls.{tables_by};
 ghost use Rattle.exports_replay.specs.Calls.{replay_by};
 
-use refusals::Refusal;
 use tables::Counts;
 
 #[repr(C)]
@@ -109,10 +108,13 @@ pub extern "C" fn biidhaqun_replay<'a, 'b>(
             place: 0,
             accepted,
         },
-        Err(Refusal(number, place)) => Replay {
-            number: number as u64,
-            place,
-            accepted: 0,
-        },
+        Err(e) => {
+            let refusal = answers::refusal_of(Err(e));
+            Replay {
+                number: refusal.number,
+                place: refusal.place,
+                accepted: 0,
+            }
+        }
     }
 }

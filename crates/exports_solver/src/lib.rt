@@ -10,7 +10,6 @@ ghost use Rattle.adoption.specs.Claim.{AdoptHolds};
 ghost use Rattle.answers.specs.Calls.{tables_by};
 ghost use Rattle.exports_solver.specs.Calls.{adoption_by};
 
-use refusals::Refusal;
 use tables::Counts;
 
 #[repr(C)]
@@ -100,10 +99,13 @@ pub extern "C" fn biidhaqun_adopt<'a, 'b, 'c>(
             place: 0,
             vectors,
         },
-        Err(Refusal(number, place)) => Adoption {
-            number: number as u64,
-            place,
-            vectors: 0,
-        },
+        Err(e) => {
+            let refusal = answers::refusal_of(Err(e));
+            Adoption {
+                number: refusal.number,
+                place: refusal.place,
+                vectors: 0,
+            }
+        }
     }
 }

@@ -109,16 +109,19 @@ pub extern "C" fn biidhaqun_totals<'a, 'b>(
             sawtooth: bounds.sawtooth,
             informed: bounds.informed,
         },
-        Err(refusals::Refusal(number, place)) => Totals {
-            number: number as u64,
-            place,
-            lower: 0,
-            upper: 0,
-            gap: 0,
-            action: 0,
-            sawtooth: 0,
-            informed: 0,
-        },
+        Err(e) => {
+            let refusal = answers::refusal_of(Err(e));
+            Totals {
+                number: refusal.number,
+                place: refusal.place,
+                lower: 0,
+                upper: 0,
+                gap: 0,
+                action: 0,
+                sawtooth: 0,
+                informed: 0,
+            }
+        }
     }
 }
 
@@ -247,12 +250,15 @@ pub extern "C" fn biidhaqun_within<'a, 'b, 'c>(
             lower: within.lower,
             upper: within.upper,
         },
-        Err(refusals::Refusal(number, place)) => TotalsWithin {
-            number: number as u64,
-            place,
-            lower: 0,
-            upper: 0,
-        },
+        Err(e) => {
+            let refusal = answers::refusal_of(Err(e));
+            TotalsWithin {
+                number: refusal.number,
+                place: refusal.place,
+                lower: 0,
+                upper: 0,
+            }
+        }
     }
 }
 
@@ -299,10 +305,13 @@ pub extern "C" fn biidhaqun_worth<'a, 'b>(
             place: 0,
             ticks,
         },
-        Err(refusals::Refusal(number, place)) => Worth {
-            number: number as u64,
-            place,
-            ticks: 0,
-        },
+        Err(e) => {
+            let refusal = answers::refusal_of(Err(e));
+            Worth {
+                number: refusal.number,
+                place: refusal.place,
+                ticks: 0,
+            }
+        }
     }
 }

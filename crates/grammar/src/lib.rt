@@ -143,7 +143,7 @@ pub fn number_at(
     requires { (at ≤ length file.now) × (Short form) }
     ensures { Reads file.now at most result (number form least most (words_in between file.now at)) }
 {
-    number_of(file, words::word_at(file, at), form, least, most)
+    number_of(file, reader::word_from(file, at), form, least, most)
 }
 
 // A number after an optional minus, with its sign.
@@ -153,7 +153,7 @@ pub fn signed_at(file: &[u8], at: usize, form: Form, most: u64) -> Result<Read<i
     ensures { Tells (λ z. nat_abs z ≤ most) (λ z. z) file.now at result
         (signed_number form most (words_in between file.now at)) }
 {
-    let w = words::word_at(file, at);
+    let w = reader::word_from(file, at);
     let size = magnitude_of(file, w, form, most)?;
     Ok(Read {
         value: numerals::with_sign(minus_of(file, w), size.value),
@@ -166,7 +166,7 @@ pub fn key_at(file: &[u8], at: usize, k: &[u8]) -> Result<usize, Refusal>
     requires { at ≤ length file.now }
     ensures { GoesPast file.now at result (key k.now (words_in between file.now at)) }
 {
-    key_of(file, words::word_at(file, at), k)
+    key_of(file, reader::word_from(file, at), k)
 }
 
 // Two words that are given.

@@ -46,6 +46,7 @@ pub fn lesser(a: i64, b: i64) -> i64
 }
 
 // x over k, rounded towards minus infinity.
+#[tactic(auto, using(crate::proofs::Quotients::euclid))]
 pub fn floor_div(x: i64, k: u64) -> i64
     requires { (0 < k) × (k < 2 ^ 63) }
     ensures { result ≡ floor_div x k }

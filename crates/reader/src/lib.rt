@@ -34,6 +34,14 @@ impl<'a> Reader<'a> {
     }
 }
 
+// The next word from an offset of a file, for callers that hold both by themselves.
+pub fn word_from(file: &[u8], at: usize) -> Option<Word>
+    ensures { Next file.now at result }
+{
+    let mut reader = Reader::new(file, at);
+    reader.next()
+}
+
 // A word and the one after it.
 #[derive(Clone, Copy)]
 pub struct Pair {

@@ -55,7 +55,7 @@ pub fn replay<'a, 'b>(
         × ((m₀ : Tables) (x₀ : Lent) (es : List Event) → ModelAccepted m₀ x₀ → certifier m x ≡ after m₀ x₀ es → (accepted : ℕ) → result ≡ Ok accepted
         → ReplayHolds m₀ x₀ es (offers_in m b count) m y accepted)) }
 {
-    blocks::judge_list(
+    let verdict = blocks::judge_list(
         transition,
         observation,
         reward,
@@ -81,7 +81,8 @@ pub fn replay<'a, 'b>(
         newcorners,
         newweights,
         newvalues,
-    )?;
+    );
+    let made = blocks::passed(verdict, count); // a list that is refused makes no offer
     let accepted = series::offer_all(
         transition,
         observation,
@@ -97,7 +98,7 @@ pub fn replay<'a, 'b>(
         values,
         informed,
         qmdp,
-        count,
+        made,
         v,
         p,
         vectors,
@@ -110,5 +111,6 @@ pub fn replay<'a, 'b>(
         newweights,
         newvalues,
     );
+    verdict?;
     Ok(accepted)
 }

@@ -52,6 +52,12 @@ module _ (n k : ℕ) (alphaFile graphFile : List ℕ) where
     pub next : (o : ℕ) → o < k → get_or y.value.next o 0 ≡ next_at k graphFile v o
     pub onward : BothAt n k alphaFile graphFile count (v + 1) x.next y.next
 
+  -- answers on the vector v and its node: neither is a refusal, and they say so much
+  pub record BothRead (count v : ℕ) (x : Result (Read AlphaCells) Refusal) (y : Result (Read Node) Refusal) : Type 0 where
+    pub vector : IsOk x
+    pub node : IsOk y
+    pub said : (x' : Read AlphaCells) (y' : Read Node) → x ≡ Ok x' → y ≡ Ok y' → VectorAt count v x' y'
+
   module _ {count v p q : ℕ} (both : BothAt n k alphaFile graphFile count v p q) (h : v < count) where
     vector_in : v < vectors_in n alphaFile
     vector_in = omega (arith, both.as_many_vectors)
@@ -67,9 +73,9 @@ module _ (n k : ℕ) (alphaFile graphFile : List ℕ) where
     node-fine r =
         standing-fine (node k) (node_of k) graphFile (read_list (nodes k graphFile)) both.nodes_stand node-in (record { action = 0; next = [] }) r
 
-    pub both-on : (x : Read AlphaCells) (y : Read Node) → Gave (alpha_of n) alphaFile p (Ok x) (alpha n (words_in between alphaFile p))
+    said_on : (x : Read AlphaCells) (y : Read Node) → Gave (alpha_of n) alphaFile p (Ok x) (alpha n (words_in between alphaFile p))
         → Gave (node_of k) graphFile q (Ok y) (node k v (words_in between graphFile q)) → VectorAt count v x y
-    both-on x y gx gy =
+    said_on x y gx gy =
         let vector = standing_on (λ _. alpha n) (alpha_of n) alphaFile (read_list (alphas n alphaFile)) both.vectors_stand vector_in x gx in
         let node = standing_on (node k) (node_of k) graphFile (read_list (nodes k graphFile)) both.nodes_stand node-in y gy in
         let a = vector.same (record { action = 0; ticks = [] }) in
@@ -86,6 +92,16 @@ module _ (n k : ℕ) (alphaFile graphFile : List ℕ) where
             nodes_stand = node.next;
           };
         }
+
+    -- whatever is given of both, it is read, and says what was judged
+    pub both-on : (x : Result (Read AlphaCells) Refusal) (y : Result (Read Node) Refusal)
+        → Gave (alpha_of n) alphaFile p x (alpha n (words_in between alphaFile p))
+        → Gave (node_of k) graphFile q y (node k v (words_in between graphFile q)) → BothRead count v x y
+    both-on x y gx gy = record {
+      vector = vector-fine x gx;
+      node = node-fine y gy;
+      said = λ x' y' e f. said_on x' y' (rw e at gx) (rw f at gy);
+    }
 
   -- ---- files that are not refused
 

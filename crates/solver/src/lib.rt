@@ -22,7 +22,7 @@ fn count<T: Copy, F: Fn(usize, usize) -> Result<Read<T>, Refusal>>(
 {
     let mut at: usize = 0;
     let mut v: usize = 0;
-    while let Some(_) = words::word_at(file, at) {
+    while let Some(_) = reader::word_from(file, at) {
         let x = one(v, at)?;
         at = x.next;
         v += 1;

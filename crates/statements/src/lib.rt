@@ -93,7 +93,7 @@ pub fn statements_at(
         (words_in between file.now from) }
 {
     let mut at = from;
-    while let Some(w) = words::word_at(file, at) {
+    while let Some(w) = reader::word_from(file, at) {
         at = statement_at(file, w, transition, observation, reward, m, n, k, full)?;
     }
     Ok(at)

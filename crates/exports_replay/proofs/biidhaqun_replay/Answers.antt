@@ -13,4 +13,4 @@ pub returns-in-Err : goal.returns-in-Err
 unfolding replay_answer
 returns-in-Err c =
     let a = c.replay.ensures in
-    (ap replay_by (sym c.in-Err.is ∙ a.0), (a.1.0, λ m₀ x₀ es o e fine. apart (sym c.in-Err.is ∙ rw fine at a.0)))
+    rw c.refusal_of-refusal.ensures (ap replay_by (sym c.in-Err.is ∙ a.0), (a.1.0, λ m₀ x₀ es o e fine. apart (sym c.in-Err.is ∙ rw fine at a.0)))

@@ -21,7 +21,8 @@ returns-in-Ok c =
 
 pub returns-in-Err : goal.returns-in-Err
 returns-in-Err c choices =
-    let said = c.totals.ensures choices in (
+    let said = c.totals.ensures choices in
+    rw c.refusal_of-refusal.ensures (
       ap totals_by (sym c.in-Err.is ∙ said.0),
       λ m₀ x es o e h b. record { bounds = c.totals.result; answer = ap totals_by (sym c.in-Err.is); holds = said.1 m₀ x es o e h b },
     )

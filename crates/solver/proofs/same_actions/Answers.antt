@@ -14,10 +14,10 @@ unwrap-y-requires c = node-fine _ _ _ _ c.loop-v.invariant.0 (omega arith) _ c.n
 
 pub returns-then-x-y : goal.returns-then-x-y
 returns-then-x-y c =
-    let t = both-on _ _ _ _ c.loop-v.invariant.0 (omega arith) _ _ (rw c.unwrap-x.ensures at c.alpha_at.ensures) (rw c.unwrap-y.ensures at c.node_at.ensures) in
+    let t = (both-on _ _ _ _ c.loop-v.invariant.0 (omega arith) _ _ c.alpha_at.ensures c.node_at.ensures).said _ _ c.unwrap-x.ensures c.unwrap-y.ensures in
     sym (every-not _ _ c.loop-v.v (omega arith) (ne_eqb _ _ (λ e. c.if-x-y.true (t.action ∙ e ∙ sym t.node-action))))
 
 pub loop-v-preserved : goal.loop-v-preserved
 loop-v-preserved c =
-    let t = both-on _ _ _ _ c.loop-v.invariant.0 (omega arith) _ _ (rw c.unwrap-x.ensures at c.alpha_at.ensures) (rw c.unwrap-y.ensures at c.node_at.ensures) in
+    let t = (both-on _ _ _ _ c.loop-v.invariant.0 (omega arith) _ _ c.alpha_at.ensures c.node_at.ensures).said _ _ c.unwrap-x.ensures c.unwrap-y.ensures in
     (t.onward, every_more c.loop-v.v _ c.loop-v.invariant.1 (eq-eqb _ _ (sym t.action ∙ c.if-x-y.false ∙ t.node-action)))

@@ -15,7 +15,7 @@ pub returns : goal.returns
 returns c =
     let a = c.args in
     let (v_in, read) = c.requires.v_bound in
-    let t = both-on _ _ _ _ read v_in _ _ (rw c.unwrap-x.ensures at c.alpha_at.ensures) (rw c.unwrap-y.ensures at c.node_at.ensures) in
+    let t = (both-on _ _ _ _ read v_in _ _ c.alpha_at.ensures c.node_at.ensures).said _ _ c.unwrap-x.ensures c.unwrap-y.ensures in
     record {
       action = t.action;
       ticks = t.ticks;
